@@ -1,0 +1,5 @@
+pub mod Names
+pub mod Atoms
+pub mod Tokens
+pub mod Expansion
+pub mod Stored

@@ -1,0 +1,12 @@
+use Rattle.std.proofs.Common.{◌≡◌, IsTrue, length}
+use Rattle.std.specs.List.{list_all}
+use Rattle.pd_lex.specs.Reading.{is_body}
+use Rattle.pd_play.specs.Flat.{words, is_short}
+use Rattle.pd_play.proofs.flat.are_short.Given as goal
+
+abbrev pub invariant-loop-word : goal.invariant-loop-word
+invariant-loop-word l =
+    record { same : list_all is_short (words l.rest) ≡ list_all is_short (words l.fn.body); body : IsTrue (is_body l.rest) }
+
+abbrev pub decreases-loop-word : goal.decreases-loop-word
+decreases-loop-word l = length l.rest

@@ -1,0 +1,44 @@
+-- How a run ends: the exit code of each status, and the line that tells of it.
+use Rattle.std.specs.Prelude.{ℕ, List, [], ◌++◌, codes, decimal}
+use Rattle.pd_play.specs.declared.status.Status.{Status}
+use Rattle.pd_play.specs.declared.status.Status.TheVariants.{Done, Usage, PatchAbsent, PatchBad, ScriptBad, ReadFault, WriteFault, ShelfFault, NoMemory}
+use Rattle.pd_play.specs.declared.status.BadCause.{BadCause}
+use Rattle.pd_play.specs.declared.status.BadCause.TheVariants.{BadRecord, DataStructure, TooDeep, TooLong, TooManyBoxes, TooManyWires, TooMuchSound, SymbolsFull}
+
+abbrev pub code_of : Status → ℕ
+code_of Done = 0
+code_of Usage = 2
+code_of PatchAbsent = 3
+code_of (PatchBad number cause) = 4
+code_of (ScriptBad number) = 5
+code_of ReadFault = 6
+code_of WriteFault = 7
+code_of ShelfFault = 8
+code_of NoMemory = 9
+
+-- the words of a cause
+unfoldable pub cause_text : BadCause → List ℕ
+cause_text BadRecord = codes "bad record"
+cause_text DataStructure = codes "data structure"
+cause_text TooDeep = codes "too deep"
+cause_text TooLong = codes "too long"
+cause_text TooManyBoxes = codes "too many boxes"
+cause_text TooManyWires = codes "too many wires"
+cause_text TooMuchSound = codes "too much sound"
+cause_text SymbolsFull = codes "too many symbols"
+
+-- the line of a refused patch
+unfoldable pub bad_text : List ℕ → ℕ → BadCause → List ℕ
+bad_text name number cause = codes "error: " ++ (name ++ (codes ": record " ++ (decimal number ++ (codes ": " ++ (cause_text cause ++ codes "\n")))))
+
+-- the line that tells of a status, where the patch has this name: none at the end of a run, nor where no line can be written
+unfoldable pub status_line : List ℕ → Status → List ℕ
+status_line name Done = []
+status_line name Usage = codes "usage: pdplay [--rate R] [--make N] PATCH\n"
+status_line name PatchAbsent = codes "error: " ++ (name ++ codes ": no such file\n")
+status_line name (PatchBad number cause) = bad_text name number cause
+status_line name (ScriptBad number) = codes "error: script record " ++ (decimal number ++ codes "\n")
+status_line name ReadFault = codes "error: script read failed\n"
+status_line name WriteFault = []
+status_line name ShelfFault = codes "error: shelf failed\n"
+status_line name NoMemory = codes "error: out of memory\n"

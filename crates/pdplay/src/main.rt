@@ -1,0 +1,49 @@
+//! `pdplay PATCH`: plays a patch of the working folder.
+//!
+//! Printed lines go to standard output, samples to the file `out.pcm`, and the exit code is that of the run's status.
+#![tactic(auto)]
+
+use pd_io::{FolderShelf, StdSink, StdSource};
+use pd_play::play;
+use std::env::Env;
+use std::io::ErrorKind;
+use std::process::ExitCode;
+use std::{env, fs, io};
+
+/// The exit code where there is no memory for the words.
+const NO_MEMORY: u8 = 9;
+
+/// The exit code where the words can't be had for another cause.
+const NO_WORDS: u8 = 10;
+
+/// The exit code where `out.pcm` can't be made.
+const NO_SAMPLES: u8 = 11;
+
+/// The words after the program's name.
+fn words(rt: &(impl Env + AllocGlobal)) -> io::Result<Vec<String>> {
+    let mut words = Vec::new(rt.alloc());
+    for word in env::args(rt)?.skip(1) {
+        words.push(word)?;
+    }
+    Ok(words)
+}
+
+fn main(rt: HostRuntime) -> ExitCode {
+    let words = match words(&rt) {
+        Ok(words) => words,
+        Err(error) if error.kind() == ErrorKind::OutOfMemory => return ExitCode::from(NO_MEMORY),
+        Err(_) => return ExitCode::from(NO_WORDS),
+    };
+    let Ok(samples) = fs::create(&rt, "out.pcm") else {
+        return ExitCode::from(NO_SAMPLES);
+    };
+    let status = play(
+        rt.alloc(),
+        &words,
+        &mut FolderShelf::new(&rt),
+        &mut StdSource::new(rt.stdin()),
+        &mut StdSink::new(rt.stdout()),
+        &mut StdSink::new(samples),
+    );
+    ExitCode::from(status.code())
+}
