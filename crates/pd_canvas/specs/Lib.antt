@@ -1,0 +1,9 @@
+pub mod Pages
+pub mod Codes
+pub mod Views
+pub mod Falls
+pub mod Wiring
+pub mod Paths
+pub mod Edits
+pub mod Arrays
+pub mod Proper
