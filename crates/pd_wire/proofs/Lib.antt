@@ -1,0 +1,9 @@
+pub mod Rings
+pub mod Books
+pub mod Nodes
+pub mod Sides
+pub mod Seen
+pub mod Changes
+pub mod Cutting
+pub mod WireLemmas
+pub mod WalkLemmas

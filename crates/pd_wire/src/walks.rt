@@ -1,0 +1,64 @@
+//! Walks along the lists of a book.
+
+ghost use Rattle.std.specs.Prelude.{ℕ, Some, slice_get, ◌≡◌};
+ghost use Rattle.pd_wire.specs.Book.{IsEnd, IsWire, fan_of, feeds_of, wire_at, IsNext};
+
+use crate::book::WireBook;
+use crate::keys::{End, WireKey};
+use crate::links::{Side, first, link_of, next};
+
+impl WireBook {
+    /// The first wire of an outlet's fan-out.
+    pub fn fan_first(&self, source: End) -> Option<WireKey>
+        requires { IsEnd self.now source }
+        ensures { result ≡ slice_get (fan_of self.now source) 0 }
+    {
+        first(&self.nodes, Side::Fan, source.key)
+    }
+
+    /// The wire behind this one in its outlet's fan-out, and none at its end.
+    pub fn fan_next(&self, key: WireKey) -> Option<WireKey>
+        requires { IsWire self.now key }
+        ensures { (source sink : ℕ) → wire_at self.now key ≡ Some (source, sink) →
+            IsNext (fan_of self.now source) key result }
+    {
+        next(&self.nodes, Side::Fan, key.key)
+    }
+
+    /// The first wire among an inlet's feeds.
+    pub fn feed_first(&self, sink: End) -> Option<WireKey>
+        requires { IsEnd self.now sink }
+        ensures { result ≡ slice_get (feeds_of self.now sink) 0 }
+    {
+        first(&self.nodes, Side::Feed, sink.key)
+    }
+
+    /// The wire behind this one among its inlet's feeds, and none at their end.
+    pub fn feed_next(&self, key: WireKey) -> Option<WireKey>
+        requires { IsWire self.now key }
+        ensures { (source sink : ℕ) → wire_at self.now key ≡ Some (source, sink) →
+            IsNext (feeds_of self.now sink) key result }
+    {
+        next(&self.nodes, Side::Feed, key.key)
+    }
+
+    /// The outlet that a wire comes from.
+    pub fn source_of(&self, key: WireKey) -> End
+        requires { IsWire self.now key }
+        ensures { (sink : ℕ) × (wire_at self.now key ≡ Some (result, sink)) }
+    {
+        End {
+            key: link_of(&self.nodes, Side::Fan, key.key).owner,
+        }
+    }
+
+    /// The inlet that a wire goes to.
+    pub fn sink_of(&self, key: WireKey) -> End
+        requires { IsWire self.now key }
+        ensures { (source : ℕ) × (wire_at self.now key ≡ Some (source, result)) }
+    {
+        End {
+            key: link_of(&self.nodes, Side::Feed, key.key).owner,
+        }
+    }
+}
