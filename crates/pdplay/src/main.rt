@@ -28,7 +28,13 @@ fn words(rt: &(impl Env + AllocGlobal)) -> io::Result<Vec<String>> {
     Ok(words)
 }
 
+/// A file that can be read and not written. It takes the place of a standard stream that is closed, so that no other file does.
+const EMPTY_FILE: &str = "/dev/null";
+
 fn main(rt: HostRuntime) -> ExitCode {
+    let _input = fs::open(&rt, EMPTY_FILE);
+    let _output = fs::open(&rt, EMPTY_FILE);
+    let _errors = fs::open(&rt, EMPTY_FILE);
     let words = match words(&rt) {
         Ok(words) => words,
         Err(error) if error.kind() == ErrorKind::OutOfMemory => return ExitCode::from(NO_MEMORY),

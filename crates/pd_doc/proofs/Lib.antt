@@ -1,0 +1,16 @@
+pub mod PieceLemmas
+pub mod ResultLemmas
+pub mod RowLemmas
+pub mod WireLemmas
+pub mod RunLemmas
+pub mod LineLemmas
+pub mod Known
+pub mod TextLemmas
+pub mod RecordLaws
+pub mod AtomLaws
+pub mod StepLaws
+pub mod ElementLaws
+pub mod NameLaws
+pub mod TreeLaws
+pub mod ArrayLaws
+pub mod DocumentLaws

@@ -1,0 +1,11 @@
+pub mod Pieces
+pub mod Results
+pub mod Kinds
+pub mod Fields
+pub mod States
+pub mod Records
+pub mod Reading
+pub mod Views
+pub mod Atoms
+pub mod Writing
+pub mod Lines

@@ -1,0 +1,27 @@
+//! Documents: the patch file format in both directions.
+#![tactic(auto)]
+
+mod atoms;
+mod elements;
+mod fields;
+mod kinds;
+mod laws;
+mod levels;
+mod lexemes;
+mod lines;
+mod reading;
+mod records;
+mod refusal;
+mod rows;
+#[cfg(test)]
+mod tests;
+mod writing;
+
+pub use laws::written_read;
+pub use pd_canvas::{
+    AtomRows, Atoms, Canvas, Doc, Edit, Element, Elements, Form, Numbers, Nums, Place, Wire, Wires,
+    apply_plain, can_apply, canvas_at, copy,
+};
+pub use reading::read;
+pub use refusal::DocRefusal;
+pub use writing::write;
