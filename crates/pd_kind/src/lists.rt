@@ -1,0 +1,171 @@
+//! Lists that grow, and lists with room that is taken once.
+
+ghost use Rattle.std.specs.Prelude.{◌≡◌, ◌+◌, ◌≤◌, ◌<◌, ◌++◌, ◌∷◌, [], length, slice_set, vec_len, vec_capacity, pos, replicate, IfOk};
+
+use pd_num::{Num, Sig};
+use std::alloc::{AllocError, Global};
+use std::marker::Model;
+
+/// A list, which contracts see as the list of its items.
+#[derive(Debug, Drop)]
+pub struct Items<T> {
+    items: Vec<T>,
+}
+
+impl<T> Model for Items<T> {
+    ghost use Rattle.std.specs.Prelude.{List};
+
+    ghost Value = { List T };
+
+    ghost view = { λ a. a.items.items };
+}
+
+impl<T> Items<T> {
+    pub fn new(alloc: Global) -> Items<T>
+        ensures { result ≡ [] }
+    {
+        Items {
+            items: Vec::new(alloc),
+        }
+    }
+
+    pub fn from_vec(items: Vec<T>) -> Items<T>
+        ensures { result ≡ items.items }
+    {
+        Items { items }
+    }
+
+    pub fn into_vec(self) -> Vec<T>
+        ensures { result.items ≡ self }
+    {
+        self.items
+    }
+
+    pub fn as_slice(&self) -> &[T]
+        ensures { result.now ≡ self.now }
+    {
+        self.items.as_slice()
+    }
+}
+
+impl<T: Copy> Items<T> {
+    /// A list of these items.
+    pub fn of(alloc: Global, items: &[T]) -> Result<Items<T>, AllocError>
+        ensures { IfOk result (λ list. list ≡ items.now) }
+    {
+        let items = Vec::from_slice(alloc, items)?;
+        Ok(Items { items })
+    }
+
+    /// Sets the i-th item, counted from 0.
+    pub fn set(&mut self, i: usize, item: T)
+        requires { i < length self.old }
+        ensures { self.new ≡ slice_set self.old i item }
+    {
+        self.items[i] = item;
+    }
+}
+
+/// A list with room for `ROOM` items, which is taken once. Contracts see the list of its items.
+#[derive(Debug, Drop)]
+pub struct Bounded<T, const ROOM: usize> {
+    items: Vec<T>,
+}
+
+impl<T, const ROOM: usize> Model for Bounded<T, ROOM> {
+    ghost use Rattle.std.specs.Prelude.{List, ◌≤◌, vec_capacity};
+
+    ghost Value = { List T };
+
+    ghost view = { λ a. a.items.items };
+
+    ghost invariant = { λ a. ROOM ≤ vec_capacity a.items };
+}
+
+impl<T, const ROOM: usize> Bounded<T, ROOM> {
+    /// An empty list with all its room.
+    pub fn new(alloc: Global) -> Result<Bounded<T, ROOM>, AllocError>
+        ensures { IfOk result (λ list. list ≡ []) }
+    {
+        let items = Vec::with_capacity(alloc, ROOM)?;
+        Ok(Bounded { items })
+    }
+
+    pub fn as_slice(&self) -> &[T]
+        ensures { result.now ≡ self.now }
+    {
+        self.items.as_slice()
+    }
+
+    pub fn len(&self) -> usize
+        ensures { result ≡ length self.now }
+    {
+        self.items.len()
+    }
+
+    pub fn push(&mut self, item: T)
+        requires { length self.old < ROOM }
+        ensures { self.new ≡ self.old ++ item ∷ [] }
+    {
+        self.items.push_reserved(item);
+    }
+}
+
+impl<T: Drop, const ROOM: usize> Bounded<T, ROOM> {
+    pub fn clear(&mut self)
+        ensures { self.new ≡ [] }
+    {
+        self.items.clear();
+    }
+}
+
+impl<T: Copy, const ROOM: usize> Bounded<T, ROOM> {
+    /// Puts items last.
+    pub fn extend(&mut self, items: &[T])
+        requires { length self.old + length items.now ≤ ROOM }
+        ensures { self.new ≡ self.old ++ items.now }
+    {
+        append(&mut self.items, items);
+    }
+}
+
+/// Puts items last in a list with room for them.
+fn append<T: Copy>(list: &mut Vec<T>, items: &[T])
+    requires { vec_len list.old + length items.now ≤ vec_capacity list.old }
+    ensures items { list.new.items ≡ list.old.items ++ items.now }
+    ensures capacity { vec_capacity list.new ≡ vec_capacity list.old }
+{
+    for item in items {
+        list.push_reserved(*item);
+    }
+}
+
+/// So many zeros.
+pub(crate) fn zeros(alloc: Global, count: usize) -> Result<Items<Num>, AllocError>
+    ensures { IfOk result (λ list. list ≡ replicate count (pos 0)) }
+{
+    let items = vec![in alloc; zero(); count]?;
+    Ok(Items { items })
+}
+
+/// So many signal values of 0.
+pub(crate) fn silence(alloc: Global, count: usize) -> Result<Items<Sig>, AllocError>
+    ensures { IfOk result (λ list. list ≡ replicate count (pos 0)) }
+{
+    let items = vec![in alloc; no_signal(); count]?;
+    Ok(Items { items })
+}
+
+/// The number 0.
+pub(crate) fn zero() -> Num
+    ensures { result ≡ pos 0 }
+{
+    Num::default()
+}
+
+/// The signal value 0.
+pub(crate) fn no_signal() -> Sig
+    ensures { result ≡ pos 0 }
+{
+    Sig::default()
+}

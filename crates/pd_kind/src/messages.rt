@@ -1,0 +1,89 @@
+//! Messages, and what a hearing gives.
+
+ghost use Rattle.std.specs.Prelude.{◌≡◌};
+ghost use Rattle.pd_kind.specs.Messages.{sort_of as sort_of_message};
+
+use crate::row_names::Row;
+use pd_atom::{Atom, Sym};
+use pd_clock::Time;
+use pd_num::Num;
+
+/// A selector and the atoms behind it, numbers and symbols alone.
+///
+/// In the normal form a `bang` has no atoms, a `float` one number, a `symbol` one symbol, and a `list` at least two atoms.
+#[derive(Clone, Copy)]
+pub struct Message<'a> {
+    pub selector: Sym,
+    pub atoms: &'a [Atom],
+}
+
+/// What a message is, with its one atom where it has one.
+#[derive(Clone, Copy, Debug, PartialEq, Eq, Drop)]
+pub enum Sort {
+    Bang,
+    Float(Num),
+    Symbol(Sym),
+    List,
+    Other,
+}
+
+/// What a message in its normal form is.
+pub fn sort_of(message: Message) -> Sort
+    ensures { result ≡ sort_of_message message.entry.selector message.entry.atoms.now }
+{
+    match (message.selector, message.atoms) {
+        (selector, _) if selector == Sym::bang() => Sort::Bang,
+        (selector, [Atom::Number(number), ..]) if selector == Sym::float() => Sort::Float(*number),
+        (selector, [Atom::Symbol(symbol), ..]) if selector == Sym::symbol() => {
+            Sort::Symbol(*symbol)
+        }
+        (selector, _) if selector == Sym::list() => Sort::List,
+        _ => Sort::Other,
+    }
+}
+
+/// Where a send goes: to an outlet, or to a name, with a line where nobody hears it if it is loud.
+#[derive(Clone, Copy, Debug, PartialEq, Eq, Drop)]
+pub enum Target {
+    Outlet(u32),
+    Name { name: Sym, loud: bool },
+}
+
+/// What a box asks for beside its sends. A clock's time is in milliseconds from now.
+#[derive(Clone, Copy, Debug, PartialEq, Eq, Drop)]
+pub enum Deed {
+    Nothing,
+    SetClock(Num),
+    ClearClock,
+    WriteTable { index: u32, value: Num },
+    /// The line of a `print`.
+    Print,
+    /// To be resumed when its sends are done.
+    Again,
+}
+
+/// What a box may look at: the present time, and the values of the table that its kind names.
+#[derive(Clone, Copy)]
+pub struct Around<'a> {
+    pub now: Time,
+    pub table: Option<&'a [Num]>,
+}
+
+/// A line that a hearing gives.
+#[derive(Clone, Copy, Debug, PartialEq, Eq, Drop)]
+pub enum Notice {
+    /// The row's objects have no method for the selector.
+    NoMethod { row: Row, selector: Sym },
+    /// A message box lacks the argument of this number.
+    NoArgument { number: u16 },
+    /// A message box names a receiver that is no symbol.
+    NoReceiver { name: Atom },
+    /// A message was cut at 1,024 atoms.
+    MessageCut,
+    /// The text of a message box would exceed 1,024 atoms.
+    TextFull,
+    /// The table of names is full.
+    TableFull,
+    /// A `vline~` has 256 ramps that it has yet to begin.
+    TooManyRamps,
+}
