@@ -5,3 +5,5 @@ pub mod Said
 pub mod RowNames
 pub mod States
 pub mod Naming
+pub mod Tables
+pub mod Hearing

@@ -15,6 +15,7 @@ mod row_names;
 mod sends;
 mod signal_words;
 mod states;
+mod tables;
 
 pub use fresh::sound_size;
 pub use kinds::{
@@ -23,9 +24,12 @@ pub use kinds::{
     Trigger, Values,
 };
 pub use lists::{Bounded, Items};
-pub use messages::{Around, Deed, Message, Notice, Sort, Target, sort_of};
+pub use messages::{
+    Around, Deed, Message, Notice, Sort, Target, first_sort, sort_of, stored, told,
+};
 pub use naming::kind_of;
 pub use port_lists::{PortList, ports};
 pub use row_names::{Row, SignalRow};
 pub use sends::{Atoms, Notices, SendRow, SendRows, Sends};
 pub use states::{Ramp, RampBook, Ramps, Samples, Slope, State, Text};
+pub use tables::Line;

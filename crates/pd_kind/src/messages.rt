@@ -2,7 +2,9 @@
 
 ghost use Rattle.std.specs.Prelude.{◌≡◌};
 ghost use Rattle.pd_kind.specs.Messages.{sort_of as sort_of_message};
+ghost use Rattle.pd_kind.specs.Hearing.{first_sort as first_sort_of, told as told_as, stored as stored_at};
 
+use crate::arguments::number_at;
 use crate::row_names::Row;
 use pd_atom::{Atom, Sym};
 use pd_clock::Time;
@@ -86,4 +88,37 @@ pub enum Notice {
     TableFull,
     /// A `vline~` has 256 ramps that it has yet to begin.
     TooManyRamps,
+}
+
+/// What a list is heard as at inlet 0 of a box that doesn't speak of lists, once its other atoms are stored: its first atom. Another
+/// message is heard as it is.
+pub fn first_sort(sort: Sort, atoms: &[Atom]) -> Sort
+    ensures { result ≡ first_sort_of sort atoms.now }
+{
+    match (sort, atoms.first()) {
+        (Sort::List, Some(Atom::Number(number))) => Sort::Float(*number),
+        (Sort::List, Some(Atom::Symbol(symbol))) => Sort::Symbol(*symbol),
+        (Sort::List, _) => Sort::Other,
+        _ => sort,
+    }
+}
+
+/// The selector that a line tells: a list that is spread is told as its first atom.
+pub fn told(sort: Sort, selector: Sym) -> Sym
+    ensures { result ≡ told_as sort selector }
+{
+    match sort {
+        Sort::Symbol(_) => Sym::symbol(),
+        _ => selector,
+    }
+}
+
+/// The number that a list stores at its i-th inlet, where it has one there; else the number that was stored.
+pub fn stored(sort: Sort, atoms: &[Atom], i: usize, number: Num) -> Num
+    ensures { result ≡ stored_at sort atoms.now i number }
+{
+    match sort {
+        Sort::List => number_at(atoms, i, number),
+        _ => number,
+    }
 }

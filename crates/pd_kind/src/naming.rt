@@ -135,6 +135,7 @@ fn signal(word: &[u8], arguments: &[Atom]) -> Option<Signal>
 }
 
 /// The kind of a word whose arguments may be kept as a list.
+#[tactic(auto, unfolding(crate::specs::Naming::listed_kind))]
 fn listed_kind(
     alloc: Global,
     word: &[u8],

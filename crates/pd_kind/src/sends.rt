@@ -5,7 +5,9 @@ ghost use Rattle.pd_kind.specs.Rows.{are_within, send_of};
 
 use crate::lists::Bounded;
 use crate::messages::{Deed, Notice, Target};
+use crate::row_names::Row;
 use pd_atom::{Atom, Sym};
+use pd_num::Num;
 use std::alloc::{AllocError, Global};
 
 /// A send: its target, the selector of its message, and the places of the message's first atom and of the one behind its last.
@@ -38,7 +40,7 @@ pub struct Sends {
 }
 
 impl Sends {
-    ghost use Rattle.pd_kind.specs.Said.{said_by, silent};
+    ghost use Rattle.pd_kind.specs.Said.{said_by, silent, sends_only, bang_to, number_to, symbol_to, deaf};
     ghost use Rattle.pd_kind.specs.declared.messages.Deed.TheVariants.{Nothing};
 
     /// Nothing, with all the room.
@@ -115,5 +117,52 @@ impl Sends {
         ensures notices { self.new.notices ≡ self.old.notices ++ notice ∷ [] }
     {
         self.notices.push(notice);
+    }
+
+    /// Says nothing.
+    pub fn say_nothing(&mut self)
+        ensures { said_by self.new ≡ silent }
+    {
+        self.clear();
+    }
+
+    /// Says a bang to an outlet, and nothing else.
+    pub fn say_bang(&mut self, outlet: u32)
+        ensures { said_by self.new ≡ sends_only (bang_to outlet ∷ []) }
+    {
+        self.clear();
+        self.send(Target::Outlet(outlet), Sym::bang(), &[]);
+    }
+
+    /// Says a number to an outlet, and nothing else.
+    pub fn say_number(&mut self, outlet: u32, number: Num)
+        ensures { said_by self.new ≡ sends_only (number_to outlet number ∷ []) }
+    {
+        self.clear();
+        self.send(
+            Target::Outlet(outlet),
+            Sym::float(),
+            &[Atom::Number(number)],
+        );
+    }
+
+    /// Says a symbol to an outlet, and nothing else.
+    pub fn say_symbol(&mut self, outlet: u32, symbol: Sym)
+        ensures { said_by self.new ≡ sends_only (symbol_to outlet symbol ∷ []) }
+    {
+        self.clear();
+        self.send(
+            Target::Outlet(outlet),
+            Sym::symbol(),
+            &[Atom::Symbol(symbol)],
+        );
+    }
+
+    /// Says that the row's objects have no method for the selector, and nothing else.
+    pub fn refuse(&mut self, row: Row, selector: Sym)
+        ensures { said_by self.new ≡ deaf row selector }
+    {
+        self.clear();
+        self.note(Notice::NoMethod { row, selector });
     }
 }

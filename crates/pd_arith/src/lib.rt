@@ -1,0 +1,9 @@
+//! The arithmetic objects: what each does with a message.
+#![tactic(auto)]
+
+mod frequencies;
+mod operations;
+mod pairs;
+mod rows;
+
+pub use rows::hear;
