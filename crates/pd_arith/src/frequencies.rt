@@ -1,6 +1,6 @@
 //! The frequency of a note's number.
 
-ghost use Rattle.std.specs.Prelude.{◌≡◌, ◌<◌, ◌≤◌, ◌+◌, ◌*◌};
+ghost use Rattle.std.specs.Prelude.{◌≡◌, ◌<◌, ◌≤◌, ◌+◌, ◌*◌, pos};
 ghost use Rattle.pd_arith.specs.Frequency.{top_notes, note_frequency as frequency_of_note, between as frequency_between, frequency_of};
 
 use pd_num::Num;

@@ -5,9 +5,9 @@ ghost use Rattle.pd_kind.specs.Said.{said_by};
 ghost use Rattle.pd_arith.specs.Rows.{binary_of, row_of, pair_hot, pair_cold, pair_row};
 
 use crate::operations::{compare, divide, operate};
-use pd_atom::Sym;
+use pd_atom::{Atom, Sym};
 use pd_kind::{
-    Comparison, Division, Message, Operation, Row, Sends, Sort, first_sort, sort_of, stored, told,
+    Comparison, Division, Operation, Row, Sends, Sort, first_sort, sort_of, stored, told,
 };
 use pd_num::Num;
 
@@ -45,15 +45,15 @@ fn hear_left(
     left: &mut Num,
     right: Num,
     selector: Sym,
-    sort: Sort,
+    sort: &Sort,
     out: &mut Sends,
 )
-    ensures { record { left = left.new; right = right; said = said_by out.new } ≡ pair_hot binary left.old right selector sort }
+    ensures { record { left = left.new; right = right; said = said_by out.new } ≡ pair_hot binary left.old right selector sort.now }
 {
     match sort {
         Sort::Float(number) => {
-            *left = number;
-            out.say_number(0, compute(binary, number, right));
+            *left = *number;
+            out.say_number(0, compute(binary, *number, right));
         }
         Sort::Bang => out.say_number(0, compute(binary, *left, right)),
         _ => out.refuse(row(binary), told(sort, selector)),
@@ -66,14 +66,14 @@ fn hear_right(
     left: Num,
     right: &mut Num,
     selector: Sym,
-    sort: Sort,
+    sort: &Sort,
     out: &mut Sends,
 )
-    ensures { record { left = left; right = right.new; said = said_by out.new } ≡ pair_cold binary left right.old selector sort }
+    ensures { record { left = left; right = right.new; said = said_by out.new } ≡ pair_cold binary left right.old selector sort.now }
 {
     match sort {
         Sort::Float(number) => {
-            *right = number;
+            *right = *number;
             out.say_nothing();
         }
         _ => out.refuse(row(binary), selector),
@@ -86,23 +86,21 @@ pub(crate) fn hear_pair(
     left: &mut Num,
     right: &mut Num,
     inlet: u32,
-    message: Message,
+    selector: Sym,
+    atoms: &[Atom],
     out: &mut Sends,
 )
-    ensures { record { left = left.new; right = right.new; said = said_by out.new } ≡ pair_row binary left.old right.old inlet message.entry.selector message.entry.atoms.now }
+    ensures { record { left = left.new; right = right.new; said = said_by out.new } ≡ pair_row binary left.old right.old inlet selector atoms.now }
 {
-    let sort = sort_of(message);
+    let sort = sort_of(selector, atoms);
     if inlet == 0 {
-        *right = stored(sort, message.atoms, 1, *right);
-        hear_left(
-            binary,
-            left,
-            *right,
-            message.selector,
-            first_sort(sort, message.atoms),
-            out,
-        );
+        let old = *right;
+        let now = stored(&sort, atoms, 1, old);
+        *right = now;
+        let first = first_sort(&sort, atoms);
+        hear_left(binary, left, now, selector, &first, out);
     } else {
-        hear_right(binary, *left, right, message.selector, sort, out);
+        let left = *left;
+        hear_right(binary, left, right, selector, &sort, out);
     }
 }

@@ -6,7 +6,7 @@ ghost use Rattle.pd_arith.specs.Rows.{clipped, clip_hot, clip_cold, clip_row, fu
 
 use crate::frequencies::frequency;
 use crate::pairs::{Binary, hear_pair};
-use pd_atom::{Sym, Symbols};
+use pd_atom::{Atom, Sym, Symbols};
 use pd_kind::{
     Arith, Around, Function, Kind, Message, Row, Sends, Sort, State, first_sort, sort_of, stored,
     told,
@@ -26,11 +26,11 @@ fn clip(low: Num, high: Num, number: Num) -> Num
 }
 
 /// A message at inlet 0 of a `clip`.
-fn hear_clipped(low: Num, high: Num, selector: Sym, sort: Sort, out: &mut Sends)
-    ensures { said_by out.new ≡ clip_hot low high selector sort }
+fn hear_clipped(low: Num, high: Num, selector: Sym, sort: &Sort, out: &mut Sends)
+    ensures { said_by out.new ≡ clip_hot low high selector sort.now }
 {
     match sort {
-        Sort::Float(number) => out.say_number(0, clip(low, high, number)),
+        Sort::Float(number) => out.say_number(0, clip(low, high, *number)),
         _ => out.refuse(Row::Clip, told(sort, selector)),
     }
 }
@@ -41,17 +41,17 @@ fn hear_limit(
     high: &mut Num,
     inlet: u32,
     selector: Sym,
-    sort: Sort,
+    sort: &Sort,
     out: &mut Sends,
 )
-    ensures { record { left = low.new; right = high.new; said = said_by out.new } ≡ clip_cold low.old high.old inlet selector sort }
+    ensures { record { left = low.new; right = high.new; said = said_by out.new } ≡ clip_cold low.old high.old inlet selector sort.now }
 {
     match sort {
         Sort::Float(number) => {
             if inlet == 1 {
-                *low = number;
+                *low = *number;
             } else {
-                *high = number;
+                *high = *number;
             }
             out.say_nothing();
         }
@@ -60,17 +60,26 @@ fn hear_limit(
 }
 
 /// A message at an inlet of a `clip`.
-fn hear_clip(low: &mut Num, high: &mut Num, inlet: u32, message: Message, out: &mut Sends)
-    ensures { record { left = low.new; right = high.new; said = said_by out.new } ≡ clip_row low.old high.old inlet message.entry.selector message.entry.atoms.now }
+fn hear_clip(
+    low: &mut Num,
+    high: &mut Num,
+    inlet: u32,
+    selector: Sym,
+    atoms: &[Atom],
+    out: &mut Sends,
+)
+    ensures { record { left = low.new; right = high.new; said = said_by out.new } ≡ clip_row low.old high.old inlet selector atoms.now }
 {
-    let sort = sort_of(message);
+    let sort = sort_of(selector, atoms);
     if inlet == 0 {
-        *low = stored(sort, message.atoms, 1, *low);
-        *high = stored(sort, message.atoms, 2, *high);
-        let first = first_sort(sort, message.atoms);
-        hear_clipped(*low, *high, message.selector, first, out);
+        let lower = stored(&sort, atoms, 1, *low);
+        let upper = stored(&sort, atoms, 2, *high);
+        *low = lower;
+        *high = upper;
+        let first = first_sort(&sort, atoms);
+        hear_clipped(lower, upper, selector, &first, out);
     } else {
-        hear_limit(low, high, inlet, message.selector, sort, out);
+        hear_limit(low, high, inlet, selector, &sort, out);
     }
 }
 
@@ -93,19 +102,26 @@ fn magnitude(number: Num) -> Num
 }
 
 /// A message at the inlet of `abs` or `mtof`.
-fn hear_function(function: Function, message: Message, out: &mut Sends)
-    ensures { said_by out.new ≡ function_row function message.entry.selector message.entry.atoms.now }
+fn hear_function(function: Function, selector: Sym, atoms: &[Atom], out: &mut Sends)
+    ensures { said_by out.new ≡ function_row function selector atoms.now }
 {
-    let sort = first_sort(sort_of(message), message.atoms);
-    match sort {
-        Sort::Float(number) => out.say_number(0, apply(function, number)),
-        _ => out.refuse(Row::Function, told(sort, message.selector)),
+    let sort = first_sort(&sort_of(selector, atoms), atoms);
+    match &sort {
+        Sort::Float(number) => out.say_number(0, apply(function, *number)),
+        _ => out.refuse(Row::Function, told(&sort, selector)),
     }
 }
 
 /// What an arithmetic box does with a message at an inlet.
-fn hear_arith(arith: &Arith, state: &mut State, inlet: u32, message: Message, out: &mut Sends)
-    ensures { record { state = state.new; said = said_by out.new } ≡ arith_row arith.now state.old inlet message.entry.selector message.entry.atoms.now }
+fn hear_arith(
+    arith: &Arith,
+    state: &mut State,
+    inlet: u32,
+    selector: Sym,
+    atoms: &[Atom],
+    out: &mut Sends,
+)
+    ensures { record { state = state.new; said = said_by out.new } ≡ arith_row arith.now state.old inlet selector atoms.now }
 {
     match (arith, state) {
         (Arith::Operation { operation, .. }, State::Operation { left, right }) => {
@@ -114,7 +130,8 @@ fn hear_arith(arith: &Arith, state: &mut State, inlet: u32, message: Message, ou
                 left,
                 right,
                 inlet,
-                message,
+                selector,
+                atoms,
                 out,
             );
         }
@@ -124,7 +141,8 @@ fn hear_arith(arith: &Arith, state: &mut State, inlet: u32, message: Message, ou
                 left,
                 right,
                 inlet,
-                message,
+                selector,
+                atoms,
                 out,
             );
         }
@@ -134,14 +152,15 @@ fn hear_arith(arith: &Arith, state: &mut State, inlet: u32, message: Message, ou
                 left,
                 right,
                 inlet,
-                message,
+                selector,
+                atoms,
                 out,
             );
         }
         (Arith::Clip { .. }, State::Clip { low, high }) => {
-            hear_clip(low, high, inlet, message, out);
+            hear_clip(low, high, inlet, selector, atoms, out);
         }
-        (Arith::Function { function }, _) => hear_function(*function, message, out),
+        (Arith::Function { function }, _) => hear_function(*function, selector, atoms, out),
         _ => out.say_nothing(),
     }
 }
@@ -162,10 +181,12 @@ pub fn hear(
     ensures heard { record { state = state.new; said = said_by out.new } ≡ heard kind.now state.old inlet message.entry.selector message.entry.atoms.now }
     ensures names { symbols.new ≡ symbols.old }
 {
+    let selector = message.selector;
+    let atoms = message.atoms;
     let _names = &symbols;
     let _around = around;
     match kind {
-        Kind::Arith(arith) => hear_arith(arith, state, inlet, message, out),
+        Kind::Arith(arith) => hear_arith(arith, state, inlet, selector, atoms, out),
         _ => out.say_nothing(),
     }
 }

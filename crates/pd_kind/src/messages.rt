@@ -1,8 +1,8 @@
 //! Messages, and what a hearing gives.
 
-ghost use Rattle.std.specs.Prelude.{◌≡◌};
+ghost use Rattle.std.specs.Prelude.{◌≡◌, slice_get};
 ghost use Rattle.pd_kind.specs.Messages.{sort_of as sort_of_message};
-ghost use Rattle.pd_kind.specs.Hearing.{first_sort as first_sort_of, told as told_as, stored as stored_at};
+ghost use Rattle.pd_kind.specs.Hearing.{first_sort as first_sort_of, told as told_as, stored as stored_at, sort_of_atom};
 
 use crate::arguments::number_at;
 use crate::row_names::Row;
@@ -30,10 +30,10 @@ pub enum Sort {
 }
 
 /// What a message in its normal form is.
-pub fn sort_of(message: Message) -> Sort
-    ensures { result ≡ sort_of_message message.entry.selector message.entry.atoms.now }
+pub fn sort_of(selector: Sym, atoms: &[Atom]) -> Sort
+    ensures { result ≡ sort_of_message selector atoms.now }
 {
-    match (message.selector, message.atoms) {
+    match (selector, atoms) {
         (selector, _) if selector == Sym::bang() => Sort::Bang,
         (selector, [Atom::Number(number), ..]) if selector == Sym::float() => Sort::Float(*number),
         (selector, [Atom::Symbol(symbol), ..]) if selector == Sym::symbol() => {
@@ -92,20 +92,31 @@ pub enum Notice {
 
 /// What a list is heard as at inlet 0 of a box that doesn't speak of lists, once its other atoms are stored: its first atom. Another
 /// message is heard as it is.
-pub fn first_sort(sort: Sort, atoms: &[Atom]) -> Sort
-    ensures { result ≡ first_sort_of sort atoms.now }
+pub fn first_sort(sort: &Sort, atoms: &[Atom]) -> Sort
+    ensures { result ≡ first_sort_of sort.now atoms.now }
 {
-    match (sort, atoms.first()) {
-        (Sort::List, Some(Atom::Number(number))) => Sort::Float(*number),
-        (Sort::List, Some(Atom::Symbol(symbol))) => Sort::Symbol(*symbol),
-        (Sort::List, _) => Sort::Other,
-        _ => sort,
+    match sort {
+        Sort::List => sort_of_first(atoms),
+        Sort::Bang => Sort::Bang,
+        Sort::Float(number) => Sort::Float(*number),
+        Sort::Symbol(symbol) => Sort::Symbol(*symbol),
+        Sort::Other => Sort::Other,
+    }
+}
+
+fn sort_of_first(atoms: &[Atom]) -> Sort
+    ensures { result ≡ sort_of_atom (slice_get atoms.now 0) }
+{
+    match atoms.first() {
+        Some(Atom::Number(number)) => Sort::Float(*number),
+        Some(Atom::Symbol(symbol)) => Sort::Symbol(*symbol),
+        _ => Sort::Other,
     }
 }
 
 /// The selector that a line tells: a list that is spread is told as its first atom.
-pub fn told(sort: Sort, selector: Sym) -> Sym
-    ensures { result ≡ told_as sort selector }
+pub fn told(sort: &Sort, selector: Sym) -> Sym
+    ensures { result ≡ told_as sort.now selector }
 {
     match sort {
         Sort::Symbol(_) => Sym::symbol(),
@@ -114,8 +125,8 @@ pub fn told(sort: Sort, selector: Sym) -> Sym
 }
 
 /// The number that a list stores at its i-th inlet, where it has one there; else the number that was stored.
-pub fn stored(sort: Sort, atoms: &[Atom], i: usize, number: Num) -> Num
-    ensures { result ≡ stored_at sort atoms.now i number }
+pub fn stored(sort: &Sort, atoms: &[Atom], i: usize, number: Num) -> Num
+    ensures { result ≡ stored_at sort.now atoms.now i number }
 {
     match sort {
         Sort::List => number_at(atoms, i, number),
