@@ -7,3 +7,4 @@ pub mod States
 pub mod Naming
 pub mod Tables
 pub mod Hearing
+pub mod Forming

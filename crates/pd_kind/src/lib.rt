@@ -3,6 +3,7 @@
 
 mod arguments;
 mod control_words;
+mod forming;
 mod fresh;
 mod kinds;
 mod list_words;
@@ -17,6 +18,7 @@ mod signal_words;
 mod states;
 mod tables;
 
+pub use forming::{float_in, symbol_in};
 pub use fresh::sound_size;
 pub use kinds::{
     Arguments, Arith, Button, Channel, Comparison, Division, Function, Glue, Kind, Named,
