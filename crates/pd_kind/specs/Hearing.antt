@@ -26,6 +26,7 @@ first_sort s atoms = s
 
 -- the selector that a line tells: a spread list is told as its first atom
 abbrev pub told : Sort → ℕ → ℕ
+told (sort.Float z) selector = 1
 told (sort.Symbol s) selector = 2
 told s selector = selector
 

@@ -119,6 +119,7 @@ pub fn told(sort: &Sort, selector: Sym) -> Sym
     ensures { result ≡ told_as sort.now selector }
 {
     match sort {
+        Sort::Float(_) => Sym::float(),
         Sort::Symbol(_) => Sym::symbol(),
         _ => selector,
     }
