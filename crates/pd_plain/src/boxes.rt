@@ -31,10 +31,11 @@ fn box_send_name(symbols: &Symbols, text: &[Atom]) -> Option<Sym>
 fn show(name: Option<Sym>, selector: Sym, atom: Atom, out: &mut Sends)
     ensures { said_by out.new ≡ shown name selector (atom ∷ []) }
 {
+    let atoms = [atom];
     out.clear();
-    out.send(Target::Outlet(0), selector, &[atom]);
+    out.send(Target::Outlet(0), selector, &atoms);
     if let Some(name) = name {
-        out.send(Target::Name { name, loud: false }, selector, &[atom]);
+        out.send(Target::Name { name, loud: false }, selector, &atoms);
     }
 }
 

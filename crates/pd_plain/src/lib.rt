@@ -3,6 +3,7 @@
 
 mod boxes;
 mod clocked;
+mod numbers;
 mod rows;
 mod tables;
 mod timed;

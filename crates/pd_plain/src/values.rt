@@ -99,13 +99,7 @@ fn int_right(value: &mut Num, selector: Sym, sort: &Sort, out: &mut Sends)
 }
 
 /// `int`
-pub(crate) fn hear_int(
-    value: &mut Num,
-    inlet: u32,
-    selector: Sym,
-    atoms: &[Atom],
-    out: &mut Sends,
-)
+pub(crate) fn hear_int(value: &mut Num, inlet: u32, selector: Sym, atoms: &[Atom], out: &mut Sends)
     ensures { leaves (Int value.new) (said_by out.new) ≡ int_row value.old inlet selector atoms.now }
 {
     let sort = sort_of(selector, atoms);
@@ -164,7 +158,11 @@ pub(crate) fn hear_symbol(
 fn moses_outlet(bound: Num, number: Num) -> u32
     ensures { result ≡ moses_outlet_of bound number }
 {
-    if number.micros() < bound.micros() { 0 } else { 1 }
+    if number.micros() < bound.micros() {
+        0
+    } else {
+        1
+    }
 }
 
 fn moses_left(bound: Num, selector: Sym, sort: &Sort, out: &mut Sends)
@@ -319,13 +317,7 @@ fn set_change(value: &mut Num, selector: Sym, atoms: &[Atom], out: &mut Sends)
     }
 }
 
-fn other_change(
-    symbols: &Symbols,
-    value: &mut Num,
-    selector: Sym,
-    atoms: &[Atom],
-    out: &mut Sends,
-)
+fn other_change(symbols: &Symbols, value: &mut Num, selector: Sym, atoms: &[Atom], out: &mut Sends)
     requires { selector < length symbols.now }
     ensures { leaves (Change value.new) (said_by out.new) ≡ change_other symbols.now value.old selector atoms.now }
 {
