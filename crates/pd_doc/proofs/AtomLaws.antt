@@ -83,7 +83,7 @@ numbered : (names : Names) (token : List ℕ) (o : Option ℤ) (a : Atom) → or
 numbered names token (Some z) a h = let e : Number z ≡ a = cc in subst (IsOf names) e tt
 numbered names token None a h = dollar_of names token (dollar_at token) a (λ n e. dollar_small token n e) h
 
-nameless_of : (names : Names) (token : List ℕ) (a : Atom) → nameless token ≡ Some a → IsOf names a
+pub nameless_of : (names : Names) (token : List ℕ) (a : Atom) → nameless token ≡ Some a → IsOf names a
 unfolding nameless
 nameless_of names token a h =
     by_test (is_mark 44 token)
@@ -114,7 +114,7 @@ reads_of_table names token = with_read names token (nameless token) (λ a e. nam
 
 -- ---- tokens
 
-outcome_of : (n : ℕ) (names : Names) (r : Result Atom SymbolRefusal) (a : Atom) (names' : Names) → answer_in n names r ≡ Ok (a, names') → (r ≡ Ok a) × (names ≡ names')
+pub outcome_of : (n : ℕ) (names : Names) (r : Result Atom SymbolRefusal) (a : Atom) (names' : Names) → answer_in n names r ≡ Ok (a, names') → (r ≡ Ok a) × (names ≡ names')
 outcome_of n names (Ok b) a names' h = let e : (b, names) ≡ (a, names') = cc in (ap (λ x. Ok x) (ap (λ (p : Atom × Names). p.0) e), ap (λ (p : Atom × Names). p.1) e)
 outcome_of n names (Err d) a names' h = absurd (cc)
 

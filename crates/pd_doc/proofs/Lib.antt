@@ -14,3 +14,8 @@ pub mod NameLaws
 pub mod TreeLaws
 pub mod ArrayLaws
 pub mod DocumentLaws
+pub mod ReadyLaws
+pub mod GrowLaws
+pub mod CountLaws
+pub mod FieldLaws
+pub mod GoodLaws

@@ -40,11 +40,11 @@ given_is names a b h =
     let q : answered a ≡ answered b = ap (λ (o : Outcome Atom). o.answer) h in
     cc
 
-pd_name : (names : Names) → IsTable names → name_of names 4 ≡ codes "pd"
+pub pd_name : (names : Names) → IsTable names → name_of names 4 ≡ codes "pd"
 pd_name names t =
     sym (get_or-take 6 names 4 [] (omega arith)) ∙ ap (λ l. get_or l 4 []) t.begins
 
-pd_nameless : nameless (codes "pd") ≡ None
+pub pd_nameless : nameless (codes "pd") ≡ None
 unfolding nameless number_at numeral_at exponent_at
 pd_nameless = refl
 

@@ -173,7 +173,7 @@ entry_pair x = Ok x
 entry_is : (x y : Entry × Names) → entry_pair x ≡ entry_pair y → x ≡ y
 entry_is x y e = cc
 
-number_of_outcome : (n : ℕ) (names : Names) (r : Result ℕ SymbolRefusal) (s : ℕ) (names' : Names) → answer_in n names r ≡ Ok (s, names') → (r ≡ Ok s) × (names ≡ names')
+pub number_of_outcome : (n : ℕ) (names : Names) (r : Result ℕ SymbolRefusal) (s : ℕ) (names' : Names) → answer_in n names r ≡ Ok (s, names') → (r ≡ Ok s) × (names ≡ names')
 number_of_outcome n names (Ok b) s names' h = let e : (b, names) ≡ (s, names') = cc in (ap (λ x. Ok x) (ap (λ (p : ℕ × Names). p.0) e), ap (λ (p : ℕ × Names). p.1) e)
 number_of_outcome n names (Err d) s names' h = absurd (cc)
 

@@ -1,6 +1,6 @@
 //! Laws over reading and writing.
 
-ghost use Rattle.std.specs.Prelude.{◌≡◌, Ok};
+ghost use Rattle.std.specs.Prelude.{◌≡◌, ℕ, List, Ok};
 ghost use Rattle.pd_atom.specs.Names.{Names, IsTable};
 ghost use Rattle.pd_canvas.specs.Pages.{Page};
 ghost use Rattle.pd_canvas.specs.Proper.{IsProper};
@@ -17,3 +17,11 @@ pub fn written_read()
     pd_atom::spellings_read();
     pd_atom::settled_laws();
 }
+
+/// The document that a text of any table gives is proper in the table after it, which is a table.
+pub fn read_proper()
+    ensures proper { (names names' : Names) (p : Page) (text : List ℕ) → IsTable names → document_of names text ≡ Ok (p, names') →
+        IsProper names' p }
+    ensures table { (names names' : Names) (p : Page) (text : List ℕ) → IsTable names → document_of names text ≡ Ok (p, names') →
+        IsTable names' }
+{}
