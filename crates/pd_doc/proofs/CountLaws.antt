@@ -1,17 +1,17 @@
 -- How much is open, and what a record changes in it.
-use Rattle.std.proofs.Common.{◌≡◌, ℕ, suc, ◌+◌, ◌<◌, ◌≤◌, max, Bool, true, false, cond, List, [], ◌∷◌, ◌++◌, length, length-append, drop, Option, Some, None, refl, sym, ap, ◌∙◌, subst, arith}
+use Rattle.std.proofs.Common.{◌≡◌, ℕ, suc, ◌+◌, ◌<◌, ◌≤◌, max, Bool, true, false, cond, List, [], ◌∷◌, ◌++◌, length, length-append, drop, Option, Some, refl, sym, ap, ◌∙◌, subst, arith}
 use Rattle.std.specs.Prelude.{ℤ}
 use Rattle.std.specs.List.{AllByRecursion}
 use Rattle.pd_num.specs.Scale.{millionths, IsInRange}
 use Rattle.pd_atom.specs.Names.{Names, IsTable}
 use Rattle.pd_atom.specs.declared.Atom.{Atom}
 use Rattle.pd_canvas.specs.declared.wires.Wire.{Wire}
-use Rattle.pd_canvas.specs.Pages.{Shape, Sub, Page, Entry, boxed, weight}
+use Rattle.pd_canvas.specs.Pages.{Page, Entry, boxed, weight}
 use Rattle.pd_canvas.specs.Wiring.{precedes, with_wire, AreSorted}
-use Rattle.pd_canvas.specs.Proper.{IsText, IsWidth, IsSmall, IsFrame, AreBoxes, IsSound, levels, levels_of, inner_wires}
+use Rattle.pd_canvas.specs.Proper.{IsText, IsWidth, IsSmall, AreBoxes, IsSound, levels, levels_of, inner_wires}
 use Rattle.pd_canvas.proofs.SortLemmas.{all_with, sorted_with}
 use Rattle.pd_canvas.proofs.SoundLemmas.{IsEntry}
-use Rattle.pd_doc.specs.States.{Level, State, wired, sorted_wires, page_of_level, closed, changed, in_first, first_page, with_boxes, with_wires, one_box_more, one_wire_more, last_of, in_last}
+use Rattle.pd_doc.specs.States.{Level, State, wired, sorted_wires, page_of_level, closed, changed, first_page, with_boxes, one_box_more, one_wire_more, last_of, in_last}
 use Rattle.pd_doc.specs.Records.{page_entry}
 use Rattle.pd_doc.proofs.GrowLaws.{Grows, IsLevel, AreLevels, levels_grow}
 

@@ -1,9 +1,8 @@
 -- What the fields of a record are where it isn't refused.
-use Rattle.std.proofs.Common.{◌≡◌, ℕ, suc, ◌+◌, ◌*◌, ◌/◌, ◌%◌, ◌<◌, ◌≤◌, ◌-◌, max, Bool, true, false, ◌||◌, ◌&&◌, List, [], ◌∷◌, ◌++◌, length, take, drop, replicate, refl, sym, ap, ◌∙◌, subst, arith, eqb, ltb, leb, Option, Some, None, Result, Ok, Err, ◌⊎◌, inl, inr}
-use Rattle.std.specs.Prelude.{ℤ, pos, negsuc, codes, bytes_eq, if◌then◌else◌, ok_or, option_map, nat_le, nat_lt}
+use Rattle.std.proofs.Common.{◌≡◌, ℕ, ◌/◌, ◌%◌, ◌≤◌, ◌-◌, Bool, true, false, ◌||◌, ◌&&◌, List, [], ◌∷◌, length, drop, replicate, refl, sym, ap, ◌∙◌, subst, arith, eqb, leb, Option, Some, None, Result, Ok}
+use Rattle.std.specs.Prelude.{ℤ, pos, negsuc, codes, bytes_eq, ok_or, option_map, nat_lt}
 use Rattle.std.specs.List.{AllByRecursion, list_all}
 use Rattle.std.proofs.lemmas.Bool.Decides.{nat_tests}
-use Rattle.std.proofs.lemmas.Int.{ints}
 use Rattle.std.proofs.lemmas.List.{length-replicate}
 use Rattle.pd_num.specs.Scale.{millionths, IsInRange}
 use Rattle.pd_lex.specs.Text.{Piece}
@@ -11,20 +10,19 @@ use Rattle.pd_atom.specs.Names.{Names, IsTable}
 use Rattle.pd_atom.specs.declared.Atom.{Atom}
 use Rattle.pd_atom.specs.declared.Atom.TheVariants.{Number}
 use Rattle.pd_canvas.specs.declared.wires.Wire.{Wire}
-use Rattle.pd_canvas.specs.Arrays.{is_name as is_name_atom, is_number as is_number_atom, size_of, is_saved, IsArray}
+use Rattle.pd_canvas.specs.Arrays.{is_name as is_name_atom, is_number as is_number_atom, size_of, IsArray}
 use Rattle.pd_canvas.specs.Edits.{begins_with_pd, is_pd}
-use Rattle.pd_canvas.specs.Proper.{IsText, IsKept, IsWidth, IsSmall, is_record_word, is_number_row}
+use Rattle.pd_canvas.specs.Proper.{IsKept, IsWidth, IsSmall, is_record_word, is_number_row}
 use Rattle.pd_doc.specs.declared.refusal.DocRefusal.{DocRefusal}
 use Rattle.pd_doc.specs.declared.refusal.DocRefusal.TheVariants.{BadRecord}
-use Rattle.pd_doc.specs.declared.kinds.Kind.{Kind}
 use Rattle.pd_doc.specs.declared.kinds.Kind.TheVariants as kind
 use Rattle.pd_doc.specs.Pieces.{is_long, bytes_of, is_bare_comma, spells, number_of, numbers_of, cons_number, starts_with, width_of, width_in}
 use Rattle.pd_doc.specs.Results.{◌>>=◌, refuse_if}
-use Rattle.pd_doc.specs.Kinds.{kind_of, kind_behind, opening_kind, word_kind, box_word, record_word}
-use Rattle.pd_doc.specs.Fields.{position_of, both_in, size_in, array_size, is_name, starts_with_name, whole_from, whole_of, wire_of, wire_from}
+use Rattle.pd_doc.specs.Kinds.{kind_of, kind_behind, opening_kind, word_kind}
+use Rattle.pd_doc.specs.Fields.{position_of, both_in, size_in, array_size, is_name, whole_from, whole_of, wire_of, wire_from}
 use Rattle.pd_doc.specs.Records.{is_much, is_large, zeros}
 use Rattle.pd_doc.proofs.PieceLemmas.{by_test}
-use Rattle.pd_doc.proofs.ReadyLaws.{Stands, AllStand, text_made, number_in_range, number_stands, stands_number, name_stands, pd_stands, word_stands}
+use Rattle.pd_doc.proofs.ReadyLaws.{AllStand, text_made, number_in_range, number_stands, stands_number, name_stands, pd_stands, word_stands}
 
 -- what comes behind a test that did not refuse, and what the test said
 pub allowed : {B : Type 0} (b : Bool) (e : DocRefusal) (r : Result B DocRefusal) (y : B) → (refuse_if b e >>= (λ _. r)) ≡ Ok y → (b ≡ false) × (r ≡ Ok y)

@@ -1,29 +1,29 @@
 -- A document that is read is proper.
-use Rattle.std.proofs.Common.{◌≡◌, ℕ, zero, suc, ◌+◌, ◌/◌, ◌<◌, ◌≤◌, Bool, true, false, ◌&&◌, ◌||◌, not, List, [], ◌∷◌, ◌++◌, length, take, drop, replicate, refl, sym, ap, ◌∙◌, subst, arith, Option, Some, None, Result, Ok, Err, length-append, length-take, length-drop, min}
-use Rattle.std.specs.Prelude.{ℤ, pos, negsuc, codes, if◌then◌else◌, nat_lt, nat_le, ok_or, ◌==◌, IfOk}
+use Rattle.std.proofs.Common.{◌≡◌, ℕ, zero, suc, ◌+◌, ◌/◌, ◌<◌, ◌≤◌, Bool, true, false, ◌&&◌, ◌||◌, not, List, [], ◌∷◌, ◌++◌, length, take, drop, refl, sym, ap, ◌∙◌, subst, arith, Option, Some, None, Result, Ok, Err, length-append, length-take, length-drop}
+use Rattle.std.specs.Prelude.{ℤ, pos, negsuc, codes, nat_lt, nat_le, ok_or, ◌==◌, IfOk}
 use Rattle.std.specs.List.{AllByRecursion, list_any, list_all}
 use Rattle.std.proofs.lemmas.Bool.Decides.{nat_tests}
 use Rattle.std.proofs.lemmas.Int.{ints}
-use Rattle.std.proofs.lemmas.List.{length-replicate, get_or-take}
+use Rattle.std.proofs.lemmas.List.{get_or-take}
 use Rattle.pd_num.specs.Scale.{millionths, IsInRange}
 use Rattle.pd_num.specs.Reading.{number_at, numeral_at, exponent_at}
 use Rattle.pd_lex.specs.Text.{Piece, is_space}
 use Rattle.pd_lex.specs.Reading.{records, rest_of}
-use Rattle.pd_atom.specs.Names.{Names, IsTable, interned, name_of, Outcome}
+use Rattle.pd_atom.specs.Names.{Names, IsTable, interned, name_of}
 use Rattle.pd_atom.specs.Tokens.{IsSettled, nameless, named}
-use Rattle.pd_atom.specs.declared.SymbolRefusal.{SymbolRefusal}
 use Rattle.pd_atom.specs.declared.Atom.{Atom}
 use Rattle.pd_atom.specs.declared.Atom.TheVariants.{Number, Symbol}
+use Rattle.pd_atom.proofs.NameLemmas.{six_names}
 use Rattle.pd_atom.proofs.TokenLemmas.{number_settled, settled_named}
 use Rattle.pd_canvas.specs.declared.wires.Wire.{Wire}
 use Rattle.pd_canvas.specs.declared.tree.Doc.{Doc}
-use Rattle.pd_canvas.specs.Pages.{Shape, Obj, Msg, Comment, FloatBox, SymbolBox, Sub, Array, Other, Head, Page, Entry, frame_of, boxed, weight, empty_page, page_with_header}
-use Rattle.pd_canvas.specs.Edits.{new_header, new_name, first_or}
-use Rattle.pd_canvas.specs.Arrays.{is_saved, IsArray, size_of}
-use Rattle.pd_canvas.specs.Proper.{IsReady, AreReady, IsText, IsKept, IsWidth, IsSmall, IsFrame, IsHead, IsArrayHead, FitsForm, HoldsNone, IsProper, IsWithinLimits, levels, levels_of, inner_wires, is_number_row}
+use Rattle.pd_canvas.specs.Pages.{Shape, Obj, Msg, Comment, FloatBox, SymbolBox, Sub, Array, Other, Head, Page, Entry, frame_of, weight, empty_page}
+use Rattle.pd_canvas.specs.Edits.{new_header, new_name}
+use Rattle.pd_canvas.specs.Arrays.{is_saved, IsArray}
+use Rattle.pd_canvas.specs.Proper.{IsReady, AreReady, IsText, IsKept, IsWidth, IsFrame, FitsForm, HoldsNone, IsProper, levels, levels_of, inner_wires, is_number_row}
 use Rattle.pd_canvas.proofs.SoundLemmas.{IsEntry}
 use Rattle.pd_doc.specs.declared.refusal.DocRefusal.{DocRefusal}
-use Rattle.pd_doc.specs.declared.refusal.DocRefusal.TheVariants.{BadRecord, DataStructure, TooDeep, TooLong, TooManyBoxes, TooManyWires}
+use Rattle.pd_doc.specs.declared.refusal.DocRefusal.TheVariants.{BadRecord, TooDeep, TooLong, TooManyWires}
 use Rattle.pd_doc.specs.declared.kinds.Kind.{Kind}
 use Rattle.pd_doc.specs.declared.kinds.Kind.TheVariants as kind
 use Rattle.pd_doc.specs.declared.kinds.BoxWord.{BoxWord}
@@ -33,16 +33,15 @@ use Rattle.pd_doc.specs.Results.{◌>>=◌, refuse_if, outcome_in, Answers}
 use Rattle.pd_doc.specs.Kinds.{kind_of}
 use Rattle.pd_doc.specs.Fields.{atoms_of, position_of, size_in, array_size, wire_of}
 use Rattle.pd_doc.specs.States.{Level, State, start, new_level, page_of_level, opened, closed, changed, first_page, first_boxes, with_kept, with_coords, with_boxes, one_box_more, one_wire_more, last_of, in_last, with_last, with_head, with_form, with_row, with_values, overlaid, placed, placed_in, is_array}
-use Rattle.pd_doc.specs.Records.{Reading, is_much, is_none_open, is_deep, is_large, room_of, plain_entry, page_entry, makes_canvas, form_of, entry_of_form, zeros, opening, element, closing, array, connect, kept, row, row_of, row_with, row_behind, tail_row, values_of, by_kind, record_of}
+use Rattle.pd_doc.specs.Records.{Reading, is_much, is_none_open, is_deep, is_large, room_of, plain_entry, page_entry, makes_canvas, form_of, entry_of_form, zeros, opening, element, closing, array, connect, kept, row, row_of, row_with, row_behind, tail_row, values_of, by_kind}
 use Rattle.pd_doc.specs.Reading.{any_record, run, root_of, root_at, document_of}
 use Rattle.pd_doc.proofs.PieceLemmas.{by_test}
 use Rattle.pd_doc.proofs.RunLemmas.{run-record, run-end}
-use Rattle.pd_doc.proofs.AtomLaws.{bind_ok, past, ok_is}
+use Rattle.pd_doc.proofs.AtomLaws.{bind_ok, past, ok_is, outcome_of}
 use Rattle.pd_doc.proofs.ArrayLaws.{all_take, all_drop}
-use Rattle.pd_doc.proofs.StepLaws.{number_of_outcome, six_names}
 use Rattle.pd_doc.proofs.ReadyLaws.{Interned, interned_is, AllStand, Made, atoms_made, all_ready, text_made}
 use Rattle.pd_doc.proofs.GrowLaws.{Grows, grows_same, grows_on, form_grows, entry_grows, IsLevel, AreLevels, levels_grow}
-use Rattle.pd_doc.proofs.FieldLaws.{allowed, neither, position_range, width_is, wire_small, some_wire, array_is, not_pd_text, BeginsKept, kind_kept, kept_made, NoNumbers, no_number_row, numbers_range}
+use Rattle.pd_doc.proofs.FieldLaws.{allowed, neither, position_range, width_is, wire_small, some_wire, array_is, not_pd_text, kind_kept, kept_made, NoNumbers, no_number_row, numbers_range}
 use Rattle.pd_doc.proofs.CountLaws.{depth_of, TakesAs, last_entry, level_sound, level_wires, IsGood, AreShallow, shallow_length, good_grows, box_good, wire_good, close_good, Keeps, OfFirst, change_good, of_first, keeps_last}
 
 made_grows : (names names' : Names) (ps : List Piece) (l : List Atom) → IsTable names → Made names names' ps l → Grows names names'
@@ -205,7 +204,7 @@ listbox_is : (n : ℕ) (names : Names) (x : Shape) (names' : Names) → IsTable 
 listbox_is n names x names' table h =
     let o = interned names (codes "listbox") in
     let a = bind_ok (outcome_in n o) as_other (x, names') h in
-    let q = number_of_outcome n o.names o.answer a.0.0 a.0.1 a.1 in
+    let q = outcome_of n o.names o.answer a.0.0 a.0.1 a.1 in
     let i : Interned names a.0.1 (codes "listbox") a.0.0 = subst (λ m. Interned names m (codes "listbox") a.0.0) q.1 (interned_is names (codes "listbox") a.0.0 table (omega arith) q.0) in
     let made : Shape × Names = (Other a.0.0, a.0.1) in
     subst (λ (p : Shape × Names). FormIs names p.1 word.ListBox p.0) (ok_is made (x, names') a.2) (record {

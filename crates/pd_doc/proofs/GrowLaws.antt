@@ -1,18 +1,15 @@
 -- What is proper in a table is proper in one that goes on where it ends.
-use Rattle.std.proofs.Common.{◌≡◌, ℕ, ◌<◌, ◌≤◌, Bool, true, false, List, [], ◌∷◌, refl, sym, ap, ◌∙◌, subst, arith}
-use Rattle.std.specs.Prelude.{codes}
+use Rattle.std.proofs.Common.{◌≡◌, List, [], ◌∷◌, refl, ap, ◌∙◌}
 use Rattle.std.specs.List.{AllByRecursion}
-use Rattle.pd_atom.specs.Names.{Names, IsTable, Extends, name_of}
+use Rattle.pd_atom.specs.Names.{Names, IsTable, Extends}
 use Rattle.pd_atom.specs.Atoms.{IsOf, spelled}
-use Rattle.pd_atom.specs.Tokens.{IsSettled}
 use Rattle.pd_atom.specs.declared.Atom.{Atom}
 use Rattle.pd_atom.specs.declared.Atom.TheVariants.{Number, Symbol, Dollar, DollarSymbol, Comma, Semi}
-use Rattle.pd_atom.proofs.LawLemmas.{settled_extended}
-use Rattle.pd_canvas.specs.Pages.{Shape, Obj, Msg, Comment, FloatBox, SymbolBox, Sub, Array, Other, Head, Frame, Boxes, End, Box, Page, Entry, frame_of}
+use Rattle.pd_atom.proofs.LawLemmas.{of_extended, settled_extended}
+use Rattle.pd_canvas.specs.Pages.{Shape, Obj, Msg, Comment, FloatBox, SymbolBox, Sub, Array, Other, Head, Frame, Boxes, End, Box, Entry, frame_of}
 use Rattle.pd_canvas.specs.Proper.{IsReady, AreReady, IsText, IsKept, is_record_word, FitsForm, IsHead, IsFrame, AreBoxes, IsSmall}
 use Rattle.pd_canvas.proofs.SoundLemmas.{IsEntry}
 use Rattle.pd_doc.specs.States.{Level}
-use Rattle.pd_doc.proofs.AtomLaws.{of_extended}
 use Rattle.pd_doc.proofs.ResultLemmas.{extends_same, extends_on}
 use Rattle.pd_doc.proofs.ReadyLaws.{name_extended, below_extended}
 
@@ -31,7 +28,7 @@ grows_on a b c f g = record { extends = extends_on a b c f.extends g.extends; be
 -- ---- atoms
 
 ready_grows : (old new : Names) → Grows old new → (a : Atom) → IsReady old a → IsReady new a
-ready_grows old new g a h = (of_extended old new g.extends a h.0, settled_extended old new a g.extends g.before g.after h.0 h.1)
+ready_grows old new g a h = (of_extended old new a g.extends h.0, settled_extended old new a g.extends g.before g.after h.0 h.1)
 
 pub are_ready_grows : (old new : Names) → Grows old new → (l : List Atom) → AreReady old l → AreReady new l
 are_ready_grows old new g [] h = tt

@@ -8,7 +8,6 @@ pub mod Known
 pub mod TextLemmas
 pub mod RecordLaws
 pub mod AtomLaws
-pub mod StepLaws
 pub mod ElementLaws
 pub mod NameLaws
 pub mod TreeLaws
@@ -19,3 +18,4 @@ pub mod GrowLaws
 pub mod CountLaws
 pub mod FieldLaws
 pub mod GoodLaws
+pub mod ProperLaws

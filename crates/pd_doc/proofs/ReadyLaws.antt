@@ -1,5 +1,5 @@
 -- Atoms that are read are ready, and what their tokens say of them.
-use Rattle.std.proofs.Common.{◌≡◌, ℕ, suc, ◌+◌, ◌<◌, ◌≤◌, Bool, true, false, ◌||◌, not, List, [], ◌∷◌, ◌++◌, length, length-append, refl, sym, ap, ◌∙◌, subst, arith, Option, Some, None, Result, Ok, Err, ◌⊎◌, inl, inr}
+use Rattle.std.proofs.Common.{◌≡◌, ℕ, suc, ◌<◌, ◌≤◌, Bool, true, false, ◌||◌, not, List, [], ◌∷◌, ◌++◌, length, length-append, refl, sym, ap, ◌∙◌, subst, arith, Option, Some, None, Result, Ok, Err, ◌⊎◌, inl, inr}
 use Rattle.std.specs.Prelude.{position, bytes_eq, option_map, nat_lt, ℤ, codes, is_some}
 use Rattle.std.specs.List.{AllByRecursion, list_any}
 use Rattle.std.proofs.lemmas.Bool.Decides.{nat_tests}
@@ -9,7 +9,7 @@ use Rattle.pd_num.specs.Reading.{number_at, numeral_at, exponent_at}
 use Rattle.pd_num.specs.Scale.{millionths, IsInRange}
 use Rattle.pd_lex.specs.Text.{Piece}
 use Rattle.pd_atom.specs.Names.{Names, IsTable, Extends, Outcome, given, refused, interned, name_of, answer_map, outcome_map}
-use Rattle.pd_atom.specs.Atoms.{IsOf, HoldsNumber, spelled}
+use Rattle.pd_atom.specs.Atoms.{spelled}
 use Rattle.pd_atom.specs.Tokens.{atom_read, nameless, named, is_mark, or_else, dollar_at, has_argument, IsSettled}
 use Rattle.pd_atom.specs.declared.SymbolRefusal.{SymbolRefusal}
 use Rattle.pd_atom.specs.declared.Atom.{Atom}
@@ -19,9 +19,8 @@ use Rattle.pd_atom.proofs.TokenLemmas.{by_option, atom_read_some, atom_read_none
 use Rattle.pd_canvas.specs.Edits.{is_pd}
 use Rattle.pd_canvas.specs.Arrays.{is_name as is_name_atom, is_number as is_number_atom}
 use Rattle.pd_canvas.specs.Proper.{IsReady, AreReady, IsText, is_record_word, record_words}
-use Rattle.pd_doc.specs.declared.refusal.DocRefusal.{DocRefusal}
 use Rattle.pd_doc.specs.Pieces.{is_long, bytes_of, spells, number_of}
-use Rattle.pd_doc.specs.Results.{◌>>=◌, refuse_if, outcome_in}
+use Rattle.pd_doc.specs.Results.{◌>>=◌}
 use Rattle.pd_doc.specs.Fields.{atom_of, atom_from, atoms_of, is_name}
 use Rattle.pd_doc.specs.Records.{is_much}
 use Rattle.pd_doc.proofs.ResultLemmas.{extends_same, extends_on}

@@ -25,3 +25,12 @@ pub fn read_proper()
     ensures table { (names names' : Names) (p : Page) (text : List ℕ) → IsTable names → document_of names text ≡ Ok (p, names') →
         IsTable names' }
 {}
+
+/// Reading, writing and reading again gives the same document and the same table.
+pub fn read_again()
+    ensures { (names names' : Names) (p : Page) (text : List ℕ) → IsTable names → document_of names text ≡ Ok (p, names') →
+        document_of names' (text_of names' p) ≡ Ok (p, names') }
+{
+    read_proper();
+    written_read();
+}
