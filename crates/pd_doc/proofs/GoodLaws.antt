@@ -47,6 +47,12 @@ use Rattle.pd_doc.proofs.CountLaws.{depth_of, TakesAs, last_entry, level_sound, 
 made_grows : (names names' : Names) (ps : List Piece) (l : List Atom) → IsTable names → Made names names' ps l → Grows names names'
 made_grows names names' ps l table m = record { extends = m.extends; before = table; after = m.table }
 
+abbrev reading_ok : State × Names → Reading
+reading_ok s = Ok s
+
+good_ok : (s t : State × Names) → reading_ok s ≡ reading_ok t → IsGood s → IsGood t
+good_ok s t e h = subst IsGood (ok_is s t e) h
+
 some_open : (n : ℕ) → (n == 0) ≡ false → 1 ≤ n
 some_open n h = grind (arith, nat_tests)
 
@@ -93,7 +99,7 @@ kept_good f s names n ps t g h k =
     let names' = c.0.1 in
     let m = atoms_made n names ps c.0.0 names' k.table c.1 in
     let grown = good_grows s names names' (made_grows names names' ps c.0.0 k.table m) k in
-    subst IsGood (ok_is (changed (f c.0.0) s, names') t c.2)
+    good_ok (changed (f c.0.0) s, names') t c.2
     (change_good names' (f c.0.0) s grown
     (of_first (IsLevel names') (Keeps names' (f c.0.0)) s.levels (λ l i. g names' c.0.0 l m.table m.stand a.0 i) grown.levels))
 
@@ -109,7 +115,7 @@ opening_good s names n ps t h k =
     let c = bind_ok (atoms_of n names ps) last t b.1 in
     let names' = c.0.1 in
     let m = atoms_made n names ps c.0.0 names' k.table c.1 in
-    subst IsGood (ok_is (opened (new_level n c.0.0) s, names') t c.2) (record {
+    good_ok (opened (new_level n c.0.0) s, names') t c.2 (record {
       table = m.table;
       levels = (
         record { header = text_made names' ps c.0.0 m.table m.stand a.0; kept = tt; entries = tt; small = tt; coords = tt },
@@ -130,7 +136,7 @@ connect_good s names n ps t h k =
     let done : Reading = Ok (one_wire_more a.0 s, names) in
     let b = allowed (is_none_open s) (BadRecord n) (refuse_if (nat_le 65536 s.wires) (TooManyWires n) >>= (λ _. done)) t a.2 in
     let c = allowed (nat_le 65536 s.wires) (TooManyWires n) done t b.1 in
-    subst IsGood (ok_is (one_wire_more a.0 s, names) t c.1)
+    good_ok (one_wire_more a.0 s, names) t c.1
     (wire_good names a.0 s k (wire_small ps a.0 (some_wire (wire_of ps) (BadRecord n) a.0 a.1)) (some_open (length s.levels) b.0) (below 65536 s.wires c.0))
 
 -- ---- elements
@@ -286,7 +292,7 @@ element_good w s names n ps t h k =
     let is : IsEntry names' entry = new_entry e.0.1 w is_new e.0.0 names b.0 g.0.0 width text f.grows.after f names' grown m.stand refl at.0 at.1
     (text_made names' text g.0.0 m.table m.stand a.0) (width_is (drop 2 ps)) in
     let sizes = new_sizes is_new e.0.0 b.0 g.0.0 width s c.0 f.flat k.shallow in
-    subst IsGood (ok_is (one_box_more entry s, names') t g.2)
+    good_ok (one_box_more entry s, names') t g.2
     (more_good names' entry s i is room sizes)
 
 closing_good : (s : State) (names : Names) (n : ℕ) (ps : List Piece) (t : State × Names) → closing s names n ps ≡ Ok t → IsGood (s, names) → IsGood t
@@ -308,7 +314,7 @@ closing_good s names n ps t h k =
     let at = position_range n ps b.0 b.1 in
     let room = room_is s n d.0 d.1 in
     let entry = page_entry (first_page s.levels) b.0 e.0.0 width in
-    subst IsGood (ok_is (one_box_more entry (closed s), names') t e.2)
+    good_ok (one_box_more entry (closed s), names') t e.2
     (close_good names' s b.0 e.0.0 width grown (at_least (length s.levels) 2 c.0) room.few at.0 at.1 (text_made names' text e.0.0 m.table m.stand a.0) (width_is (drop 2 ps)))
 
 zero_range : IsInRange millionths (pos 0)
@@ -346,8 +352,8 @@ array_good s names n ps t h k =
       frame = empty_frame names';
       boxes = tt;
     } in
-    let sizes : IsNew entry (length s.levels) = record { weight = refl; wires = refl; depth = omega (arith, shallow_length s.levels k.shallow) } in
-    subst IsGood (ok_is (one_box_more entry s, names') t d.2) (more_good names' entry s grown is room sizes)
+    let sizes : IsNew entry (length s.levels) = new_sizes false (Array (zeros b.0)) (pos 0, pos 0) d.0.0 None s refl refl k.shallow in
+    good_ok (one_box_more entry s, names') t d.2 (more_good names' entry s grown is room sizes)
 
 -- ---- rows
 
@@ -519,7 +525,7 @@ row_behind_good (Some e) s names n ps t q h k =
     let r = row_is e names n ps a.0 k.table a.1 i in
     let names' = a.0.1 in
     let grown = good_grows s names names' r.grows k in
-    subst IsGood (ok_is (with_last a.0.0 s, names') t a.2)
+    good_ok (with_last a.0.0 s, names') t a.2
     (change_good names' (λ l. with_boxes (in_last a.0.0 l.boxes) l) s grown (first_last names' s.levels a.0.0 e grown.levels q r.entry r.takes))
 
 row_good : (s : State) (names : Names) (n : ℕ) (ps : List Piece) (t : State × Names) → row s names n ps ≡ Ok t → IsGood (s, names) → IsGood t
@@ -543,13 +549,13 @@ kind_good kind.Row s names n ps t q h k = row_good s names n (drop 1 ps) t h k
 kind_good kind.Other s names n ps t q h k = absurd (cc)
 
 any_good : (s : State × Names) (n : ℕ) (ps : List Piece) (t : State × Names) → any_record s n ps ≡ Ok t → IsGood s → IsGood t
-any_good s n [] t h k = subst IsGood (ok_is s t h) k
+any_good s n [] t h k = good_ok s t h k
 any_good s n (p ∷ ps) t h k =
     kind_good (kind_of (p ∷ ps)) s.0 s.1 n (p ∷ ps) t refl
     (past (list_any is_long (p ∷ ps)) (TooLong n) (by_kind (kind_of (p ∷ ps)) s.0 s.1 n (p ∷ ps)) t h) k
 
 run_good : (s : State × Names) (n : ℕ) (rs : List (List Piece)) (t : State × Names) → run s n rs ≡ Ok t → IsGood s → IsGood t
-run_good s n [] t h k = subst IsGood (ok_is s t (sym (run-end s n) ∙ h)) k
+run_good s n [] t h k = good_ok s t (sym (run-end s n) ∙ h) k
 run_good s n (r ∷ rs) t h k =
     let a = bind_ok (any_record s (n + 1) r) (λ u. run u (n + 1) rs) t (sym (run-record s n r rs) ∙ h) in
     run_good a.0 (n + 1) rs t a.2 (any_good s (n + 1) r a.0 a.1 k)
