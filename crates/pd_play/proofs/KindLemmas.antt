@@ -1,6 +1,6 @@
 -- What the boxes of a page are in the flat form.
 use Rattle.std.proofs.Common.{◌≡◌, ℕ, Bool, true, false, List, ◌∷◌, [], map, Option, Some, None, refl, ap, sym, ◌∙◌, subst, if◌then◌else◌}
-use Rattle.std.specs.Prelude.{slice_get, option_map, option_and_then, bytes_eq, is_none, codes}
+use Rattle.std.specs.Prelude.{slice_get, option_map, option_and_then, bytes_eq, codes}
 use Rattle.std.specs.List.{All, AllByRecursion, list_all}
 use Rattle.std.proofs.lemmas.Option.{slice_get-map}
 use Rattle.pd_atom.specs.Names.{Names, name_of}
@@ -11,7 +11,7 @@ use Rattle.pd_canvas.specs.declared.tree.Element.{Element}
 use Rattle.pd_canvas.specs.Pages.{Shape, Obj, Msg, Comment, FloatBox, SymbolBox, Sub, Array, Other, Page, Entry, elements_of}
 use Rattle.pd_canvas.specs.Views.{entry_of}
 use Rattle.pd_doc.specs.Atoms.{AreOf, PageOf}
-use Rattle.pd_play.specs.Flat.{Kind, Loadbang, Print, Message, named, object_kind, is_plain, message_kind, kind_by, kind_of, kind_at}
+use Rattle.pd_play.specs.Flat.{Loadbang, Print, Message, object_kind, is_plain, kind_by, kind_of, kind_at}
 use Rattle.pd_play.proofs.TableLemmas.{IsTextOf, page_texts, at_place, all_of}
 
 -- the box of a number, by the elements that the code has

@@ -1,5 +1,5 @@
 -- How the steps of a run make the run.
-use Rattle.std.proofs.Common.{◌≡◌, ◌≤◌, ℕ, suc, Bool, true, false, List, [], length, replicate, Option, Some, None, Result, Ok, Err, refl, ap, sym, ◌∙◌, subst, inl, inr, arith, if◌then◌else◌}
+use Rattle.std.proofs.Common.{◌≡◌, ℕ, suc, Bool, true, false, List, [], length, replicate, Option, Some, None, Result, Err, refl, ap, sym, ◌∙◌, subst, inl, inr, arith, if◌then◌else◌}
 use Rattle.std.specs.Prelude.{IfSome, nat_le}
 use Rattle.std.proofs.lemmas.Bool.Decides.{nat_tests}
 use Rattle.std.proofs.lemmas.List.{length-replicate}
@@ -23,11 +23,6 @@ whole e = cc
 
 roomless : NoRoom ≡ FolderFailed → ⊥
 roomless e = cc
-
-unnamed : (holds : Option (List FileRow)) (n : Option (List ℕ)) → None ≡ n → Run.IsHeld holds n None
-unnamed None n e = tt
-unnamed (Some rows) None e = tt
-unnamed (Some rows) (Some name) e = absurd cc
 
 by_size : (b : Bool) (bytes text : List ℕ) → Found ≡ (if b then Found else TooLong) → text ≡ (if b then bytes else []) → Some bytes ≡ Some text
 by_size true bytes text e t = ap (λ x. Some x) (sym t)
@@ -109,18 +104,6 @@ opens_read name text holds r fb fn a b is =
       | inl e ↦ opens_found name text holds (patch_seen r) fb fn a b e
       | inr e ↦ subst (λ x. Opens name holds (patch_seen x) fb fn) (sym e) (opens_no_room name holds fb fn)
     ]
-
--- the words aren't those of the command
-pub plays_usage : (words : List (List ℕ)) (holds : Option (List FileRow)) (st : Status) (old new : Option (List ℕ)) (lb ln fb fn : ℕ) →
-    None ≡ patch_of words → Answers (told [] status.Usage) st old new lb ln → Plays words holds st old new lb ln fb fn
-plays_usage words holds st old new lb ln fb fn e a =
-    record {
-      file = None;
-      held = unnamed holds (patch_of words) e;
-      course = Whole;
-      failed = λ e. absurd (whole e);
-      answers = subst (λ n. Answers (outcome_of n Whole None) st old new lb ln) e a;
-    }
 
 -- the patch of the words was run
 pub plays_run : (words : List (List ℕ)) (name : List ℕ) (holds : Option (List FileRow)) (st : Status) (old new : Option (List ℕ)) (lb ln fb fn : ℕ) →

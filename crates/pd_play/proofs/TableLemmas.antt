@@ -1,9 +1,7 @@
 -- The texts of a document's boxes are of its table.
-use Rattle.std.proofs.Common.{◌≡◌, ◌<◌, ◌∷◌, [], ℕ, zero, suc, List, length, get_or, map, Option, Some, subst, sym, ap, ◌∙◌, arith, refl}
+use Rattle.std.proofs.Common.{◌≡◌, ◌<◌, ◌∷◌, [], ℕ, zero, suc, List, length, get_or, map, Some, subst, sym, ap, ◌∙◌, arith, refl}
 use Rattle.std.specs.List.{All, AllByRecursion, slice_get}
 use Rattle.pd_atom.specs.Names.{Names}
-use Rattle.pd_atom.specs.Atoms.{IsOf}
-use Rattle.pd_atom.specs.declared.Atom.{Atom}
 use Rattle.pd_canvas.specs.declared.tree.Element.{Element}
 use Rattle.pd_canvas.specs.declared.tree.Canvas.TheInside.{Inside}
 use Rattle.pd_canvas.specs.Pages.{Boxes, End, Box, Page, Entry, listed, boxed, elements_of}

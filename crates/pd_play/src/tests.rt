@@ -369,8 +369,22 @@ fn limits(rt: HostRuntime) -> Result<(), Fail> {
     let alloc = rt.alloc();
     let head = b"#N canvas 0 0 1 1 12;";
     let long_record = b"error: main.pd: record 4: too long\n";
-    assert!(rt; plays(alloc, &repeated(alloc, HEAD, b" 1", 1_025, TAIL)?, long_record, 4)?);
-    assert!(rt; plays(alloc, &repeated(alloc, HEAD, b"x", 256, TAIL)?, long_record, 4)?);
+    assert!(rt;
+        plays(
+            alloc,
+            &repeated(alloc, HEAD, b" 1", 1_025, TAIL)?,
+            long_record,
+            4
+        )?
+    );
+    assert!(rt;
+        plays(
+            alloc,
+            &repeated(alloc, HEAD, b"x", 256, TAIL)?,
+            long_record,
+            4
+        )?
+    );
     let limits: [(&[u8], usize, &[u8]); 3] = [
         (
             b"#N canvas 0 0 1 1 a 0;",
