@@ -1,0 +1,42 @@
+//! The benchmarks by name.
+
+use crate::clocks;
+use anyhow::Result;
+use std::time::CpuClock;
+
+pub(crate) const USAGE: &str =
+    "usage: pd_bench clocks OWNERS FIRINGS | wires COUNT";
+
+/// What a benchmark uses of the runtime.
+pub(crate) trait Measures: AllocGlobal + CpuClock + Print {}
+
+impl<R: AllocGlobal + CpuClock + Print> Measures for R {}
+
+/// A benchmark and its sizes.
+#[derive(Clone, Copy)]
+pub(crate) enum Benchmark {
+    Clocks { owners: u32, firings: u32 },
+}
+
+/// A size that isn't 0.
+fn size(word: &str) -> Option<u32> {
+    word.parse().ok().filter(|size| *size > 0)
+}
+
+impl Benchmark {
+    pub(crate) fn of_words(words: &[String]) -> Option<Benchmark> {
+        match words {
+            [name, owners, firings] if name.as_str() == "clocks" => Some(Benchmark::Clocks {
+                owners: size(owners.as_str())?,
+                firings: size(firings.as_str())?,
+            }),
+            _ => None,
+        }
+    }
+
+    pub(crate) fn run<R: Measures>(self, rt: &R) -> Result<()> {
+        match self {
+            Benchmark::Clocks { owners, firings } => clocks::run(rt, owners, firings),
+        }
+    }
+}
