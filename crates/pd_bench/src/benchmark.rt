@@ -1,6 +1,6 @@
 //! The benchmarks by name.
 
-use crate::clocks;
+use crate::{clocks, wires};
 use anyhow::Result;
 use std::time::CpuClock;
 
@@ -16,6 +16,7 @@ impl<R: AllocGlobal + CpuClock + Print> Measures for R {}
 #[derive(Clone, Copy)]
 pub(crate) enum Benchmark {
     Clocks { owners: u32, firings: u32 },
+    Wires { count: u32 },
 }
 
 /// A size that isn't 0.
@@ -30,6 +31,9 @@ impl Benchmark {
                 owners: size(owners.as_str())?,
                 firings: size(firings.as_str())?,
             }),
+            [name, count] if name.as_str() == "wires" => Some(Benchmark::Wires {
+                count: size(count.as_str())?,
+            }),
             _ => None,
         }
     }
@@ -37,6 +41,7 @@ impl Benchmark {
     pub(crate) fn run<R: Measures>(self, rt: &R) -> Result<()> {
         match self {
             Benchmark::Clocks { owners, firings } => clocks::run(rt, owners, firings),
+            Benchmark::Wires { count } => wires::run(rt, count),
         }
     }
 }

@@ -7,6 +7,7 @@
 mod benchmark;
 mod clocks;
 mod timing;
+mod wires;
 
 use anyhow::Result;
 use benchmark::{Benchmark, Measures};
