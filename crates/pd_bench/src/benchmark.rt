@@ -1,11 +1,11 @@
 //! The benchmarks by name.
 
-use crate::{clocks, wires};
+use crate::{clocks, document, wires};
 use anyhow::Result;
 use std::time::CpuClock;
 
 pub(crate) const USAGE: &str =
-    "usage: pd_bench clocks OWNERS FIRINGS | wires COUNT";
+    "usage: pd_bench document BYTES | clocks OWNERS FIRINGS | wires COUNT";
 
 /// What a benchmark uses of the runtime.
 pub(crate) trait Measures: AllocGlobal + CpuClock + Print {}
@@ -15,6 +15,7 @@ impl<R: AllocGlobal + CpuClock + Print> Measures for R {}
 /// A benchmark and its sizes.
 #[derive(Clone, Copy)]
 pub(crate) enum Benchmark {
+    Document { bytes: u32 },
     Clocks { owners: u32, firings: u32 },
     Wires { count: u32 },
 }
@@ -31,6 +32,9 @@ impl Benchmark {
                 owners: size(owners.as_str())?,
                 firings: size(firings.as_str())?,
             }),
+            [name, bytes] if name.as_str() == "document" => Some(Benchmark::Document {
+                bytes: size(bytes.as_str())?,
+            }),
             [name, count] if name.as_str() == "wires" => Some(Benchmark::Wires {
                 count: size(count.as_str())?,
             }),
@@ -41,6 +45,7 @@ impl Benchmark {
     pub(crate) fn run<R: Measures>(self, rt: &R) -> Result<()> {
         match self {
             Benchmark::Clocks { owners, firings } => clocks::run(rt, owners, firings),
+            Benchmark::Document { bytes } => document::run(rt, bytes),
             Benchmark::Wires { count } => wires::run(rt, count),
         }
     }

@@ -6,6 +6,7 @@
 
 mod benchmark;
 mod clocks;
+mod document;
 mod timing;
 mod wires;
 
