@@ -1,2 +1,5 @@
 mod ClockLemmas
 mod HeldLemmas
+mod NumberLemmas
+mod RowLemmas
+mod VoiceLemmas

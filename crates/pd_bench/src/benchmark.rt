@@ -1,11 +1,11 @@
 //! The benchmarks by name.
 
-use crate::{clocks, document, wires};
+use crate::{clocks, document, fold, mend, wires};
 use anyhow::Result;
 use std::time::CpuClock;
 
 pub(crate) const USAGE: &str =
-    "usage: pd_bench document BYTES | clocks OWNERS FIRINGS | wires COUNT";
+    "usage: pd_bench document BYTES | clocks OWNERS FIRINGS | wires COUNT | fold BOXES | mend BOXES";
 
 /// What a benchmark uses of the runtime.
 pub(crate) trait Measures: AllocGlobal + CpuClock + Print {}
@@ -18,6 +18,8 @@ pub(crate) enum Benchmark {
     Document { bytes: u32 },
     Clocks { owners: u32, firings: u32 },
     Wires { count: u32 },
+    Fold { boxes: u32 },
+    Mend { boxes: u32 },
 }
 
 /// A size that isn't 0.
@@ -38,6 +40,12 @@ impl Benchmark {
             [name, count] if name.as_str() == "wires" => Some(Benchmark::Wires {
                 count: size(count.as_str())?,
             }),
+            [name, boxes] if name.as_str() == "fold" => Some(Benchmark::Fold {
+                boxes: size(boxes.as_str())?,
+            }),
+            [name, boxes] if name.as_str() == "mend" => Some(Benchmark::Mend {
+                boxes: size(boxes.as_str())?,
+            }),
             _ => None,
         }
     }
@@ -47,6 +55,8 @@ impl Benchmark {
             Benchmark::Clocks { owners, firings } => clocks::run(rt, owners, firings),
             Benchmark::Document { bytes } => document::run(rt, bytes),
             Benchmark::Wires { count } => wires::run(rt, count),
+            Benchmark::Fold { boxes } => fold::run(rt, boxes),
+            Benchmark::Mend { boxes } => mend::run(rt, boxes),
         }
     }
 }

@@ -7,6 +7,9 @@
 mod benchmark;
 mod clocks;
 mod document;
+mod fold;
+mod mend;
+mod numbers;
 mod timing;
 mod wires;
 
