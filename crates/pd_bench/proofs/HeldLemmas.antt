@@ -1,7 +1,7 @@
 -- Ends and wires that stay live while others are made, added and cut.
-use Rattle.std.proofs.Common.{◌≡◌, ◌≢◌, ℕ, suc, zero, ◌+◌, ◌<◌, ◌≤◌, ◌==◌, Bool, true, false, cond, List, [], ◌∷◌, ◌++◌, length, get_or, Option, Some, None, IsSome, refl, sym, subst, ap, ◌∙◌, arith}
+use Rattle.std.proofs.Common.{◌≡◌, ℕ, ◌+◌, ◌<◌, ◌≤◌, ◌==◌, Bool, true, false, cond, List, [], ◌∷◌, ◌++◌, length, get_or, Option, Some, None, IsSome, sym, subst, arith}
 use Rattle.pd_order.specs.Graph.{tally}
-use Rattle.pd_order.proofs.Basics.{tally_at, by_test, same_node, same_test, other_node, zero_or, tally-append}
+use Rattle.pd_order.proofs.Basics.{tally_at, by_test, same_node, same_test, zero_or, tally-append}
 use Rattle.pd_wire.specs.Book.{Book, with_room, IsEnd, IsWire, Adds, Cuts, MakesEnd, wire_at}
 use Rattle.pd_wire.proofs.WireLemmas.{MakesEnd-lives, MakesEnd-kept, Adds-lives, Adds-kept, Cuts-kept}
 use Rattle.pd_bench.specs.Held.{AreLive}

@@ -1,10 +1,10 @@
 -- The numbers below a number, and how tests of numbers come out.
-use Rattle.std.proofs.Common.{◌≡◌, ℕ, zero, suc, ◌+◌, ◌<◌, ◌≤◌, ◌==◌, true, false, List, [], ◌∷◌, ◌++◌, refl, arith}
+use Rattle.std.proofs.Common.{◌≡◌, ℕ, zero, suc, ◌+◌, ◌<◌, ◌≤◌, ◌==◌, true, false, [], ◌∷◌, ◌++◌, arith}
 use Rattle.std.specs.Prelude.{nat_lt}
 use Rattle.std.proofs.lemmas.Bool.Decides.{nat_tests}
 use Rattle.pd_order.specs.Graph.{tally}
 use Rattle.pd_order.specs.Wired.{numbers_below}
-use Rattle.pd_order.proofs.Basics.{by_test, zero_or, same_node, other_node, tally-append}
+use Rattle.pd_order.proofs.Basics.{by_test, zero_or, same_node, tally-append}
 
 pub is_less : (i n : ℕ) → nat_lt i n ≡ true → i < n
 is_less i n h = grind (arith, nat_tests)

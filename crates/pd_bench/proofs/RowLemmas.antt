@@ -1,12 +1,12 @@
 -- The graph of rows is lawful.
-use Rattle.std.proofs.Common.{◌≡◌, ℕ, ◌+◌, ◌-◌, ◌<◌, ◌≤◌, ◌==◌, true, false, cond, List, [], ◌∷◌, ◌++◌, length, get_or, refl, sym, ◌∙◌, subst, arith}
+use Rattle.std.proofs.Common.{◌≡◌, ℕ, ◌+◌, ◌-◌, ◌<◌, ◌≤◌, ◌==◌, true, false, cond, List, [], ◌∷◌, ◌++◌, length, refl, arith}
 use Rattle.std.specs.Prelude.{nat_lt}
 use Rattle.pd_order.specs.Graph.{tally, IsLawful}
 use Rattle.pd_order.specs.Wired.{numbers_below}
 use Rattle.pd_order.proofs.Basics.{by_test, same_node, same_test, other_node, other_test, tally-append}
 use Rattle.pd_order.proofs.WiredLemmas.{nodes_below}
 use Rattle.pd_bench.specs.Rows.{back, forth, rows}
-use Rattle.pd_bench.proofs.NumberLemmas.{is_less, is_not_less, less_test, not_less_test, below_only, below_once}
+use Rattle.pd_bench.proofs.NumberLemmas.{is_less, is_not_less, less_test, below_only, below_once}
 
 -- box x is fed from step numbers before where that box feeds it
 stepped : (step n x u : ℕ) → tally u (back step n x) ≡ tally x (forth step n u)

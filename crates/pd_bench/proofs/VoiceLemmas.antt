@@ -9,7 +9,7 @@ use Rattle.std.proofs.Math.ListN.{get_or-append}
 use Rattle.std.proofs.lemmas.List.{get_or-append_right}
 use Rattle.pd_order.proofs.SameLemmas.{same_order}
 use Rattle.pd_bench.specs.Voices.{evens, outs, voice_at, onward, fed, voices}
-use Rattle.pd_bench.proofs.NumberLemmas.{is_less, is_not_less, less_test, not_less_test, below_only, below_once}
+use Rattle.pd_bench.proofs.NumberLemmas.{is_less, is_not_less, less_test, below_once}
 
 even_half : (u : ℕ) → (u % 2 == 0) ≡ true → u ≡ 2 * (u / 2)
 even_half u t = let e : u % 2 ≡ 0 = same_node (u % 2) 0 t in omega arith

@@ -1,4 +1,4 @@
-//! Texts that are read and written: how long each takes, for three kinds of text.
+//! Texts that are read and written: how long each takes, for four kinds of text.
 
 use crate::benchmark::Measures;
 use crate::timing::{Nanos, RUNS, Stopwatch};
@@ -9,10 +9,17 @@ use std::fmt::Write;
 
 /// How many atoms a message or a row has, and about how many bytes.
 const ATOMS: u32 = 1_000;
-const LINE: u32 = 7_000;
+
+const LINE: u32 = 7_400;
+
+/// How many names the words of messages are among: few, and nearly as many as a table holds.
+const FEW_NAMES: u32 = 1_000;
+
+const MANY_NAMES: u32 = 60_000;
 
 /// How many objects and how many wires a document may have.
 const OBJECTS: u32 = 16_384;
+
 const WIRES: u32 = 65_536;
 
 /// The greatest number of bytes of a text that is read.
@@ -20,11 +27,11 @@ const MOST: usize = 1 << 30;
 
 const CANVAS: &str = "#N canvas 0 50 450 300 12;\n";
 
-/// A message of numbers and words in turn.
-fn push_message(text: &mut String, number: u32) -> Result<(), AllocError> {
+/// A message of numbers and words in turn, the words among so many.
+fn push_message(text: &mut String, number: u32, names: u32) -> Result<(), AllocError> {
     text.push_str("#X msg 10 40")?;
     for atom in 0..ATOMS / 2 {
-        let word = number.wrapping_mul(7).wrapping_add(atom) % 1_000;
+        let word = number.wrapping_mul(ATOMS / 2).wrapping_add(atom) % names.max(1);
         write!(text, " {atom}.5 name-{word}")?;
     }
     text.push_str(";\n")
@@ -36,10 +43,10 @@ fn lines(bytes: u32) -> u32 {
 }
 
 /// Messages, in about so many bytes.
-fn messages(alloc: Global, bytes: u32) -> Result<String, AllocError> {
+fn messages(alloc: Global, bytes: u32, names: u32) -> Result<String, AllocError> {
     let mut text = String::from_str(alloc, CANVAS)?;
     for number in 0..lines(bytes) {
-        push_message(&mut text, number)?;
+        push_message(&mut text, number, names)?;
     }
     Ok(text)
 }
@@ -108,7 +115,12 @@ fn measure<R: Measures>(rt: &R, text: &str) -> Result<Times> {
 fn push_speed(line: &mut String, what: &str, time: Nanos, bytes: usize) -> Result<(), AllocError> {
     let tenths = time.each(bytes as u64 / 10);
     let speed = (bytes as u64).saturating_mul(1000) / time.0.max(1);
-    write!(line, ", {what} {time}, {speed} MB/s, {}.{} ns a byte", tenths / 10, tenths % 10)
+    write!(
+        line,
+        "{what} {time}, {speed} MB/s, {}.{} ns a byte",
+        tenths / 10,
+        tenths % 10
+    )
 }
 
 fn report<R: Measures>(rt: &R, kind: &str, text: &str) -> Result<()> {
@@ -121,8 +133,9 @@ fn report<R: Measures>(rt: &R, kind: &str, text: &str) -> Result<()> {
         };
     }
     let bytes = text.len();
-    let mut line = format!(in rt.alloc(); "document: {kind}, {bytes} bytes")?;
+    let mut line = format!(in rt.alloc(); "document: {kind}, {bytes} bytes: ")?;
     push_speed(&mut line, "read", least.read, bytes)?;
+    line.push_str(", ")?;
     push_speed(&mut line, "written", least.write, bytes)?;
     println!(rt; "{line}")?;
     Ok(())
@@ -130,7 +143,10 @@ fn report<R: Measures>(rt: &R, kind: &str, text: &str) -> Result<()> {
 
 pub(crate) fn run<R: Measures>(rt: &R, bytes: u32) -> Result<()> {
     let alloc = rt.alloc();
-    report(rt, "messages", messages(alloc, bytes)?.as_str())?;
+    let few = messages(alloc, bytes, FEW_NAMES)?;
+    report(rt, "messages", few.as_str())?;
+    let many = messages(alloc, bytes, MANY_NAMES)?;
+    report(rt, "many names", many.as_str())?;
     report(rt, "rows", rows(alloc, bytes)?.as_str())?;
     report(rt, "boxes", boxes(alloc)?.as_str())
 }

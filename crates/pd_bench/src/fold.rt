@@ -112,6 +112,8 @@ pub(crate) fn run<R: Measures>(rt: &R, boxes: u32) -> Result<()> {
     }
     let fold = Nanos(least.each(u64::from(FOLDS)));
     let each = fold.each(u64::from(boxes));
-    println!(rt; "fold: {boxes} boxes: {fold} a fold, {each} ns a box ({listed} boxes in the chain)")?;
+    println!(rt;
+        "fold: {boxes} boxes: {fold} a fold, {each} ns a box ({listed} boxes in the chain)"
+    )?;
     Ok(())
 }

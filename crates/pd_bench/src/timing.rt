@@ -1,8 +1,7 @@
 //! Processor time and how it is printed.
 
-use std::fmt;
-use std::io;
 use std::time::{CpuClock, Duration};
+use std::{fmt, io};
 
 /// How often each figure is measured.
 pub(crate) const RUNS: u32 = 5;

@@ -1,4 +1,4 @@
-use Rattle.std.proofs.Common.{◌≡◌, ℕ, ◌+◌, ◌*◌, length, ap, sym, ◌∙◌, arith}
+use Rattle.std.proofs.Common.{◌≡◌, ◌+◌, ◌*◌, length, ap, sym, ◌∙◌, arith}
 use Rattle.pd_order.specs.Graph.{tally}
 use Rattle.pd_order.specs.Spots.{nodes_of}
 use Rattle.pd_order.proofs.MendLemmas.{order_nodes}

@@ -1,4 +1,4 @@
-use Rattle.std.proofs.Common.{ℕ, ◌<◌, List, [], ◌∷◌, sym, subst, refl, arith}
+use Rattle.std.proofs.Common.{ℕ, ◌<◌, List, sym, subst}
 use Rattle.pd_order.specs.Graph.{tally}
 use Rattle.pd_bench.proofs.HeldLemmas.{pushed_there, live_cut}
 use Rattle.pd_bench.proofs.wires.Board.cut.Goals as goal
