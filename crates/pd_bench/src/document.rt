@@ -7,10 +7,14 @@ use pd_atom::Symbols;
 use std::alloc::{AllocError, Global};
 use std::fmt::Write;
 
-/// How many atoms a message or a row has, and about how many bytes.
+/// How many atoms a message or a row has.
 const ATOMS: u32 = 1_000;
 
-const LINE: u32 = 7_400;
+/// A message has no more bytes.
+const MESSAGE: usize = 9_000;
+
+/// A row has about so many bytes.
+const ROW: u32 = 7_000;
 
 /// How many names the words of messages are among: few, and nearly as many as a table holds.
 const FEW_NAMES: u32 = 1_000;
@@ -37,15 +41,13 @@ fn push_message(text: &mut String, number: u32, names: u32) -> Result<(), AllocE
     text.push_str(";\n")
 }
 
-/// How many lines of numbers come to so many bytes.
-fn lines(bytes: u32) -> u32 {
-    (bytes / LINE).clamp(1, OBJECTS)
-}
-
-/// Messages, in about so many bytes.
+/// Messages, in about so many bytes and no more.
 fn messages(alloc: Global, bytes: u32, names: u32) -> Result<String, AllocError> {
     let mut text = String::from_str(alloc, CANVAS)?;
-    for number in 0..lines(bytes) {
+    for number in 0..OBJECTS {
+        if text.len().saturating_add(MESSAGE) > bytes as usize {
+            break;
+        }
         push_message(&mut text, number, names)?;
     }
     Ok(text)
@@ -63,7 +65,7 @@ fn push_row(text: &mut String, place: u32) -> Result<(), AllocError> {
 /// An array and its rows, in about so many bytes.
 fn rows(alloc: Global, bytes: u32) -> Result<String, AllocError> {
     let mut text = String::from_str(alloc, CANVAS)?;
-    let rows = lines(bytes);
+    let rows = (bytes / ROW).clamp(1, OBJECTS);
     let values = u64::from(rows) * u64::from(ATOMS);
     writeln!(text, "#X array wave {values} float 3;")?;
     for row in 0..rows {
