@@ -1,5 +1,5 @@
 -- The graph of rows is lawful.
-use Rattle.std.proofs.Common.{◌≡◌, ℕ, ◌+◌, ◌-◌, ◌<◌, ◌≤◌, ◌==◌, true, false, cond, List, [], ◌∷◌, ◌++◌, length, refl, arith}
+use Rattle.std.proofs.Common.{◌≡◌, ℕ, ◌+◌, ◌-◌, ◌<◌, ◌≤◌, ◌==◌, true, false, cond, List, [], ◌∷◌, ◌++◌, length, length-append, refl, arith}
 use Rattle.std.specs.Prelude.{nat_lt}
 use Rattle.pd_order.specs.Graph.{tally, IsLawful}
 use Rattle.pd_order.specs.Wired.{numbers_below}
@@ -61,10 +61,6 @@ back_few step n x = by_test (nat_lt x step)
     (λ a. rw a (omega arith))
     (λ a. by_test (nat_lt x n) (λ d. rw (a, d) (omega arith)) (λ d. rw (a, d) (omega arith)))
 
-length-join : (xs ys : List ℕ) → length (xs ++ ys) ≡ length xs + length ys
-length-join [] ys = omega arith
-length-join (x ∷ xs) ys = let e : length (xs ++ ys) ≡ length xs + length ys = length-join xs ys in omega arith
-
 pub rows_lawful : (n : ℕ) (ns : List ℕ) → ((x : ℕ) → tally x ns ≡ tally x (numbers_below n)) → IsLawful (rows n) ns
 rows_lawful n ns e = record {
   once = λ x. let o : tally x (numbers_below n) ≤ 1 = below_once n x in let q : tally x ns ≡ tally x (numbers_below n) = e x in omega arith;
@@ -77,7 +73,7 @@ rows_lawful n ns e = record {
   sources = λ x u h. nodes_below n ns u e (within n x u h).1;
   sinks = λ x u h. nodes_below n ns x e (within n x u h).0;
   few = λ x.
-      let a : length (back 8 n x ++ back 9 n x) ≡ length (back 8 n x) + length (back 9 n x) = length-join (back 8 n x) (back 9 n x) in
+      let a : length (back 8 n x ++ back 9 n x) ≡ length (back 8 n x) + length (back 9 n x) = length-append (back 8 n x) (back 9 n x) in
       let b : length (back 8 n x) ≤ 1 = back_few 8 n x in
       let c : length (back 9 n x) ≤ 1 = back_few 9 n x in omega arith;
 }

@@ -1,5 +1,5 @@
 -- The graph of voices is lawful.
-use Rattle.std.proofs.Common.{◌≡◌, ℕ, zero, suc, ◌+◌, ◌-◌, ◌*◌, ◌/◌, ◌%◌, ◌<◌, ◌≤◌, ◌==◌, true, false, cond, List, [], ◌∷◌, ◌++◌, length, get_or, refl, sym, ◌∙◌, subst, arith}
+use Rattle.std.proofs.Common.{◌≡◌, ℕ, zero, suc, ◌+◌, ◌-◌, ◌*◌, ◌/◌, ◌%◌, ◌<◌, ◌≤◌, ◌==◌, true, false, cond, List, [], ◌∷◌, length, length-append, get_or, refl, sym, ◌∙◌, subst, arith}
 use Rattle.std.specs.Prelude.{nat_lt}
 use Rattle.pd_order.specs.Graph.{tally, take_out, IsLawful, IsOrder, cut_wire, add_wire}
 use Rattle.pd_order.specs.Wired.{numbers_below}
@@ -151,13 +151,9 @@ length-evens : (i k : ℕ) → length (evens i k) ≡ k
 length-evens i zero = refl
 length-evens i (suc k) = let e : length (evens (suc i) k) ≡ k = length-evens (suc i) k in omega arith
 
-length-join : (xs ys : List ℕ) → length (xs ++ ys) ≡ length xs + length ys
-length-join [] ys = omega arith
-length-join (x ∷ xs) ys = let e : length (xs ++ ys) ≡ length xs + length ys = length-join xs ys in omega arith
-
 pub length-outs : (cut n : ℕ) → length (outs cut n) ≡ (cut - 1) + (n - cut)
 length-outs cut n =
-    let a : length (outs cut n) ≡ length (evens 1 (cut - 1)) + length (evens (cut + 1) (n - cut)) = length-join (evens 1 (cut - 1)) (evens (cut + 1) (n - cut)) in
+    let a : length (outs cut n) ≡ length (evens 1 (cut - 1)) + length (evens (cut + 1) (n - cut)) = length-append (evens 1 (cut - 1)) (evens (cut + 1) (n - cut)) in
     let b : length (evens 1 (cut - 1)) ≡ cut - 1 = length-evens 1 (cut - 1) in
     let c : length (evens (cut + 1) (n - cut)) ≡ n - cut = length-evens (cut + 1) (n - cut) in omega arith
 
