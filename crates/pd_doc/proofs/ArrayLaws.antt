@@ -1,9 +1,9 @@
 -- Arrays that are written are read with their values.
-use Rattle.std.proofs.Common.{◌≡◌, ℕ, zero, suc, ◌+◌, ◌*◌, ◌-◌, ◌/◌, ◌<◌, ◌≤◌, Bool, true, false, ◌||◌, List, [], ◌∷◌, ◌++◌, length, map, take, drop, refl, sym, ap, ◌∙◌, subst, arith, ltb, max, Option, Some, None, Result, Ok, Err, min, length-append, length-drop, length-take, append_assoc, replicate}
+use Rattle.std.proofs.Common.{◌≡◌, ℕ, zero, suc, ◌+◌, ◌*◌, ◌/◌, ◌<◌, ◌≤◌, Bool, true, false, List, [], ◌∷◌, ◌++◌, length, map, take, drop, refl, sym, ap, ◌∙◌, subst, arith, ltb, Option, Some, None, Ok, Err, length-append, length-drop, length-take, append_assoc, replicate}
 use Rattle.std.specs.Prelude.{ℤ, pos, codes, if◌then◌else◌, ok_or, option_map}
-use Rattle.std.specs.List.{list_any, AllByRecursion}
+use Rattle.std.specs.List.{AllByRecursion}
 use Rattle.std.proofs.lemmas.Bool.Decides.{nat_tests}
-use Rattle.std.proofs.lemmas.List.{append-nil, take_all, take-append-drop}
+use Rattle.std.proofs.lemmas.List.{take_all, take-append-drop}
 use Rattle.std.proofs.Math.Seq.{drop-append_seam, take-append_seam}
 use Rattle.pd_num.specs.Scale.{millionths, IsInRange}
 use Rattle.pd_lex.specs.Text.{Piece}
@@ -12,21 +12,18 @@ use Rattle.pd_atom.specs.Names.{Names}
 use Rattle.pd_atom.specs.declared.Atom.{Atom}
 use Rattle.pd_atom.specs.declared.Atom.TheVariants.{Number, Symbol, Dollar, DollarSymbol, Semi}
 use Rattle.pd_atom.specs.declared.Atom.TheVariants as atom
-use Rattle.pd_canvas.specs.Pages.{Shape, Array, Head, Page, Entry, empty_page}
+use Rattle.pd_canvas.specs.Pages.{Shape, Array, Head, Entry, empty_page}
 use Rattle.pd_canvas.specs.Arrays.{size_of, is_saved, IsArray}
 use Rattle.pd_canvas.specs.Proper.{AreReady, IsText, IsHead, IsArrayHead}
-use Rattle.pd_doc.specs.declared.refusal.DocRefusal.{DocRefusal}
 use Rattle.pd_doc.specs.declared.refusal.DocRefusal.TheVariants.{BadRecord}
 use Rattle.pd_doc.specs.declared.kinds.Kind.TheVariants as kind
-use Rattle.pd_doc.specs.Pieces.{is_long, numbers_of, number_of}
+use Rattle.pd_doc.specs.Pieces.{numbers_of, number_of}
 use Rattle.pd_doc.specs.Kinds.{kind_of}
-use Rattle.pd_doc.specs.Fields.{size_in, array_size, is_name, starts_with_name}
-use Rattle.pd_doc.specs.States.{Level, State, with_boxes, with_head, with_form, with_values, placed, placed_in, overlaid}
-use Rattle.pd_doc.specs.Records.{is_large, plain_entry, zeros, array, row_of, row_with, values_of}
-use Rattle.pd_doc.specs.Reading.{any_record}
+use Rattle.pd_doc.specs.Fields.{size_in, array_size}
+use Rattle.pd_doc.specs.States.{Level, placed, overlaid}
+use Rattle.pd_doc.specs.Records.{is_large, zeros, row_of}
 use Rattle.pd_doc.specs.Writing.{atom_piece, atom_pieces, whole, array_row, runs, value_rows}
-use Rattle.pd_doc.proofs.PieceLemmas.{by_test}
-use Rattle.pd_doc.proofs.Known.{Known, number_piece, numbers_piece, short_piece, short_pieces, short_numbers, atoms_back}
+use Rattle.pd_doc.proofs.Known.{Known, number_piece, numbers_piece, short_pieces, short_numbers, atoms_back}
 use Rattle.pd_doc.proofs.RecordLaws.{At, read_row, whole_in_range}
 use Rattle.pd_doc.proofs.ElementLaws.{fresh, With, array_with, room_back, few_pieces}
 use Rattle.pd_doc.proofs.NameLaws.{name_back}

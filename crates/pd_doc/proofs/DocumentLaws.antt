@@ -1,32 +1,31 @@
 -- A proper document is read from its text.
-use Rattle.std.proofs.Common.{◌≡◌, ℕ, zero, suc, ◌+◌, ◌/◌, ◌<◌, ◌≤◌, Bool, true, false, not, List, [], ◌∷◌, ◌++◌, length, map, take, drop, refl, sym, ap, ◌∙◌, subst, arith, max, Option, Some, None, Result, Ok, Err, append_assoc}
+use Rattle.std.proofs.Common.{◌≡◌, ℕ, zero, suc, ◌+◌, ◌/◌, ◌<◌, ◌≤◌, Bool, true, false, List, [], ◌∷◌, ◌++◌, length, map, take, drop, refl, sym, ap, ◌∙◌, subst, arith, Option, Some, None, Ok, append_assoc}
 use Rattle.std.specs.Prelude.{ℤ, codes, if◌then◌else◌}
 use Rattle.std.specs.List.{AllByRecursion, list_all}
 use Rattle.std.proofs.lemmas.List.{append-nil}
-use Rattle.pd_lex.specs.Text.{Piece, IsPiece, AreSpaces, AreUnits, escaped, is_space, is_special}
-use Rattle.pd_lex.specs.Text.Piece.{Word, Comma}
+use Rattle.pd_lex.specs.Text.{Piece, IsPiece, AreSpaces, escaped, is_space, is_special}
+use Rattle.pd_lex.specs.Text.Piece.{Word}
 use Rattle.pd_lex.specs.Reading.{records, rest_of}
 use Rattle.pd_num.specs.Scale.{millionths, IsInRange}
-use Rattle.pd_atom.specs.Names.{Names, name_of}
+use Rattle.pd_atom.specs.Names.{Names}
 use Rattle.pd_atom.specs.Atoms.{IsOf, HoldsNumber, spelled}
 use Rattle.pd_atom.specs.declared.Atom.{Atom}
-use Rattle.pd_atom.specs.declared.Atom.TheVariants.{Number, Symbol}
+use Rattle.pd_atom.specs.declared.Atom.TheVariants.{Number}
 use Rattle.pd_canvas.specs.declared.wires.Wire.{Wire}
 use Rattle.pd_canvas.specs.Pages.{Shape, Obj, Msg, Comment, FloatBox, SymbolBox, Sub, Array, Other, Head, Frame, Boxes, End, Box, Page, Entry, empty_page, page_of, frame_of, listed, weight}
 use Rattle.pd_canvas.specs.Arrays.{is_saved}
-use Rattle.pd_canvas.specs.Proper.{IsReady, AreReady, IsText, IsKept, IsWidth, IsSmall, IsFrame, IsHead, IsArrayHead, FitsForm, HoldsNone, AreBoxes, IsSound, IsWithinLimits, IsProper, levels, levels_of, inner_wires, is_number_row}
-use Rattle.pd_doc.specs.declared.refusal.DocRefusal.{DocRefusal}
+use Rattle.pd_canvas.specs.Proper.{AreReady, IsText, IsKept, IsWidth, IsFrame, IsHead, FitsForm, HoldsNone, AreBoxes, IsSound, IsProper, levels, levels_of, inner_wires}
 use Rattle.pd_doc.specs.Results.{◌>>=◌}
 use Rattle.pd_doc.specs.States.{Level, State, start, new_level, opened, page_of_level, with_boxes, is_array}
-use Rattle.pd_doc.specs.Reading.{any_record, run, root_of, root_at, document_of}
-use Rattle.pd_doc.specs.Writing.{atom_piece, atom_pieces, width_pieces, word_of, element_row, array_row, tail_row as tail_line, kept_row, connect_row, coords_row, opening_row, frame_rows, boxes_rows, box_rows, page_rows, value_rows, runs, wire_atoms, whole, lines_of, text_of}
+use Rattle.pd_doc.specs.Reading.{run, root_at, document_of}
+use Rattle.pd_doc.specs.Writing.{atom_piece, atom_pieces, width_pieces, word_of, element_row, array_row, tail_row as tail_line, kept_row, connect_row, coords_row, opening_row, frame_rows, boxes_rows, box_rows, page_rows, value_rows, runs, whole, text_of}
 use Rattle.pd_doc.proofs.PieceLemmas.{by_test}
 use Rattle.pd_doc.proofs.RunLemmas.{run-record, run-end}
 use Rattle.pd_doc.proofs.Known.{Known}
 use Rattle.pd_doc.proofs.TextLemmas.{IsRow, lines_stand}
 use Rattle.pd_doc.proofs.RecordLaws.{At, opening_back, whole_in_range}
-use Rattle.pd_doc.proofs.ElementLaws.{fresh, With}
-use Rattle.pd_doc.proofs.TreeLaws.{Reaches, one, none, chain, Lv, Last, kept_all, coords_all, wires_all, with_tail, tails_all, NoValues, closed_page, own_obj, own_msg, own_text, own_float, own_symbol, own_other, own_sub}
+use Rattle.pd_doc.proofs.ElementLaws.{fresh}
+use Rattle.pd_doc.proofs.TreeLaws.{Reaches, none, chain, Lv, Last, kept_all, coords_all, wires_all, tails_all, NoValues, closed_page, own_obj, own_msg, own_text, own_float, own_symbol, own_other, own_sub}
 use Rattle.pd_doc.proofs.ArrayLaws.{own_array, all_take, all_drop}
 
 -- ---- a canvas behind its opening

@@ -1,41 +1,29 @@
 -- Elements that are written are read as they were.
-use Rattle.std.proofs.Common.{◌≡◌, ℕ, zero, suc, ◌+◌, ◌*◌, ◌-◌, ◌/◌, ◌<◌, ◌≤◌, Bool, true, false, ◌||◌, ◌&&◌, List, [], ◌∷◌, ◌++◌, length, map, take, drop, refl, sym, ap, ◌∙◌, subst, arith, eqb, ltb, leb, max, Option, Some, None, Result, Ok, Err, min, length-append, length-drop, append_assoc, replicate}
-use Rattle.std.specs.Prelude.{ℤ, pos, codes, bytes_eq, if◌then◌else◌, is_some, ok_or, option_map, not}
-use Rattle.std.specs.List.{list_any, list_all, AllByRecursion}
+use Rattle.std.proofs.Common.{◌≡◌, ℕ, ◌+◌, ◌-◌, ◌<◌, ◌≤◌, Bool, false, List, [], ◌∷◌, ◌++◌, length, take, drop, refl, ap, ◌∙◌, arith, eqb, ltb, leb, Option, Some, None, Ok, length-append}
+use Rattle.std.specs.Prelude.{ℤ, pos, codes}
+use Rattle.std.specs.List.{list_any}
 use Rattle.std.proofs.lemmas.Bool.Decides.{nat_tests}
 use Rattle.std.proofs.lemmas.List.{append-nil, drop-map, length-map}
 use Rattle.std.proofs.Math.Seq.{drop-append_seam, take-append_seam}
 use Rattle.pd_num.specs.Scale.{millionths, IsInRange}
-use Rattle.pd_num.specs.Reading.{number_at}
-use Rattle.pd_lex.specs.Text.{Piece, escaped}
-use Rattle.pd_lex.specs.Text.Piece.{Word, Comma}
-use Rattle.pd_atom.specs.Names.{Names, name_of, interned, given}
-use Rattle.pd_atom.specs.Atoms.{IsOf, HoldsNumber, spelled}
-use Rattle.pd_atom.specs.Tokens.{atom_read, IsSettled, nameless}
+use Rattle.pd_lex.specs.Text.{Piece}
+use Rattle.pd_lex.specs.Text.Piece.{Word}
+use Rattle.pd_atom.specs.Names.{Names}
 use Rattle.pd_atom.specs.declared.Atom.{Atom}
-use Rattle.pd_atom.specs.declared.Atom.TheVariants.{Number, Symbol, Dollar, DollarSymbol, Semi}
-use Rattle.pd_atom.specs.declared.Atom.TheVariants as atom
-use Rattle.pd_atom.proofs.TokenLemmas.{interned_again}
-use Rattle.pd_canvas.specs.Pages.{Shape, Obj, Msg, Comment, FloatBox, SymbolBox, Sub, Array, Other, Head, Frame, Boxes, Page, Entry, empty_page}
-use Rattle.pd_canvas.specs.Edits.{begins_with_pd, is_pd, pd}
-use Rattle.pd_canvas.specs.Arrays.{is_name as is_name_atom, is_number as is_number_atom, size_of, is_saved, IsArray, units_of}
-use Rattle.pd_canvas.specs.Proper.{IsReady, AreReady, IsText, IsWidth}
-use Rattle.pd_doc.specs.declared.refusal.DocRefusal.{DocRefusal}
-use Rattle.pd_doc.specs.declared.refusal.DocRefusal.TheVariants.{BadRecord, TooDeep, TooLong, TooManyBoxes}
-use Rattle.pd_doc.specs.declared.kinds.Kind.{Kind}
+use Rattle.pd_atom.specs.declared.Atom.TheVariants.{Number}
+use Rattle.pd_canvas.specs.Pages.{Shape, Array, Head, Entry, empty_page}
+use Rattle.pd_canvas.specs.Proper.{AreReady, IsText, IsWidth}
 use Rattle.pd_doc.specs.declared.kinds.Kind.TheVariants as kind
 use Rattle.pd_doc.specs.declared.kinds.BoxWord.{BoxWord}
-use Rattle.pd_doc.specs.declared.kinds.BoxWord.TheVariants as word
-use Rattle.pd_doc.specs.Pieces.{bytes_of, is_long, is_bare_comma, spells, number_of, numbers_of, width_of, width_in, text_in, starts_with}
-use Rattle.pd_doc.specs.Results.{◌>>=◌, refuse_if, outcome_in}
+use Rattle.pd_doc.specs.Pieces.{is_long, number_of, width_of, width_in, text_in}
 use Rattle.pd_doc.specs.Kinds.{kind_of}
-use Rattle.pd_doc.specs.Fields.{atoms_of, position_of, both_in, size_in, array_size, is_name, starts_with_name}
-use Rattle.pd_doc.specs.States.{Level, State, closed, changed, in_first, first_page, first_boxes, with_boxes, one_box_more, with_last, in_last, last_of, with_head, with_row, with_values, with_form, placed, placed_in, overlaid, is_array}
-use Rattle.pd_doc.specs.Records.{Reading, is_much, is_none_open, is_large, room_of, plain_entry, page_entry, makes_canvas, form_of, entry_of_form, zeros, element, closing, array, row, row_of, row_with, row_behind, tail_row, values_of, by_kind}
+use Rattle.pd_doc.specs.Fields.{atoms_of, position_of, both_in, size_in, array_size}
+use Rattle.pd_doc.specs.States.{Level, State, closed, first_page, with_boxes, one_box_more}
+use Rattle.pd_doc.specs.Records.{is_much, is_large, room_of, plain_entry, page_entry, makes_canvas, form_of, zeros, element, closing, array}
 use Rattle.pd_doc.specs.Reading.{any_record}
-use Rattle.pd_doc.specs.Writing.{atom_piece, atom_pieces, whole, width_pieces, word_of, element_row, array_row}
+use Rattle.pd_doc.specs.Writing.{atom_piece, atom_pieces, width_pieces}
 use Rattle.pd_doc.proofs.PieceLemmas.{by_test}
-use Rattle.pd_doc.proofs.Known.{Known, number_piece, numbers_piece, atoms_back, short_piece, short_pieces}
+use Rattle.pd_doc.proofs.Known.{Known, number_piece, atoms_back, short_piece, short_pieces}
 use Rattle.pd_doc.proofs.RecordLaws.{At, read_row}
 
 -- ---- texts with a width

@@ -1,5 +1,5 @@
 -- What the crates below promise, as far as the laws need it, and atoms that are written and read.
-use Rattle.std.proofs.Common.{◌≡◌, ℕ, suc, ◌<◌, ◌≤◌, Bool, true, false, ◌||◌, List, [], ◌∷◌, ◌++◌, length, map, refl, sym, ap, ◌∙◌, subst, arith, eqb, ltb, Option, Some, None, Result, Ok, Err}
+use Rattle.std.proofs.Common.{◌≡◌, ℕ, ◌<◌, ◌≤◌, false, List, [], ◌∷◌, length, map, refl, ap, ◌∙◌, arith, ltb, Some, Ok}
 use Rattle.std.specs.Prelude.{ℤ}
 use Rattle.std.specs.List.{list_any, AllByRecursion}
 use Rattle.std.proofs.lemmas.Bool.Decides.{nat_tests}
@@ -7,16 +7,14 @@ use Rattle.pd_num.specs.Scale.{millionths, IsInRange}
 use Rattle.pd_num.specs.Reading.{number_at}
 use Rattle.pd_num.specs.Printing.{printed}
 use Rattle.pd_lex.specs.Text.{Piece, AreSpaces, AreUnits, StandsFor, unescaped, escaped}
-use Rattle.pd_lex.specs.Text.Piece.{Word, Comma}
 use Rattle.pd_lex.specs.Reading.{records, rest_of}
 use Rattle.pd_atom.specs.Names.{Names, IsTable, given}
 use Rattle.pd_atom.specs.Atoms.{IsOf, HoldsNumber, spelled}
 use Rattle.pd_atom.specs.Tokens.{atom_read, IsSettled}
 use Rattle.pd_atom.specs.declared.Atom.{Atom}
-use Rattle.pd_atom.specs.declared.Atom.TheVariants.{Number, Symbol}
+use Rattle.pd_atom.specs.declared.Atom.TheVariants.{Number}
 use Rattle.pd_canvas.specs.Proper.{IsReady, AreReady}
-use Rattle.pd_doc.specs.declared.refusal.DocRefusal.{DocRefusal}
-use Rattle.pd_doc.specs.Pieces.{bytes_of, is_long, number_of, numbers_of, cons_number}
+use Rattle.pd_doc.specs.Pieces.{is_long, number_of, numbers_of, cons_number}
 use Rattle.pd_doc.specs.Results.{◌>>=◌, outcome_in}
 use Rattle.pd_doc.specs.Fields.{atom_of, atom_from, atoms_of}
 use Rattle.pd_doc.specs.Writing.{atom_piece, atom_pieces}

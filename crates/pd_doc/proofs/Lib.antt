@@ -8,9 +8,14 @@ pub mod Known
 pub mod TextLemmas
 pub mod RecordLaws
 pub mod AtomLaws
-pub mod StepLaws
 pub mod ElementLaws
 pub mod NameLaws
 pub mod TreeLaws
 pub mod ArrayLaws
 pub mod DocumentLaws
+pub mod ReadyLaws
+pub mod GrowLaws
+pub mod CountLaws
+pub mod FieldLaws
+pub mod GoodLaws
+pub mod ProperLaws

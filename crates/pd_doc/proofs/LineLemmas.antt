@@ -1,19 +1,18 @@
 -- Lines of text.
-use Rattle.std.proofs.Common.{◌≡◌, ℕ, zero, suc, ◌+◌, ◌*◌, ◌-◌, ◌/◌, ◌<◌, ◌≤◌, List, [], ◌∷◌, ◌++◌, length, map, take, drop, refl, sym, ap, ◌∙◌, arith, append_assoc, length-drop, min, subst, leb}
+use Rattle.std.proofs.Common.{◌≡◌, ℕ, zero, suc, ◌+◌, ◌*◌, ◌-◌, ◌/◌, ◌<◌, ◌≤◌, List, [], ◌∷◌, ◌++◌, length, map, take, drop, refl, sym, ap, ◌∙◌, arith, append_assoc, length-drop, min, leb}
 use Rattle.std.proofs.lemmas.Bool.Decides.{nat_tests}
 use Rattle.std.specs.Prelude.{ℤ, codes, if◌then◌else◌, Bool, true, false}
 use Rattle.pd_atom.specs.Names.{Names}
 use Rattle.pd_atom.specs.declared.Atom.{Atom}
-use Rattle.pd_atom.specs.declared.Atom.TheVariants.{Number}
 use Rattle.pd_canvas.specs.declared.wires.Wire.{Wire}
 use Rattle.pd_canvas.specs.Arrays.{is_saved}
 use Rattle.pd_canvas.specs.Pages.{Shape, Obj, Msg, Comment, FloatBox, SymbolBox, Sub, Array, Other, Head, Frame, Boxes, End, Box, Page, frame_of}
-use Rattle.pd_doc.specs.Lines.{line_text, rows_text, wires_text, run_text, runs_text, values_text, element_text, own_text, frame_text, boxes_text, page_text}
+use Rattle.pd_doc.specs.Lines.{rows_text, wires_text, run_text, runs_text, values_text, element_text, own_text, frame_text, boxes_text, page_text}
 use Rattle.pd_doc.proofs.PieceLemmas.{by_test}
 use Rattle.std.proofs.lemmas.List.{append-nil, take_all, drop-drop}
 use Rattle.pd_lex.specs.Text.{Piece}
 use Rattle.pd_lex.specs.Text.Piece.{Word, Comma}
-use Rattle.pd_doc.specs.Writing.{spaced, atom_piece, atom_pieces, kept_row, tail_row, coords_row, connect_row, array_row, opening_row, element_row, width_pieces, word_of, runs, value_rows, box_rows, frame_rows, boxes_rows, page_rows, line_of, lines_of, text_of, whole}
+use Rattle.pd_doc.specs.Writing.{spaced, atom_pieces, kept_row, tail_row, coords_row, connect_row, array_row, opening_row, element_row, width_pieces, runs, value_rows, box_rows, frame_rows, boxes_rows, line_of, lines_of, text_of}
 use denote.Param.Weighed.{most}
 use Rattle.pd_canvas.specs.declared.tree.Element.{Element}
 use Rattle.pd_canvas.specs.declared.tree.Canvas.TheDeep.{size-Element}

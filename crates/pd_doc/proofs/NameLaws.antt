@@ -1,16 +1,14 @@
 -- Tokens that spell a word, a mark or a number.
-use Rattle.std.proofs.Common.{◌≡◌, ℕ, zero, suc, ◌+◌, ◌<◌, ◌≤◌, Bool, true, false, ◌||◌, ◌&&◌, not, List, [], ◌∷◌, ◌++◌, length, map, take, refl, sym, ap, ◌∙◌, subst, arith, eqb, ltb, get_or, Option, Some, None, Result, Ok, Err, length-take, inl, inr}
-use Rattle.std.specs.Prelude.{ℤ, codes, bytes_eq, if◌then◌else◌, is_some, option_map, ◌⊎◌}
+use Rattle.std.proofs.Common.{◌≡◌, ℕ, suc, ◌<◌, true, false, ◌||◌, not, List, [], ◌∷◌, length, refl, sym, ap, ◌∙◌, arith, eqb, get_or, Option, Some, None, Result, Ok, inl, inr}
+use Rattle.std.specs.Prelude.{ℤ, codes, bytes_eq, is_some, ◌⊎◌}
 use Rattle.std.specs.List.{list_all}
 use Rattle.std.proofs.lemmas.Bool.Decides.{nat_tests}
 use Rattle.std.proofs.lemmas.List.{get_or-take}
 use Rattle.std.proofs.lemmas.Slice.Eq.{bytes_eq-Decides}
 use Rattle.pd_num.specs.Reading.{number_at, numeral_at, exponent_at}
-use Rattle.pd_lex.specs.Text.{Piece}
-use Rattle.pd_lex.specs.Text.Piece.{Word}
-use Rattle.pd_atom.specs.Names.{Names, IsTable, name_of, interned, given, first_names, Outcome}
+use Rattle.pd_atom.specs.Names.{Names, IsTable, name_of, interned, given, Outcome}
 use Rattle.pd_atom.specs.declared.SymbolRefusal.{SymbolRefusal}
-use Rattle.pd_atom.specs.Atoms.{IsOf, HoldsNumber, spelled}
+use Rattle.pd_atom.specs.Atoms.{spelled}
 use Rattle.pd_atom.specs.Tokens.{atom_read, nameless, is_mark, named, IsSettled}
 use Rattle.pd_atom.specs.declared.Atom.{Atom}
 use Rattle.pd_atom.specs.declared.Atom.TheVariants.{Number, Symbol, Dollar, DollarSymbol, Comma, Semi}
@@ -18,17 +16,15 @@ use Rattle.pd_atom.proofs.TokenLemmas.{name_read, interned_again}
 use Rattle.pd_canvas.specs.Edits.{begins_with_pd, is_pd}
 use Rattle.pd_canvas.specs.Arrays.{is_name as is_name_atom, is_number as is_number_atom}
 use Rattle.pd_canvas.specs.Proper.{IsReady, AreReady, is_number_row}
-use Rattle.pd_canvas.specs.Pages.{Shape, Other}
+use Rattle.pd_canvas.specs.Pages.{Other}
 use Rattle.pd_doc.specs.declared.kinds.BoxWord.TheVariants as word
-use Rattle.pd_doc.specs.declared.refusal.DocRefusal.{DocRefusal}
-use Rattle.pd_doc.specs.Pieces.{bytes_of, is_long, number_of, numbers_of, cons_number}
-use Rattle.pd_doc.specs.Results.{◌>>=◌, outcome_in}
+use Rattle.pd_doc.specs.Pieces.{bytes_of, number_of, numbers_of, cons_number}
 use Rattle.pd_doc.specs.Fields.{is_name}
 use Rattle.pd_doc.specs.Records.{makes_canvas, form_of}
 use Rattle.pd_doc.specs.Writing.{atom_piece, atom_pieces}
 use Rattle.pd_doc.proofs.PieceLemmas.{by_test}
-use Rattle.pd_doc.proofs.StepLaws.{six_names}
-use Rattle.pd_doc.proofs.Known.{Known, number_piece, short_piece}
+use Rattle.pd_atom.proofs.NameLemmas.{six_names}
+use Rattle.pd_doc.proofs.Known.{Known, short_piece}
 
 -- ---- the symbol `pd` and the word `listbox`
 
@@ -40,11 +36,11 @@ given_is names a b h =
     let q : answered a ≡ answered b = ap (λ (o : Outcome Atom). o.answer) h in
     cc
 
-pd_name : (names : Names) → IsTable names → name_of names 4 ≡ codes "pd"
+pub pd_name : (names : Names) → IsTable names → name_of names 4 ≡ codes "pd"
 pd_name names t =
     sym (get_or-take 6 names 4 [] (omega arith)) ∙ ap (λ l. get_or l 4 []) t.begins
 
-pd_nameless : nameless (codes "pd") ≡ None
+pub pd_nameless : nameless (codes "pd") ≡ None
 unfolding nameless number_at numeral_at exponent_at
 pd_nameless = refl
 

@@ -1,10 +1,8 @@
 -- Tokens and their bytes.
-use Rattle.std.proofs.Common.{◌≡◌, ℕ, suc, ◌<◌, ◌≤◌, Bool, true, false, List, [], ◌∷◌, ◌++◌, length, map, take, drop, ◌-◌, None, refl, sym, ap, ◌∙◌, arith, eqb, ltb, length-drop}
+use Rattle.std.proofs.Common.{◌≡◌, ℕ, ◌<◌, ◌≤◌, Bool, true, false, List, [], ◌∷◌, length, map, take, drop, ◌-◌, None, refl, sym, ap, ◌∙◌, arith, eqb, length-drop}
 use Rattle.std.proofs.lemmas.Bool.Decides.{nat_tests}
 use Rattle.std.proofs.lemmas.List.{take_all, drop-map}
-use Rattle.std.specs.List.{list_any}
-use Rattle.pd_lex.specs.Text.{Piece, unescaped}
-use Rattle.pd_lex.specs.Text.Piece.{Word, Comma}
+use Rattle.pd_lex.specs.Text.{unescaped}
 use Rattle.pd_doc.specs.Pieces.{piece, is_long}
 use Rattle.pd_doc.specs.Fields.{wire_of}
 use Rattle.pd_doc.specs.declared.lexemes.Lexeme.{Lexeme}

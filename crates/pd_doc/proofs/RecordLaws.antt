@@ -1,31 +1,28 @@
 -- Each record that is written is read as what it was written for.
-use Rattle.std.proofs.Common.{◌≡◌, ℕ, suc, ◌+◌, ◌*◌, ◌-◌, ◌/◌, ◌%◌, ◌<◌, ◌≤◌, Bool, true, false, ◌||◌, ◌&&◌, List, [], ◌∷◌, ◌++◌, length, map, take, drop, refl, sym, ap, ◌∙◌, subst, arith, eqb, ltb, leb, Option, Some, None, Result, Ok, Err, min, length-append, length-drop, length-take}
-use Rattle.std.specs.Prelude.{ℤ, pos, codes, bytes_eq, if◌then◌else◌, is_some}
-use Rattle.std.specs.List.{list_any, AllByRecursion}
+use Rattle.std.proofs.Common.{◌≡◌, ℕ, ◌+◌, ◌*◌, ◌/◌, ◌%◌, ◌<◌, ◌≤◌, Bool, true, false, ◌||◌, List, [], ◌∷◌, ◌++◌, length, refl, ap, ◌∙◌, arith, eqb, leb, Some, Ok, min}
+use Rattle.std.specs.Prelude.{codes, bytes_eq}
+use Rattle.std.specs.List.{list_any}
 use Rattle.std.proofs.lemmas.Bool.Decides.{nat_tests}
-use Rattle.std.proofs.lemmas.List.{append-nil, drop-map, length-map, drop_at, take_at}
+use Rattle.std.proofs.lemmas.List.{length-map}
 use Rattle.std.proofs.lemmas.Int.{ints}
 use Rattle.pd_num.specs.Scale.{millionths, IsInRange}
 use Rattle.pd_lex.specs.Text.{Piece}
-use Rattle.pd_lex.specs.Text.Piece.{Word, Comma}
+use Rattle.pd_lex.specs.Text.Piece.{Word}
 use Rattle.pd_atom.specs.Names.{Names}
 use Rattle.pd_atom.specs.Atoms.{spelled}
 use Rattle.pd_atom.specs.declared.Atom.{Atom}
-use Rattle.pd_atom.specs.declared.Atom.TheVariants.{Number, Symbol}
+use Rattle.pd_atom.specs.declared.Atom.TheVariants.{Number}
 use Rattle.pd_canvas.specs.declared.wires.Wire.{Wire}
-use Rattle.pd_canvas.specs.Pages.{Shape, Obj, Msg, Comment, FloatBox, SymbolBox, Sub, Array, Other, Head, Frame, Boxes, Page, Entry, empty_page}
-use Rattle.pd_canvas.specs.Proper.{IsReady, AreReady, IsText, IsKept, IsSmall, is_record_word}
-use Rattle.pd_doc.specs.declared.refusal.DocRefusal.{DocRefusal}
-use Rattle.pd_doc.specs.declared.refusal.DocRefusal.TheVariants.{BadRecord, TooDeep, TooLong, TooManyBoxes, TooManyWires}
+use Rattle.pd_canvas.specs.Proper.{IsText, IsKept, IsSmall, is_record_word}
+use Rattle.pd_doc.specs.declared.refusal.DocRefusal.TheVariants.{TooLong}
 use Rattle.pd_doc.specs.declared.kinds.Kind.{Kind}
 use Rattle.pd_doc.specs.declared.kinds.Kind.TheVariants as kind
-use Rattle.pd_doc.specs.declared.kinds.BoxWord.TheVariants as word
-use Rattle.pd_doc.specs.Pieces.{bytes_of, is_long, number_of, width_of, width_in, text_in}
+use Rattle.pd_doc.specs.Pieces.{is_long}
 use Rattle.pd_doc.specs.Results.{◌>>=◌, refuse_if}
-use Rattle.pd_doc.specs.Kinds.{kind_of, word_kind, box_word, record_word}
-use Rattle.pd_doc.specs.Fields.{atoms_of, position_of, both_in, wire_of, wire_from, whole_from, whole_of}
-use Rattle.pd_doc.specs.States.{Level, State, new_level, opened, changed, with_kept, with_coords, with_boxes, with_wires, one_box_more, one_wire_more}
-use Rattle.pd_doc.specs.Records.{Reading, is_much, is_none_open, is_deep, room_of, opening, kept, connect, by_kind, record_of}
+use Rattle.pd_doc.specs.Kinds.{kind_of, word_kind}
+use Rattle.pd_doc.specs.Fields.{wire_of, whole_from, whole_of}
+use Rattle.pd_doc.specs.States.{Level, State, new_level, opened, with_kept, with_coords, with_wires, one_wire_more}
+use Rattle.pd_doc.specs.Records.{is_much, is_deep, opening, kept, connect, by_kind}
 use Rattle.pd_doc.specs.Reading.{any_record}
 use Rattle.pd_doc.specs.Writing.{atom_piece, atom_pieces, whole, wire_atoms, opening_row, kept_row, connect_row, coords_row}
 use Rattle.pd_doc.proofs.Known.{Known, number_piece, atoms_back, short_piece, short_pieces}

@@ -1,12 +1,12 @@
 -- What reading gives, in steps.
-use Rattle.std.proofs.Common.{◌≡◌, ℕ, suc, ◌+◌, ◌<◌, ◌≤◌, length, map, drop, get_or, drop-cons, add-one, Bool, true, false, List, [], ◌∷◌, ◌++◌, refl, sym, ap, ◌∙◌, Result, Ok, Err, append_assoc}
+use Rattle.std.proofs.Common.{◌≡◌, ℕ, ◌+◌, ◌<◌, ◌≤◌, length, map, drop, get_or, drop-cons, add-one, false, List, [], ◌∷◌, ◌++◌, refl, sym, ap, ◌∙◌, Result, Ok, Err, append_assoc}
 use Rattle.std.proofs.lemmas.List.{append-nil, drop_all}
 use Rattle.pd_lex.specs.Text.{Piece}
 use Rattle.pd_atom.specs.Names.{Names, Extends}
 use Rattle.pd_atom.specs.declared.Atom.{Atom}
 use Rattle.pd_doc.specs.declared.refusal.DocRefusal.{DocRefusal}
 use Rattle.pd_doc.specs.declared.refusal.DocRefusal.TheVariants.{BadRecord, DataStructure, TooDeep, TooLong, TooManyBoxes, TooManyWires, SymbolsFull, NoMemory}
-use Rattle.pd_doc.specs.Results.{◌>>=◌, Refuses, Answers}
+use Rattle.pd_doc.specs.Results.{◌>>=◌, Refuses}
 use Rattle.pd_doc.specs.Pieces.{piece}
 use Rattle.pd_doc.specs.declared.lexemes.Lexeme.{Lexeme}
 use Rattle.pd_doc.specs.Fields.{atom_of, atoms_of}

@@ -1,9 +1,8 @@
 -- Rows behind an element.
-use Rattle.std.proofs.Common.{◌≡◌, ℕ, zero, suc, ◌+◌, ◌<◌, List, [], ◌∷◌, ◌++◌, length, map, take, drop, set, get_or, refl, sym, ap, ◌∙◌, arith, Option, Some, None, add-one, ◌/◌, ◌≤◌, min, reverse, Ok, subst}
+use Rattle.std.proofs.Common.{◌≡◌, ℕ, zero, suc, ◌+◌, ◌<◌, List, [], ◌∷◌, ◌++◌, length, map, take, drop, set, get_or, refl, sym, ap, ◌∙◌, arith, Some, add-one, ◌/◌, Ok, subst}
 use Rattle.std.specs.Prelude.{ℤ, pos, negsuc, ◌≤ℤ◌, ◌<ℤ◌, unsigned_abs}
 use Rattle.std.proofs.lemmas.Int.{ints}
 use Rattle.std.proofs.lemmas.List.{reverse-append}
-use Rattle.pd_canvas.specs.Pages.{Entry}
 use Rattle.pd_canvas.specs.Views.{entry_of}
 use Rattle.pd_canvas.specs.declared.tree.Element.{Element}
 use Rattle.pd_doc.specs.States.{last_of, in_last, placed, overlaid, with_last, with_boxes, first_boxes, in_first, State, Level}

@@ -1,8 +1,8 @@
 -- Records in order.
-use Rattle.std.proofs.Common.{◌≡◌, ℕ, suc, ◌+◌, ◌-◌, ◌<◌, ◌≤◌, Bool, true, false, List, [], ◌∷◌, ◌++◌, length, take, drop, refl, sym, ap, ◌∙◌, subst, arith, add-one, Result, Ok, Err, length-drop}
+use Rattle.std.proofs.Common.{◌≡◌, ℕ, ◌+◌, ◌-◌, ◌<◌, ◌≤◌, false, List, [], ◌∷◌, length, take, drop, refl, sym, ap, ◌∙◌, subst, arith, Ok, length-drop}
 use Rattle.std.proofs.lemmas.List.{take_all}
 use Rattle.std.specs.List.{list_all}
-use Rattle.pd_lex.specs.Text.{Piece, is_space, AreSpaces}
+use Rattle.pd_lex.specs.Text.{Piece, is_space}
 use Rattle.pd_lex.specs.Reading.{records, rest_of, Reads, KeepsRest}
 use Rattle.pd_lex.specs.declared.Step.{Step}
 use Rattle.pd_lex.specs.declared.Step.TheVariants.{Rec, End, Bad}

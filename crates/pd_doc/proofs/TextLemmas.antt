@@ -1,9 +1,9 @@
 -- The text of rows stands for the rows.
-use Rattle.std.proofs.Common.{◌≡◌, ℕ, suc, ◌<◌, ◌≤◌, Bool, true, false, ◌||◌, List, [], ◌∷◌, ◌++◌, length, map, refl, sym, ap, ◌∙◌, subst, arith, append_assoc}
+use Rattle.std.proofs.Common.{◌≡◌, ℕ, List, [], ◌∷◌, ◌++◌, refl, sym, ap, ◌∙◌, append_assoc}
 use Rattle.std.specs.List.{AllByRecursion}
-use Rattle.pd_lex.specs.Text.{Piece, is_space, AreSpaces, IsPiece, IsStopped, IsLongest, StandsForPieces, StandsFor, piece_text}
+use Rattle.pd_lex.specs.Text.{Piece, AreSpaces, IsPiece, IsLongest, StandsForPieces, StandsFor, piece_text}
 use Rattle.pd_lex.specs.Text.Piece.{Word, Comma}
-use Rattle.pd_doc.specs.Writing.{spaced, joined, line_of, lines_of}
+use Rattle.pd_doc.specs.Writing.{spaced, joined, lines_of}
 
 -- a row that isn't empty, of tokens
 abbrev pub IsRow : List Piece → Type 0

@@ -1,41 +1,34 @@
 -- A document that is written is read again.
-use Rattle.std.proofs.Common.{◌≡◌, ℕ, zero, suc, ◌+◌, ◌*◌, ◌-◌, ◌/◌, ◌<◌, ◌≤◌, Bool, true, false, ◌||◌, List, [], ◌∷◌, ◌++◌, length, map, take, drop, refl, sym, ap, ◌∙◌, subst, arith, eqb, ltb, max, Option, Some, None, Result, Ok, Err, min, length-append, append_assoc, replicate, inl, inr}
-use Rattle.std.specs.Prelude.{ℤ, pos, codes, if◌then◌else◌, ◌⊎◌, ok_or, option_map}
-use Rattle.std.specs.List.{list_any, AllByRecursion, All}
+use Rattle.std.proofs.Common.{◌≡◌, ℕ, ◌+◌, ◌<◌, ◌≤◌, true, false, List, [], ◌∷◌, ◌++◌, length, map, refl, sym, ap, ◌∙◌, subst, arith, ltb, Some, None, Ok, append_assoc, inl, inr}
+use Rattle.std.specs.Prelude.{codes, ◌⊎◌}
+use Rattle.std.specs.List.{AllByRecursion}
 use Rattle.std.proofs.lemmas.Bool.Decides.{nat_tests}
-use Rattle.std.proofs.lemmas.List.{append-nil, length-map}
-use Rattle.pd_num.specs.Scale.{millionths, IsInRange}
+use Rattle.std.proofs.lemmas.List.{append-nil}
 use Rattle.pd_lex.specs.Text.{Piece, escaped, unescaped}
-use Rattle.pd_lex.specs.Text.Piece.{Word, Comma}
+use Rattle.pd_lex.specs.Text.Piece.{Word}
 use Rattle.pd_atom.specs.Names.{Names, name_of}
 use Rattle.pd_atom.specs.declared.Atom.{Atom}
-use Rattle.pd_atom.specs.declared.Atom.TheVariants.{Number, Symbol, Dollar, DollarSymbol, Semi}
-use Rattle.pd_atom.specs.declared.Atom.TheVariants as atom
+use Rattle.pd_atom.specs.declared.Atom.TheVariants.{Number}
 use Rattle.pd_canvas.specs.declared.wires.Wire.{Wire}
-use Rattle.pd_canvas.specs.Pages.{Shape, Obj, Msg, Comment, FloatBox, SymbolBox, Sub, Array, Other, Head, Frame, Boxes, End, Box, Page, Entry, empty_page, page_of, frame_of, listed, boxed, weight}
+use Rattle.pd_canvas.specs.Pages.{Shape, Obj, Msg, Comment, FloatBox, SymbolBox, Sub, Array, Other, Head, Frame, Boxes, End, Box, Page, Entry, empty_page, page_of, listed, boxed}
 use Rattle.pd_canvas.specs.Edits.{begins_with_pd}
 use Rattle.pd_canvas.specs.Wiring.{AreSorted, with_wire, precedes}
-use Rattle.pd_canvas.specs.Arrays.{size_of, is_saved, IsArray, is_name as is_name_atom, is_number as is_number_atom}
-use Rattle.pd_canvas.specs.Proper.{IsReady, AreReady, IsText, IsKept, IsWidth, IsSmall, IsFrame, IsHead, IsArrayHead, FitsForm, HoldsNone, AreBoxes, IsSound, IsWithinLimits, IsProper, levels, levels_of, inner_wires, is_number_row}
-use Rattle.pd_doc.specs.declared.refusal.DocRefusal.{DocRefusal}
-use Rattle.pd_doc.specs.declared.refusal.DocRefusal.TheVariants.{BadRecord}
+use Rattle.pd_canvas.specs.Proper.{AreReady, IsText, IsKept, IsSmall, IsHead, is_number_row}
 use Rattle.pd_doc.specs.declared.kinds.Kind.TheVariants as kind
 use Rattle.pd_doc.specs.declared.kinds.BoxWord.{BoxWord}
 use Rattle.pd_doc.specs.declared.kinds.BoxWord.TheVariants as word
-use Rattle.pd_doc.specs.Pieces.{is_long, numbers_of, number_of}
+use Rattle.pd_doc.specs.Pieces.{is_long, numbers_of}
 use Rattle.pd_doc.specs.Results.{◌>>=◌}
 use Rattle.pd_doc.specs.Kinds.{kind_of, word_kind}
-use Rattle.pd_doc.specs.Fields.{size_in, array_size, is_name}
-use Rattle.pd_doc.specs.States.{Level, State, start, new_level, page_of_level, wired, sorted_wires, closed, first_page, first_boxes, with_kept, with_coords, with_boxes, with_wires, one_box_more, with_last, in_last, last_of, with_head, with_row, with_values, is_array}
-use Rattle.pd_doc.specs.Records.{Reading, makes_canvas, form_of, is_much, is_large, plain_entry, page_entry, zeros, closing, array, row, row_of, row_behind, tail_row, values_of, by_kind}
-use Rattle.pd_doc.specs.Reading.{any_record, run, root_of}
-use Rattle.pd_doc.specs.Writing.{atom_piece, atom_pieces, word_of, width_pieces, element_row, array_row, tail_row as tail_line, kept_row, connect_row, coords_row, opening_row, frame_rows, boxes_rows, box_rows, page_rows, value_rows}
-use Rattle.pd_doc.proofs.PieceLemmas.{by_test}
-use Rattle.pd_doc.proofs.RunLemmas.{run-record, run-end}
-use Rattle.pd_doc.proofs.Known.{Known, number_piece, short_piece, short_pieces, atoms_back}
-use Rattle.pd_doc.proofs.RecordLaws.{At, read_row, kept_back, coords_back, connect_back, opening_back}
-use Rattle.pd_doc.proofs.ElementLaws.{Plain, fresh, alone, With, word_row, closing_with, array_with, room_back, text_back, width_back, few_pieces, position_back, short_row}
-use Rattle.pd_doc.proofs.NameLaws.{not_pd, listbox_back, row_numbers, name_back}
+use Rattle.pd_doc.specs.States.{Level, State, page_of_level, wired, sorted_wires, with_boxes, with_last, in_last, last_of, is_array}
+use Rattle.pd_doc.specs.Records.{makes_canvas, form_of, row, row_of, row_behind, values_of}
+use Rattle.pd_doc.specs.Reading.{any_record, run}
+use Rattle.pd_doc.specs.Writing.{atom_piece, atom_pieces, word_of, width_pieces, element_row, tail_row as tail_line, kept_row, connect_row, coords_row}
+use Rattle.pd_doc.proofs.RunLemmas.{run-record}
+use Rattle.pd_doc.proofs.Known.{Known, short_pieces, atoms_back}
+use Rattle.pd_doc.proofs.RecordLaws.{At, read_row, kept_back, coords_back, connect_back}
+use Rattle.pd_doc.proofs.ElementLaws.{Plain, fresh, alone, With, word_row, closing_with, room_back, text_back, width_back, few_pieces, position_back, short_row}
+use Rattle.pd_doc.proofs.NameLaws.{not_pd, listbox_back, row_numbers}
 
 -- ---- from one state to another by rows
 

@@ -1,10 +1,9 @@
 -- Documents whose atoms are of a table.
-use Rattle.std.specs.Prelude.{ℕ, ◌<◌, List, [], ◌∷◌, length}
+use Rattle.std.specs.Prelude.{◌<◌, List, length}
 use Rattle.std.specs.List.{AllByRecursion}
 use Rattle.pd_atom.specs.Names.{Names}
 use Rattle.pd_atom.specs.Atoms.{IsOf}
 use Rattle.pd_atom.specs.declared.Atom.{Atom}
-use Rattle.pd_doc.specs.States.{Level}
 use Rattle.pd_canvas.specs.Pages.{Shape, Obj, Msg, Comment, FloatBox, SymbolBox, Sub, Array, Other, Head, Frame, Boxes, End, Box, Page, Entry, frame_of}
 
 abbrev pub AreOf : Names → List Atom → Type 0
@@ -39,10 +38,3 @@ PageOf names p = FrameOf names (frame_of p) × BoxesOf names p.boxes
 
 abbrev pub EntryOf : Names → Entry → Type 0
 EntryOf names e = HeadOf names e.head × PageOf names e.page
-
--- the atoms of the canvases that are open are of the table
-abbrev pub EntriesOf : Names → List Entry → Type 0
-EntriesOf names es = AllByRecursion (EntryOf names) es
-
-abbrev pub LevelOf : Names → Level → Type 0
-LevelOf names l = AreOf names l.header × RowsOf names l.kept × EntriesOf names l.boxes × RowsOf names l.coords

@@ -1,6 +1,5 @@
 -- The fields of records.
-use Rattle.std.specs.Prelude.{ℕ, ◌+◌, ◌*◌, ◌/◌, ◌%◌, ℤ, pos, negsuc, max, unsigned_abs, Bool, true, false, ◌&&◌, ◌||◌, ◌==◌, not, List, [], ◌∷◌, length, Option, Some, None, is_some, option_map, Result, Ok, Err, ok_or, if◌then◌else◌, nat_le, codes, bytes_eq}
-use Rattle.pd_num.specs.Reading.{number_at}
+use Rattle.std.specs.Prelude.{ℕ, ◌/◌, ◌%◌, ℤ, pos, negsuc, Bool, false, ◌&&◌, ◌||◌, ◌==◌, not, List, [], ◌∷◌, Option, Some, None, is_some, option_map, Result, Ok, Err, ok_or, if◌then◌else◌, nat_le, bytes_eq}
 use Rattle.pd_lex.specs.Text.{Piece}
 use Rattle.pd_atom.specs.Names.{Names}
 use Rattle.pd_atom.specs.Tokens.{atom_read}

@@ -1,11 +1,9 @@
 -- What one record does: one function for each kind of record. A refusal has the record's number n.
-use Rattle.std.specs.Prelude.{ℕ, ◌+◌, ◌-◌, ℤ, pos, Bool, true, false, ◌&&◌, ◌||◌, List, [], ◌∷◌, length, drop, replicate, Option, Some, None, Result, Ok, Err, ok_or, is_some, option_map, if◌then◌else◌, nat_lt, nat_le, codes, ◌==◌}
+use Rattle.std.specs.Prelude.{ℕ, ℤ, pos, Bool, true, false, ◌&&◌, ◌||◌, List, [], ◌∷◌, length, drop, replicate, Option, Some, None, Result, Ok, Err, ok_or, if◌then◌else◌, nat_lt, nat_le, codes, ◌==◌}
 use Rattle.std.specs.List.{list_any}
 use Rattle.pd_lex.specs.Text.{Piece}
 use Rattle.pd_atom.specs.Names.{Names, interned}
 use Rattle.pd_atom.specs.declared.Atom.{Atom}
-use Rattle.pd_atom.specs.declared.Atom.TheVariants.{Number, Symbol}
-use Rattle.pd_canvas.specs.declared.wires.Wire.{Wire}
 use Rattle.pd_canvas.specs.Pages.{Shape, Obj, Msg, Comment, FloatBox, SymbolBox, Sub, Array, Other, Page, Entry, empty_page, page_with_header}
 use Rattle.pd_canvas.specs.Edits.{new_header}
 use Rattle.pd_doc.specs.declared.refusal.DocRefusal.{DocRefusal}

@@ -1,6 +1,5 @@
 -- What contracts see of the canvases that are open.
 use Rattle.std.specs.Prelude.{List, map, reverse}
-use Rattle.pd_atom.specs.Names.{Names}
 use Rattle.pd_canvas.specs.Views.{entry_of}
 use Rattle.pd_doc.specs.declared.levels.OpenCanvas.{OpenCanvas}
 use Rattle.pd_doc.specs.declared.levels.Reader.{Reader}

@@ -1,6 +1,5 @@
 -- The canonical text of a document.
-use Rattle.std.specs.Prelude.{ℕ, zero, suc, ◌+◌, ◌-◌, ◌*◌, ◌/◌, ℤ, pos, min, Bool, List, [], ◌∷◌, ◌++◌, map, length, take, drop, Option, Some, None, if◌then◌else◌, codes}
-use Rattle.std.specs.List.{flat_map}
+use Rattle.std.specs.Prelude.{ℕ, zero, suc, ◌+◌, ◌*◌, ◌/◌, ℤ, pos, min, List, [], ◌∷◌, ◌++◌, map, length, take, drop, Option, Some, None, if◌then◌else◌, codes}
 use Rattle.pd_lex.specs.Text.{Piece, escaped}
 use Rattle.pd_lex.specs.Text.Piece.{Word, Comma}
 use Rattle.pd_atom.specs.Names.{Names}

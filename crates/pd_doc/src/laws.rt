@@ -1,6 +1,6 @@
 //! Laws over reading and writing.
 
-ghost use Rattle.std.specs.Prelude.{◌≡◌, Ok};
+ghost use Rattle.std.specs.Prelude.{◌≡◌, ℕ, List, Ok};
 ghost use Rattle.pd_atom.specs.Names.{Names, IsTable};
 ghost use Rattle.pd_canvas.specs.Pages.{Page};
 ghost use Rattle.pd_canvas.specs.Proper.{IsProper};
@@ -16,4 +16,21 @@ pub fn written_read()
     pd_lex::escapes_read();
     pd_atom::spellings_read();
     pd_atom::settled_laws();
+}
+
+/// The document that a text of any table gives is proper in the table after it, which is a table.
+pub fn read_proper()
+    ensures proper { (names names' : Names) (p : Page) (text : List ℕ) → IsTable names → document_of names text ≡ Ok (p, names') →
+        IsProper names' p }
+    ensures table { (names names' : Names) (p : Page) (text : List ℕ) → IsTable names → document_of names text ≡ Ok (p, names') →
+        IsTable names' }
+{}
+
+/// Reading, writing and reading again gives the same document and the same table.
+pub fn read_again()
+    ensures { (names names' : Names) (p : Page) (text : List ℕ) → IsTable names → document_of names text ≡ Ok (p, names') →
+        document_of names' (text_of names' p) ≡ Ok (p, names') }
+{
+    read_proper();
+    written_read();
 }

@@ -5,12 +5,12 @@ ghost use Rattle.std.specs.List.{list_all};
 ghost use Rattle.pd_lex.specs.Text.{is_space};
 ghost use Rattle.pd_lex.specs.Reading.{is_body, pieces, records, rest_of};
 ghost use Rattle.pd_atom.specs.Names.{Extends};
+ghost use Rattle.pd_canvas.specs.Proper.{IsProper};
 ghost use Rattle.pd_doc.specs.Pieces.{piece};
 ghost use Rattle.pd_doc.specs.Results.{Answers};
 ghost use Rattle.pd_doc.specs.States.{start};
 ghost use Rattle.pd_doc.specs.Records.{record_of};
 ghost use Rattle.pd_doc.specs.Reading.{any_record, run, root_at, document_of};
-ghost use Rattle.pd_doc.specs.Atoms.{PageOf};
 ghost use Rattle.pd_doc.specs.Views.{state_of};
 
 use crate::elements::{array, closing, element};
@@ -183,8 +183,7 @@ fn read_document(alloc: Global, bytes: &[u8], symbols: &mut Symbols) -> Result<D
 pub fn read(alloc: Global, bytes: &[u8], symbols: &mut Symbols) -> Result<Doc, DocRefusal>
     requires { length bytes.now ≤ 4294967295 }
     ensures exact { Answers (λ d. (d.root, symbols.new)) result (document_of symbols.old bytes.now) }
-    // Its atoms are of the table after it.
-    ensures of_table { IfOk result (λ d. PageOf symbols.new d.root) }
+    ensures proper { IfOk result (λ d. IsProper symbols.new d.root) }
     ensures refused { OnErr result (symbols.new ≡ symbols.old) }
 {
     let len = symbols.len();

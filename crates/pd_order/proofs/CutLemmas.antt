@@ -1,15 +1,15 @@
 -- A wire was cut.
-use Rattle.std.proofs.Common.{◌≡◌, ℕ, ◌+◌, ◌<◌, ◌≤◌, ◌==◌, false, cond, ◌⊎◌, inl, inr, List, [], ◌∷◌, length, get_or, take, drop, refl, sym, ◌∙◌, ap, subst, arith}
+use Rattle.std.proofs.Common.{◌≡◌, ℕ, ◌+◌, ◌<◌, ◌≤◌, ◌==◌, true, false, cond, ◌⊎◌, inl, inr, List, [], ◌∷◌, length, get_or, take, drop, refl, sym, ◌∙◌, ap, subst, arith}
 use Rattle.std.proofs.lemmas.List.{length-take-le, take-append-drop, get_or-take, take_all}
 use Rattle.pd_order.specs.declared.spots.Spot.{Spot}
-use Rattle.pd_order.proofs.Basics.{by_test, zero_or, same_node, other_node, other_test, tally_at, tally-take_le, missing_le, missing_more, missing_one, missing_one_not, missing-append, ltb', ltb-true', ltb-false'}
+use Rattle.pd_order.proofs.Basics.{by_test, zero_or, all_listed, same_test, same_node, other_node, other_test, tally_at, tally-take_le, missing_le, missing_more, missing_one, missing_one_not, missing-append, ltb', ltb-true', ltb-false'}
 use Rattle.pd_order.proofs.RunLemmas.{in_front, front_at, not_in_front}
 use Rattle.pd_order.proofs.OrderLemmas.{AreAlike, alike_back, front_chain, next_at, ready_alike, front_le, next_once, chain_once}
 use Rattle.pd_order.proofs.MendLemmas.{by_rank_alike, met_order, same_met, front_places}
 use Rattle.pd_order.specs.Graph.{Graph, tally, missing, add_wire, IsLawful, IsReady, IsNext, AreNext, IsOrder}
 use Rattle.pd_order.specs.Spots.{nodes_of, place_in}
 use Rattle.pd_order.specs.Listing.{IsListed}
-use Rattle.pd_order.specs.Work.{IsOld, IsBeside, IsMet, IsStart, IsSeated, ArePlaced}
+use Rattle.pd_order.specs.Work.{IsOld, IsBeside, IsMet, IsStart, IsSeated, IsHigherBetween, ArePlaced}
 
 pub add_alike : (g : Graph) (s v : ℕ) → AreAlike (add_wire g s v) g v
 add_alike g s v = record { ranks = refl; others = λ y n. let t : (y == v) ≡ false = other_test y v n in rw t refl }
@@ -200,3 +200,62 @@ cut_same g s v C stuck p spots k o st n l e =
     met_order (add_wire g s v) g v C C stuck spots p (p + 1) (place_in spots) (add_alike g s v) k o
     (same_met g (nodes_of spots) C p v (place_in spots) (cut_front g s v (nodes_of spots) C p o.listed st) (fed_next g s v (nodes_of spots) C stuck p o st n) l e (front_places C stuck spots (p + 1) k once (omega arith)))
     (subst (λ (w : ℕ). 0 < tally w (take (p + 1) C)) e (in_front C (p + 1) p (omega arith) l))
+
+-- the source of a wire stands in the chain where the sink does
+source_listed : (g : Graph) (s v : ℕ) (ns C : List ℕ) (at : ℕ) → AreNext (add_wire g s v) ns [] C → at < length C → get_or C at 0 ≡ v → 0 < tally s C
+source_listed g s v ns C at a l e =
+    let f : missing (take at C) ((add_wire g s v).feeders (get_or C at 0)) ≡ 0 = (next_at (add_wire g s v) ns C at a l).ready.fed in
+    let f' : missing (take at C) (cond (v == v) (s ∷ g.feeders v) (g.feeders v)) ≡ 0 = subst (λ (w : ℕ). missing (take at C) (cond (w == v) (s ∷ g.feeders w) (g.feeders w)) ≡ 0) e f in
+    let t : (v == v) ≡ true = same_test v in
+    let f2 : missing (take at C) (s ∷ g.feeders v) ≡ 0 = rw t at f' in
+    let h : 0 < tally s (take at C) = all_listed s (take at C) (s ∷ g.feeders v) f2 (let u : (s == s) ≡ true = same_test s in rw u (omega arith)) in
+    let m : tally s (take at C) ≤ tally s C = tally-take_le s at C in omega arith
+
+-- where a node of higher rank was listed before the sink and behind the source, another feeder held the sink back
+held_at : (g : Graph) (s v : ℕ) (ns C : List ℕ) (was at i : ℕ) → AreNext (add_wire g s v) ns [] C → at < length C → get_or C at 0 ≡ v → get_or C was 0 ≡ s → was < i → i < at → g.rank v < g.rank (get_or C i 0) →
+    0 < missing (take i C) (g.feeders v)
+held_at g s v ns C was at i a l e es h k r =
+    let once : (x : ℕ) → tally x C ≤ 1 = chain_once (add_wire g s v) ns C a in
+    let n : IsNext (add_wire g s v) ns (take i C) (get_or C i 0) = next_at (add_wire g s v) ns C i a (omega arith) in
+    let there : 0 < tally v ns = subst (λ (w : ℕ). 0 < tally w ns) e ((next_at (add_wire g s v) ns C at a l).ready.node) in
+    let un : tally v (take i C) ≡ 0 = subst (λ (w : ℕ). tally w (take i C) ≡ 0) e (not_in_front C i at once (omega arith) l) in
+    let si : 0 < tally s (take i C) = subst (λ (w : ℕ). 0 < tally w (take i C)) es (in_front C i was h (omega arith)) in
+    by_test (missing (take i C) (g.feeders v) == 0)
+    (λ t. let z : missing (take i C) (g.feeders v) ≡ 0 = same_node (missing (take i C) (g.feeders v)) 0 t in
+    let o : missing (take i C) (s ∷ []) ≡ 0 = missing_one (take i C) s si in
+    let f : missing (take i C) (s ∷ g.feeders v) ≡ 0 = omega arith in
+    let u : (v == v) ≡ true = same_test v in
+    let f' : missing (take i C) (cond (v == v) (s ∷ g.feeders v) (g.feeders v)) ≡ 0 = rw u f in
+    let q : g.rank (get_or C i 0) ≤ g.rank v = n.least v (record { node = there; unlisted = un; fed = f' }) in absurd (omega arith))
+    (λ t. let n0 : missing (take i C) (g.feeders v) ≡ 0 → ⊥ = other_node (missing (take i C) (g.feeders v)) 0 t in omega arith)
+
+-- so the sink is the next only where it stands
+pub held_start : (g : Graph) (s v : ℕ) (C stuck : List ℕ) (spots : List Spot) (at : ℕ) → IsListed C stuck spots → IsOrder (add_wire g s v) (nodes_of spots) C stuck → at < length C → get_or C at 0 ≡ v →
+    IsHigherBetween g C (place_in spots s + 1) at v → IsStart g C v at
+held_start g s v C stuck spots at k o l e hb =
+    let ns : List ℕ = nodes_of spots in
+    let a : AreNext (add_wire g s v) ns [] C = o.listed in
+    let once : (x : ℕ) → tally x C ≤ 1 = chain_once (add_wire g s v) ns C a in
+    let was : ℕ = place_in spots s in
+    let seat : (place_in spots s < length C) × (get_or C (place_in spots s) 0 ≡ s) = k.seated.placed s (source_listed g s v ns C at a l e) in
+    let i : ℕ = hb.0 in
+    let i0 : was + 1 ≤ i = hb.1 in
+    let i1 : i < at = hb.2 in
+    let held : 0 < missing (take i C) (g.feeders v) = held_at g s v ns C was at i a l e seat.1 (omega arith) i1 hb.3 in
+    let r : IsReady g ns (take at C) (get_or C at 0) = ready_without g s v ns (take at C) (get_or C at 0) ((next_at (add_wire g s v) ns C at a l).ready) in
+    let un : tally v (take at C) ≡ 0 = subst (λ (w : ℕ). tally w (take at C) ≡ 0) e (not_in_front C at at once (omega arith) l) in
+    record {
+      low = omega arith;
+      fed = subst (λ (w : ℕ). missing (take at C) (g.feeders w) ≡ 0) e r.fed;
+      before = λ j h. (
+        λ q. (let p : 0 < tally (get_or C j 0) (take at C) = in_front C at j h (omega arith) in let p' : 0 < tally v (take at C) = subst (λ (w : ℕ). 0 < tally w (take at C)) q p in absurd (omega arith)),
+        by_test (ltb' i j)
+            (λ t. let ij : i < j = ltb-true' i j t in
+            by_test (ltb' (g.rank v) (g.rank (get_or C j 0)))
+            (λ u. inl (held_at g s v ns C was at j a l e seat.1 (omega arith) h (ltb-true' (g.rank v) (g.rank (get_or C j 0)) u)))
+            (λ u. inr (ltb-false' (g.rank v) (g.rank (get_or C j 0)) u)))
+            (λ t. let ji : j ≤ i = ltb-false' i j t in
+            let m : missing (take i C) (g.feeders v) ≤ missing (take j C) (g.feeders v) = missing_le (take j C) (take i C) (g.feeders v) (λ w _ q. front_le C j i w ji q) in inl (omega arith)),
+      );
+      behind = λ _. inl e;
+    }

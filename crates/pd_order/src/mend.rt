@@ -3,11 +3,11 @@ ghost use Rattle.std.specs.Prelude.{◌≡◌, ℕ, ◌+◌, ◌-◌, ◌*◌, �
 ghost use Rattle.pd_order.specs.Graph.{Graph, tally, missing, total, ends, IsLawful, IsOrder, cut_wire, add_wire};
 ghost use Rattle.pd_order.specs.Spots.{nodes_of, place_in, mark_in, AreByNode, nowhere};
 ghost use Rattle.pd_order.specs.Window.{IsWindow, window_ends};
-ghost use Rattle.pd_order.specs.Work.{IsSeated, IsStart, looks_back, looks_on};
+ghost use Rattle.pd_order.specs.Work.{IsSeated, IsStart, IsHigherBetween, looks_back, looks_on};
 ghost use Rattle.pd_order.specs.Listing.{IsListed};
 
 use crate::rework::rework;
-use crate::spots::{NOWHERE, place};
+use crate::spots::{NOWHERE, place, seek_place};
 use crate::work::{front, meet};
 use crate::{SignalGraph, Spot, Steps};
 use std::sync::ledger::Ledger;
@@ -157,6 +157,53 @@ fn cut_from<L: Ledger, G: SignalGraph<L>>(
     let _ = rework(graph, chain, stuck, from, spots, heap, spare, steps);
 }
 
+// Whether a node of higher rank than this one stands at a place from `from` to before `to`. It looks from behind.
+fn has_higher_between<L: Ledger, G: SignalGraph<L>>(
+    graph: &G,
+    chain: &[u32],
+    from: usize,
+    to: usize,
+    node: u32,
+) -> bool
+    requires { to ≤ length chain.now }
+    ensures { IsTrue result ↔ IsHigherBetween (G.meaning graph.now) chain.now from to node }
+{
+    let mut at = to;
+    while from < at {
+        at -= 1;
+        if graph.rank(node) < graph.rank(chain[at]) {
+            return true;
+        }
+    }
+    false
+}
+
+// Whether a node of higher rank than the sink stands between the source and the sink. Then another feeder, which stands
+// no earlier than that node, held the sink back, and does so without the wire too.
+fn is_held_behind<L: Ledger, G: SignalGraph<L>>(
+    graph: &G,
+    chain: &[u32],
+    spots: &[Spot],
+    source: u32,
+    sink: u32,
+) -> bool
+    requires by_node { AreByNode spots.now }
+    requires there { 0 < tally sink (nodes_of spots.now) }
+    ensures { IsTrue result ↔ ((place_in spots.now sink < length chain.now) × IsHigherBetween (G.meaning graph.now) chain.now (place_in spots.now source + 1) (place_in spots.now sink) sink) }
+{
+    let at = place(spots, sink) as usize;
+    if at < chain.len() {
+        return has_higher_between(
+            graph,
+            chain,
+            seek_place(spots, source) as usize + 1,
+            at,
+            sink,
+        );
+    }
+    false
+}
+
 // After a wire from `source` to `sink` was cut.
 pub fn cut_over<L: Ledger, G: SignalGraph<L>>(
     graph: &G,
@@ -190,6 +237,9 @@ pub fn cut_over<L: Ledger, G: SignalGraph<L>>(
     ensures heap_capacity { vec_capacity heap.new ≡ vec_capacity heap.old }
     ensures spare_capacity { vec_capacity spare.new ≡ vec_capacity spare.old }
 {
+    if is_held_behind(graph, chain, spots, source, sink) {
+        return;
+    }
     match fed_after(graph, chain, spots, sink, steps) {
         None => {}
         Some(after) => {

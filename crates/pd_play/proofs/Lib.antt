@@ -2,6 +2,8 @@ pub mod GatheringLemmas
 pub mod MessageLemmas
 pub mod LoadLemmas
 pub mod TableLemmas
-pub mod FlatLemmas
 pub mod ReportLemmas
 pub mod RunLemmas
+pub mod PatchLemmas
+pub mod KindLemmas
+pub mod CauseLemmas

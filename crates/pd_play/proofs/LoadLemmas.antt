@@ -1,19 +1,21 @@
 -- The load event, a wire and a box at a time.
-use Rattle.std.proofs.Common.{◌≡◌, ◌≢◌, ◌<◌, ◌+◌, ◌==◌, ◌++◌, ◌∷◌, [], ℕ, suc, Bool, true, false, cond, List, length, take, drop, get_or, Option, Some, None, refl, ap, sym, ◌∙◌, append_assoc, add-one, arith, codes, length-take}
+use Rattle.std.proofs.Common.{◌≡◌, ◌≢◌, ◌<◌, ◌+◌, ◌-◌, ◌==◌, ◌&&◌, ◌++◌, ◌∷◌, [], ℕ, zero, suc, List, length, take, drop, get_or, Option, Some, None, refl, ap, sym, ◌∙◌, append_assoc, add-one, arith, codes}
 use Rattle.std.proofs.Math.Seq.{take-suc, split_at}
 use Rattle.std.proofs.lemmas.List.{append-nil}
-use Rattle.std.specs.List.{slice_get}
+use Rattle.std.proofs.lemmas.List.Elements.{filter-append}
+use Rattle.std.proofs.lemmas.Grind.{flat_map-append}
+use Rattle.std.specs.List.{flat_map, range_with_len}
 use Rattle.pd_io.specs.Stream.{grown, TookPart}
 use Rattle.pd_atom.specs.Names.{Names}
 use Rattle.pd_atom.specs.declared.Atom.{Atom}
 use Rattle.pd_atom.specs.declared.Atom.TheVariants.{Number, Symbol, Dollar, DollarSymbol, Comma, Semi}
+use Rattle.pd_canvas.specs.declared.wires.Wire.{Wire}
+use Rattle.pd_canvas.specs.Pages.{Page}
+use Rattle.pd_canvas.specs.Wiring.{fan_out}
 use Rattle.pd_play.specs.Messages.{Message, message_of, message_text, print_line}
 use Rattle.pd_play.specs.Messages.Message.{Bang}
-use Rattle.pd_play.specs.Load.{along, sends, at_box, heard, fired_at, fired_from}
-use Rattle.pd_play.specs.declared.flat.Flat.{Flat}
-use Rattle.pd_play.specs.declared.flat.FlatBox.{FlatBox}
-use Rattle.pd_play.specs.declared.flat.FlatBox.TheVariants as box
-use Rattle.pd_play.specs.declared.flat.FlatWire.{FlatWire}
+use Rattle.pd_play.specs.Flat.{Kind, Kind as kind, kind_at}
+use Rattle.pd_play.specs.Load.{along, sends, at_box, heard}
 use Rattle.pd_play.proofs.GatheringLemmas.{grown-grown}
 
 -- the line of a message that a message box sends is its text between two pieces
@@ -28,13 +30,12 @@ line_parts names (DollarSymbol s ∷ rest) some = refl
 line_parts names (Comma ∷ rest) some = refl
 line_parts names (Semi ∷ rest) some = refl
 
-cond_same : (b : Bool) (x : List ℕ) → cond b x x ≡ x
-cond_same true x = refl
-cond_same false x = refl
+follows-nothing : (ws : List Wire) → flat_map (λ w. let nothing : List ℕ = [] in nothing) ws ≡ []
+follows-nothing [] = refl
+follows-nothing (w ∷ ws) = follows-nothing ws
 
-along-nothing : (i : ℕ) (ws : List FlatWire) → along (λ k. []) i ws ≡ []
-along-nothing i [] = refl
-along-nothing i (w ∷ ws) = cond_same (w.source == i) (along (λ k. []) i ws) ∙ along-nothing i ws
+along-nothing : (i : ℕ) (ws : List Wire) → along (λ k. []) i ws ≡ []
+along-nothing i ws = follows-nothing (fan_out i 0 ws)
 
 -- a message that may go on no more
 sends-nothing : (o : Option Message) (f : Message → List ℕ) → ((m : Message) → f m ≡ []) → sends o f ≡ []
@@ -42,42 +43,38 @@ sends-nothing None f none = refl
 sends-nothing (Some m) f none = none m
 
 -- a message that came through a message box brings about nothing but at a print
-pub quiet : (names : Names) (flat : Flat) (o : Option Message) (n : ℕ) (b : Option FlatBox) → slice_get flat.boxes n ≡ b → b ≢ Some box.Print →
-    sends o (λ m. heard names flat 1 m n) ≡ []
-quiet names flat o n None is other = sends-nothing o _ (λ m. ap (at_box names m _) is)
-quiet names flat o n (Some box.Loadbang) is other = sends-nothing o _ (λ m. ap (at_box names m _) is)
-quiet names flat o n (Some box.Print) is other = absurd (other refl)
-quiet names flat o n (Some (box.Message atoms)) is other =
-    sends-nothing o _ (λ m. ap (at_box names m _) is ∙ sends-nothing (message_of atoms) _ (λ m'. along-nothing n flat.wires))
+pub quiet : (names : Names) (page : Page) (o : Option Message) (n : ℕ) (b : Option Kind) → kind_at names page n ≡ b → b ≢ Some kind.Print →
+    sends o (λ m. heard names page 1 m n) ≡ []
+quiet names page o n None is other = sends-nothing o _ (λ m. ap (at_box names m _) is)
+quiet names page o n (Some kind.Loadbang) is other = sends-nothing o _ (λ m. ap (at_box names m _) is)
+quiet names page o n (Some kind.Print) is other = absurd (other refl)
+quiet names page o n (Some (kind.Message atoms)) is other =
+    sends-nothing o _ (λ m. ap (at_box names m _) is ∙ sends-nothing (message_of atoms) _ (λ m'. along-nothing n page.wires))
 
 -- sending once along all wires is sending along each
-pub sends-along : (o : Option Message) (f : Message → ℕ → List ℕ) (i : ℕ) (ws : List FlatWire) →
+pub sends-along : (o : Option Message) (f : Message → ℕ → List ℕ) (i : ℕ) (ws : List Wire) →
     along (λ k. sends o (λ m. f m k)) i ws ≡ sends o (λ m. along (f m) i ws)
 sends-along None f i ws = along-nothing i ws
 sends-along (Some m) f i ws = refl
 
-along_step : (f : ℕ → List ℕ) (i : ℕ) (b : Bool) (k : ℕ) (xs ys : List FlatWire) → along f i (xs ++ ys) ≡ along f i xs ++ along f i ys →
-    cond b (f k ++ along f i (xs ++ ys)) (along f i (xs ++ ys)) ≡ cond b (f k ++ along f i xs) (along f i xs) ++ along f i ys
-along_step f i true k xs ys e = ap (λ t. f k ++ t) e ∙ sym (append_assoc (f k) (along f i xs) (along f i ys))
-along_step f i false k xs ys e = e
-
 -- what a bang brings about at a message box
-pub heard_message : (names : Names) (flat : Flat) (n : ℕ) (atoms : List Atom) → slice_get flat.boxes n ≡ Some (box.Message atoms) →
-    heard names flat 2 Bang n ≡ along (λ k. sends (message_of atoms) (λ m. heard names flat 1 m k)) n flat.wires
-heard_message names flat n atoms is =
-    ap (at_box names Bang _) is ∙ sym (sends-along (message_of atoms) (λ m. heard names flat 1 m) n flat.wires)
+pub heard_message : (names : Names) (page : Page) (n : ℕ) (atoms : List Atom) → kind_at names page n ≡ Some (kind.Message atoms) →
+    heard names page 2 Bang n ≡ along (λ k. sends (message_of atoms) (λ m. heard names page 1 m k)) n page.wires
+heard_message names page n atoms is =
+    ap (at_box names Bang _) is ∙ sym (sends-along (message_of atoms) (λ m. heard names page 1 m) n page.wires)
 
-pub along-append : (f : ℕ → List ℕ) (i : ℕ) (xs ys : List FlatWire) → along f i (xs ++ ys) ≡ along f i xs ++ along f i ys
-along-append f i [] ys = refl
-along-append f i (x ∷ xs) ys = along_step f i (x.source == i) x.sink xs ys (along-append f i xs ys)
+pub along-append : (f : ℕ → List ℕ) (i : ℕ) (xs ys : List Wire) → along f i (xs ++ ys) ≡ along f i xs ++ along f i ys
+along-append f i xs ys =
+    ap (λ ws. flat_map (λ w. f w.sink) ws) (filter-append (λ (w : Wire). w.source == i && w.outlet == 0) xs ys) ∙
+    flat_map-append (λ (w : Wire). f w.sink) (fan_out i 0 xs) (fan_out i 0 ys)
 
 -- one wire more
-pub along-more : (f : ℕ → List ℕ) (i : ℕ) (ws : List FlatWire) (k : ℕ) (d : FlatWire) → k < length ws →
+pub along-more : (f : ℕ → List ℕ) (i : ℕ) (ws : List Wire) (k : ℕ) (d : Wire) → k < length ws →
     along f i (take (k + 1) ws) ≡ along f i (take k ws) ++ along f i (get_or ws k d ∷ [])
 along-more f i ws k d lt =
     ap (λ n. along f i (take n ws)) (add-one k) ∙ ap (λ l. along f i l) (take-suc ws k d lt) ∙ along-append f i (take k ws) (get_or ws k d ∷ [])
 
-pub along-split : (f : ℕ → List ℕ) (i : ℕ) (ws : List FlatWire) (k : ℕ) (d : FlatWire) → k < length ws →
+pub along-split : (f : ℕ → List ℕ) (i : ℕ) (ws : List Wire) (k : ℕ) (d : Wire) → k < length ws →
     along f i ws ≡ along f i (take k ws) ++ (along f i (get_or ws k d ∷ []) ++ along f i (drop (suc k) ws))
 along-split f i ws k d lt =
     ap (λ l. along f i l) (split_at ws k d lt) ∙ along-append f i (take k ws) (get_or ws k d ∷ drop (suc k) ws) ∙
@@ -102,29 +99,30 @@ torn_after t₁ t₂ t₃ a b c e t =
       is = t.is ∙ ap (λ x. grown x t.part) e ∙ grown-grown t₁ a t.part;
     }
 
-counted : (xs : List FlatBox) (k : ℕ) → k < length xs → 0 + length (take k xs) ≡ k
-counted xs k lt = omega (arith, length-take k xs)
-
-pub fired_from-append : (names : Names) (flat : Flat) (i : ℕ) (xs ys : List FlatBox) →
-    fired_from names flat i (xs ++ ys) ≡ fired_from names flat i xs ++ fired_from names flat (i + length xs) ys
-fired_from-append names flat i [] ys = ap (λ n. fired_from names flat n ys) (omega arith)
-fired_from-append names flat i (x ∷ xs) ys =
-    ap (λ t. fired_at names flat i x ++ t) (fired_from-append names flat (i + 1) xs ys ∙
-    ap (λ n. fired_from names flat (i + 1) xs ++ fired_from names flat n ys) (let e : i + 1 + length xs ≡ i + suc (length xs) = omega arith in e)) ∙
-    sym (append_assoc (fired_at names flat i x) (fired_from names flat (i + 1) xs) (fired_from names flat (i + suc (length xs)) ys))
+range-append : (a m r : ℕ) → range_with_len a (m + r) ≡ range_with_len a m ++ range_with_len (a + m) r
+range-append a zero r =
+    let e : 0 + r ≡ r = omega arith in
+    let f : a ≡ a + 0 = omega arith in
+    ap (λ n. range_with_len a n) e ∙ ap (λ n. range_with_len n r) f
+range-append a (suc m) r =
+    let e : suc m + r ≡ suc (m + r) = omega arith in
+    let f : a + 1 + m ≡ a + suc m = omega arith in
+    ap (λ n. range_with_len a n) e ∙
+    ap (λ l. a ∷ l) (range-append (a + 1) m r ∙ ap (λ n. range_with_len (a + 1) m ++ range_with_len n r) f)
 
 -- one box more
-pub fired_from-more : (names : Names) (flat : Flat) (xs : List FlatBox) (k : ℕ) (b : FlatBox) → k < length xs → b ≡ get_or xs k b →
-    fired_from names flat 0 (take (k + 1) xs) ≡ fired_from names flat 0 (take k xs) ++ fired_at names flat k b
-fired_from-more names flat xs k b lt is =
-    ap (λ n. fired_from names flat 0 (take n xs)) (add-one k) ∙ ap (λ l. fired_from names flat 0 l) (take-suc xs k b lt) ∙
-    ap (λ x. fired_from names flat 0 (take k xs ++ (x ∷ []))) (sym is) ∙ fired_from-append names flat 0 (take k xs) (b ∷ []) ∙
-    ap (λ n. fired_from names flat 0 (take k xs) ++ fired_from names flat n (b ∷ [])) (counted xs k lt) ∙
-    ap (λ t. fired_from names flat 0 (take k xs) ++ t) (append-nil (fired_at names flat k b))
+pub boxes-more : (f : ℕ → List ℕ) (k : ℕ) → flat_map f (range_with_len 0 (k + 1)) ≡ flat_map f (range_with_len 0 k) ++ f k
+boxes-more f k =
+    let e : 0 + k ≡ k = omega arith in
+    ap (λ l. flat_map f l) (range-append 0 k 1 ∙ ap (λ n. range_with_len 0 k ++ n ∷ []) e) ∙ flat_map-append f (range_with_len 0 k) (k ∷ []) ∙
+    ap (λ t. flat_map f (range_with_len 0 k) ++ t) (append-nil (f k))
 
-pub fired_from-split : (names : Names) (flat : Flat) (xs : List FlatBox) (k : ℕ) (b : FlatBox) → k < length xs → b ≡ get_or xs k b →
-    fired_from names flat 0 xs ≡ fired_from names flat 0 (take k xs) ++ (fired_at names flat k b ++ fired_from names flat (k + 1) (drop (suc k) xs))
-fired_from-split names flat xs k b lt is =
-    ap (λ l. fired_from names flat 0 l) (split_at xs k b lt) ∙ ap (λ x. fired_from names flat 0 (take k xs ++ (x ∷ drop (suc k) xs))) (sym is) ∙
-    fired_from-append names flat 0 (take k xs) (b ∷ drop (suc k) xs) ∙
-    ap (λ n. fired_from names flat 0 (take k xs) ++ fired_from names flat n (b ∷ drop (suc k) xs)) (counted xs k lt)
+-- the boxes before one, that one, and those behind it
+pub boxes-split : (f : ℕ → List ℕ) (n k : ℕ) → k < n →
+    flat_map f (range_with_len 0 n) ≡ flat_map f (range_with_len 0 k) ++ (f k ++ flat_map f (range_with_len (k + 1) (n - (k + 1))))
+boxes-split f n k lt =
+    let e : n ≡ k + suc (n - (k + 1)) = omega arith in
+    let z : 0 + k ≡ k = omega arith in
+    ap (λ m. flat_map f (range_with_len 0 m)) e ∙
+    ap (λ l. flat_map f l) (range-append 0 k (suc (n - (k + 1))) ∙ ap (λ m. range_with_len 0 k ++ range_with_len m (suc (n - (k + 1)))) z) ∙
+    flat_map-append f (range_with_len 0 k) (k ∷ range_with_len (k + 1) (n - (k + 1)))

@@ -1,18 +1,18 @@
 -- How the steps of a run make the run.
-use Rattle.std.proofs.Common.{◌≡◌, ◌≤◌, ℕ, suc, Bool, true, false, List, [], length, replicate, Option, Some, None, Result, Ok, Err, refl, ap, sym, ◌∙◌, subst, inl, inr, arith, if◌then◌else◌}
-use Rattle.std.specs.Prelude.{IfSome, MatchResult, nat_le}
+use Rattle.std.proofs.Common.{◌≡◌, ℕ, suc, Bool, true, false, List, [], length, replicate, Option, Some, None, Result, Err, refl, ap, sym, ◌∙◌, subst, inl, inr, arith, if◌then◌else◌}
+use Rattle.std.specs.Prelude.{IfSome, nat_le}
 use Rattle.std.proofs.lemmas.Bool.Decides.{nat_tests}
 use Rattle.std.proofs.lemmas.List.{length-replicate}
 use Rattle.pd_io.specs.Faults.{Rose}
 use Rattle.pd_io.specs.Rows.{held_at, answer_of, handed_out}
 use Rattle.pd_io.specs.declared.files.FileRow.{FileRow}
 use Rattle.pd_io.specs.declared.shelves.Fetched.TheVariants.{Found, Absent, TooLong}
-use Rattle.pd_atom.specs.Names.{first_names}
-use Rattle.pd_play.specs.Flat.{Draft, draft, flat_of}
+use Rattle.pd_atom.specs.Names.{Names}
+use Rattle.pd_canvas.specs.Pages.{Page}
 use Rattle.pd_play.specs.Run
-use Rattle.pd_play.specs.Opening.{drafted, IsRefused}
+use Rattle.pd_play.specs.Opening.{patch_seen, IsPatchOf}
 use Rattle.pd_play.specs.declared.player.Opened.{Opened}
-use Rattle.pd_play.specs.Run.{most_bytes, played, told, outcome_at, on_course, outcome_of, opened_outcome, patch_of, Opens, Answers, Plays, Runs}
+use Rattle.pd_play.specs.Run.{most_bytes, patch_in, played, told, outcome_at, on_course, outcome_of, patch_of, Opens, Answers, Plays, Runs}
 use Rattle.pd_play.specs.Run.Course.{Whole, FolderFailed, NoRoom}
 use Rattle.pd_play.specs.declared.status.Status.{Status}
 use Rattle.pd_play.specs.declared.status.Status.TheVariants as status
@@ -23,11 +23,6 @@ whole e = cc
 
 roomless : NoRoom ≡ FolderFailed → ⊥
 roomless e = cc
-
-unnamed : (holds : Option (List FileRow)) (n : Option (List ℕ)) → None ≡ n → Run.IsHeld holds n None
-unnamed None n e = tt
-unnamed (Some rows) None e = tt
-unnamed (Some rows) (Some name) e = absurd cc
 
 by_size : (b : Bool) (bytes text : List ℕ) → Found ≡ (if b then Found else TooLong) → text ≡ (if b then bytes else []) → Some bytes ≡ Some text
 by_size true bytes text e t = ap (λ x. Some x) (sym t)
@@ -52,31 +47,30 @@ held_absent (Some bytes) e = absurd (not_absent (nat_le (length bytes) most_byte
 
 -- a file that is too long
 too_long : (name : List ℕ) (o : Option (List ℕ)) → TooLong ≡ answer_of o → outcome_at name o ≡ told name (status.PatchBad 0 cause.TooLong)
+unfolding patch_in
 too_long name None e = absurd cc
 too_long name (Some bytes) e = rw (is_long (nat_le (length bytes) most_bytes) e) refl
-
-fits : (name text : List ℕ) → length text ≤ most_bytes → outcome_at name (Some text) ≡ played name (flat_of first_names text)
-fits name text le = let t : nat_le (length text) most_bytes ≡ true = grind (arith, nat_tests) in rw t refl
 
 some_of_length : (n : ℕ) → (xs : List ℕ) × (length xs ≡ n)
 some_of_length n = (replicate n 0, length-replicate n 0)
 
 long : (name xs : List ℕ) → length xs ≡ suc most_bytes → outcome_at name (Some xs) ≡ told name (status.PatchBad 0 cause.TooLong)
+unfolding patch_in
 long name xs l = let t : nat_le (length xs) most_bytes ≡ false = grind (arith, nat_tests) in rw t refl
 
--- the text was fetched, and read
-opens_found : (name text : List ℕ) (holds : Option (List FileRow)) (o : Result Draft Status) (fb fn : ℕ) →
+-- the text was fetched, and this is its patch
+opens_found : (name text : List ℕ) (holds : Option (List FileRow)) (o : Result (Page × Names) Status) (fb fn : ℕ) →
     IfSome holds (λ rows. Found ≡ answer_of (held_at name rows)) → IfSome holds (λ rows. text ≡ handed_out (held_at name rows)) →
-    length text ≤ most_bytes → played name (flat_of first_names text) ≡ opened_outcome name o → Opens name holds o fb fn
-opens_found name text None o fb fn a b le is =
-    record { file = Some text; held = tt; course = Whole; failed = λ e. absurd (whole e); is = fits name text le ∙ is }
-opens_found name text (Some rows) o fb fn a b le is =
+    patch_in text ≡ o → Opens name holds o fb fn
+opens_found name text None o fb fn a b is =
+    record { file = Some text; held = tt; course = Whole; failed = λ e. absurd (whole e); is = ap (λ r. played name r) is }
+opens_found name text (Some rows) o fb fn a b is =
     record {
       file = held_at name rows;
       held = refl;
       course = Whole;
       failed = λ e. absurd (whole e);
-      is = ap (λ f. outcome_at name f) (held_found (held_at name rows) text a b) ∙ fits name text le ∙ is;
+      is = ap (λ f. outcome_at name f) (held_found (held_at name rows) text a b) ∙ ap (λ r. played name r) is;
     }
 
 pub opens_absent : (name : List ℕ) (holds : Option (List FileRow)) (fb fn : ℕ) →
@@ -101,32 +95,15 @@ pub opens_no_room : (name : List ℕ) (holds : Option (List FileRow)) (fb fn : �
 opens_no_room name None fb fn = record { file = None; held = tt; course = NoRoom; failed = λ e. absurd (roomless e); is = refl }
 opens_no_room name (Some rows) fb fn = record { file = held_at name rows; held = refl; course = NoRoom; failed = λ e. absurd (roomless e); is = refl }
 
-refused_room : (name : List ℕ) (holds : Option (List FileRow)) (st : Status) (fb fn : ℕ) → st ≡ status.NoMemory → Opens name holds (Err st) fb fn
-refused_room name holds st fb fn e = subst (λ s. Opens name holds (Err s) fb fn) (sym e) (opens_no_room name holds fb fn)
-
--- the text was fetched, and read or refused
+-- the text was fetched and read, or there was no memory for it
 pub opens_read : (name text : List ℕ) (holds : Option (List FileRow)) (r : Result Opened Status) (fb fn : ℕ) →
     IfSome holds (λ rows. Found ≡ answer_of (held_at name rows)) → IfSome holds (λ rows. text ≡ handed_out (held_at name rows)) →
-    length text ≤ most_bytes → MatchResult r (λ o. flat_of first_names text ≡ Some (draft o.symbols o.flat)) (IsRefused text) →
-    Opens name holds (drafted r) fb fn
-opens_read name text holds (Ok o) fb fn a b le is = opens_found name text holds _ fb fn a b le (ap (λ d. played name d) is)
-opens_read name text holds (Err st) fb fn a b le is =
+    IsPatchOf text r → Opens name holds (patch_seen r) fb fn
+opens_read name text holds r fb fn a b is =
     elim is [
-      | inl e ↦ refused_room name holds st fb fn e
-      | inr p ↦ opens_found name text holds (Err st) fb fn a b le (ap (λ d. played name d) p.1 ∙ ap (λ s. told name s) (sym p.0))
+      | inl e ↦ opens_found name text holds (patch_seen r) fb fn a b e
+      | inr e ↦ subst (λ x. Opens name holds (patch_seen x) fb fn) (sym e) (opens_no_room name holds fb fn)
     ]
-
--- the words aren't those of the command
-pub plays_usage : (words : List (List ℕ)) (holds : Option (List FileRow)) (st : Status) (old new : Option (List ℕ)) (lb ln fb fn : ℕ) →
-    None ≡ patch_of words → Answers (told [] status.Usage) st old new lb ln → Plays words holds st old new lb ln fb fn
-plays_usage words holds st old new lb ln fb fn e a =
-    record {
-      file = None;
-      held = unnamed holds (patch_of words) e;
-      course = Whole;
-      failed = λ e. absurd (whole e);
-      answers = subst (λ n. Answers (outcome_of n Whole None) st old new lb ln) e a;
-    }
 
 -- the patch of the words was run
 pub plays_run : (words : List (List ℕ)) (name : List ℕ) (holds : Option (List FileRow)) (st : Status) (old new : Option (List ℕ)) (lb ln fb fn : ℕ) →

@@ -1,17 +1,17 @@
 -- What the steps of the opening give.
-use Rattle.std.specs.Prelude.{◌≡◌, ℕ, List, Result, Ok, Err, None, ◌⊎◌}
-use Rattle.pd_atom.specs.Names.{first_names}
-use Rattle.pd_play.specs.Flat.{Draft, draft, flat_of}
+use Rattle.std.specs.Prelude.{◌≡◌, ℕ, List, Result, Ok, Err, ◌⊎◌}
+use Rattle.pd_atom.specs.Names.{Names}
+use Rattle.pd_canvas.specs.Pages.{Page}
+use Rattle.pd_play.specs.Run.{patch_in}
 use Rattle.pd_play.specs.declared.player.Opened.{Opened}
 use Rattle.pd_play.specs.declared.status.Status.{Status}
-use Rattle.pd_play.specs.declared.status.Status.TheVariants.{PatchBad, NoMemory}
-use Rattle.pd_play.specs.declared.status.BadCause.TheVariants.{BadRecord}
+use Rattle.pd_play.specs.declared.status.Status.TheVariants.{NoMemory}
 
--- the opened patch as what was read of it
-abbrev pub drafted : Result Opened Status → Result Draft Status
-drafted (Ok o) = Ok (draft o.symbols o.flat)
-drafted (Err status) = Err status
+-- the opened patch as its page and its names
+abbrev pub patch_seen : Result Opened Status → Result (Page × Names) Status
+patch_seen (Ok o) = Ok (o.document.root, o.symbols)
+patch_seen (Err status) = Err status
 
--- a text is refused since it isn't of the flat form, or there was no memory for it
-abbrev pub IsRefused : List ℕ → Status → Type 0
-IsRefused text status = (status ≡ NoMemory) ⊎ ((status ≡ PatchBad 0 BadRecord) × (flat_of first_names text ≡ None))
+-- what reading the text gives is its patch, unless there was no memory for it
+abbrev pub IsPatchOf : List ℕ → Result Opened Status → Type 0
+IsPatchOf text read = (patch_in text ≡ patch_seen read) ⊎ (read ≡ Err NoMemory)

@@ -1,18 +1,22 @@
 -- What a run is: its status and its lines, by its words and by what the folder has under the patch's name.
-use Rattle.std.specs.Prelude.{◌≡◌, ◌≢◌, ℕ, Bool, false, not, ◌==◌, ◌&&◌, nat_le, List, [], ◌∷◌, length, Option, Some, None, ◌⊎◌, Result, Ok, Err, MatchBool, if◌then◌else◌}
+use Rattle.std.specs.Prelude.{◌≡◌, ◌≢◌, ℕ, Bool, false, not, ◌==◌, ◌&&◌, nat_le, List, [], ◌∷◌, length, Option, Some, None, ◌⊎◌, Result, Ok, Err, if◌then◌else◌}
 use Rattle.std.specs.List.{list_all}
 use Rattle.pd_io.specs.Faults.{Rose}
 use Rattle.pd_io.specs.Stream.{grown, TookPart}
 use Rattle.pd_io.specs.Rows.{held_at}
 use Rattle.pd_io.specs.declared.files.FileRow.{FileRow}
-use Rattle.pd_atom.specs.Names.{first_names}
+use Rattle.pd_atom.specs.Names.{Names, first_names}
+use Rattle.pd_canvas.specs.Pages.{Page}
+use Rattle.pd_doc.specs.Reading.{document_of}
+use Rattle.pd_doc.specs.declared.refusal.DocRefusal.{DocRefusal}
+use Rattle.pd_doc.specs.declared.refusal.DocRefusal.TheVariants as refusal
 use Rattle.pd_play.specs.Ending.{status_line}
-use Rattle.pd_play.specs.Flat.{Draft, flat_of}
+use Rattle.pd_play.specs.Flat.{is_flat}
 use Rattle.pd_play.specs.Load.{load_text}
 use Rattle.pd_play.specs.declared.status.Status.{Status}
 use Rattle.pd_play.specs.declared.status.Status.TheVariants.{Done, Usage, PatchAbsent, PatchBad, ScriptBad, ReadFault, ShelfFault, WriteFault, NoMemory}
 use Rattle.pd_play.specs.declared.status.BadCause.{BadCause}
-use Rattle.pd_play.specs.declared.status.BadCause.TheVariants.{BadRecord, TooLong}
+use Rattle.pd_play.specs.declared.status.BadCause.TheVariants as cause
 
 -- a patch's name isn't empty, doesn't begin with a minus, and has no slash
 abbrev pub is_patch_name : List ℕ → Bool
@@ -28,6 +32,26 @@ patch_of _ = None
 abbrev pub most_bytes : ℕ
 most_bytes = 16777216
 
+-- what a refusal of the document says of the patch: its record and its cause
+abbrev pub refused : DocRefusal → Status
+refused (refusal.BadRecord n) = PatchBad n cause.BadRecord
+refused (refusal.DataStructure n) = PatchBad n cause.DataStructure
+refused (refusal.TooDeep n) = PatchBad n cause.TooDeep
+refused (refusal.TooLong n) = PatchBad n cause.TooLong
+refused (refusal.TooManyBoxes n) = PatchBad n cause.TooManyBoxes
+refused (refusal.TooManyWires n) = PatchBad n cause.TooManyWires
+refused (refusal.SymbolsFull n) = PatchBad n cause.SymbolsFull
+refused refusal.NoMemory = NoMemory
+
+-- the document, where it is of the flat form, or the status that says why it isn't played
+abbrev pub flat_part : Result (Page × Names) DocRefusal → Result (Page × Names) Status
+flat_part (Err e) = Err (refused e)
+flat_part (Ok d) = if is_flat d.1 d.0 then Ok d else Err (PatchBad 0 cause.BadRecord)
+
+-- the patch that a text is, and its names
+unfoldable pub patch_in : List ℕ → Result (Page × Names) Status
+patch_in text = if nat_le (length text) most_bytes then flat_part (document_of first_names text) else Err (PatchBad 0 cause.TooLong)
+
 -- a status and the lines that are printed
 pub record Outcome : Type 0 where
   pub status : Status
@@ -37,15 +61,15 @@ pub record Outcome : Type 0 where
 abbrev pub told : List ℕ → Status → Outcome
 told name status = record { status = status; lines = status_line name status }
 
--- a run on the text of a patch
-abbrev pub played : List ℕ → Option Draft → Outcome
-played name None = told name (PatchBad 0 BadRecord)
-played name (Some d) = record { status = Done; lines = load_text d.names d.flat }
+-- a run on a patch, or on the status that says why there is none
+abbrev pub played : List ℕ → Result (Page × Names) Status → Outcome
+played name (Ok d) = record { status = Done; lines = load_text d.1 d.0 }
+played name (Err status) = told name status
 
 -- a run on what the folder has under the name
 abbrev pub outcome_at : List ℕ → Option (List ℕ) → Outcome
 outcome_at name None = told name PatchAbsent
-outcome_at name (Some text) = if nat_le (length text) most_bytes then played name (flat_of first_names text) else told name (PatchBad 0 TooLong)
+outcome_at name (Some text) = played name (patch_in text)
 
 -- What may cut the opening short: the folder fails, or there is no memory.
 pub data Course : Type 0 where
@@ -83,25 +107,20 @@ pub record Plays (words : List (List ℕ)) (holds : Option (List FileRow)) (stat
   pub failed : course ≡ FolderFailed → Rose folder_before folder_now
   pub answers : Answers (outcome_of (patch_of words) course file) status old new lines_before lines_now
 
--- a patch was opened, or a status says why not
-abbrev pub opened_outcome : List ℕ → Result Draft Status → Outcome
-opened_outcome name (Ok d) = record { status = Done; lines = load_text d.names d.flat }
-opened_outcome name (Err status) = told name status
-
 -- The opening of the patch of a name: one file and one course give the patch, or the status.
-pub record Opens (name : List ℕ) (holds : Option (List FileRow)) (opened : Result Draft Status) (folder_before folder_now : ℕ) : Type 0 where
+pub record Opens (name : List ℕ) (holds : Option (List FileRow)) (opened : Result (Page × Names) Status) (folder_before folder_now : ℕ) : Type 0 where
   pub file : Option (List ℕ)
   pub held : IsHeld holds (Some name) file
   pub course : Course
   pub failed : course ≡ FolderFailed → Rose folder_before folder_now
-  pub is : on_course name course (outcome_at name file) ≡ opened_outcome name opened
+  pub is : on_course name course (outcome_at name file) ≡ played name opened
 
 -- The run on the patch of a name: what its opening gave is played, or told.
 pub record Runs (name : List ℕ) (holds : Option (List FileRow)) (status : Status)
     (old new : Option (List ℕ)) (lines_before lines_now folder_before folder_now : ℕ) : Type 0 where
-  pub opened : Result Draft Status
+  pub opened : Result (Page × Names) Status
   pub opens : Opens name holds opened folder_before folder_now
-  pub answers : Answers (opened_outcome name opened) status old new lines_before lines_now
+  pub answers : Answers (played name opened) status old new lines_before lines_now
 
 -- What each status says of its cause.
 pub record HasCauses (words : List (List ℕ)) (holds : Option (List FileRow)) (status : Status) (lines_before lines_now folder_before folder_now : ℕ) : Type 0 where
@@ -109,10 +128,9 @@ pub record HasCauses (words : List (List ℕ)) (holds : Option (List FileRow)) (
   pub usage : status ≡ Usage → patch_of words ≡ None
   -- the folder, where it tells, has no file of the name
   pub absent : status ≡ PatchAbsent → (rows : List FileRow) (name : List ℕ) → holds ≡ Some rows → patch_of words ≡ Some name → held_at name rows ≡ None
-  -- the file, where the folder tells it, isn't of the flat form, or is too long
+  -- the file, where the folder tells it, is refused so
   pub refused : (number : ℕ) (cause : BadCause) → status ≡ PatchBad number cause → (rows : List FileRow) (name text : List ℕ) →
-      holds ≡ Some rows → patch_of words ≡ Some name → held_at name rows ≡ Some text →
-      MatchBool (nat_le (length text) most_bytes) ((flat_of first_names text ≡ None) × (number ≡ 0) × (cause ≡ BadRecord)) ((number ≡ 0) × (cause ≡ TooLong))
+      holds ≡ Some rows → patch_of words ≡ Some name → held_at name rows ≡ Some text → patch_in text ≡ Err (PatchBad number cause)
   pub shelf_fault : status ≡ ShelfFault → Rose folder_before folder_now
   pub write_fault : status ≡ WriteFault → Rose lines_before lines_now
   -- no script is read

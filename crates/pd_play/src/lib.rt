@@ -2,7 +2,6 @@
 #![tactic(auto)]
 
 mod flat;
-mod items;
 mod line;
 mod load;
 mod player;

@@ -3,15 +3,17 @@ ghost use Rattle.std.specs.Prelude.{◌≡◌, ◌≤◌, ◌∷◌, [], length,
 ghost use Rattle.std.specs.List.{All};
 ghost use Rattle.pd_io.specs.Stream.{grown, TookPart};
 ghost use Rattle.pd_atom.specs.Atoms.{IsOf};
+ghost use Rattle.pd_doc.specs.Atoms.{PageOf};
 ghost use Rattle.pd_play.specs.Gathering.{Says, Fails, HasCause};
 ghost use Rattle.pd_play.specs.Messages.{message_of, print_line};
 ghost use Rattle.pd_play.specs.Messages.Message.{Bang};
-ghost use Rattle.pd_play.specs.Load.{IsBoxOf, along, sends, heard, fired, fired_at, load_text};
+ghost use Rattle.pd_play.specs.Load.{along, sends, heard, fired, fired_at as fired_on, load_text};
 
-use crate::flat::{Flat, FlatBox, FlatWire, box_at};
+use crate::flat::{FlatBox, kind_at, wires_of};
 use crate::line::{Held, flush, put};
 use crate::say::put_message;
 use pd_atom::{Atom, Symbols};
+use pd_canvas::{Canvas, Wire};
 use pd_io::{Sink, SinkFailed};
 
 /// Prints the line of a bang.
@@ -70,20 +72,21 @@ fn print_message<L: Sink>(
 fn pass_on<L: Sink>(
     atoms: &[Atom],
     number: usize,
-    flat: &Flat,
+    canvas: &Canvas,
     symbols: &Symbols,
     held: &mut Held,
     sink: &mut L,
 ) -> Result<(), SinkFailed>
     requires held { held.old.items ≡ [] }
+    requires page { PageOf symbols.now canvas.now }
     requires atoms { All (λ a. IsOf symbols.now a) atoms.now }
     requires table { 6 ≤ length symbols.now }
-    ensures ok { OnOk result (L.taken sink.new ≡ grown (L.taken sink.old) (sends (message_of atoms.now) (λ m. heard symbols.now flat.now 1 m number))) }
+    ensures ok { OnOk result (L.taken sink.new ≡ grown (L.taken sink.old) (sends (message_of atoms.now) (λ m. heard symbols.now canvas.now 1 m number))) }
     ensures empty { OnOk result (held.new.items ≡ []) }
-    ensures err { OnErr result (TookPart (L.taken sink.old) (L.taken sink.new) (sends (message_of atoms.now) (λ m. heard symbols.now flat.now 1 m number))) }
+    ensures err { OnErr result (TookPart (L.taken sink.old) (L.taken sink.new) (sends (message_of atoms.now) (λ m. heard symbols.now canvas.now 1 m number))) }
     ensures cause { HasCause (L.faults sink.old) (L.faults sink.new) result }
 {
-    match box_at(flat, number) {
+    match kind_at(canvas, number, symbols) {
         Some(FlatBox::Print) => print_message(atoms, symbols, held, sink),
         Some(FlatBox::Loadbang) => Ok(()),
         Some(FlatBox::Message(_)) => Ok(()),
@@ -91,26 +94,27 @@ fn pass_on<L: Sink>(
     }
 }
 
-/// The message of a message box with these atoms goes along a wire, where that begins at the box.
+/// The message of a message box with these atoms goes along a wire, where that begins at outlet 0 of the box.
 fn pass_along<L: Sink>(
     atoms: &[Atom],
-    wire: FlatWire,
+    wire: Wire,
     number: usize,
-    flat: &Flat,
+    canvas: &Canvas,
     symbols: &Symbols,
     held: &mut Held,
     sink: &mut L,
 ) -> Result<(), SinkFailed>
     requires held { held.old.items ≡ [] }
+    requires page { PageOf symbols.now canvas.now }
     requires atoms { All (λ a. IsOf symbols.now a) atoms.now }
     requires table { 6 ≤ length symbols.now }
-    ensures ok { OnOk result (L.taken sink.new ≡ grown (L.taken sink.old) (along (λ k. sends (message_of atoms.now) (λ m. heard symbols.now flat.now 1 m k)) number (wire ∷ []))) }
+    ensures ok { OnOk result (L.taken sink.new ≡ grown (L.taken sink.old) (along (λ k. sends (message_of atoms.now) (λ m. heard symbols.now canvas.now 1 m k)) number (wire ∷ []))) }
     ensures empty { OnOk result (held.new.items ≡ []) }
-    ensures err { OnErr result (TookPart (L.taken sink.old) (L.taken sink.new) (along (λ k. sends (message_of atoms.now) (λ m. heard symbols.now flat.now 1 m k)) number (wire ∷ []))) }
+    ensures err { OnErr result (TookPart (L.taken sink.old) (L.taken sink.new) (along (λ k. sends (message_of atoms.now) (λ m. heard symbols.now canvas.now 1 m k)) number (wire ∷ []))) }
     ensures cause { HasCause (L.faults sink.old) (L.faults sink.new) result }
 {
-    if wire.source as usize == number {
-        pass_on(atoms, wire.sink as usize, flat, symbols, held, sink)
+    if wire.source as usize == number && wire.outlet == 0 {
+        pass_on(atoms, wire.sink as usize, canvas, symbols, held, sink)
     } else {
         Ok(())
     }
@@ -120,22 +124,23 @@ fn pass_along<L: Sink>(
 fn send<L: Sink>(
     atoms: &[Atom],
     number: usize,
-    flat: &Flat,
+    canvas: &Canvas,
     symbols: &Symbols,
     held: &mut Held,
     sink: &mut L,
 ) -> Result<(), SinkFailed>
     requires held { held.old.items ≡ [] }
+    requires page { PageOf symbols.now canvas.now }
     requires atoms { All (λ a. IsOf symbols.now a) atoms.now }
     requires table { 6 ≤ length symbols.now }
-    ensures ok { OnOk result (L.taken sink.new ≡ grown (L.taken sink.old) (along (λ k. sends (message_of atoms.now) (λ m. heard symbols.now flat.now 1 m k)) number flat.now.wires)) }
+    ensures ok { OnOk result (L.taken sink.new ≡ grown (L.taken sink.old) (along (λ k. sends (message_of atoms.now) (λ m. heard symbols.now canvas.now 1 m k)) number canvas.now.wires)) }
     ensures empty { OnOk result (held.new.items ≡ []) }
-    ensures err { OnErr result (TookPart (L.taken sink.old) (L.taken sink.new) (along (λ k. sends (message_of atoms.now) (λ m. heard symbols.now flat.now 1 m k)) number flat.now.wires)) }
+    ensures err { OnErr result (TookPart (L.taken sink.old) (L.taken sink.new) (along (λ k. sends (message_of atoms.now) (λ m. heard symbols.now canvas.now 1 m k)) number canvas.now.wires)) }
     ensures cause { HasCause (L.faults sink.old) (L.faults sink.new) result }
 {
-    let wires = flat.wires.as_slice();
+    let wires = wires_of(canvas);
     for wire in wires {
-        pass_along(atoms, *wire, number, flat, symbols, held, sink)?;
+        pass_along(atoms, *wire, number, canvas, symbols, held, sink)?;
     }
     Ok(())
 }
@@ -143,46 +148,46 @@ fn send<L: Sink>(
 /// A bang comes to a box.
 fn arrive<L: Sink>(
     number: usize,
-    flat: &Flat,
+    canvas: &Canvas,
     symbols: &Symbols,
     held: &mut Held,
     sink: &mut L,
 ) -> Result<(), SinkFailed>
     requires held { held.old.items ≡ [] }
-    requires boxes { All (λ b. IsBoxOf symbols.now b) flat.now.boxes }
+    requires page { PageOf symbols.now canvas.now }
     requires table { 6 ≤ length symbols.now }
-    ensures ok { OnOk result (L.taken sink.new ≡ grown (L.taken sink.old) (heard symbols.now flat.now 2 Bang number)) }
+    ensures ok { OnOk result (L.taken sink.new ≡ grown (L.taken sink.old) (heard symbols.now canvas.now 2 Bang number)) }
     ensures empty { OnOk result (held.new.items ≡ []) }
-    ensures err { OnErr result (TookPart (L.taken sink.old) (L.taken sink.new) (heard symbols.now flat.now 2 Bang number)) }
+    ensures err { OnErr result (TookPart (L.taken sink.old) (L.taken sink.new) (heard symbols.now canvas.now 2 Bang number)) }
     ensures cause { HasCause (L.faults sink.old) (L.faults sink.new) result }
 {
-    match box_at(flat, number) {
+    match kind_at(canvas, number, symbols) {
         Some(FlatBox::Print) => print_bang(symbols, held, sink),
-        Some(FlatBox::Message(atoms)) => send(atoms.as_slice(), number, flat, symbols, held, sink),
+        Some(FlatBox::Message(atoms)) => send(atoms, number, canvas, symbols, held, sink),
         Some(FlatBox::Loadbang) => Ok(()),
         None => Ok(()),
     }
 }
 
-/// A bang goes along a wire, where that begins at the box.
+/// A bang goes along a wire, where that begins at outlet 0 of the box.
 fn bang_along<L: Sink>(
-    wire: FlatWire,
+    wire: Wire,
     number: usize,
-    flat: &Flat,
+    canvas: &Canvas,
     symbols: &Symbols,
     held: &mut Held,
     sink: &mut L,
 ) -> Result<(), SinkFailed>
     requires held { held.old.items ≡ [] }
-    requires boxes { All (λ b. IsBoxOf symbols.now b) flat.now.boxes }
+    requires page { PageOf symbols.now canvas.now }
     requires table { 6 ≤ length symbols.now }
-    ensures ok { OnOk result (L.taken sink.new ≡ grown (L.taken sink.old) (along (heard symbols.now flat.now 2 Bang) number (wire ∷ []))) }
+    ensures ok { OnOk result (L.taken sink.new ≡ grown (L.taken sink.old) (along (heard symbols.now canvas.now 2 Bang) number (wire ∷ []))) }
     ensures empty { OnOk result (held.new.items ≡ []) }
-    ensures err { OnErr result (TookPart (L.taken sink.old) (L.taken sink.new) (along (heard symbols.now flat.now 2 Bang) number (wire ∷ []))) }
+    ensures err { OnErr result (TookPart (L.taken sink.old) (L.taken sink.new) (along (heard symbols.now canvas.now 2 Bang) number (wire ∷ []))) }
     ensures cause { HasCause (L.faults sink.old) (L.faults sink.new) result }
 {
-    if wire.source as usize == number {
-        arrive(wire.sink as usize, flat, symbols, held, sink)
+    if wire.source as usize == number && wire.outlet == 0 {
+        arrive(wire.sink as usize, canvas, symbols, held, sink)
     } else {
         Ok(())
     }
@@ -191,22 +196,22 @@ fn bang_along<L: Sink>(
 /// A loadbang sends its bang along its wires.
 fn fire<L: Sink>(
     number: usize,
-    flat: &Flat,
+    canvas: &Canvas,
     symbols: &Symbols,
     held: &mut Held,
     sink: &mut L,
 ) -> Result<(), SinkFailed>
     requires held { held.old.items ≡ [] }
-    requires boxes { All (λ b. IsBoxOf symbols.now b) flat.now.boxes }
+    requires page { PageOf symbols.now canvas.now }
     requires table { 6 ≤ length symbols.now }
-    ensures ok { OnOk result (L.taken sink.new ≡ grown (L.taken sink.old) (fired symbols.now flat.now number)) }
+    ensures ok { OnOk result (L.taken sink.new ≡ grown (L.taken sink.old) (fired symbols.now canvas.now number)) }
     ensures empty { OnOk result (held.new.items ≡ []) }
-    ensures err { OnErr result (TookPart (L.taken sink.old) (L.taken sink.new) (fired symbols.now flat.now number)) }
+    ensures err { OnErr result (TookPart (L.taken sink.old) (L.taken sink.new) (fired symbols.now canvas.now number)) }
     ensures cause { HasCause (L.faults sink.old) (L.faults sink.new) result }
 {
-    let wires = flat.wires.as_slice();
+    let wires = wires_of(canvas);
     for wire in wires {
-        bang_along(*wire, number, flat, symbols, held, sink)?;
+        bang_along(*wire, number, canvas, symbols, held, sink)?;
     }
     Ok(())
 }
@@ -214,45 +219,45 @@ fn fire<L: Sink>(
 /// What a box does at the load event.
 fn fire_at<L: Sink>(
     number: usize,
-    flat_box: &FlatBox,
-    flat: &Flat,
+    canvas: &Canvas,
     symbols: &Symbols,
     held: &mut Held,
     sink: &mut L,
 ) -> Result<(), SinkFailed>
     requires held { held.old.items ≡ [] }
-    requires boxes { All (λ b. IsBoxOf symbols.now b) flat.now.boxes }
+    requires page { PageOf symbols.now canvas.now }
     requires table { 6 ≤ length symbols.now }
-    ensures ok { OnOk result (L.taken sink.new ≡ grown (L.taken sink.old) (fired_at symbols.now flat.now number flat_box.now)) }
+    ensures ok { OnOk result (L.taken sink.new ≡ grown (L.taken sink.old) (fired_on symbols.now canvas.now number)) }
     ensures empty { OnOk result (held.new.items ≡ []) }
-    ensures err { OnErr result (TookPart (L.taken sink.old) (L.taken sink.new) (fired_at symbols.now flat.now number flat_box.now)) }
+    ensures err { OnErr result (TookPart (L.taken sink.old) (L.taken sink.new) (fired_on symbols.now canvas.now number)) }
     ensures cause { HasCause (L.faults sink.old) (L.faults sink.new) result }
 {
-    match flat_box {
-        FlatBox::Loadbang => fire(number, flat, symbols, held, sink),
-        FlatBox::Print => Ok(()),
-        FlatBox::Message(_) => Ok(()),
+    match kind_at(canvas, number, symbols) {
+        Some(FlatBox::Loadbang) => fire(number, canvas, symbols, held, sink),
+        Some(FlatBox::Print) => Ok(()),
+        Some(FlatBox::Message(_)) => Ok(()),
+        None => Ok(()),
     }
 }
 
 /// The load event: each loadbang in order sends its bang.
 pub fn load<L: Sink>(
-    flat: &Flat,
+    canvas: &Canvas,
     symbols: &Symbols,
     held: &mut Held,
     sink: &mut L,
 ) -> Result<(), SinkFailed>
     requires held { held.old.items ≡ [] }
-    requires boxes { All (λ b. IsBoxOf symbols.now b) flat.now.boxes }
+    requires page { PageOf symbols.now canvas.now }
     requires table { 6 ≤ length symbols.now }
-    ensures ok { OnOk result (L.taken sink.new ≡ grown (L.taken sink.old) (load_text symbols.now flat.now)) }
+    ensures ok { OnOk result (L.taken sink.new ≡ grown (L.taken sink.old) (load_text symbols.now canvas.now)) }
     ensures empty { OnOk result (held.new.items ≡ []) }
-    ensures err { OnErr result (TookPart (L.taken sink.old) (L.taken sink.new) (load_text symbols.now flat.now)) }
+    ensures err { OnErr result (TookPart (L.taken sink.old) (L.taken sink.new) (load_text symbols.now canvas.now)) }
     ensures cause { HasCause (L.faults sink.old) (L.faults sink.new) result }
 {
-    let boxes = flat.boxes.as_slice();
-    for (number, flat_box) in boxes.iter().enumerate() {
-        fire_at(number, flat_box, flat, symbols, held, sink)?;
+    let count = canvas.box_count();
+    for number in 0..count {
+        fire_at(number, canvas, symbols, held, sink)?;
     }
     Ok(())
 }

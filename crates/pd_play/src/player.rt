@@ -1,26 +1,26 @@
 //! The player as one call.
-ghost use Rattle.std.specs.Prelude.{◌≡◌, ◌≤◌, ◌==◌, not, map, string_bytes, Some, MatchResult, IfOk, length, []};
-ghost use Rattle.std.specs.List.{All, list_all};
+ghost use Rattle.std.specs.Prelude.{◌≡◌, ◌≤◌, ◌==◌, not, map, string_bytes, IfOk, length, []};
+ghost use Rattle.std.specs.List.{list_all};
 ghost use Rattle.std.specs.Option.{option_copied};
 ghost use Rattle.pd_atom.specs.Names.{first_names};
-ghost use Rattle.pd_play.specs.Flat.{draft, flat_of};
-ghost use Rattle.pd_play.specs.Load.{IsBoxOf};
-ghost use Rattle.pd_play.specs.Opening.{drafted, IsRefused};
-ghost use Rattle.pd_play.specs.Run.{is_patch_name as names_patch, patch_of, Opens, Runs, Plays, HasCauses};
+ghost use Rattle.pd_doc.specs.Atoms.{PageOf};
+ghost use Rattle.pd_play.specs.Opening.{patch_seen, IsPatchOf};
+ghost use Rattle.pd_play.specs.Run.{is_patch_name as names_patch, patch_of, refused as refused_as, most_bytes, Opens, Runs, Plays, HasCauses};
 
-use crate::flat::{Flat, FlatRefusal, read_flat};
+use crate::flat::is_flat;
 use crate::line::Held;
 use crate::load::load;
 use crate::report::tell;
 use crate::status::{BadCause, Status};
 use pd_atom::Symbols;
+use pd_doc::{Doc, DocRefusal, read};
 use pd_io::{Fetched, Shelf, ShelfError, Sink, SinkFailed, Source};
 use std::alloc::Global;
 
 /// A patch that was opened, and the table of its names.
 #[derive(Drop)]
 struct Opened {
-    flat: Flat,
+    document: Doc,
     symbols: Symbols,
 }
 
@@ -58,30 +58,49 @@ fn patch_name(words: &[String]) -> Option<&[u8]>
     }
 }
 
+/// How a run on a refused document ends.
+fn refused(refusal: DocRefusal) -> Status
+    ensures { result ≡ refused_as refusal }
+{
+    let (number, cause) = match refusal {
+        DocRefusal::BadRecord { number } => (number, BadCause::BadRecord),
+        DocRefusal::DataStructure { number } => (number, BadCause::DataStructure),
+        DocRefusal::TooDeep { number } => (number, BadCause::TooDeep),
+        DocRefusal::TooLong { number } => (number, BadCause::TooLong),
+        DocRefusal::TooManyBoxes { number } => (number, BadCause::TooManyBoxes),
+        DocRefusal::TooManyWires { number } => (number, BadCause::TooManyWires),
+        DocRefusal::SymbolsFull { number } => (number, BadCause::SymbolsFull),
+        DocRefusal::NoMemory => return Status::NoMemory,
+    };
+    Status::PatchBad { number, cause }
+}
+
 /// Reads the text of a patch into a new table of names.
 fn read_patch(alloc: Global, text: &[u8], mut symbols: Symbols) -> Result<Opened, Status>
-    requires { symbols ≡ first_names }
-    ensures read { MatchResult result (λ o. flat_of first_names text.now ≡ Some (draft o.symbols o.flat)) (IsRefused text.now) }
-    ensures boxes { IfOk result (λ o. All (λ b. IsBoxOf o.symbols b) o.flat.boxes) }
+    requires table { symbols ≡ first_names }
+    requires fits { length text.now ≤ most_bytes }
+    ensures patch { IsPatchOf text.now result }
+    ensures page { IfOk result (λ o. PageOf o.symbols o.document.root) }
     ensures table { IfOk result (λ o. 6 ≤ length o.symbols) }
 {
-    match read_flat(alloc, text, &mut symbols) {
-        Ok(flat) => {
-            let _names = symbols.len();
-            Ok(Opened { flat, symbols })
-        }
-        Err(FlatRefusal::Other) => Err(Status::PatchBad {
+    let document = match read(alloc, text, &mut symbols) {
+        Ok(document) => document,
+        Err(refusal) => return Err(refused(refusal)),
+    };
+    if !is_flat(&document.root, &symbols) {
+        return Err(Status::PatchBad {
             number: 0,
             cause: BadCause::BadRecord,
-        }),
-        Err(FlatRefusal::NoMemory) => Err(Status::NoMemory),
+        });
     }
+    let _names = symbols.len();
+    Ok(Opened { document, symbols })
 }
 
 /// Fetches and reads the patch of a name.
 fn open<H: Shelf>(alloc: Global, name: &[u8], shelf: &mut H) -> Result<Opened, Status>
-    ensures opens { Opens name.now (H.holds shelf.old) (drafted result) (H.faults shelf.old) (H.faults shelf.new) }
-    ensures boxes { IfOk result (λ o. All (λ b. IsBoxOf o.symbols b) o.flat.boxes) }
+    ensures opens { Opens name.now (H.holds shelf.old) (patch_seen result) (H.faults shelf.old) (H.faults shelf.new) }
+    ensures page { IfOk result (λ o. PageOf o.symbols o.document.root) }
     ensures table { IfOk result (λ o. 6 ≤ length o.symbols) }
     ensures kept { H.holds shelf.new ≡ H.holds shelf.old }
     ensures counted { H.faults shelf.old ≤ H.faults shelf.new }
@@ -118,7 +137,7 @@ fn run<H: Shelf, L: Sink>(
     ensures folder_counted { H.faults shelf.old ≤ H.faults shelf.new }
 {
     match open(alloc, name, shelf) {
-        Ok(opened) => match load(&opened.flat, &opened.symbols, held, lines) {
+        Ok(opened) => match load(&opened.document.root, &opened.symbols, held, lines) {
             Ok(()) => Status::Done,
             Err(SinkFailed) => Status::WriteFault,
         },

@@ -10,11 +10,15 @@ struct Case {
     code: u8,
 }
 
-const REFUSED: &[u8] = b"error: main.pd: record 0: bad record\n";
+const OTHER: &[u8] = b"error: main.pd: record 0: bad record\n";
+
+const FIRST_BAD: &[u8] = b"error: main.pd: record 1: bad record\n";
+
+const SECOND_BAD: &[u8] = b"error: main.pd: record 2: bad record\n";
 
 const ROOM: usize = 65_536;
 
-const CASES: [Case; 26] = [
+const CASES: [Case; 41] = [
     Case {
         text: b"#N canvas 0 50 450 300 12;\n#X obj 10 10 loadbang;\n#X msg 10 40 hello 1.5;\n#X obj 10 70 print;\n#X connect 0 0 1 0;\n#X connect 1 0 2 0;\n",
         lines: b"print: hello 1.5\n",
@@ -48,111 +52,191 @@ const CASES: [Case; 26] = [
         lines: b"",
         code: 0,
     },
+    // The header is free, and an empty record does nothing.
     Case {
-        text: b"#N canvas 0 0 1 1 1;",
+        text: b"#N canvas 0 50 450 300 12;",
         lines: b"",
         code: 0,
     },
     Case {
+        text: b"#N canvas;;",
+        lines: b"",
+        code: 0,
+    },
+    // A wire may stand before its boxes.
+    Case {
+        text: b"#N canvas 0 0 1 1 1;#X obj 0 0 loadbang;#X connect 0 0 1 0;;#X obj 0 0 print;",
+        lines: b"print: bang\n",
+        code: 0,
+    },
+    // Sorting the wires by their sources keeps the order of a fan-out.
+    Case {
+        text: b"#N canvas 0 0 1 1 1;#X msg 0 0 a;#X obj 0 0 print;#X obj 0 0 loadbang;#X connect 2 0 1 0;#X connect 0 0 1 0;#X connect 2 0 0 0;",
+        lines: b"print: bang\nprint: a\n",
+        code: 0,
+    },
+    // Refusals with the number of the record.
+    Case {
         text: b"",
-        lines: REFUSED,
+        lines: FIRST_BAD,
         code: 4,
     },
     Case {
         text: b"hello",
-        lines: REFUSED,
-        code: 4,
-    },
-    Case {
-        text: b"#N canvas 0 0 1 1;",
-        lines: REFUSED,
-        code: 4,
-    },
-    Case {
-        text: b"#N canvas 0 0 1 1 1 1;",
-        lines: REFUSED,
-        code: 4,
-    },
-    Case {
-        text: b"#N canvas 0 0 1 1 x;",
-        lines: REFUSED,
+        lines: FIRST_BAD,
         code: 4,
     },
     Case {
         text: b"#X canvas 0 0 1 1 1;",
-        lines: REFUSED,
-        code: 4,
-    },
-    Case {
-        text: b"#N canvas 0 0 1 1 1;;",
-        lines: REFUSED,
+        lines: FIRST_BAD,
         code: 4,
     },
     Case {
         text: b"#N canvas 0 0 1 1 1;#X obj 0 0 print",
-        lines: REFUSED,
-        code: 4,
-    },
-    Case {
-        text: b"#N canvas 0 0 1 1 1;#X obj 0 0 print a;",
-        lines: REFUSED,
+        lines: SECOND_BAD,
         code: 4,
     },
     Case {
         text: b"#N canvas 0 0 1 1 1;#X obj 0 x print;",
-        lines: REFUSED,
+        lines: SECOND_BAD,
+        code: 4,
+    },
+    Case {
+        text: b"#N canvas 0 50 450 300 12;\n#X obj 10 10 loadbang;\n#X msg 10 40 hel",
+        lines: b"error: main.pd: record 3: bad record\n",
+        code: 4,
+    },
+    Case {
+        text: b"#N canvas 0 50 450 300 12;\n#X msg 10 40 set \\",
+        lines: SECOND_BAD,
+        code: 4,
+    },
+    Case {
+        text: b"#N canvas 0 50 450 300 12;\n#N canvas 0 0 450 300 a 0;",
+        lines: SECOND_BAD,
+        code: 4,
+    },
+    Case {
+        text: b"#N canvas 0 50 450 300 12;\n#N struct s float x;",
+        lines: b"error: main.pd: record 2: data structure\n",
+        code: 4,
+    },
+    // Documents that are not of the flat form.
+    Case {
+        text: b"#N canvas 0 50 450 300 12;\n#X obj 10 10 osc~ 440;",
+        lines: OTHER,
+        code: 4,
+    },
+    Case {
+        text: b"#N canvas 0 0 1 1 1;#X obj 0 0 print a;",
+        lines: OTHER,
+        code: 4,
+    },
+    Case {
+        text: b"#N canvas 0 0 1 1 1;#X obj 0 0;",
+        lines: OTHER,
         code: 4,
     },
     Case {
         text: b"#N canvas 0 0 1 1 1;#X obj 0 0 metro;",
-        lines: REFUSED,
+        lines: OTHER,
+        code: 4,
+    },
+    Case {
+        text: b"#N canvas 0 0 1 1 1;#X obj 0 0 print, f 9;",
+        lines: OTHER,
+        code: 4,
+    },
+    Case {
+        text: b"#N canvas 0 0 1 1 1;#X obj 0 0 print;#A 1;",
+        lines: OTHER,
+        code: 4,
+    },
+    Case {
+        text: b"#N canvas 0 0 1 1 1;#X obj 0 0 pd;",
+        lines: OTHER,
+        code: 4,
+    },
+    Case {
+        text: b"#N canvas 0 0 1 1 1;#N canvas 0 0 1 1 a 0;#X restore 0 0 pd a;",
+        lines: OTHER,
         code: 4,
     },
     Case {
         text: b"#N canvas 0 0 1 1 1;#X text 0 0 hi;",
-        lines: REFUSED,
+        lines: OTHER,
         code: 4,
     },
     Case {
-        text: b"#N canvas 0 0 1 1 1;#X msg 0 0 a\\;b;",
-        lines: REFUSED,
+        text: b"#N canvas 0 0 1 1 1;#X floatatom 0 0 5;",
+        lines: OTHER,
+        code: 4,
+    },
+    Case {
+        text: b"#N canvas 0 0 1 1 1;#X declare -path lib;",
+        lines: OTHER,
+        code: 4,
+    },
+    Case {
+        text: b"#N canvas 0 0 1 1 1;#X coords 0 1 1 0 1 1 0;",
+        lines: OTHER,
         code: 4,
     },
     Case {
         text: b"#N canvas 0 0 1 1 1;#X msg 0 0 a, b;",
-        lines: REFUSED,
+        lines: OTHER,
         code: 4,
     },
     Case {
-        text: b"#N canvas 0 0 1 1 1;#X msg 0 0 $1;",
-        lines: REFUSED,
+        text: b"#N canvas 0 0 1 1 1;#X msg 0 0 a \\;;",
+        lines: OTHER,
         code: 4,
     },
-    // Wires between boxes that are there by then, from outlet 0 to inlet 0, and only where the form has them.
     Case {
-        text: b"#N canvas 0 0 1 1 1;#X obj 0 0 loadbang;#X connect 0 0 1 0;#X obj 0 0 print;",
-        lines: REFUSED,
+        text: b"#N canvas 0 0 1 1 1;#X msg 0 0 \\$1;",
+        lines: OTHER,
+        code: 4,
+    },
+    Case {
+        text: b"#N canvas 0 0 1 1 1;#X msg 0 0 \\$1-x;",
+        lines: OTHER,
+        code: 4,
+    },
+    // Wires from outlet 0 to inlet 0 of boxes that are there, and only where the form has them.
+    Case {
+        text: b"#N canvas 0 0 1 1 1;#X obj 0 0 loadbang;#X obj 0 0 print;#X connect 0 0 2 0;",
+        lines: OTHER,
         code: 4,
     },
     Case {
         text: b"#N canvas 0 0 1 1 1;#X obj 0 0 loadbang;#X obj 0 0 print;#X connect 0 1 1 0;",
-        lines: REFUSED,
+        lines: OTHER,
+        code: 4,
+    },
+    Case {
+        text: b"#N canvas 0 0 1 1 1;#X obj 0 0 loadbang;#X obj 0 0 print;#X connect 0 0 1 1;",
+        lines: OTHER,
         code: 4,
     },
     Case {
         text: b"#N canvas 0 0 1 1 1;#X msg 0 0 a;#X msg 0 0 b;#X connect 0 0 1 0;",
-        lines: REFUSED,
+        lines: OTHER,
         code: 4,
     },
     Case {
         text: b"#N canvas 0 0 1 1 1;#X obj 0 0 print;#X obj 0 0 print;#X connect 0 0 1 0;",
-        lines: REFUSED,
+        lines: OTHER,
+        code: 4,
+    },
+    Case {
+        text: b"#N canvas 0 0 1 1 1;#X obj 0 0 loadbang;#X obj 0 0 loadbang;#X connect 0 0 1 0;",
+        lines: OTHER,
         code: 4,
     },
 ];
 
 /// The words of a message box, and what a print shows of its message.
-const MESSAGES: [(&[u8], &[u8]); 18] = [
+const MESSAGES: [(&[u8], &[u8]); 19] = [
     (b"bang 1", b"print: bang\n"),
     (b"float", b"print: 0\n"),
     (b"float x", b"print: 0\n"),
@@ -169,6 +253,7 @@ const MESSAGES: [(&[u8], &[u8]); 18] = [
     (b"7", b"print: 7\n"),
     (b"foo", b"print: foo\n"),
     (b"+5 1", b"print: +5 1\n"),
+    (b"a\\;b c\\,d", b"print: a;b c,d\n"),
     (b"pd dsp 1", b"print: pd dsp 1\n"),
     (b"", b""),
 ];
@@ -263,41 +348,64 @@ fn messages(rt: HostRuntime) -> Result<(), Fail> {
 }
 
 #[test]
-fn limits(rt: HostRuntime) -> Result<(), Fail> {
+fn many(rt: HostRuntime) -> Result<(), Fail> {
     let alloc = rt.alloc();
     let head = b"#N canvas 0 0 1 1 1;#X obj 0 0 loadbang;#X obj 0 0 print;";
-    let box_piece = b"#X obj 0 0 print;";
     let wire_piece = b"#X connect 0 0 1 0;";
-    let boxes = repeated(alloc, head, box_piece, 98, wire_piece)?;
+    let boxes = repeated(alloc, head, b"#X obj 0 0 print;", 200, wire_piece)?;
     assert!(rt; plays(alloc, &boxes, b"print: bang\n", 0)?);
-    assert!(rt;
-        plays(
-            alloc,
-            &repeated(alloc, head, box_piece, 99, wire_piece)?,
-            REFUSED,
-            4
-        )?
-    );
-    let wires = repeated(alloc, head, wire_piece, 100, b"")?;
-    let bangs = repeated(alloc, b"", b"print: bang\n", 100, b"")?;
+    let wires = repeated(alloc, head, wire_piece, 200, b"")?;
+    let bangs = repeated(alloc, b"", b"print: bang\n", 200, b"")?;
     assert!(rt; plays(alloc, &wires, &bangs, 0)?);
-    assert!(rt;
-        plays(
-            alloc,
-            &repeated(alloc, head, wire_piece, 101, b"")?,
-            REFUSED,
-            4
-        )?
-    );
-    let line = repeated(alloc, b"print:", b" 1", 100, b"\n")?;
-    assert!(rt; plays(alloc, &repeated(alloc, HEAD, b" 1", 100, TAIL)?, &line, 0)?);
-    assert!(rt; plays(alloc, &repeated(alloc, HEAD, b" 1", 101, TAIL)?, REFUSED, 4)?);
+    let line = repeated(alloc, b"print:", b" 1", 1_024, b"\n")?;
+    assert!(rt; plays(alloc, &repeated(alloc, HEAD, b" 1", 1_024, TAIL)?, &line, 0)?);
     let name = repeated(alloc, b"print: ", b"x", 255, b"\n")?;
     assert!(rt; plays(alloc, &repeated(alloc, HEAD, b"x", 255, TAIL)?, &name, 0)?);
-    assert!(rt; plays(alloc, &repeated(alloc, HEAD, b"x", 256, TAIL)?, REFUSED, 4)?);
-    assert!(rt; plays(alloc, &repeated(alloc, HEAD, b"1", 256, TAIL)?, REFUSED, 4)?);
-    let long = repeated(alloc, b"", b" ", 16_777_217, b"")?;
-    assert!(rt; plays(alloc, &long, b"error: main.pd: record 0: too long\n", 4)?);
+    Ok(())
+}
+
+#[test]
+fn limits(rt: HostRuntime) -> Result<(), Fail> {
+    let alloc = rt.alloc();
+    let head = b"#N canvas 0 0 1 1 12;";
+    let long_record = b"error: main.pd: record 4: too long\n";
+    assert!(rt;
+        plays(
+            alloc,
+            &repeated(alloc, HEAD, b" 1", 1_025, TAIL)?,
+            long_record,
+            4
+        )?
+    );
+    assert!(rt;
+        plays(
+            alloc,
+            &repeated(alloc, HEAD, b"x", 256, TAIL)?,
+            long_record,
+            4
+        )?
+    );
+    let limits: [(&[u8], usize, &[u8]); 3] = [
+        (
+            b"#N canvas 0 0 1 1 a 0;",
+            256,
+            b"error: main.pd: record 257: too deep\n",
+        ),
+        (
+            b"#X obj 0 0 print;",
+            16_385,
+            b"error: main.pd: record 16386: too many boxes\n",
+        ),
+        (
+            b"                                ",
+            524_288,
+            b"error: main.pd: record 0: too long\n",
+        ),
+    ];
+    for (piece, count, line) in limits {
+        let text = repeated(alloc, head, piece, count, b"")?;
+        assert!(rt; plays(alloc, &text, line, 4)?, "{count}");
+    }
     Ok(())
 }
 

@@ -340,6 +340,43 @@ fn wires_come_and_go<L: Ledger>(
     Ok(())
 }
 
+// A source among three goes and comes back, while another source holds the fed node behind it: no look is taken.
+fn source_moves_unseen<L: Ledger>(
+    rt: &impl Abort,
+    alloc: Global,
+    blank: Blank,
+) -> Result<(), AllocError>
+    requires name { blank.name ≡ L.name }
+    requires parts { blank.parts ≡ L.parts }
+    requires some { 0 < blank.parts }
+{
+    let mut steps = Steps::<L>::new(blank);
+    let graph = Wires::new(
+        rt,
+        alloc,
+        7,
+        &[(1, 2), (3, 4), (5, 6), (2, 0), (4, 0), (6, 0)],
+    )?;
+    let mut order = folded(rt, alloc, &graph, &mut steps)?;
+    check_lists(rt, &order, &[1, 2, 3, 4, 5, 6, 0], &[]);
+    graph.calls.set(0);
+    let graph = cut(rt, &mut order, graph, 4, &mut steps);
+    assert_eq!(rt; graph.calls.get(), 0);
+    check_lists(rt, &order, &[1, 2, 3, 4, 5, 6, 0], &[]);
+    let graph = add(rt, &mut order, graph, 4, 0, &mut steps)?;
+    assert_eq!(rt; graph.calls.get(), 0);
+    check_lists(rt, &order, &[1, 2, 3, 4, 5, 6, 0], &[]);
+    let graph = cut(rt, &mut order, graph, 4, &mut steps);
+    check_lists(rt, &order, &[1, 2, 3, 4, 0, 5, 6], &[]);
+    check_lists(
+        rt,
+        &folded(rt, alloc, &graph, &mut steps)?,
+        &[1, 2, 3, 4, 0, 5, 6],
+        &[],
+    );
+    Ok(())
+}
+
 // The first wire of a graph is cut, and comes back as the last one.
 fn cut_first<L: Ledger>(
     rt: &impl Abort,
@@ -444,6 +481,12 @@ fn keeps_five_lists(rt: HostRuntime) -> Result<(), Fail> {
 #[test]
 fn mends_in_a_window(rt: HostRuntime) -> Result<(), Fail> {
     wires_come_and_go::<Brand>(&rt, rt.alloc(), Blank::new(1))?;
+    Ok(())
+}
+
+#[test]
+fn takes_no_look_where_nothing_moves(rt: HostRuntime) -> Result<(), Fail> {
+    source_moves_unseen::<Brand>(&rt, rt.alloc(), Blank::new(1))?;
     Ok(())
 }
 

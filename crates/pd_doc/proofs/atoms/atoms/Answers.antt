@@ -1,7 +1,6 @@
-use Rattle.std.proofs.Common.{sym, arith, ◌++◌, ◌∷◌, [], subst, ◌∙◌, length, get_or}
+use Rattle.std.proofs.Common.{arith, get_or}
 use Rattle.std.proofs.lemmas.Result.{err_from_is_err_and}
-use Rattle.pd_doc.specs.Results.{Refuses}
-use Rattle.pd_doc.proofs.ResultLemmas.{with_front, atoms_go_on, atoms_refuse, atoms_all, drop_at, blank, extends_on, Whole}
+use Rattle.pd_doc.proofs.ResultLemmas.{atoms_go_on, atoms_refuse, atoms_all, drop_at, blank, extends_on}
 use Rattle.pd_doc.proofs.atoms.atoms.Goals as goal
 
 pub returns-in_err-atom-clause-exact : goal.returns-in_err-atom-clause-exact

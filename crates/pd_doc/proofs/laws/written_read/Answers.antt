@@ -1,4 +1,3 @@
-use Rattle.pd_doc.proofs.Known.{Known}
 use Rattle.pd_doc.proofs.DocumentLaws.{written_back}
 use Rattle.pd_doc.proofs.laws.written_read.Goals as goal
 

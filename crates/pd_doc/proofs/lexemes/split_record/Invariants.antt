@@ -1,4 +1,4 @@
-use Rattle.std.proofs.Common.{◌≡◌, ◌≤◌, ◌++◌, ◌-◌, length, map}
+use Rattle.std.proofs.Common.{◌≡◌, ◌≤◌, ◌++◌, ◌-◌, map}
 use Rattle.std.specs.Prelude.{slice_range, IsTrue}
 use Rattle.pd_lex.specs.Reading.{is_body, pieces}
 use Rattle.pd_doc.specs.Pieces.{piece}

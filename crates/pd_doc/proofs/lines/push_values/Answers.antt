@@ -1,4 +1,4 @@
-use Rattle.std.proofs.Common.{sym, arith, ap, ◌∙◌, ◌++◌, ◌-◌, ◌+◌, ◌/◌, ◌≡◌, min, append_assoc, take, drop, length}
+use Rattle.std.proofs.Common.{sym, arith, ap, ◌∙◌, ◌++◌, ◌-◌, ◌+◌, ◌/◌, append_assoc, take, drop, length}
 use Rattle.pd_doc.specs.Lines.{run_text, runs_text}
 use Rattle.pd_doc.proofs.LineLemmas.{run_step}
 use Rattle.pd_doc.proofs.lines.push_values.Goals as goal

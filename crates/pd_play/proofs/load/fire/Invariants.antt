@@ -7,7 +7,7 @@ use Rattle.pd_play.proofs.load.fire.Given as goal
 abbrev pub invariant-loop-wire : goal.invariant-loop-wire
 invariant-loop-wire g l =
     record {
-      printed : g.L.Sink.taken l.sink ≡ grown (g.L.Sink.taken l.fn.sink) (along (heard l.symbols l.flat 2 Bang) l.number (take l.wire-index l.wires));
+      printed : g.L.Sink.taken l.sink ≡ grown (g.L.Sink.taken l.fn.sink) (along (heard l.symbols l.canvas 2 Bang) l.number (take l.wire-index l.wires));
       empty : l.held.items ≡ [];
       counted : g.L.Sink.faults l.fn.sink ≤ g.L.Sink.faults l.sink;
     }

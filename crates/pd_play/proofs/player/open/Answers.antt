@@ -7,8 +7,8 @@ returns-in_default-clause-opens g c = opens_no_room c.args.name.now (g.H.Shelf.h
 pub returns-in-Ok-Found-clause-opens : goal.returns-in-Ok-Found-clause-opens
 returns-in-Ok-Found-clause-opens g c =
     opens_read c.args.name.now c.fetch.new.into.items (g.H.Shelf.holds c.args.shelf.now) c.read_patch.result _ _
-    (rw c.in-Ok-Found.field-0-is at c.in-Ok-Found.ensures.answer) c.in-Ok-Found.ensures.bytes c.in-Ok-Found.ensures.limit
-    (rw c.deref.ensures.value at c.read_patch.ensures.read)
+    (rw c.in-Ok-Found.field-0-is at c.in-Ok-Found.ensures.answer) c.in-Ok-Found.ensures.bytes
+    (rw c.deref.ensures.value at c.read_patch.ensures.patch)
 
 pub returns-in-Ok-Absent-clause-opens : goal.returns-in-Ok-Absent-clause-opens
 returns-in-Ok-Absent-clause-opens g c =

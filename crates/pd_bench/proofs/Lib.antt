@@ -1,0 +1,5 @@
+mod ClockLemmas
+mod HeldLemmas
+mod NumberLemmas
+mod RowLemmas
+mod VoiceLemmas

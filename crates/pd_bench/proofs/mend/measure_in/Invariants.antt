@@ -1,0 +1,5 @@
+use Rattle.pd_bench.specs.Voices.{OrdersVoices}
+use Rattle.pd_bench.proofs.mend.measure_in.Given as goal
+
+abbrev pub invariant-loop-i : goal.invariant-loop-i
+invariant-loop-i g l = OrdersVoices l.count l.order

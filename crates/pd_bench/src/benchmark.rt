@@ -1,0 +1,62 @@
+//! The benchmarks by name.
+
+use crate::{clocks, document, fold, mend, wires};
+use anyhow::Result;
+use std::time::CpuClock;
+
+pub(crate) const USAGE: &str =
+    "usage: pd_bench document BYTES | clocks OWNERS FIRINGS | wires COUNT | fold BOXES | mend BOXES";
+
+/// What a benchmark uses of the runtime.
+pub(crate) trait Measures: AllocGlobal + CpuClock + Print {}
+
+impl<R: AllocGlobal + CpuClock + Print> Measures for R {}
+
+/// A benchmark and its sizes.
+#[derive(Clone, Copy)]
+pub(crate) enum Benchmark {
+    Document { bytes: u32 },
+    Clocks { owners: u32, firings: u32 },
+    Wires { count: u32 },
+    Fold { boxes: u32 },
+    Mend { boxes: u32 },
+}
+
+/// A size that isn't 0.
+fn size(word: &str) -> Option<u32> {
+    word.parse().ok().filter(|size| *size > 0)
+}
+
+impl Benchmark {
+    pub(crate) fn of_words(words: &[String]) -> Option<Benchmark> {
+        match words {
+            [name, owners, firings] if name.as_str() == "clocks" => Some(Benchmark::Clocks {
+                owners: size(owners.as_str())?,
+                firings: size(firings.as_str())?,
+            }),
+            [name, bytes] if name.as_str() == "document" => Some(Benchmark::Document {
+                bytes: size(bytes.as_str())?,
+            }),
+            [name, count] if name.as_str() == "wires" => Some(Benchmark::Wires {
+                count: size(count.as_str())?,
+            }),
+            [name, boxes] if name.as_str() == "fold" => Some(Benchmark::Fold {
+                boxes: size(boxes.as_str())?,
+            }),
+            [name, boxes] if name.as_str() == "mend" => Some(Benchmark::Mend {
+                boxes: size(boxes.as_str())?,
+            }),
+            _ => None,
+        }
+    }
+
+    pub(crate) fn run<R: Measures>(self, rt: &R) -> Result<()> {
+        match self {
+            Benchmark::Clocks { owners, firings } => clocks::run(rt, owners, firings),
+            Benchmark::Document { bytes } => document::run(rt, bytes),
+            Benchmark::Wires { count } => wires::run(rt, count),
+            Benchmark::Fold { boxes } => fold::run(rt, boxes),
+            Benchmark::Mend { boxes } => mend::run(rt, boxes),
+        }
+    }
+}
