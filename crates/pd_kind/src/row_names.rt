@@ -65,9 +65,11 @@ pub enum SignalRow {
     SignalSend,
     SignalReceive,
     Throw,
+    Catch,
     Snapshot,
     SignalTabread,
     Dac,
+    SignalInlet,
     SignalOutlet,
     Vline,
 }
@@ -142,9 +144,11 @@ impl SignalRow {
             SignalRow::SignalSend => b"send~",
             SignalRow::SignalReceive => b"receive~",
             SignalRow::Throw => b"throw~",
+            SignalRow::Catch => b"catch~",
             SignalRow::Snapshot => b"snapshot~",
             SignalRow::SignalTabread => b"tabread~",
             SignalRow::Dac => b"dac~",
+            SignalRow::SignalInlet => b"inlet~",
             SignalRow::SignalOutlet => b"outlet~",
             SignalRow::Vline => b"vline~",
         }

@@ -1,0 +1,8 @@
+//! What the control objects do with a message, when their clock fires, and when they are resumed; and what the signal objects but `vline~`
+//! hear.
+#![tactic(auto)]
+
+mod rows;
+mod sounding;
+
+pub use rows::{fire, hear, resume};
