@@ -1,6 +1,6 @@
 -- Lists that are cut.
 use Rattle.std.proofs.Common.{◌≡◌, ℕ, ◌+◌, ◌-◌, ◌≤◌, min, List, ◌++◌, length, take, refl, sym, ◌∙◌, ap, arith}
-use Rattle.std.proofs.lemmas.List.{take_min}
+use Rattle.std.proofs.lemmas.List.{take_min, length-take}
 use Rattle.std.proofs.Math.Seq.{take-append-add}
 
 -- a list that goes on, cut behind it
@@ -12,3 +12,6 @@ cut_behind xs ys most below =
 pub grown_up_to : {X : Type 0} → (xs ys : List X) (most count : ℕ) → length xs ≤ most → count ≡ min (most - length xs) (length ys) → xs ++ take count ys ≡ take most (xs ++ ys)
 grown_up_to xs ys most count below e =
     ap (λ (n : ℕ). xs ++ take n ys) e ∙ ap (λ (zs : List _). xs ++ zs) (take_min (most - length xs) ys) ∙ sym (cut_behind xs ys most below)
+
+pub cut_short : {X : Type 0} → (most : ℕ) (xs ys : List X) → ys ≡ take most xs → length ys ≤ most
+cut_short most xs ys e = omega (arith, ap length e, length-take most xs)

@@ -114,6 +114,7 @@ impl Sends {
     pub fn fill(&mut self, atoms: &[Atom])
         requires { length self.old.atoms ≤ 1024 }
         ensures atoms { self.new.atoms ≡ cut_atoms (self.old.atoms ++ atoms.now) }
+        ensures small { length self.new.atoms ≤ 1024 }
         ensures rows { self.new.rows ≡ self.old.rows }
         ensures sends { (said_by self.new).sends ≡ (said_by self.old).sends }
         ensures deed { self.new.deed ≡ self.old.deed }
