@@ -1,2 +1,3 @@
 mod SendLemmas
 mod ArgumentLemmas
+mod ListLemmas

@@ -1,8 +1,9 @@
 //! Sends in their normal form.
 
-ghost use Rattle.std.specs.Prelude.{◌≡◌, ◌+◌, ◌<◌, ◌≤◌, ◌++◌, ◌∷◌, [], length, max};
+ghost use Rattle.std.specs.Prelude.{◌≡◌, ◌+◌, ◌<◌, ◌≤◌, ◌++◌, ◌∷◌, [], length, max, slice_range};
+ghost use Rattle.pd_kind.specs.declared.messages.Target.{Target};
 ghost use Rattle.pd_kind.specs.Said.{said_by};
-ghost use Rattle.pd_kind.specs.Forming.{float_in as float_of_atoms, symbol_of as symbol_of_atoms, list_send, normal_send, message_send};
+ghost use Rattle.pd_kind.specs.Forming.{float_in as float_of_atoms, symbol_of as symbol_of_atoms, send_of_message, list_send, normal_send, message_send};
 
 use crate::lists::zero;
 use crate::messages::Target;
@@ -30,6 +31,18 @@ pub fn symbol_in(atoms: &[Atom]) -> Sym
     }
 }
 
+/// The selector of a list: without atoms `bang`, with one number `float`, with one symbol `symbol`.
+fn list_selector(atoms: &[Atom]) -> Sym
+    ensures { (target : Target) → send_of_message target result atoms.now ≡ list_send target atoms.now }
+{
+    match atoms {
+        [] => Sym::bang(),
+        [Atom::Number(_)] => Sym::float(),
+        [Atom::Symbol(_)] => Sym::symbol(),
+        _ => Sym::list(),
+    }
+}
+
 impl Sends {
     /// A `list` goes last: without atoms it is `bang`, with one number `float`, with one symbol `symbol`.
     pub fn send_list(&mut self, target: Target, atoms: &[Atom])
@@ -48,6 +61,21 @@ impl Sends {
             _ => Sym::list(),
         };
         self.send(target, selector, atoms);
+    }
+
+    /// A `list` of the atoms of the places from `first` up to `after`, which stand there already, goes last.
+    pub fn send_filled(&mut self, target: Target, first: u32, after: u32)
+        requires row { length self.old.rows < 1024 }
+        requires order { first ≤ after }
+        requires within { after ≤ length self.old.atoms }
+        ensures sends { (said_by self.new).sends ≡ (said_by self.old).sends ++ list_send target (slice_range self.old.atoms first after) ∷ [] }
+        ensures rows { length self.new.rows ≡ length self.old.rows + 1 }
+        ensures atoms { self.new.atoms ≡ self.old.atoms }
+        ensures deed { self.new.deed ≡ self.old.deed }
+        ensures notices { self.new.notices ≡ self.old.notices }
+    {
+        let selector = list_selector(&self.atoms.as_slice()[first as usize..after as usize]);
+        self.send_again(target, selector, first, after);
     }
 
     /// A message of a selector and atoms goes last, in its normal form.

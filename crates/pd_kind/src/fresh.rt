@@ -18,7 +18,7 @@ use std::alloc::{AllocError, Global};
 const BLOCK: usize = 64;
 
 /// Whole units, 0 where the number is negative.
-fn units_of(number: Num) -> u64
+pub fn units_of(number: Num) -> u64
     ensures value { result ≡ units_of_number number }
     ensures small { result ≤ 1000000000 }
 {
@@ -31,7 +31,7 @@ fn units_of(number: Num) -> u64
 }
 
 /// Whole units, but at least so many.
-fn whole_at_least(least: u64, number: Num) -> Num
+pub fn whole_at_least(least: u64, number: Num) -> Num
     requires { least ≤ 1 }
     ensures { result ≡ whole_of_at_least least number }
 {

@@ -19,7 +19,7 @@ mod states;
 mod tables;
 
 pub use forming::{float_in, symbol_in};
-pub use fresh::sound_size;
+pub use fresh::{sound_size, units_of, whole_at_least};
 pub use kinds::{
     Arguments, Arith, Button, Channel, Comparison, Division, Function, Glue, Kind, Named,
     Operation, Panel, Side, Signal, SignalFunction, SignalOperation, Slot, Spelling, Toggle, Tone,

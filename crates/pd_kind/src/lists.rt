@@ -1,6 +1,6 @@
 //! Lists that grow, and lists with room that is taken once.
 
-ghost use Rattle.std.specs.Prelude.{◌≡◌, ◌+◌, ◌≤◌, ◌<◌, ◌++◌, ◌∷◌, [], length, slice_set, vec_len, vec_capacity, pos, replicate, IfOk};
+ghost use Rattle.std.specs.Prelude.{◌≡◌, ◌+◌, ◌≤◌, ◌<◌, ◌++◌, ◌∷◌, [], length, take, slice_set, vec_len, vec_capacity, pos, replicate, IfOk};
 
 use pd_num::{Num, Sig};
 use std::alloc::{AllocError, Global};
@@ -126,6 +126,16 @@ impl<T: Copy, const ROOM: usize> Bounded<T, ROOM> {
         ensures { self.new ≡ self.old ++ items.now }
     {
         append(&mut self.items, items);
+    }
+
+    /// Puts items last, as many as fit among the first `most`.
+    pub fn extend_up_to(&mut self, most: usize, items: &[T])
+        requires within { length self.old ≤ most }
+        requires room { most ≤ ROOM }
+        ensures { self.new ≡ take most (self.old ++ items.now) }
+    {
+        let count = items.len().min(most - self.len());
+        append(&mut self.items, &items[..count]);
     }
 }
 

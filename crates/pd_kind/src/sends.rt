@@ -2,6 +2,7 @@
 
 ghost use Rattle.std.specs.Prelude.{◌≡◌, ◌+◌, ◌<◌, ◌≤◌, ◌++◌, ◌∷◌, [], true, length, map, IfOk};
 ghost use Rattle.pd_kind.specs.Rows.{are_within, send_of};
+ghost use Rattle.pd_kind.specs.Forming.{cut_atoms};
 
 use crate::lists::Bounded;
 use crate::messages::{Deed, Notice, Target};
@@ -75,6 +76,7 @@ impl Sends {
         ensures sends { (said_by self.new).sends ≡ (said_by self.old).sends ++ record { target = target; selector = selector; atoms = atoms.now } ∷ [] }
         ensures rows { length self.new.rows ≡ length self.old.rows + 1 }
         ensures atoms { length self.new.atoms ≡ length self.old.atoms + length atoms.now }
+        ensures last { self.new.atoms ≡ self.old.atoms ++ atoms.now }
         ensures deed { self.new.deed ≡ self.old.deed }
         ensures notices { self.new.notices ≡ self.old.notices }
     {
@@ -106,6 +108,19 @@ impl Sends {
             first,
             after,
         });
+    }
+
+    /// Atoms go last, as many as fit among 1,024, for sends that are made of them later.
+    pub fn fill(&mut self, atoms: &[Atom])
+        requires { length self.old.atoms ≤ 1024 }
+        ensures atoms { self.new.atoms ≡ cut_atoms (self.old.atoms ++ atoms.now) }
+        ensures small { length self.new.atoms ≤ 1024 }
+        ensures rows { self.new.rows ≡ self.old.rows }
+        ensures sends { (said_by self.new).sends ≡ (said_by self.old).sends }
+        ensures deed { self.new.deed ≡ self.old.deed }
+        ensures notices { self.new.notices ≡ self.old.notices }
+    {
+        self.atoms.extend_up_to(1024, atoms);
     }
 
     /// A notice goes last.

@@ -1,0 +1,8 @@
+use Rattle.std.proofs.Common.{◌≡◌, ◌-◌, ◌++◌, length, take, min, ◌∙◌, ap, arith}
+use Rattle.pd_kind.proofs.ListLemmas.{grown_up_to}
+use Rattle.pd_kind.proofs.lists.Bounded.extend_up_to.Goals as goal
+
+pub returns : goal.returns
+returns g c =
+    let count : c.min-count.result ≡ min (c.args.most - length c.args.self.now) (length c.args.items.now) = omega arith in
+    c.append.ensures.items ∙ (rw c.self.view_is (grown_up_to c.args.self.now c.args.items.now c.args.most c.min-count.result c.requires.within count))

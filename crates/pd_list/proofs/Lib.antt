@@ -1,0 +1,5 @@
+mod CutLemmas
+mod MessageLemmas
+mod OutletLemmas
+mod SlotLemmas
+mod ChoiceLemmas
