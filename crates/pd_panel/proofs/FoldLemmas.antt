@@ -46,8 +46,8 @@ words_step names v saved selector atoms =
     by_test (is_called names selector (codes "set"))
     (λ e. rw e (set_steps v saved selector (slice_get atoms 0)))
     (λ e. by_test (is_called names selector (codes "nonzero"))
-        (λ f. rw (e, f) (nonzero_steps v saved selector (slice_get atoms 0)))
-        (λ f. rw (e, f) refl))
+    (λ f. rw (e, f) (nonzero_steps v saved selector (slice_get atoms 0)))
+    (λ f. rw (e, f) refl))
 
 sort_steps : (names : Names) (name : Option ℕ) (v : Values) (saved : Bool) (selector : ℕ) (atoms : List Atom) (s : Sort) →
     (toggle_hot names name v.value v.other saved selector atoms s).state ≡ toggle_with (step_at names v selector atoms s) saved

@@ -1,5 +1,7 @@
 //! A `bng` and a `tgl` that hear messages.
 
+ghost use Rattle.std.specs.Prelude.{◌≤◌};
+
 use crate::{hear, load};
 use pd_atom::{Atom, Sym, Symbols};
 use pd_clock::Time;
@@ -72,84 +74,124 @@ fn show(alloc: Global, out: &Sends, text: &mut Vec<u8>) -> Result<(), Fail> {
     Ok(())
 }
 
+/// Gives a message of the word, with its last digit as a number where it has one; `list` has a second number.
 fn give(
     kind: &Kind,
     state: &mut State,
     word: &[u8],
-    number: Option<i16>,
     symbols: &mut Symbols,
     out: &mut Sends,
 ) -> Result<(), Fail> {
-    if word.is_empty() {
+    let (name, number) = match word {
+        [name @ .., digit] if digit.is_ascii_digit() => (name, Some(*digit)),
+        _ => (word, None),
+    };
+    if name.is_empty() {
         return Ok(());
     }
-    let selector = symbols.intern(word)?;
+    let selector = symbols.intern(name)?;
+    let number = whole(number.map_or(0, |digit| i16::from(digit) - 48));
+    let atoms = [Atom::Number(number), Atom::Number(whole(2))];
+    let atoms = &atoms[..number_of_atoms(name, word)];
     let around = Around {
         now: Time::of_units(0),
         table: None,
     };
-    match number {
-        Some(number) => {
-            let atoms = [Atom::Number(whole(number)), Atom::Number(whole(2))];
-            let atoms = if word == b"list".as_slice() { &atoms[..2] } else { &atoms[..1] };
-            hear(kind, state, 0, Message { selector, atoms }, symbols, &around, out);
-        }
-        None => hear(kind, state, 0, Message { selector, atoms: &[] }, symbols, &around, out),
-    }
+    hear(
+        kind,
+        state,
+        0,
+        Message { selector, atoms },
+        symbols,
+        &around,
+        out,
+    );
     Ok(())
 }
 
-#[test]
-fn toggles_hear(rt: HostRuntime) -> Result<(), Fail> {
-    let mut symbols = Symbols::new(rt.alloc())?;
-    let mut out = Sends::new(rt.alloc())?;
-    let mut text = Vec::new(rt.alloc());
-    let name = symbols.intern(b"name")?;
-    let kind = toggle(1, Some(name));
+fn number_of_atoms(name: &[u8], word: &[u8]) -> usize
+    ensures { result ≤ 2 }
+{
+    if name.len() == word.len() {
+        0
+    } else if name == b"list".as_slice() {
+        2
+    } else {
+        1
+    }
+}
+
+/// Whether a box says this to messages and when its document is loaded.
+fn says(
+    alloc: Global,
+    kind: &Kind,
+    state: &mut State,
+    words: &[u8],
+    symbols: &mut Symbols,
+    wanted: &[u8],
+) -> Result<bool, Fail> {
+    let mut out = Sends::new(alloc)?;
+    let mut text = Vec::new(alloc);
+    for word in words.split(|b| *b == b' ') {
+        give(kind, state, word, symbols, &mut out)?;
+        show(alloc, &out, &mut text)?;
+    }
+    load(kind, state, &mut out);
+    show(alloc, &out, &mut text)?;
+    Ok(text.as_slice() == wanted)
+}
+
+/// The first name of a new table, where one is wanted.
+fn name_of(symbols: &mut Symbols, is_named: bool) -> Result<Option<Sym>, Fail> {
+    if is_named {
+        Ok(Some(symbols.intern(b"name")?))
+    } else {
+        Ok(None)
+    }
+}
+
+fn toggle_says(
+    alloc: Global,
+    init: i16,
+    is_named: bool,
+    words: &[u8],
+    wanted: &[u8],
+) -> Result<bool, Fail> {
+    let mut symbols = Symbols::new(alloc)?;
+    let kind = toggle(init, name_of(&mut symbols, is_named)?);
     let mut state = State::Toggle {
         value: whole(0),
         other: whole(7),
         is_saved: true,
     };
-    for (word, number) in [
-        (b"bang".as_slice(), None),
-        (b"bang".as_slice(), None),
-        (b"float".as_slice(), Some(3)),
-        (b"set".as_slice(), Some(4)),
-        (b"bang".as_slice(), None),
-        (b"nonzero".as_slice(), Some(9)),
-        (b"nonzero".as_slice(), Some(0)),
-        (b"bang".as_slice(), None),
-        (b"list".as_slice(), Some(5)),
-        (b"set".as_slice(), None),
-        (b"other".as_slice(), Some(1)),
-    ] {
-        give(&kind, &mut state, word, number, &mut symbols, &mut out)?;
-        show(rt.alloc(), &out, &mut text)?;
-    }
-    load(&kind, &state, &mut out);
-    show(rt.alloc(), &out, &mut text)?;
-    load(&toggle(0, None), &state, &mut out);
-    show(rt.alloc(), &out, &mut text)?;
-    assert_eq!(rt; text.as_slice(), b"o7n7 o0n0 o3n3  o0n0   o9n9 o5n5 | | o5n5  ".as_slice());
+    says(alloc, &kind, &mut state, words, &mut symbols, wanted)
+}
+
+fn button_says(
+    alloc: Global,
+    init: i16,
+    is_named: bool,
+    words: &[u8],
+    wanted: &[u8],
+) -> Result<bool, Fail> {
+    let mut symbols = Symbols::new(alloc)?;
+    let kind = button(init, name_of(&mut symbols, is_named)?);
+    let mut state = State::Bare;
+    says(alloc, &kind, &mut state, words, &mut symbols, wanted)
+}
+
+#[test]
+fn toggles_hear(rt: HostRuntime) -> Result<(), Fail> {
+    let words = b"bang bang float3 set4 bang nonzero9 nonzero0 bang list5 set other1";
+    let wanted = b"o7n7 o0n0 o3n3  o0n0   o9n9 o5n5 | | o5n5 ";
+    assert!(rt; toggle_says(rt.alloc(), 1, true, words, wanted)?);
+    assert!(rt; toggle_says(rt.alloc(), 0, false, b"float2", b"o2  ")?);
     Ok(())
 }
 
 #[test]
 fn buttons_hear(rt: HostRuntime) -> Result<(), Fail> {
-    let mut symbols = Symbols::new(rt.alloc())?;
-    let mut out = Sends::new(rt.alloc())?;
-    let mut text = Vec::new(rt.alloc());
-    let name = symbols.intern(b"name")?;
-    let mut state = State::Bare;
-    give(&button(0, None), &mut state, b"list", Some(3), &mut symbols, &mut out)?;
-    show(rt.alloc(), &out, &mut text)?;
-    give(&button(0, Some(name)), &mut state, b"other", None, &mut symbols, &mut out)?;
-    show(rt.alloc(), &out, &mut text)?;
-    load(&button(0, Some(name)), &state, &mut out);
-    show(rt.alloc(), &out, &mut text)?;
-    load(&button(1, Some(name)), &state, &mut out);
-    show(rt.alloc(), &out, &mut text)?;
-    assert_eq!(rt; text.as_slice(), b"o on  on ".as_slice());
+    assert!(rt; button_says(rt.alloc(), 1, true, b"list3", b"on on ")?);
+    assert!(rt; button_says(rt.alloc(), 0, false, b"other", b"o  ")?);
     Ok(())
 }

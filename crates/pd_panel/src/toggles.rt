@@ -52,10 +52,21 @@ pub(crate) fn show_number(name: Option<Sym>, number: Num, out: &mut Sends)
 fn flipped(value: Num, other: Num) -> Num
     ensures { result ≡ flipped_of value other }
 {
-    if is_zero(value) { other } else { Num::default() }
+    if is_zero(value) {
+        other
+    } else {
+        Num::default()
+    }
 }
 
-fn set_value(value: &mut Num, other: Num, saved: bool, selector: Sym, atoms: &[Atom], out: &mut Sends)
+fn set_value(
+    value: &mut Num,
+    other: Num,
+    saved: bool,
+    selector: Sym,
+    atoms: &[Atom],
+    out: &mut Sends,
+)
     ensures { leaves (state.Toggle value.new other saved) (said_by out.new) ≡ toggle_set value.old other saved selector (slice_get atoms.now 0) }
 {
     match atoms.first() {
@@ -67,7 +78,14 @@ fn set_value(value: &mut Num, other: Num, saved: bool, selector: Sym, atoms: &[A
     }
 }
 
-fn set_other(value: Num, other: &mut Num, saved: bool, selector: Sym, atoms: &[Atom], out: &mut Sends)
+fn set_other(
+    value: Num,
+    other: &mut Num,
+    saved: bool,
+    selector: Sym,
+    atoms: &[Atom],
+    out: &mut Sends,
+)
     ensures { leaves (state.Toggle value other.new saved) (said_by out.new) ≡ toggle_nonzero value other.old saved selector (slice_get atoms.now 0) }
 {
     match atoms.first() {
