@@ -54,13 +54,7 @@ impl Sends {
         ensures deed { self.new.deed ≡ self.old.deed }
         ensures notices { self.new.notices ≡ self.old.notices }
     {
-        let selector = match atoms {
-            [] => Sym::bang(),
-            [Atom::Number(_)] => Sym::float(),
-            [Atom::Symbol(_)] => Sym::symbol(),
-            _ => Sym::list(),
-        };
-        self.send(target, selector, atoms);
+        self.send(target, list_selector(atoms), atoms);
     }
 
     /// A `list` of the atoms of the places from `first` up to `after`, which stand there already, goes last.
