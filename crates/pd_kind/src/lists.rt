@@ -132,7 +132,8 @@ impl<T: Copy, const ROOM: usize> Bounded<T, ROOM> {
     pub fn extend_up_to(&mut self, most: usize, items: &[T])
         requires within { length self.old ≤ most }
         requires room { most ≤ ROOM }
-        ensures { self.new ≡ take most (self.old ++ items.now) }
+        ensures items { self.new ≡ take most (self.old ++ items.now) }
+        ensures small { length self.new ≤ most }
     {
         let count = items.len().min(most - self.len());
         append(&mut self.items, &items[..count]);

@@ -36,7 +36,8 @@ fn place_of(atom: &Atom, arguments: &[Atom]) -> Option<u32>
 
 /// A message at inlet 1.
 fn hear_argument(row: Row, arguments: &mut Items<Atom>, selector: Sym, sort: &Sort, out: &mut Sends)
-    ensures { record { arguments = arguments.new; said = said_by out.new } ≡ choice_cold row arguments.old selector sort.now }
+    ensures heard { record { arguments = arguments.new; said = said_by out.new } ≡ choice_cold row arguments.old selector sort.now }
+    ensures length { length arguments.new ≡ length arguments.old }
 {
     match (arguments.as_slice(), sort) {
         ([Atom::Number(_), ..], Sort::Float(number)) => {
@@ -198,7 +199,8 @@ pub(crate) fn hear_route(
 )
     requires arguments { length arguments.old ≤ 1024 }
     requires short { length atoms.now ≤ 1024 }
-    ensures { record { arguments = arguments.new; said = said_by out.new } ≡ route_row arguments.old inlet selector atoms.now }
+    ensures heard { record { arguments = arguments.new; said = said_by out.new } ≡ route_row arguments.old inlet selector atoms.now }
+    ensures length { length arguments.new ≡ length arguments.old }
 {
     if inlet == 0 {
         hear_routed(arguments.as_slice(), selector, atoms, out);
@@ -218,7 +220,8 @@ pub(crate) fn hear_select(
 )
     requires arguments { length arguments.old ≤ 1024 }
     requires short { length atoms.now ≤ 1024 }
-    ensures { record { arguments = arguments.new; said = said_by out.new } ≡ select_row arguments.old inlet selector atoms.now }
+    ensures heard { record { arguments = arguments.new; said = said_by out.new } ≡ select_row arguments.old inlet selector atoms.now }
+    ensures length { length arguments.new ≡ length arguments.old }
 {
     let sort = sort_of(selector, atoms);
     if inlet == 0 {

@@ -87,7 +87,8 @@ fn say_prepended(stored: &[Atom], selector: Sym, atoms: &[Atom], out: &mut Sends
 /// Stores a message's atoms, with a selector that is not plain before them.
 fn store(stored: &mut Text, selector: Sym, atoms: &[Atom], out: &mut Sends)
     requires { length atoms.now ≤ 1024 }
-    ensures { record { atoms = stored.new; said = said_by out.new } ≡ list_stored (atoms_with_selector selector atoms.now) }
+    ensures heard { record { atoms = stored.new; said = said_by out.new } ≡ list_stored (atoms_with_selector selector atoms.now) }
+    ensures small { length stored.new ≤ 1024 }
 {
     stored.clear();
     if !is_plain(selector) {
@@ -108,7 +109,8 @@ pub(crate) fn hear_append(
 )
     requires stored { length stored.old ≤ 1024 }
     requires short { length atoms.now ≤ 1024 }
-    ensures { record { atoms = stored.new; said = said_by out.new } ≡ append_row stored.old inlet (atoms_with_selector selector atoms.now) }
+    ensures heard { record { atoms = stored.new; said = said_by out.new } ≡ append_row stored.old inlet (atoms_with_selector selector atoms.now) }
+    ensures small { length stored.new ≤ 1024 }
 {
     if inlet == 0 {
         say_appended(stored.as_slice(), selector, atoms, out);
@@ -127,7 +129,8 @@ pub(crate) fn hear_prepend(
 )
     requires stored { length stored.old ≤ 1024 }
     requires short { length atoms.now ≤ 1024 }
-    ensures { record { atoms = stored.new; said = said_by out.new } ≡ prepend_row stored.old inlet (atoms_with_selector selector atoms.now) }
+    ensures heard { record { atoms = stored.new; said = said_by out.new } ≡ prepend_row stored.old inlet (atoms_with_selector selector atoms.now) }
+    ensures small { length stored.new ≤ 1024 }
 {
     if inlet == 0 {
         say_prepended(stored.as_slice(), selector, atoms, out);

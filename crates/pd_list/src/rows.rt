@@ -26,7 +26,8 @@ pub fn hear_list(
     requires short { length atoms.now ≤ 1024 }
     requires kind { IsSmallGlue glue.now }
     requires state { IsSmallState state.old }
-    ensures { record { state = state.new; said = said_by out.new } ≡ list_row glue.now state.old inlet selector atoms.now }
+    ensures heard { record { state = state.new; said = said_by out.new } ≡ list_row glue.now state.old inlet selector atoms.now }
+    ensures small { IsSmallState state.new }
 {
     match (glue, state) {
         (Glue::Trigger { outlets, .. }, _) => {

@@ -62,7 +62,8 @@ fn say_packed(kept: &[Atom], out: &mut Sends)
 /// A float or a symbol at inlet 0.
 fn pack_left(slots: &[Slot], kept: &mut Items<Atom>, selector: Sym, atom: &Atom, out: &mut Sends)
     requires { length kept.old ≤ 1024 }
-    ensures { leaves (Pack kept.new) (said_by out.new) ≡ pack_first slots.now kept.old selector atom.now }
+    ensures heard { leaves (Pack kept.new) (said_by out.new) ≡ pack_first slots.now kept.old selector atom.now }
+    ensures length { length kept.new ≡ length kept.old }
 {
     if fits_at(slots, 0, atom) {
         store(slots, 0, atom, kept);
@@ -82,7 +83,8 @@ fn hear_packing(
     out: &mut Sends,
 )
     requires { length kept.old ≤ 1024 }
-    ensures { leaves (Pack kept.new) (said_by out.new) ≡ pack_hot slots.now kept.old selector atoms.now sort.now }
+    ensures heard { leaves (Pack kept.new) (said_by out.new) ≡ pack_hot slots.now kept.old selector atoms.now sort.now }
+    ensures length { length kept.new ≡ length kept.old }
 {
     match sort {
         Sort::Bang => say_packed(kept.as_slice(), out),
@@ -105,7 +107,8 @@ fn pack_right(
     atom: &Atom,
     out: &mut Sends,
 )
-    ensures { leaves (Pack kept.new) (said_by out.new) ≡ pack_other slots.now kept.old inlet selector atom.now }
+    ensures heard { leaves (Pack kept.new) (said_by out.new) ≡ pack_other slots.now kept.old inlet selector atom.now }
+    ensures length { length kept.new ≡ length kept.old }
 {
     if fits_at(slots, inlet as usize, atom) {
         store(slots, inlet as usize, atom, kept);
@@ -124,7 +127,8 @@ fn hear_storing(
     sort: &Sort,
     out: &mut Sends,
 )
-    ensures { leaves (Pack kept.new) (said_by out.new) ≡ pack_cold slots.now kept.old inlet selector sort.now }
+    ensures heard { leaves (Pack kept.new) (said_by out.new) ≡ pack_cold slots.now kept.old inlet selector sort.now }
+    ensures length { length kept.new ≡ length kept.old }
 {
     match sort {
         Sort::Float(number) => {
@@ -147,7 +151,8 @@ pub(crate) fn hear_pack(
     out: &mut Sends,
 )
     requires { length kept.old ≤ 1024 }
-    ensures { leaves (Pack kept.new) (said_by out.new) ≡ pack_row slots.now kept.old inlet selector atoms.now }
+    ensures heard { leaves (Pack kept.new) (said_by out.new) ≡ pack_row slots.now kept.old inlet selector atoms.now }
+    ensures length { length kept.new ≡ length kept.old }
 {
     let sort = sort_of(selector, atoms);
     if inlet == 0 {
