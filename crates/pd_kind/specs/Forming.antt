@@ -21,11 +21,14 @@ abbrev pub send_of_message : Target → ℕ → List Atom → Send
 send_of_message target selector atoms = record { target = target; selector = selector; atoms = atoms }
 
 -- a `list`: without atoms it is `bang`, with one number `float`, with one symbol `symbol`
+abbrev pub list_selector : List Atom → ℕ
+list_selector [] = 0
+list_selector (atom.Number z ∷ []) = 1
+list_selector (atom.Symbol s ∷ []) = 2
+list_selector atoms = 3
+
 abbrev pub list_send : Target → List Atom → Send
-list_send target [] = send_of_message target 0 []
-list_send target (atom.Number z ∷ []) = send_of_message target 1 (atom.Number z ∷ [])
-list_send target (atom.Symbol s ∷ []) = send_of_message target 2 (atom.Symbol s ∷ [])
-list_send target atoms = send_of_message target 3 atoms
+list_send target atoms = send_of_message target (list_selector atoms) atoms
 
 -- a selector and atoms in the normal form
 abbrev pub normal_send : Target → ℕ → List Atom → Send

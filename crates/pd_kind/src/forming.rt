@@ -1,9 +1,8 @@
 //! Sends in their normal form.
 
-ghost use Rattle.std.specs.Prelude.{◌≡◌, ◌+◌, ◌<◌, ◌≤◌, ◌++◌, ◌∷◌, [], length, max, slice_range};
-ghost use Rattle.pd_kind.specs.declared.messages.Target.{Target};
+ghost use Rattle.std.specs.Prelude.{◌≡◌, ◌+◌, ◌<◌, ◌≤◌, ◌++◌, ◌∷◌, [], length, max, drop, slice_range};
 ghost use Rattle.pd_kind.specs.Said.{said_by};
-ghost use Rattle.pd_kind.specs.Forming.{float_in as float_of_atoms, symbol_of as symbol_of_atoms, send_of_message, list_send, normal_send, message_send};
+ghost use Rattle.pd_kind.specs.Forming.{float_in as float_of_atoms, symbol_of as symbol_of_atoms, list_selector as selector_of_list, list_send, normal_send, message_send};
 
 use crate::lists::zero;
 use crate::messages::Target;
@@ -31,9 +30,9 @@ pub fn symbol_in(atoms: &[Atom]) -> Sym
     }
 }
 
-/// The selector of a list: without atoms `bang`, with one number `float`, with one symbol `symbol`.
+/// What a `list` of these atoms has as its selector.
 fn list_selector(atoms: &[Atom]) -> Sym
-    ensures { (target : Target) → send_of_message target result atoms.now ≡ list_send target atoms.now }
+    ensures { result ≡ selector_of_list atoms.now }
 {
     match atoms {
         [] => Sym::bang(),
@@ -105,6 +104,67 @@ impl Sends {
         match atoms {
             [Atom::Symbol(selector), rest @ ..] => self.send_normal(target, *selector, rest),
             _ => self.send_list(target, atoms),
+        }
+    }
+
+    /// A `list` of the atoms from `first` on goes last.
+    fn send_list_from(&mut self, target: Target, first: u32)
+        requires row { length self.old.rows < 1024 }
+        requires first { first ≤ length self.old.atoms }
+        requires atoms { length self.old.atoms ≤ 2048 }
+        ensures sends { (said_by self.new).sends ≡ (said_by self.old).sends ++ list_send target (drop first self.old.atoms) ∷ [] }
+        ensures rows { length self.new.rows ≡ length self.old.rows + 1 }
+        ensures atoms { self.new.atoms ≡ self.old.atoms }
+        ensures deed { self.new.deed ≡ self.old.deed }
+        ensures notices { self.new.notices ≡ self.old.notices }
+    {
+        let atoms = self.atoms.as_slice();
+        let after = atoms.len() as u32;
+        let selector = list_selector(&atoms[first as usize..]);
+        self.send_again(target, selector, first, after);
+    }
+
+    /// A message of the atoms from `first` on goes last, in its normal form.
+    fn send_normal_from(&mut self, target: Target, selector: Sym, first: u32)
+        requires row { length self.old.rows < 1024 }
+        requires first { first ≤ length self.old.atoms }
+        requires atoms { length self.old.atoms < 2048 }
+        ensures sends { (said_by self.new).sends ≡ (said_by self.old).sends ++ normal_send target selector (drop first self.old.atoms) ∷ [] }
+        ensures rows { length self.new.rows ≡ length self.old.rows + 1 }
+        ensures atoms { length self.new.atoms ≤ length self.old.atoms + 1 }
+        ensures deed { self.new.deed ≡ self.old.deed }
+        ensures notices { self.new.notices ≡ self.old.notices }
+    {
+        let atoms = self.atoms.as_slice();
+        let after = atoms.len() as u32;
+        let number = float_in(&atoms[first as usize..]);
+        let symbol = symbol_in(&atoms[first as usize..]);
+        match selector.number() {
+            0 => self.send(target, Sym::bang(), &[]),
+            1 => self.send(target, Sym::float(), &[Atom::Number(number)]),
+            2 => self.send(target, Sym::symbol(), &[Atom::Symbol(symbol)]),
+            3 => self.send_list_from(target, first),
+            _ => self.send_again(target, selector, first, after),
+        }
+    }
+
+    /// The message that the atoms from `first` on make goes last.
+    pub fn send_message_from(&mut self, target: Target, first: u32)
+        requires row { length self.old.rows < 1024 }
+        requires first { first ≤ length self.old.atoms }
+        requires atoms { length self.old.atoms < 2048 }
+        ensures sends { (said_by self.new).sends ≡ (said_by self.old).sends ++ message_send target (drop first self.old.atoms) ∷ [] }
+        ensures rows { length self.new.rows ≡ length self.old.rows + 1 }
+        ensures atoms { length self.new.atoms ≤ length self.old.atoms + 1 }
+        ensures deed { self.new.deed ≡ self.old.deed }
+        ensures notices { self.new.notices ≡ self.old.notices }
+    {
+        match self.atoms.as_slice().get(first as usize) {
+            Some(Atom::Symbol(selector)) => {
+                let selector = *selector;
+                self.send_normal_from(target, selector, first + 1);
+            }
+            _ => self.send_list_from(target, first),
         }
     }
 }

@@ -123,6 +123,18 @@ impl Sends {
         self.atoms.extend_up_to(1024, atoms);
     }
 
+    /// An atom goes last, behind those of the sends.
+    pub fn push_atom(&mut self, atom: Atom)
+        requires { length self.old.atoms < 2048 }
+        ensures sends { (said_by self.new).sends ≡ (said_by self.old).sends }
+        ensures rows { self.new.rows ≡ self.old.rows }
+        ensures atoms { self.new.atoms ≡ self.old.atoms ++ atom ∷ [] }
+        ensures deed { self.new.deed ≡ self.old.deed }
+        ensures notices { self.new.notices ≡ self.old.notices }
+    {
+        self.atoms.push(atom);
+    }
+
     /// A notice goes last.
     pub fn note(&mut self, notice: Notice)
         requires { length self.old.notices < 2048 }
