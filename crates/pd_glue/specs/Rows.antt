@@ -10,14 +10,16 @@ use Rattle.pd_kind.specs.declared.kinds.Tone.{Tone}
 use Rattle.pd_kind.specs.declared.kinds.Tone.TheVariants as tone
 use Rattle.pd_kind.specs.declared.kinds.Signal.{Signal}
 use Rattle.pd_kind.specs.declared.kinds.Signal.TheVariants as signal
+use Rattle.pd_kind.specs.Ports.{IsSmallGlue}
 use Rattle.pd_kind.specs.declared.row_names.SignalRow.{SignalRow}
 use Rattle.pd_kind.specs.declared.row_names.SignalRow.TheVariants as row
 use Rattle.pd_kind.specs.declared.states.State.{State}
 use Rattle.pd_kind.specs.Said.{Said, silent}
 use Rattle.pd_kind.specs.Hearing.{Heard}
-use Rattle.pd_list.specs.Rows.{list_row}
-use Rattle.pd_message.specs.Rows.{Boxed, message_row}
-use Rattle.pd_plain.specs.Rows.{plain_row}
+use Rattle.pd_list.specs.Rows.{IsSmallState, list_row}
+use Rattle.pd_message.specs.Rows.{Left, message_row}
+use Rattle.pd_message.specs.Rows as message
+use Rattle.pd_plain.specs.Rows.{HasText, plain_row}
 use Rattle.pd_plain.specs.Rows as plain
 use Rattle.pd_held.specs.Rows.{sounding_row}
 
@@ -30,6 +32,9 @@ pub record Hearing : Type 0 where
 -- the names stay
 abbrev pub with_names : Names → Heard → Hearing
 with_names names h = record { state = h.state; names = names; said = h.said }
+
+abbrev pub boxed : Left → Hearing
+boxed l = record { state = l.state; names = l.names; said = l.said }
 
 abbrev pub quiet : Names → State → Hearing
 quiet names s = record { state = s; names = names; said = silent }
@@ -95,3 +100,14 @@ quiet_state s = record { state = s; said = silent }
 unfoldable pub resumed : Kind → State → Heard
 resumed (kind.Glue g) s = plain.resumed g s
 resumed k s = quiet_state s
+
+-- What is asked of a kind and a state: their lists have at most 1,024 atoms, and their atoms are of the table.
+pub record IsSmallBox (names : Names) (g : Glue) (s : State) : Type 0 where
+  pub kind : IsSmallGlue g
+  pub text : HasText names g
+  pub lists : IsSmallState s
+  pub message : message.IsSmall names s
+
+abbrev pub IsSmall : Names → Kind → State → Type 0
+IsSmall names (kind.Glue g) s = IsSmallBox names g s
+IsSmall names k s = Unit {0}
