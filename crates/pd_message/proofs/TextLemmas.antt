@@ -1,8 +1,8 @@
 -- Tables that go on, lists that are cut, and pieces.
-use Rattle.std.proofs.Common.{◌≡◌, ℕ, zero, suc, ◌+◌, ◌-◌, ◌<◌, ◌≤◌, Bool, true, false, cond, nat_lt, ltb, List, [], ◌∷◌, ◌++◌, length, take, drop, get_or, Option, Some, None, refl, sym, ap, subst, ◌∙◌, arith, append_assoc, append-nil, position, if◌then◌else◌}
+use Rattle.std.proofs.Common.{◌≡◌, ℕ, zero, suc, ◌+◌, ◌-◌, ◌<◌, ◌≤◌, Bool, true, false, cond, nat_lt, ltb, List, [], ◌∷◌, ◌++◌, length, take, drop, get_or, Option, Some, None, refl, sym, ap, subst, ◌∙◌, arith, append_assoc, append-nil, position, if◌then◌else◌, IfSome}
 use Rattle.std.specs.List.{All, slice_split, position_or_len}
 use Rattle.std.proofs.lemmas.List.{length-append, length-take-le, length-drop, at_drop_more}
-use Rattle.std.proofs.lemmas.List.Elements.{All-weaker, All-drop}
+use Rattle.std.proofs.lemmas.List.Elements.{All-weaker, All-drop, All-cons, All-nil}
 use Rattle.std.proofs.lemmas.List.Splits.{slice_split_none, slice_split_first}
 use Rattle.std.proofs.lemmas.List.Sums.{fails_before_first}
 use Rattle.std.proofs.lemmas.Bool.Decides.{nat_tests}
@@ -11,8 +11,11 @@ use Rattle.pd_atom.specs.declared.Atom.TheVariants as atom
 use Rattle.pd_atom.specs.Names.{Names, Extends}
 use Rattle.pd_atom.specs.Atoms.{IsOf}
 use Rattle.pd_kind.specs.declared.messages.Target.TheVariants as target
+use Rattle.pd_kind.specs.declared.states.State.{State}
+use Rattle.pd_kind.specs.declared.states.State.TheVariants as state
 use Rattle.pd_message.specs.declared.pieces.Receiver.{Receiver}
 use Rattle.pd_message.specs.declared.pieces.Receiver.TheVariants as receiver
+use Rattle.pd_message.specs.Rows.{IsText, KeepsText}
 use Rattle.pd_message.specs.Texts.{Run, Filling, is_comma, is_semi, filled_with, expanded_with, piece_run, pieces_run, segment_run, named_run, named_runs, segments_run, text_run}
 
 longer_table : (old new : Names) → Extends old new → length old ≤ length new
@@ -139,3 +142,23 @@ filled_at args run atoms piece i a y low ea ey full =
     let x : Filling = record { run = run; atoms = atoms; fits = true } in
     at_drop_more (filled_with args x) piece i a low ∙ ap (λ b. filled_with args x (b ∷ drop (i + 1) piece)) (sym ea)
     ∙ ap (λ z. filled_with args z (drop (i + 1) piece)) (sym ey) ∙ filled_full args y (drop (i + 1) piece) full
+
+-- what the atoms of a message are where the table goes on
+pub one_atom : (names : Names) (a : Atom) → IsOf names a → All (IsOf names) (a ∷ [])
+one_atom names a h = All-cons (IsOf names) a [] h (All-nil (IsOf names))
+
+pub two_atoms : (names : Names) (a b : Atom) → IsOf names a → IsOf names b → All (IsOf names) (a ∷ b ∷ [])
+two_atoms names a b h k = All-cons (IsOf names) a (b ∷ []) h (one_atom names b k)
+
+pub some_extended : (old new : Names) (o : Option Atom) → Extends old new → IfSome o (IsOf old) → IfSome o (IsOf new)
+some_extended old new (Some a) e h = of_extended old new a (longer_table old new e) h
+some_extended old new None e h = h
+
+pub text_extended : (old new : Names) (text : List Atom) → Extends old new → IsText old text → IsText new text
+text_extended old new text e h = record { of_table = all_extended old new text e h.of_table; small = h.small }
+
+pub kept_extended : (old new : Names) (s : State) → Extends old new → KeepsText old s → KeepsText new s
+kept_extended old new (state.Message text) e h = text_extended old new text e h
+kept_extended old new s e h = tt
+
+pub ruleset test_steps = (one_atom, two_atoms, some_extended, kept_extended, extends_onward)

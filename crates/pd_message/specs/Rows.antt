@@ -66,10 +66,15 @@ abbrev pub heard_as : Names → List Atom → ℕ → List Atom → Sort → Lef
 heard_as names text selector atoms sort.Other = left_by_edit names (edited names text selector atoms)
 heard_as names text selector atoms s = left_by_run text (text_run atoms (first_run names) text)
 
--- a message box's text has at most 1,024 atoms, all of the table
-abbrev pub IsSmall : Names → State → Type 0
-IsSmall names (state.Message text) = All (IsOf names) text × (length text ≤ 1024)
-IsSmall names s = Unit {0}
+-- a text has at most 1,024 atoms, all of the table
+pub record IsText (names : Names) (text : List Atom) : Type 0 where
+  pub of_table : All (IsOf names) text
+  pub small : length text ≤ 1024
+
+-- so has the one that a message box keeps
+abbrev pub KeepsText : Names → State → Type 0
+KeepsText names (state.Message text) = IsText names text
+KeepsText names s = Unit {0}
 
 -- What a message box does with a message. A state of another kind hears nothing.
 unfoldable pub message_row : Names → State → ℕ → List Atom → Left

@@ -5,7 +5,7 @@ ghost use Rattle.std.specs.List.{All};
 ghost use Rattle.pd_atom.specs.Atoms.{IsOf};
 ghost use Rattle.pd_atom.specs.declared.Atom.TheVariants.{Semi};
 ghost use Rattle.pd_kind.specs.Said.{said_by, silent};
-ghost use Rattle.pd_message.specs.Rows.{is_called as is_called_so, settled_atoms, grown, edited, text_full};
+ghost use Rattle.pd_message.specs.Rows.{is_called as is_called_so, settled_atoms, grown, edited, text_full, IsText};
 
 use pd_atom::{Atom, Sym, Symbols, settle};
 use pd_kind::{Notice, Row, Sends, Text};
@@ -24,8 +24,10 @@ fn is_called(symbols: &Symbols, selector: Sym, word: &[u8]) -> bool
 /// Puts settled atoms last.
 fn put_settled(text: &mut Text, atoms: &[Atom], symbols: &Symbols)
     requires atoms { All (IsOf symbols.now) atoms.now }
+    requires text { All (IsOf symbols.now) text.old }
     requires room { length text.old + length atoms.now ≤ 1024 }
-    ensures { text.new ≡ text.old ++ settled_atoms symbols.now atoms.now }
+    ensures text { text.new ≡ text.old ++ settled_atoms symbols.now atoms.now }
+    ensures of_table { All (IsOf symbols.now) text.new }
 {
     for atom in atoms {
         text.push(settle(symbols, *atom));
@@ -45,6 +47,7 @@ fn set(text: &mut Text, atoms: &[Atom], symbols: &Symbols, out: &mut Sends)
     requires few { length atoms.now ≤ 1024 }
     ensures text { text.new ≡ settled_atoms symbols.now atoms.now }
     ensures said { said_by out.new ≡ silent }
+    ensures small { IsText symbols.now text.new }
 {
     text.clear();
     put_settled(text, atoms, symbols);
@@ -54,8 +57,9 @@ fn set(text: &mut Text, atoms: &[Atom], symbols: &Symbols, out: &mut Sends)
 fn add(text: &mut Text, atoms: &[Atom], symbols: &Symbols, out: &mut Sends)
     requires atoms { All (IsOf symbols.now) atoms.now }
     requires few { length atoms.now ≤ 1024 }
-    requires small { length text.old ≤ 1024 }
-    ensures { record { text = text.new; said = said_by out.new } ≡ grown text.old (settled_atoms symbols.now atoms.now ++ Semi ∷ []) }
+    requires small { IsText symbols.now text.old }
+    ensures edited { record { text = text.new; said = said_by out.new } ≡ grown text.old (settled_atoms symbols.now atoms.now ++ Semi ∷ []) }
+    ensures small { IsText symbols.now text.new }
 {
     if text.len() + atoms.len() + 1 > MOST {
         refuse_text(out);
@@ -69,8 +73,9 @@ fn add(text: &mut Text, atoms: &[Atom], symbols: &Symbols, out: &mut Sends)
 fn add_atoms(text: &mut Text, atoms: &[Atom], symbols: &Symbols, out: &mut Sends)
     requires atoms { All (IsOf symbols.now) atoms.now }
     requires few { length atoms.now ≤ 1024 }
-    requires small { length text.old ≤ 1024 }
-    ensures { record { text = text.new; said = said_by out.new } ≡ grown text.old (settled_atoms symbols.now atoms.now) }
+    requires small { IsText symbols.now text.old }
+    ensures edited { record { text = text.new; said = said_by out.new } ≡ grown text.old (settled_atoms symbols.now atoms.now) }
+    ensures small { IsText symbols.now text.new }
 {
     if text.len() + atoms.len() > MOST {
         refuse_text(out);
@@ -80,10 +85,13 @@ fn add_atoms(text: &mut Text, atoms: &[Atom], symbols: &Symbols, out: &mut Sends
     }
 }
 
-fn add_mark(text: &mut Text, mark: Atom, out: &mut Sends)
-    requires { length text.old ≤ 1024 }
-    ensures { record { text = text.new; said = said_by out.new } ≡ grown text.old (mark ∷ []) }
+fn add_mark(text: &mut Text, mark: Atom, symbols: &Symbols, out: &mut Sends)
+    requires mark { IsOf symbols.now mark }
+    requires small { IsText symbols.now text.old }
+    ensures edited { record { text = text.new; said = said_by out.new } ≡ grown text.old (mark ∷ []) }
+    ensures small { IsText symbols.now text.new }
 {
+    let _names = symbols;
     if text.len() + 1 > MOST {
         refuse_text(out);
     } else {
@@ -103,8 +111,9 @@ pub(crate) fn edit(
     requires selector { selector < length symbols.now }
     requires atoms { All (IsOf symbols.now) atoms.now }
     requires few { length atoms.now ≤ 1024 }
-    requires small { length text.old ≤ 1024 }
-    ensures { record { text = text.new; said = said_by out.new } ≡ edited symbols.now text.old selector atoms.now }
+    requires small { IsText symbols.now text.old }
+    ensures edited { record { text = text.new; said = said_by out.new } ≡ edited symbols.now text.old selector atoms.now }
+    ensures small { IsText symbols.now text.new }
 {
     if is_called(symbols, selector, b"set") {
         set(text, atoms, symbols, out);
@@ -113,9 +122,9 @@ pub(crate) fn edit(
     } else if is_called(symbols, selector, b"add2") {
         add_atoms(text, atoms, symbols, out);
     } else if is_called(symbols, selector, b"addcomma") {
-        add_mark(text, Atom::Comma, out);
+        add_mark(text, Atom::Comma, symbols, out);
     } else if is_called(symbols, selector, b"addsemi") {
-        add_mark(text, Atom::Semi, out);
+        add_mark(text, Atom::Semi, symbols, out);
     } else {
         out.refuse(Row::Message, selector);
     }

@@ -7,7 +7,7 @@ ghost use Rattle.pd_atom.specs.Names.{Extends};
 ghost use Rattle.pd_kind.specs.Messages.{sort_of as sort_of_message};
 ghost use Rattle.pd_kind.specs.Said.{said_by};
 ghost use Rattle.pd_kind.specs.declared.states.State.TheVariants as state;
-ghost use Rattle.pd_message.specs.Rows.{message_row, heard_as, IsSmall};
+ghost use Rattle.pd_message.specs.Rows.{message_row, heard_as, IsText, KeepsText};
 
 use crate::edits::edit;
 use crate::segments::run_text;
@@ -19,10 +19,10 @@ fn hear_text(text: &mut Text, selector: Sym, atoms: &[Atom], symbols: &mut Symbo
     requires selector { selector < length symbols.old }
     requires atoms { All (IsOf symbols.old) atoms.now }
     requires few { length atoms.now ≤ 1024 }
-    requires text { All (IsOf symbols.old) text.old }
-    requires small { length text.old ≤ 1024 }
+    requires text { IsText symbols.old text.old }
     ensures heard { record { state = state.Message text.new; names = symbols.new; said = said_by out.new } ≡ heard_as symbols.old text.old selector atoms.now (sort_of_message selector atoms.now) }
     ensures extends { Extends symbols.old symbols.new }
+    ensures text { IsText symbols.new text.new }
 {
     match sort_of(selector, atoms) {
         Sort::Other => edit(text, selector, atoms, symbols, out),
@@ -49,9 +49,10 @@ pub fn hear_message(
     requires selector { selector < length symbols.old }
     requires atoms { All (IsOf symbols.old) atoms.now }
     requires few { length atoms.now ≤ 1024 }
-    requires text { IsSmall symbols.old state.old }
+    requires text { KeepsText symbols.old state.old }
     ensures heard { record { state = state.new; names = symbols.new; said = said_by out.new } ≡ message_row symbols.old state.old selector atoms.now }
     ensures extends { Extends symbols.old symbols.new }
+    ensures text { KeepsText symbols.new state.new }
 {
     match state {
         State::Message { text } => hear_text(text, selector, atoms, symbols, out),
