@@ -6,7 +6,8 @@
 #   clocks     owners whose clocks fire and are set again one period later, each owner with a period of its own
 #   wires      wires that are cut in the middle of an outlet's fan-out and added to it, by the number of wires of the outlet
 #   fold       the signal order from nothing, of boxes that are each fed by two others
-#   mend       the signal order of voices that feed one box: one voice's wire is cut and added again; beside it a fold at the same size
+#   mend       the signal order of voices that feed one box: one voice's wire is cut and added again, where the chain stays and, apart, where it
+#              changes; beside it a fold at the same size
 #
 # Times are of the processor, so other work on the machine lengthens them little; each is the least of five runs. docs/BENCHMARKS.md has
 # targets and figures. With sizes of your own, once the program is built:

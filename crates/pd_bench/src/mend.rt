@@ -12,8 +12,11 @@ use pd_order::{Order, SignalGraph, Steps};
 use std::marker::Brand;
 use std::sync::ledger::{Blank, Ledger};
 
-/// How many wires are cut and added again in a run, spread over the voices.
-const MENDS: u32 = 1_000;
+/// How many wires are cut and added again in a run, spread over all voices but the last one.
+const MENDS: u32 = 10_000;
+
+/// How often the last voice is: it alone holds box 0 back, so that the chain changes.
+const LASTS: u32 = 100;
 
 /// Box 2i - 1 feeds box 2i for each voice i, and box 2i feeds box 0, except for the voice that is cut.
 #[derive(Clone, Copy)]
@@ -109,20 +112,21 @@ fn cut_and_add<L: Ledger>(order: &mut Order, count: u32, voice: u32, steps: &mut
     order.mend_add(&graph, 2 * voice, 0, steps);
 }
 
-/// The times of a fold and of all mends.
+/// The times of a fold, of all mends that leave the chain, and of all that change it.
 #[derive(Clone, Copy)]
 struct Times {
     fold: Nanos,
     mends: Nanos,
+    changes: Nanos,
 }
 
-/// The voice of the i-th cut: all come in turn, not in their order.
+/// The voice of the i-th cut: all but the last one come in turn, not in their order. A single voice is the last one too.
 fn voice_of(i: u32, count: u32) -> u32
     requires { 1 ≤ count }
     ensures low { 1 ≤ result }
     ensures high { result ≤ count }
 {
-    i.wrapping_mul(7_919) % count + 1
+    i.wrapping_mul(7_919) % (count - 1).max(1) + 1
 }
 
 fn measure_in<R: Measures, L: Ledger>(rt: &R, count: u32, blank: Blank) -> Result<Times>
@@ -145,7 +149,16 @@ fn measure_in<R: Measures, L: Ledger>(rt: &R, count: u32, blank: Blank) -> Resul
         cut_and_add(&mut order, count, voice_of(i, count), &mut steps);
     }
     let mends = watch.read(rt)?;
-    Ok(Times { fold, mends })
+    let watch = Stopwatch::start(rt)?;
+    for last in 0..LASTS {
+        cut_and_add(&mut order, count, count, &mut steps);
+    }
+    let changes = watch.read(rt)?;
+    Ok(Times {
+        fold,
+        mends,
+        changes,
+    })
 }
 
 fn measure<R: Measures>(rt: &R, count: u32) -> Result<Times>
@@ -163,10 +176,14 @@ pub(crate) fn run<R: Measures>(rt: &R, boxes: u32) -> Result<()> {
         least = Times {
             fold: least.fold.min(times.fold),
             mends: least.mends.min(times.mends),
+            changes: least.changes.min(times.changes),
         };
     }
     let mend = least.mends.each(2 * u64::from(MENDS));
+    let change = least.changes.each(2 * u64::from(LASTS));
     let fold = least.fold;
-    println!(rt; "mend: {boxes} boxes: {mend} ns a mend, {fold} a fold anew")?;
+    println!(rt;
+        "mend: {boxes} boxes: {mend} ns a mend, {change} ns where the chain changes, {fold} a fold anew"
+    )?;
     Ok(())
 }
