@@ -1,4 +1,4 @@
-use Rattle.std.proofs.Common.{◌≡◌, ◌-◌, ◌++◌, length, take, min, ◌∙◌, ap, arith}
+use Rattle.std.proofs.Common.{◌≡◌, ◌-◌, ◌++◌, length, min, ◌∙◌, arith}
 use Rattle.pd_kind.proofs.ListLemmas.{grown_up_to, cut_short}
 use Rattle.pd_kind.proofs.lists.Bounded.extend_up_to.Goals as goal
 

@@ -1,7 +1,7 @@
-use Rattle.std.proofs.Common.{◌≡◌, ℕ, ◌+◌, ◌-◌, ◌≤◌, ◌++◌, true, length, map, take, List, ◌∙◌, ap, arith}
+use Rattle.std.proofs.Common.{◌≡◌, ◌+◌, ◌-◌, ◌++◌, length, map, take, List, ◌∙◌, ap, arith}
 use Rattle.std.proofs.lemmas.List.{length-append}
 use Rattle.pd_atom.specs.declared.Atom.{Atom}
-use Rattle.pd_kind.specs.Rows.{are_within, send_of}
+use Rattle.pd_kind.specs.Rows.{send_of}
 use Rattle.pd_kind.proofs.ListLemmas.{cut_behind}
 use Rattle.pd_kind.proofs.SendLemmas.{within_more, sends_more}
 use Rattle.pd_kind.proofs.sends.Sends.fill.Goals as goal
