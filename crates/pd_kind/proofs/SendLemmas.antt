@@ -1,6 +1,5 @@
 -- Rows over one list of atoms.
-use Rattle.std.proofs.Common.{◌≡◌, ℕ, ◌+◌, ◌-◌, ◌≤◌, Bool, true, ◌&&◌, nat_le, List, [], ◌∷◌, ◌++◌, length, map, take, drop, slice_range, refl, sym, ◌∙◌, ap, subst, arith}
-use Rattle.std.specs.List.{list_all}
+use Rattle.std.proofs.Common.{◌≡◌, ℕ, ◌+◌, ◌-◌, ◌≤◌, Bool, true, ◌&&◌, nat_le, List, [], ◌∷◌, ◌++◌, length, map, take, drop, slice_range, refl, ◌∙◌, ap, arith}
 use Rattle.std.proofs.lemmas.Bool.{and_parts, leb-true, le-leb}
 use Rattle.std.proofs.lemmas.List.{map-append, take-append-le, drop-append-le, take_all, length-drop}
 use Rattle.std.proofs.lemmas.List.Folds.{list_all-append}
@@ -8,7 +7,7 @@ use Rattle.std.proofs.Math.Seq.{drop-append_seam}
 use Rattle.pd_atom.specs.declared.Atom.{Atom}
 use Rattle.pd_kind.specs.declared.messages.Target.{Target}
 use Rattle.pd_kind.specs.declared.sends.SendRow.{SendRow}
-use Rattle.pd_kind.specs.Rows.{Send, send_of, are_within}
+use Rattle.pd_kind.specs.Rows.{send_of, are_within}
 
 abbrev row_within : ℕ → SendRow → Bool
 row_within n row = nat_le row.first row.after && nat_le row.after n

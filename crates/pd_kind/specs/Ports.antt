@@ -1,5 +1,5 @@
 -- The ports of each kind.
-use Rattle.std.specs.Prelude.{ℕ, ℤ, ◌+◌, ◌==◌, ◌≤◌, List, length, Option, Some, None, if◌then◌else◌}
+use Rattle.std.specs.Prelude.{ℕ, ℤ, ◌+◌, ◌==◌, ◌≤◌, length, Option, Some, None, if◌then◌else◌}
 use Rattle.pd_kind.specs.declared.kinds.Kind.{Kind}
 use Rattle.pd_kind.specs.declared.kinds.Kind.TheVariants as kind
 use Rattle.pd_kind.specs.declared.kinds.Arith.{Arith}

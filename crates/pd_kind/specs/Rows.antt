@@ -1,5 +1,5 @@
 -- Sends as rows over one list of atoms.
-use Rattle.std.specs.Prelude.{ℕ, ◌<◌, ◌≤◌, Bool, ◌&&◌, nat_le, List, map, slice_range}
+use Rattle.std.specs.Prelude.{ℕ, Bool, ◌&&◌, nat_le, List, slice_range}
 use Rattle.std.specs.List.{list_all}
 use Rattle.pd_atom.specs.declared.Atom.{Atom}
 use Rattle.pd_kind.specs.declared.messages.Target.{Target}

@@ -2,8 +2,7 @@
 use Rattle.std.specs.Prelude.{ℕ, ℤ, List, [], ◌∷◌, map}
 use Rattle.pd_atom.specs.declared.Atom.{Atom}
 use Rattle.pd_atom.specs.declared.Atom.TheVariants.{Number, Symbol}
-use Rattle.pd_kind.specs.declared.messages.Target.{Target}
-use Rattle.pd_kind.specs.declared.messages.Target.TheVariants.{Outlet, Name}
+use Rattle.pd_kind.specs.declared.messages.Target.TheVariants.{Outlet}
 use Rattle.pd_kind.specs.declared.messages.Deed.{Deed}
 use Rattle.pd_kind.specs.declared.messages.Deed.TheVariants.{Nothing}
 use Rattle.pd_kind.specs.declared.messages.Notice.{Notice}

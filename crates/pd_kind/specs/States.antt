@@ -1,5 +1,5 @@
 -- What a box of each kind keeps at first, and how many values its table or delay line counts.
-use Rattle.std.specs.Prelude.{ℕ, ℤ, pos, negsuc, ◌+◌, ◌*◌, ◌/◌, ◌==◌, Bool, true, false, List, [], ◌∷◌, map, max, unsigned_abs, replicate, length, Option, Some, None, if◌then◌else◌}
+use Rattle.std.specs.Prelude.{ℕ, ℤ, pos, negsuc, ◌+◌, ◌*◌, ◌/◌, ◌==◌, Bool, true, false, List, [], map, max, unsigned_abs, replicate, length, Option, Some, None, if◌then◌else◌}
 use Rattle.pd_num.specs.Scale.{whole_of}
 use Rattle.pd_atom.specs.declared.Atom.{Atom}
 use Rattle.pd_atom.specs.declared.Atom.TheVariants as atom

@@ -1,5 +1,5 @@
 -- A toggle's values after messages.
-use Rattle.std.proofs.Common.{◌≡◌, ℕ, ℤ, Bool, true, false, List, [], ◌∷◌, Option, Some, None, refl, ap, sym, ◌∙◌, slice_get, codes, if◌then◌else◌}
+use Rattle.std.proofs.Common.{◌≡◌, ℕ, ℤ, Bool, true, false, List, [], ◌∷◌, Option, Some, None, refl, ap, ◌∙◌, slice_get, codes, if◌then◌else◌}
 use Rattle.pd_atom.specs.declared.Atom.{Atom}
 use Rattle.pd_atom.specs.declared.Atom.TheVariants as atom
 use Rattle.pd_atom.specs.Names.{Names}
@@ -8,12 +8,11 @@ use Rattle.pd_kind.specs.declared.kinds.Panel.TheVariants as panel
 use Rattle.pd_kind.specs.declared.kinds.Toggle.{Toggle}
 use Rattle.pd_kind.specs.declared.messages.Sort.{Sort}
 use Rattle.pd_kind.specs.declared.messages.Sort.TheVariants as sort
-use Rattle.pd_kind.specs.declared.states.State.{State}
 use Rattle.pd_kind.specs.declared.states.State.TheVariants as state
 use Rattle.pd_kind.specs.Messages.{sort_of}
 use Rattle.pd_kind.specs.Hearing.{first_sort}
 use Rattle.pd_panel.specs.Rows.{is_called, is_zero, toggle_set, toggle_nonzero, toggle_other, toggle_hot, heard}
-use Rattle.pd_panel.specs.Fold.{Values, Given, with_value, with_other, with_first, step_other, step_at, step, toggle_with, state_after, values_after, ToggleFolds}
+use Rattle.pd_panel.specs.Fold.{Values, with_value, with_other, with_first, step_other, step_at, step, toggle_with, state_after, ToggleFolds}
 
 set_steps : (v : Values) (saved : Bool) (selector : ℕ) (a : Option Atom) → (toggle_set v.value v.other saved selector a).state ≡ toggle_with (with_first with_value v a) saved
 set_steps v saved selector (Some (atom.Number z)) = refl

@@ -1,8 +1,7 @@
-use Rattle.std.proofs.Common.{◌≡◌, ℕ, ◌+◌, ◌≤◌, ◌++◌, ◌∷◌, [], true, length, map, List, sym, ◌∙◌, ap, subst, refl, arith}
+use Rattle.std.proofs.Common.{◌≡◌, ◌+◌, ◌∷◌, [], length, map, List, ◌∙◌, ap, arith}
 use Rattle.std.proofs.lemmas.List.{length-append}
 use Rattle.pd_atom.specs.declared.Atom.{Atom}
-use Rattle.pd_kind.specs.declared.sends.SendRow.{SendRow}
-use Rattle.pd_kind.specs.Rows.{Send, are_within, send_of}
+use Rattle.pd_kind.specs.Rows.{send_of}
 use Rattle.pd_kind.proofs.SendLemmas.{within_more, sends_more}
 use Rattle.pd_kind.proofs.sends.Sends.push_atom.Goals as goal
 

@@ -1,8 +1,8 @@
-use Rattle.std.proofs.Common.{◌≡◌, ℕ, ◌+◌, ◌≤◌, ◌++◌, ◌∷◌, [], true, length, map, List, sym, ◌∙◌, ap, subst, refl, arith}
+use Rattle.std.proofs.Common.{◌≡◌, ◌+◌, ◌++◌, ◌∷◌, [], true, length, map, List, sym, ◌∙◌, ap, subst, refl, arith}
 use Rattle.std.proofs.lemmas.List.{length-append}
 use Rattle.pd_atom.specs.declared.Atom.{Atom}
 use Rattle.pd_kind.specs.declared.sends.SendRow.{SendRow}
-use Rattle.pd_kind.specs.Rows.{Send, are_within, send_of}
+use Rattle.pd_kind.specs.Rows.{are_within, send_of}
 use Rattle.pd_kind.proofs.SendLemmas.{within_more, within_one, send_last}
 use Rattle.pd_kind.proofs.sends.Sends.send.Goals as goal
 
