@@ -1,5 +1,5 @@
 -- Tables that go on, lists that are cut, and pieces.
-use Rattle.std.proofs.Common.{◌≡◌, ℕ, zero, suc, ◌+◌, ◌-◌, ◌<◌, ◌≤◌, Bool, true, false, cond, nat_lt, ltb, List, [], ◌∷◌, ◌++◌, length, take, drop, get_or, Option, Some, None, refl, sym, ap, subst, ◌∙◌, arith, append_assoc, append-nil, position, if◌then◌else◌, IfSome}
+use Rattle.std.proofs.Common.{◌≡◌, ℕ, ◌+◌, ◌-◌, ◌<◌, ◌≤◌, Bool, true, false, cond, nat_lt, ltb, List, [], ◌∷◌, ◌++◌, length, take, drop, get_or, Option, Some, None, refl, sym, ap, subst, ◌∙◌, arith, append_assoc, append-nil, position, IfSome}
 use Rattle.std.specs.List.{All, slice_split, position_or_len}
 use Rattle.std.proofs.lemmas.List.{length-append, length-take-le, length-drop, at_drop_more}
 use Rattle.std.proofs.lemmas.List.Elements.{All-weaker, All-drop, All-cons, All-nil}

@@ -9,7 +9,6 @@ use Rattle.pd_atom.specs.Names.{Names, Outcome}
 use Rattle.pd_atom.specs.Expansion.{expanded}
 use Rattle.pd_kind.specs.declared.messages.Notice.{Notice}
 use Rattle.pd_kind.specs.declared.messages.Notice.TheVariants.{NoArgument, NoReceiver, TableFull}
-use Rattle.pd_kind.specs.declared.messages.Target.{Target}
 use Rattle.pd_kind.specs.declared.messages.Target.TheVariants as target
 use Rattle.pd_kind.specs.Rows.{Send}
 use Rattle.pd_kind.specs.Said.{Said}

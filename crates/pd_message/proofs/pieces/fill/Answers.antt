@@ -1,7 +1,5 @@
-use Rattle.std.proofs.Common.{◌≡◌, ◌<◌, length, drop, true, sym, ◌∙◌, refl, List}
-use Rattle.pd_message.specs.Texts.{filled_with}
-use Rattle.pd_message.specs.Room.{run_of, filling_of}
-use Rattle.pd_atom.specs.declared.Atom.{Atom}
+use Rattle.std.proofs.Common.{drop, sym, ◌∙◌, refl}
+use Rattle.pd_message.specs.Room.{run_of}
 use Rattle.pd_message.proofs.TextLemmas.{filled_at}
 use Rattle.pd_message.proofs.pieces.fill.Goals as goal
 

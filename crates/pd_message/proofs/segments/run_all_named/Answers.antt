@@ -1,4 +1,4 @@
-use Rattle.std.proofs.Common.{◌≡◌, ℕ, ◌+◌, ◌<◌, length, take, drop, position, Some, None, List, sym, ◌∙◌, arith}
+use Rattle.std.proofs.Common.{◌≡◌, ℕ, ◌+◌, ◌<◌, length, position, Some, List, sym, ◌∙◌, arith}
 use Rattle.pd_atom.specs.declared.Atom.{Atom}
 use Rattle.pd_message.specs.Texts.{is_semi}
 use Rattle.pd_message.specs.Room.{run_of}

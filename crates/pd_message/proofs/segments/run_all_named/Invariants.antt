@@ -1,4 +1,4 @@
-use Rattle.std.proofs.Common.{◌≡◌, ◌≤◌, ◌+◌, ◌*◌, length}
+use Rattle.std.proofs.Common.{◌≡◌, length}
 use Rattle.pd_atom.specs.Names.{Extends}
 use Rattle.std.specs.List.{All, slice_split}
 use Rattle.pd_atom.specs.Atoms.{IsOf}

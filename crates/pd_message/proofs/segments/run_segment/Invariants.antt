@@ -3,7 +3,7 @@ use Rattle.pd_atom.specs.Names.{Extends}
 use Rattle.std.specs.List.{All}
 use Rattle.pd_atom.specs.Atoms.{IsOf}
 use Rattle.pd_message.specs.Texts.{segment_run}
-use Rattle.pd_message.specs.Room.{run_of, HasRoom}
+use Rattle.pd_message.specs.Room.{run_of}
 use Rattle.pd_message.proofs.segments.run_segment.Given as goal
 
 abbrev pub invariant-loop-place : goal.invariant-loop-place

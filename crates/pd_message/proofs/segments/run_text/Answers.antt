@@ -1,4 +1,4 @@
-use Rattle.std.proofs.Common.{◌≡◌, sym}
+use Rattle.std.proofs.Common.{sym}
 use Rattle.pd_message.specs.Room.{run_of}
 use Rattle.pd_message.proofs.TextLemmas.{text_step, text_end}
 use Rattle.pd_message.proofs.segments.run_text.Goals as goal
