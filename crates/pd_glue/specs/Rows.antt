@@ -106,7 +106,7 @@ pub record IsSmallBox (names : Names) (g : Glue) (s : State) : Type 0 where
   pub kind : IsSmallGlue g
   pub text : HasText names g
   pub lists : IsSmallState s
-  pub message : message.IsSmall names s
+  pub message : message.KeepsText names s
 
 abbrev pub IsSmall : Names → Kind → State → Type 0
 IsSmall names (kind.Glue g) s = IsSmallBox names g s
