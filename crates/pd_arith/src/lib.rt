@@ -5,5 +5,7 @@ mod frequencies;
 mod operations;
 mod pairs;
 mod rows;
+#[cfg(test)]
+mod tests;
 
 pub use rows::hear;
