@@ -4,5 +4,7 @@
 mod rows;
 mod slopes;
 mod stores;
+#[cfg(test)]
+mod tests;
 
 pub use rows::hear_held;
