@@ -6,6 +6,8 @@ mod clocked;
 mod numbers;
 mod rows;
 mod tables;
+#[cfg(test)]
+mod tests;
 mod timed;
 mod values;
 
