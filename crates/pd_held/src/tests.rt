@@ -315,11 +315,7 @@ fn objects_hear_messages(rt: HostRuntime) -> Result<(), Fail> {
             b"0 list 1 2 3 4|0 float 6|1 float 7",
             b" 6 7 3",
         ),
-        (
-            SignalRow::Dac,
-            b"0 stop|2 bang",
-            b"dac~:?|dac~:bang| 0 0 0",
-        ),
+        (SignalRow::Dac, b"0 stop|2 bang", b"dac~:?|dac~:bang| 0 0 0"),
     ];
     let mut symbols = Symbols::new(rt.alloc())?;
     for (row, (object, lines, want)) in table.iter().enumerate() {
