@@ -280,7 +280,7 @@ fn show_deed(
         }
         Deed::ClearClock => shown.push(b'X')?,
         Deed::WriteTable { index, value } => {
-            shown.extend_from_slice(format!(in alloc; "W{index}=")?.as_bytes())?;
+            shown.extend_from_slice(format!(in alloc; "write {index}=")?.as_bytes())?;
             show_atom(words, Atom::Number(value), shown)?;
         }
         Deed::Print => shown.push(b'P')?,
@@ -430,9 +430,14 @@ fn boxes_hear_messages(rt: HostRuntime) -> Result<(), Fail> {
         (Row::Random, b'c', b"1f0 0b", b"0f 0|"),
         (Row::Tabread, b'p', b"0fh 0fc 0fn", b"0f 6|0f 6|0f 4|"),
         (Row::Tabread, b'.', b"0f2", b"0f 0|"),
-        (Row::Tabwrite, b'p', b"0f7 1fh 0f7", b"W0=7|W2=7|"),
-        (Row::Tabwrite, b'p', b"1fc 0f7 1fn 0f7", b"W2=7|W0=7|"),
-        (Row::Tabwrite, b'p', b"0l71 0f8", b"W1=7|W1=8|"),
+        (Row::Tabwrite, b'p', b"0f7 1fh 0f7", b"write 0=7|write 2=7|"),
+        (
+            Row::Tabwrite,
+            b'p',
+            b"1fc 0f7 1fn 0f7",
+            b"write 2=7|write 0=7|",
+        ),
+        (Row::Tabwrite, b'p', b"0l71 0f8", b"write 1=7|write 1=8|"),
         (Row::Tabwrite, b'.', b"0f7", b""),
     ];
     for (row, (object, letter, messages, want)) in table.iter().enumerate() {
