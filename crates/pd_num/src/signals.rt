@@ -17,6 +17,16 @@ pub struct Sig {
     nanos: i64,
 }
 
+/// The product in billionths of two counts of billionths, where their own product needs 128 bits.
+fn long_product(a: i64, b: i64) -> i64
+    requires left { IsInRange billionths a }
+    requires right { IsInRange billionths b }
+    ensures value { result ≡ product_of billionths a b }
+    ensures in_range { IsInRange billionths result }
+{
+    saturate(quotient(product(a, b), UNIT), LIMIT as u64)
+}
+
 impl Model for Sig {
     ghost use Rattle.std.specs.Prelude.{ℤ};
     ghost use Rattle.pd_num.specs.Scale.{billionths, IsInRange};
@@ -89,9 +99,13 @@ impl Sig {
     pub fn mul(self, other: Sig) -> Sig
         ensures { result ≡ product_of billionths self other }
     {
-        let count = quotient(product(self.nanos, other.nanos), UNIT);
-        Sig {
-            nanos: saturate(count, LIMIT as u64),
+        match self.nanos.checked_mul(other.nanos) {
+            Some(count) => Sig {
+                nanos: count / UNIT,
+            },
+            None => Sig {
+                nanos: long_product(self.nanos, other.nanos),
+            },
         }
     }
 
