@@ -4,6 +4,7 @@ ghost use Rattle.std.specs.Prelude.{◌≡◌, ℕ, List, Ok};
 ghost use Rattle.pd_atom.specs.Names.{Names, IsTable};
 ghost use Rattle.pd_canvas.specs.Pages.{Page};
 ghost use Rattle.pd_canvas.specs.Proper.{IsProper};
+ghost use Rattle.pd_doc.specs.Atoms.{PageOf};
 ghost use Rattle.pd_doc.specs.Reading.{document_of};
 ghost use Rattle.pd_doc.specs.Writing.{text_of};
 
@@ -24,6 +25,11 @@ pub fn read_proper()
         IsProper names' p }
     ensures table { (names names' : Names) (p : Page) (text : List ℕ) → IsTable names → document_of names text ≡ Ok (p, names') →
         IsTable names' }
+{}
+
+/// The atoms of a proper document are of the table.
+pub fn proper_pages()
+    ensures { (names : Names) (p : Page) → IsProper names p → PageOf names p }
 {}
 
 /// Reading, writing and reading again gives the same document and the same table.

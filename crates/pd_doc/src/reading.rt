@@ -7,6 +7,7 @@ ghost use Rattle.pd_lex.specs.Reading.{is_body, pieces, records, rest_of};
 ghost use Rattle.pd_atom.specs.Names.{Extends};
 ghost use Rattle.pd_canvas.specs.Proper.{IsProper};
 ghost use Rattle.pd_doc.specs.Pieces.{piece};
+ghost use Rattle.pd_doc.specs.Atoms.{PageOf};
 ghost use Rattle.pd_doc.specs.Results.{Answers};
 ghost use Rattle.pd_doc.specs.States.{start};
 ghost use Rattle.pd_doc.specs.Records.{record_of};
@@ -184,6 +185,7 @@ pub fn read(alloc: Global, bytes: &[u8], symbols: &mut Symbols) -> Result<Doc, D
     requires { length bytes.now ≤ 4294967295 }
     ensures exact { Answers (λ d. (d.root, symbols.new)) result (document_of symbols.old bytes.now) }
     ensures proper { IfOk result (λ d. IsProper symbols.new d.root) }
+    ensures of_table { IfOk result (λ d. PageOf symbols.new d.root) }
     ensures refused { OnErr result (symbols.new ≡ symbols.old) }
 {
     let len = symbols.len();

@@ -2,7 +2,6 @@
 
 ghost use Rattle.std.specs.Prelude.{◌≡◌, ◌++◌, OnOk, OnErr};
 ghost use Rattle.pd_canvas.specs.Pages.{boxed};
-ghost use Rattle.pd_canvas.specs.Proper.{IsProper};
 ghost use Rattle.pd_canvas.specs.Views.{entry_of, entries_of};
 ghost use Rattle.pd_doc.specs.Atoms.{HeadOf, BoxesOf, EntryOf, PageOf};
 ghost use Rattle.pd_doc.specs.Writing.{text_of};
@@ -22,7 +21,7 @@ use std::alloc::AllocError;
 /// After a refusal for want of memory `out` is as before.
 #[tactic(auto, using(crate::proofs::LineLemmas::page_lines))]
 pub fn write(doc: &Doc, symbols: &Symbols, out: &mut Vec<u8>) -> Result<(), AllocError>
-    requires { IsProper symbols.now doc.now.root }
+    requires { PageOf symbols.now doc.now.root }
     ensures ok { OnOk result (out.new.items ≡ out.old.items ++ text_of symbols.now doc.now.root) }
     ensures err { OnErr result (out.new.items ≡ out.old.items) }
 {
