@@ -6,5 +6,7 @@ pub mod RowNames
 pub mod States
 pub mod Naming
 pub mod Tables
+pub mod Lends
+pub mod Fit
 pub mod Hearing
 pub mod Forming

@@ -26,6 +26,20 @@ abbrev pub line_of : State → Option Line
 line_of (state.Delwrite held values next ran) = Some (record { next = next; ran = ran })
 line_of _ = None
 
+-- the values of a `send~`, a `catch~` or a `delwrite~`
+abbrev pub shared_of : State → Option (List ℤ)
+shared_of (state.SignalSend held block) = Some block
+shared_of (state.Catch sum) = Some sum
+shared_of (state.Delwrite held values next ran) = Some values
+shared_of _ = None
+
+-- others in their place
+abbrev pub with_shared : State → List ℤ → State
+with_shared (state.SignalSend held block) left = state.SignalSend held left
+with_shared (state.Catch sum) left = state.Catch left
+with_shared (state.Delwrite held values next ran) left = state.Delwrite held left next ran
+with_shared s left = s
+
 -- a `delwrite~` has not run in this block
 abbrev pub block_begun : State → State
 block_begun (state.Delwrite held values next ran) = state.Delwrite held values next false

@@ -6,6 +6,7 @@ mod control_words;
 mod forming;
 mod fresh;
 mod kinds;
+mod laws;
 mod list_words;
 mod lists;
 mod messages;
@@ -25,6 +26,7 @@ pub use kinds::{
     Operation, Panel, Side, Signal, SignalFunction, SignalOperation, Slot, Spelling, Toggle, Tone,
     Trigger, Values,
 };
+pub use laws::{fresh_fits, reached_fits};
 pub use lists::{Bounded, Items};
 pub use messages::{
     Around, Deed, Message, Notice, Sort, Target, first_sort, sort_of, stored, told,

@@ -1,9 +1,10 @@
 //! Parts of a state that other boxes reach: tables, buses, delay lines, what is saved.
 
 ghost use Rattle.std.specs.Prelude.{◌≡◌, ◌<◌, length, IfSome, IfNone, None};
-ghost use Rattle.std.specs.Option.{option_copied};
+ghost use Rattle.std.specs.Option.{option_copied, option_copied_mut};
+ghost use Rattle.std.specs.Borrow.{sem};
 
-use crate::states::State;
+use crate::states::{Samples, State};
 use pd_clock::Time;
 use pd_num::Num;
 
@@ -15,7 +16,8 @@ pub struct Line {
 }
 
 impl State {
-    ghost use Rattle.pd_kind.specs.Tables.{table_of, with_value, started, line_of, block_begun, saved_of};
+    ghost use Rattle.pd_kind.specs.Tables.{table_of, with_value, started, line_of, shared_of, block_begun, saved_of};
+    ghost use Rattle.pd_kind.specs.Lends.{lends_shared};
 
     /// The values of a `table` or an array; `None` exactly for other kinds.
     pub fn table(&self) -> Option<&[Num]>
@@ -58,6 +60,19 @@ impl State {
                 next: *next,
                 ran: *ran,
             }),
+            _ => None,
+        }
+    }
+
+    /// The values of a `send~`, a `catch~` or a `delwrite~`, for writing; `None` exactly for other states. As many are to be left.
+    pub fn shared(&mut self) -> Option<&mut Samples>
+        ensures* writes_back { sem 𝓛 (lends_shared self.entry result) }
+        ensures value { option_copied_mut result ≡ shared_of self.old }
+    {
+        match self {
+            State::SignalSend { block, .. } => Some(block),
+            State::Catch { sum } => Some(sum),
+            State::Delwrite { values, .. } => Some(values),
             _ => None,
         }
     }
