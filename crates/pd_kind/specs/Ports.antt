@@ -2,6 +2,8 @@
 use Rattle.std.specs.Prelude.{ℕ, ℤ, ◌+◌, ◌==◌, ◌≤◌, length, Option, Some, None, if◌then◌else◌}
 use Rattle.pd_kind.specs.declared.kinds.Kind.{Kind}
 use Rattle.pd_kind.specs.declared.kinds.Kind.TheVariants as kind
+use Rattle.pd_kind.specs.declared.kinds.Named.{Named}
+use Rattle.pd_kind.specs.declared.kinds.Named.TheVariants as named
 use Rattle.pd_kind.specs.declared.kinds.Arith.{Arith}
 use Rattle.pd_kind.specs.declared.kinds.Arith.TheVariants as arith
 use Rattle.pd_kind.specs.declared.kinds.Glue.{Glue}
@@ -147,3 +149,8 @@ abbrev pub IsSmallKind : Kind → Type 0
 IsSmallKind (kind.Glue g) = IsSmallGlue g
 IsSmallKind (kind.Signal s) = IsSmallSignal s
 IsSmallKind _ = Unit {0}
+
+-- the kind that a text names, where it names one
+abbrev pub IsSmallNamed : Named → Type 0
+IsSmallNamed (named.Kind k) = IsSmallKind k
+IsSmallNamed _ = Unit {0}

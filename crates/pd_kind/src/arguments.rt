@@ -45,7 +45,8 @@ fn is_argument(atom: Atom) -> bool
 
 /// The atoms but commas and semicolons.
 pub(crate) fn arguments(alloc: Global, atoms: &[Atom]) -> Result<Vec<Atom>, AllocError>
-    ensures { IfOk result (λ list. list.items ≡ arguments_of atoms.now) }
+    ensures items { IfOk result (λ list. list.items ≡ arguments_of atoms.now) }
+    ensures few { IfOk result (λ list. length list.items ≤ length atoms.now) }
 {
     let mut list = Vec::new(alloc);
     for atom in atoms {

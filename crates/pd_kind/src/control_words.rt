@@ -1,6 +1,7 @@
 //! The words of control objects whose arguments need no list.
 
-ghost use Rattle.std.specs.Prelude.{◌≡◌};
+ghost use Rattle.std.specs.Prelude.{◌≡◌, IfSome};
+ghost use Rattle.pd_kind.specs.Ports.{IsSmallGlue};
 ghost use Rattle.pd_kind.specs.Naming.{operation_named, comparison_named, division_named, plain_named, timed_named, addressed_named};
 
 use crate::arguments::{hundred, is_word, name_at, number_at, one, or_symbol};
@@ -135,7 +136,8 @@ pub(crate) fn division_word(word: &[u8], arguments: &[Atom]) -> Option<Arith>
 
 /// The control objects whose arguments are numbers.
 pub(crate) fn plain_word(word: &[u8], arguments: &[Atom]) -> Option<Glue>
-    ensures { result ≡ plain_named word.now arguments.now }
+    ensures value { result ≡ plain_named word.now arguments.now }
+    ensures small { IfSome result IsSmallGlue }
 {
     if is_word(word, b"bang") {
         Some(Glue::Bang {
@@ -188,7 +190,8 @@ pub(crate) fn plain_word(word: &[u8], arguments: &[Atom]) -> Option<Glue>
 
 /// The ones of time, of chance and of the patch's ports.
 pub(crate) fn timed_word(word: &[u8], arguments: &[Atom]) -> Option<Glue>
-    ensures { result ≡ timed_named word.now arguments.now }
+    ensures value { result ≡ timed_named word.now arguments.now }
+    ensures small { IfSome result IsSmallGlue }
 {
     if is_word(word, b"until") {
         Some(Glue::Until)
@@ -225,7 +228,8 @@ pub(crate) fn timed_word(word: &[u8], arguments: &[Atom]) -> Option<Glue>
 
 /// The ones whose arguments are names.
 pub(crate) fn addressed_word(word: &[u8], arguments: &[Atom]) -> Option<Glue>
-    ensures { result ≡ addressed_named word.now arguments.now }
+    ensures value { result ≡ addressed_named word.now arguments.now }
+    ensures small { IfSome result IsSmallGlue }
 {
     if is_word(word, b"symbol") {
         Some(Glue::Symbol {

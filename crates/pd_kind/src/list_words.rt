@@ -1,8 +1,9 @@
 //! The words of objects that keep their arguments as a list.
 
-ghost use Rattle.std.specs.Prelude.{◌≡◌, length, map, IfOk};
+ghost use Rattle.std.specs.Prelude.{◌≡◌, ◌≤◌, length, map, IfOk, IfSome};
 ghost use Rattle.std.specs.List.{All};
 ghost use Rattle.pd_atom.specs.Atoms.{IsOf};
+ghost use Rattle.pd_kind.specs.Ports.{IsSmallGlue};
 ghost use Rattle.pd_kind.specs.Naming.{trigger_of as trigger_of_atom, trigger_letter, slot_of as slot_of_atom, channel_of as channel_of_atom, triggers_of as triggers_of_atoms, slots_of as slots_of_atoms, choices_of as choices_of_atoms, channels_of as channels_of_atoms, listed_named};
 
 use crate::arguments::{first_letter, is_word};
@@ -67,8 +68,10 @@ fn triggers_of(
     arguments: &[Atom],
     symbols: &Symbols,
 ) -> Result<Items<Trigger>, AllocError>
-    requires { All (IsOf symbols.now) arguments.now }
-    ensures { IfOk result (λ list. list ≡ triggers_of_atoms symbols.now arguments.now) }
+    requires atoms { All (IsOf symbols.now) arguments.now }
+    requires few { length arguments.now ≤ 1024 }
+    ensures value { IfOk result (λ list. list ≡ triggers_of_atoms symbols.now arguments.now) }
+    ensures small { IfOk result (λ list. length list ≤ 1024) }
 {
     if arguments.is_empty() {
         return Items::of(alloc, &[Trigger::Bang, Trigger::Bang]);
@@ -93,8 +96,10 @@ fn all_triggers(
 
 /// The slots of `pack` and `unpack`: `0 0` without arguments.
 fn slots_of(alloc: Global, arguments: &[Atom], symbols: &Symbols) -> Result<Items<Slot>, AllocError>
-    requires { All (IsOf symbols.now) arguments.now }
-    ensures { IfOk result (λ list. list ≡ slots_of_atoms symbols.now arguments.now) }
+    requires atoms { All (IsOf symbols.now) arguments.now }
+    requires few { length arguments.now ≤ 1024 }
+    ensures value { IfOk result (λ list. list ≡ slots_of_atoms symbols.now arguments.now) }
+    ensures small { IfOk result (λ list. length list ≤ 1024) }
 {
     if arguments.is_empty() {
         return Items::of(alloc, &[Slot::Number(zero()), Slot::Number(zero())]);
@@ -119,7 +124,9 @@ fn all_slots(
 
 /// The channels of `dac~`: `1 2` without arguments.
 pub(crate) fn channels_of(alloc: Global, arguments: &[Atom]) -> Result<Items<Channel>, AllocError>
-    ensures { IfOk result (λ list. list ≡ channels_of_atoms arguments.now) }
+    requires few { length arguments.now ≤ 1024 }
+    ensures value { IfOk result (λ list. list ≡ channels_of_atoms arguments.now) }
+    ensures small { IfOk result (λ list. length list ≤ 1024) }
 {
     if arguments.is_empty() {
         return Items::of(alloc, &[Channel::Left, Channel::Right]);
@@ -139,7 +146,9 @@ fn all_channels(alloc: Global, arguments: &[Atom]) -> Result<Items<Channel>, All
 
 /// The arguments of `route` and `select`: `0` without any.
 fn choices_of(alloc: Global, arguments: Vec<Atom>) -> Result<Items<Atom>, AllocError>
-    ensures { IfOk result (λ list. list ≡ choices_of_atoms arguments.items) }
+    requires few { length arguments.items ≤ 1024 }
+    ensures value { IfOk result (λ list. list ≡ choices_of_atoms arguments.items) }
+    ensures small { IfOk result (λ list. length list ≤ 1024) }
 {
     if arguments.is_empty() {
         return Items::of(alloc, &[Atom::Number(zero())]);
@@ -154,8 +163,10 @@ pub(crate) fn listed_word(
     arguments: Vec<Atom>,
     symbols: &Symbols,
 ) -> Result<Option<Glue>, AllocError>
-    requires { All (IsOf symbols.now) arguments.items }
-    ensures { IfOk result (λ glue. glue ≡ listed_named symbols.now word.now arguments.items) }
+    requires atoms { All (IsOf symbols.now) arguments.items }
+    requires few { length arguments.items ≤ 1024 }
+    ensures value { IfOk result (λ glue. glue ≡ listed_named symbols.now word.now arguments.items) }
+    ensures small { IfOk result (λ glue. IfSome glue IsSmallGlue) }
 {
     Ok(Some(if is_word(word, b"trigger") {
         Glue::Trigger {

@@ -1,9 +1,10 @@
 //! What an object's text names: one of the tables' rows with its arguments, or an abstraction.
 
-ghost use Rattle.std.specs.Prelude.{◌≡◌, ◌≤◌, ◌<◌, bytes_eq, length, map, IfOk};
+ghost use Rattle.std.specs.Prelude.{◌≡◌, ◌≤◌, ◌<◌, bytes_eq, length, map, IfOk, IfSome};
 ghost use Rattle.std.specs.List.{All};
 ghost use Rattle.pd_atom.specs.Names.{name_of};
 ghost use Rattle.pd_atom.specs.Atoms.{IsOf};
+ghost use Rattle.pd_kind.specs.Ports.{IsSmallNamed, IsSmallKind, IsSmallGlue, IsSmallSignal};
 ghost use Rattle.pd_kind.specs.Naming.{arguments_of, arith_named, glue_named, signal_named, simple_kind as simple_kind_of, control_kind as control_kind_of, sounding_kind as sounding_kind_of, listed_kind as listed_kind_of, word_kind as kind_of_word, list_of, list_of_word as list_object, list_named, object_named, named_by, begins_foreign as begins_foreign_word, is_foreign_word as is_foreign};
 
 use crate::arguments::{arguments, is_whole_text, is_word, number_at};
@@ -21,11 +22,12 @@ use std::alloc::{AllocError, Global};
 /// What an expanded text names.
 ///
 /// Commas and semicolons are left out of the arguments. A number that is absent or no number takes its default; a name
-/// that is absent or no symbol is no name.
+/// that is absent or no symbol is no name. No list of the kind has more items than such a text.
 pub fn kind_of(alloc: Global, text: &[Atom], symbols: &Symbols) -> Result<Named, AllocError>
     requires atoms { All (IsOf symbols.now) text.now }
     requires few { length text.now ≤ 1024 }
-    ensures { IfOk result (λ named. named ≡ named_by symbols.now text.now) }
+    ensures value { IfOk result (λ named. named ≡ named_by symbols.now text.now) }
+    ensures small { IfOk result IsSmallNamed }
 {
     match text {
         [Atom::Symbol(name), rest @ ..] => object(alloc, *name, rest, symbols),
@@ -37,7 +39,9 @@ pub fn kind_of(alloc: Global, text: &[Atom], symbols: &Symbols) -> Result<Named,
 fn object(alloc: Global, name: Sym, atoms: &[Atom], symbols: &Symbols) -> Result<Named, AllocError>
     requires name { name < length symbols.now }
     requires atoms { All (IsOf symbols.now) atoms.now }
-    ensures { IfOk result (λ named. named ≡ object_named symbols.now name atoms.now) }
+    requires few { length atoms.now ≤ 1024 }
+    ensures value { IfOk result (λ named. named ≡ object_named symbols.now name atoms.now) }
+    ensures small { IfOk result IsSmallNamed }
 {
     let word = symbols.name(name);
     if is_word(word, b"list") {
@@ -56,8 +60,10 @@ fn word_kind(
     atoms: &[Atom],
     symbols: &Symbols,
 ) -> Result<Option<Kind>, AllocError>
-    requires { All (IsOf symbols.now) atoms.now }
-    ensures { IfOk result (λ kind. kind ≡ kind_of_word symbols.now word.now atoms.now) }
+    requires atoms { All (IsOf symbols.now) atoms.now }
+    requires few { length atoms.now ≤ 1024 }
+    ensures value { IfOk result (λ kind. kind ≡ kind_of_word symbols.now word.now atoms.now) }
+    ensures small { IfOk result (λ kind. IfSome kind IsSmallKind) }
 {
     let arguments = arguments(alloc, atoms)?;
     match simple_kind(word, arguments.as_slice()) {
@@ -69,7 +75,8 @@ fn word_kind(
 /// The kind of a word whose arguments need no list.
 #[tactic(auto, unfolding(crate::specs::Naming::simple_kind))]
 fn simple_kind(word: &[u8], arguments: &[Atom]) -> Option<Kind>
-    ensures { result ≡ simple_kind_of word.now arguments.now }
+    ensures value { result ≡ simple_kind_of word.now arguments.now }
+    ensures small { IfSome result IsSmallKind }
 {
     match arith(word, arguments) {
         Some(arith) => Some(Kind::Arith(arith)),
@@ -90,7 +97,8 @@ fn arith(word: &[u8], arguments: &[Atom]) -> Option<Arith>
 }
 
 fn control_kind(word: &[u8], arguments: &[Atom]) -> Option<Kind>
-    ensures { result ≡ control_kind_of word.now arguments.now }
+    ensures value { result ≡ control_kind_of word.now arguments.now }
+    ensures small { IfSome result IsSmallKind }
 {
     match glue(word, arguments) {
         Some(glue) => Some(Kind::Glue(glue)),
@@ -99,7 +107,8 @@ fn control_kind(word: &[u8], arguments: &[Atom]) -> Option<Kind>
 }
 
 fn glue(word: &[u8], arguments: &[Atom]) -> Option<Glue>
-    ensures { result ≡ glue_named word.now arguments.now }
+    ensures value { result ≡ glue_named word.now arguments.now }
+    ensures small { IfSome result IsSmallGlue }
 {
     match plain_word(word, arguments) {
         Some(glue) => Some(glue),
@@ -111,7 +120,8 @@ fn glue(word: &[u8], arguments: &[Atom]) -> Option<Glue>
 }
 
 fn sounding_kind(word: &[u8], arguments: &[Atom]) -> Option<Kind>
-    ensures { result ≡ sounding_kind_of word.now arguments.now }
+    ensures value { result ≡ sounding_kind_of word.now arguments.now }
+    ensures small { IfSome result IsSmallKind }
 {
     match tone_word(word, arguments) {
         Some(tone) => Some(Kind::Tone(tone)),
@@ -123,7 +133,8 @@ fn sounding_kind(word: &[u8], arguments: &[Atom]) -> Option<Kind>
 }
 
 fn signal(word: &[u8], arguments: &[Atom]) -> Option<Signal>
-    ensures { result ≡ signal_named word.now arguments.now }
+    ensures value { result ≡ signal_named word.now arguments.now }
+    ensures small { IfSome result IsSmallSignal }
 {
     match mixed_word(word, arguments) {
         Some(signal) => Some(signal),
@@ -143,8 +154,10 @@ fn listed_kind(
     is_whole: bool,
     symbols: &Symbols,
 ) -> Result<Option<Kind>, AllocError>
-    requires { All (IsOf symbols.now) arguments.items }
-    ensures { IfOk result (λ kind. kind ≡ listed_kind_of symbols.now word.now arguments.items is_whole) }
+    requires atoms { All (IsOf symbols.now) arguments.items }
+    requires few { length arguments.items ≤ 1024 }
+    ensures value { IfOk result (λ kind. kind ≡ listed_kind_of symbols.now word.now arguments.items is_whole) }
+    ensures small { IfOk result (λ kind. IfSome kind IsSmallKind) }
 {
     if let Some(panel) = panel_word(word, arguments.as_slice(), is_whole, symbols) {
         return Ok(Some(Kind::Panel(panel)));
@@ -164,8 +177,10 @@ fn listed_kind(
 
 /// What a text names that begins with `list`.
 fn list(alloc: Global, name: Sym, atoms: &[Atom], symbols: &Symbols) -> Result<Named, AllocError>
-    requires { All (IsOf symbols.now) atoms.now }
-    ensures { IfOk result (λ named. named ≡ list_named symbols.now name atoms.now) }
+    requires atoms { All (IsOf symbols.now) atoms.now }
+    requires few { length atoms.now ≤ 1024 }
+    ensures value { IfOk result (λ named. named ≡ list_named symbols.now name atoms.now) }
+    ensures small { IfOk result IsSmallNamed }
 {
     if begins_foreign(atoms, symbols) {
         return Ok(Named::Abstraction(name));
@@ -194,8 +209,10 @@ fn is_foreign_word(word: &[u8]) -> bool
 
 /// The object of the list's second word and of the atoms behind it.
 fn list_glue(alloc: Global, arguments: &[Atom], symbols: &Symbols) -> Result<Glue, AllocError>
-    requires { All (IsOf symbols.now) arguments.now }
-    ensures { IfOk result (λ glue. glue ≡ list_of symbols.now arguments.now) }
+    requires atoms { All (IsOf symbols.now) arguments.now }
+    requires few { length arguments.now ≤ 1024 }
+    ensures value { IfOk result (λ glue. glue ≡ list_of symbols.now arguments.now) }
+    ensures small { IfOk result IsSmallGlue }
 {
     match arguments {
         [Atom::Symbol(second), rest @ ..] => {
@@ -209,7 +226,10 @@ fn list_glue(alloc: Global, arguments: &[Atom], symbols: &Symbols) -> Result<Glu
 }
 
 fn list_of_word(alloc: Global, word: &[u8], rest: &[Atom], all: &[Atom]) -> Result<Glue, AllocError>
-    ensures { IfOk result (λ glue. glue ≡ list_object word.now rest.now all.now) }
+    requires rest { length rest.now ≤ 1024 }
+    requires all { length all.now ≤ 1024 }
+    ensures value { IfOk result (λ glue. glue ≡ list_object word.now rest.now all.now) }
+    ensures small { IfOk result IsSmallGlue }
 {
     if is_word(word, b"append") {
         Ok(Glue::ListAppend {

@@ -1,6 +1,7 @@
 //! The words of signal objects whose arguments need no list.
 
-ghost use Rattle.std.specs.Prelude.{◌≡◌};
+ghost use Rattle.std.specs.Prelude.{◌≡◌, IfSome};
+ghost use Rattle.pd_kind.specs.Ports.{IsSmallSignal};
 ghost use Rattle.pd_kind.specs.Naming.{tone_named, mixed_named, shaped_named, shared_named};
 
 use crate::arguments::{first_number, is_word, name_at, number_at};
@@ -29,7 +30,8 @@ pub(crate) fn tone_word(word: &[u8], arguments: &[Atom]) -> Option<Tone>
 
 /// The signal objects that compute with one or two values.
 pub(crate) fn mixed_word(word: &[u8], arguments: &[Atom]) -> Option<Signal>
-    ensures { result ≡ mixed_named word.now arguments.now }
+    ensures value { result ≡ mixed_named word.now arguments.now }
+    ensures small { IfSome result IsSmallSignal }
 {
     if is_word(word, b"+~") {
         Some(Signal::Operation {
@@ -76,7 +78,8 @@ pub(crate) fn mixed_word(word: &[u8], arguments: &[Atom]) -> Option<Signal>
 
 /// The ones that shape a signal.
 pub(crate) fn shaped_word(word: &[u8], arguments: &[Atom]) -> Option<Signal>
-    ensures { result ≡ shaped_named word.now arguments.now }
+    ensures value { result ≡ shaped_named word.now arguments.now }
+    ensures small { IfSome result IsSmallSignal }
 {
     if is_word(word, b"sig~") {
         Some(Signal::Sig {
@@ -112,7 +115,8 @@ pub(crate) fn shaped_word(word: &[u8], arguments: &[Atom]) -> Option<Signal>
 
 /// The ones that find one another by name.
 pub(crate) fn shared_word(word: &[u8], arguments: &[Atom]) -> Option<Signal>
-    ensures { result ≡ shared_named word.now arguments.now }
+    ensures value { result ≡ shared_named word.now arguments.now }
+    ensures small { IfSome result IsSmallSignal }
 {
     if is_word(word, b"delwrite~") {
         Some(Signal::Delwrite {
