@@ -4,6 +4,7 @@ pub mod Rows
 pub mod Said
 pub mod RowNames
 pub mod States
+pub mod Books
 pub mod Naming
 pub mod Tables
 pub mod Lends

@@ -1,6 +1,6 @@
 //! Lists that grow, and lists with room that is taken once.
 
-ghost use Rattle.std.specs.Prelude.{◌≡◌, ◌+◌, ◌≤◌, ◌<◌, ◌++◌, ◌∷◌, [], length, take, slice_set, vec_len, vec_capacity, pos, replicate, IfOk};
+ghost use Rattle.std.specs.Prelude.{◌≡◌, ◌+◌, ◌≤◌, ◌<◌, ◌++◌, ◌∷◌, [], length, take, drop, slice_set, vec_len, vec_capacity, pos, replicate, IfOk};
 
 use pd_num::{Num, Sig};
 use std::alloc::{AllocError, Global};
@@ -127,6 +127,27 @@ impl<T: Drop, const ROOM: usize> Bounded<T, ROOM> {
         ensures { self.new ≡ [] }
     {
         self.items.clear();
+    }
+
+    /// Keeps the first `count` items.
+    pub fn truncate(&mut self, count: usize)
+        ensures { self.new ≡ take count self.old }
+    {
+        self.items.truncate(count);
+    }
+}
+
+impl<T: Copy + Drop, const ROOM: usize> Bounded<T, ROOM> {
+    /// Takes the first `count` items away.
+    pub fn drop_front(&mut self, count: usize)
+        requires { count ≤ length self.old }
+        ensures { self.new ≡ drop count self.old }
+    {
+        if 0 < count {
+            let left = self.items.len() - count;
+            self.items.rotate_left(count);
+            self.items.truncate(left);
+        }
     }
 }
 

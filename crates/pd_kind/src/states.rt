@@ -1,6 +1,6 @@
 //! What a box keeps: a variant for each row that keeps something.
 
-ghost use Rattle.std.specs.Prelude.{◌≡◌, IfOk};
+ghost use Rattle.std.specs.Prelude.{◌≡◌, ◌<◌, ◌≤◌, length, IfOk, IfSome};
 
 use crate::kinds::Values;
 use crate::lists::{Bounded, Items};
@@ -242,6 +242,8 @@ pub struct Ramps {
 }
 
 /// The ramps of a `vline~`, in a block of their own. Contracts see the ramps.
+///
+/// The stored times are within a day, and no ramp is longer than a day of milliseconds.
 #[derive(Debug, Drop)]
 pub struct RampBook {
     inside: Box<Ramps>,
@@ -249,14 +251,20 @@ pub struct RampBook {
 
 impl Model for RampBook {
     ghost use Rattle.pd_kind.specs.declared.states.Ramps.{Ramps};
+    ghost use Rattle.pd_kind.specs.Books.{IsBook};
 
     ghost Value = { Ramps };
 
     ghost view = { λ book. book.inside.value };
+
+    ghost invariant = { λ book. IsBook book.inside.value };
 }
 
 impl RampBook {
+    ghost use Rattle.pd_kind.specs.Books.{IsBook, IsShort, IsTime, are_stored, is_added, are_left};
+
     pub fn new(alloc: Global, ramps: Ramps) -> Result<RampBook, AllocError>
+        requires { IsBook ramps }
         ensures { IfOk result (λ book. book ≡ ramps) }
     {
         let inside = Box::new(alloc, ramps)?;
@@ -264,8 +272,43 @@ impl RampBook {
     }
 
     pub fn ramps(&self) -> &Ramps
-        ensures { result.now ≡ self.now }
+        ensures ramps { result.now ≡ self.now }
+        ensures book { IsBook self.now }
     {
         self.inside.as_ref()
+    }
+
+    /// Stores a ramp time and a delay.
+    pub fn store(&mut self, time: Num, delay: Num)
+        requires time { IsTime time }
+        requires delay { IsTime delay }
+        ensures { self.new ≡ are_stored self.old time delay }
+    {
+        let ramps = self.inside.as_mut();
+        ramps.time = time;
+        ramps.delay = delay;
+    }
+
+    /// Puts a ramp behind the first `kept` ramps; the others go.
+    pub fn add(&mut self, kept: usize, ramp: Ramp)
+        requires room { kept < 256 }
+        requires short { IsShort ramp }
+        ensures { self.new ≡ is_added self.old kept ramp }
+    {
+        let ramps = self.inside.as_mut();
+        ramps.ramps.truncate(kept);
+        ramps.ramps.push(ramp);
+    }
+
+    /// Leaves a base and the end of a block, and takes the first `count` ramps away.
+    pub fn leave(&mut self, base: Option<(Ramp, Sig)>, count: usize, end: Time)
+        requires base { IfSome base (λ b. IsShort b.0) }
+        requires count { count ≤ length self.old.ramps }
+        ensures { self.new ≡ are_left self.old base count end }
+    {
+        let ramps = self.inside.as_mut();
+        ramps.base = base;
+        ramps.end = end;
+        ramps.ramps.drop_front(count);
     }
 }
