@@ -5,11 +5,11 @@ use Rattle.pd_order.specs.declared.spots.Spot.{Spot}
 use Rattle.pd_order.proofs.Basics.{by_test, zero_or, all_listed, same_test, same_node, other_node, other_test, tally_at, tally-take_le, missing_le, missing_more, missing_one, missing_one_not, missing-append, ltb', ltb-true', ltb-false'}
 use Rattle.pd_order.proofs.RunLemmas.{in_front, front_at, not_in_front}
 use Rattle.pd_order.proofs.OrderLemmas.{AreAlike, alike_back, front_chain, next_at, ready_alike, front_le, next_once, chain_once}
-use Rattle.pd_order.proofs.MendLemmas.{by_rank_alike, met_order, same_met, front_places}
+use Rattle.pd_order.proofs.MendLemmas.{by_rank_alike, met_order, same_met, front_places, listed_short, listed_at}
 use Rattle.pd_order.specs.Graph.{Graph, tally, missing, add_wire, IsLawful, IsReady, IsNext, AreNext, IsOrder}
-use Rattle.pd_order.specs.Spots.{nodes_of, place_in}
+use Rattle.pd_order.specs.Spots.{nodes_of, place_in, nowhere}
 use Rattle.pd_order.specs.Listing.{IsListed}
-use Rattle.pd_order.specs.Work.{IsOld, IsBeside, IsMet, IsStart, IsSeated, IsHigherBetween, ArePlaced}
+use Rattle.pd_order.specs.Work.{IsOld, IsBeside, IsMet, IsStart, IsSeated, IsFedAfter, IsHigherBetween, ArePlaced}
 
 pub add_alike : (g : Graph) (s v : ℕ) → AreAlike (add_wire g s v) g v
 add_alike g s v = record { ranks = refl; others = λ y n. let t : (y == v) ≡ false = other_test y v n in rw t refl }
@@ -174,7 +174,36 @@ unfed T fs i u l e z =
     let o : missing T (u ∷ []) ≡ 1 = missing_one_not T u (λ k. absurd (omega arith)) in
     let s : missing T fs ≡ missing T (take (i + 1) fs) + missing T (drop (i + 1) fs) = ap (missing T) (sym (take-append-drop (i + 1) fs)) ∙ missing-append T (take (i + 1) fs) (drop (i + 1) fs) in omega arith
 
-pub start_is : (g : Graph) (C : List ℕ) (v after from : ℕ) → (after ≤ length C) × (missing (take after C) (g.feeders v) ≡ 0) × ((j : ℕ) → j < after → 0 < missing (take j C) (g.feeders v)) →
+-- all that feeds a node stands before `at`, and from `k` on nothing that does
+pub fed_at : (g : Graph) (C : List ℕ) (at v k i : ℕ) → ((x : ℕ) → tally x C ≤ 1) → at ≤ length C → k ≤ at → missing (take at C) (g.feeders v) ≡ 0 → ((j : ℕ) → k ≤ j → j < at → tally (get_or C j 0) (g.feeders v) ≡ 0) →
+    i + 1 ≡ k → 0 < tally (get_or C i 0) (g.feeders v) → IsFedAfter g C v k
+fed_at g C at v k i once la lk fed none e feeds = (
+  omega arith,
+  (let m : missing (take k C) (g.feeders v) ≤ missing (take at C) (g.feeders v) = missing_le (take at C) (take k C) (g.feeders v)
+      (λ u f h. let w : (j : ℕ) × (j < at) × (j < length C) × (get_or C j 0 ≡ u) = front_at u C at h in
+      let w1 : w.0 < at = w.1 in
+      let w2 : w.0 < length C = w.2 in
+      by_test (ltb' w.0 k)
+      (λ t. subst (λ (x : ℕ). 0 < tally x (take k C)) w.3 (in_front C k w.0 (ltb-true' w.0 k t) w2))
+      (λ t. let z : tally (get_or C w.0 0) (g.feeders v) ≡ 0 = none w.0 (ltb-false' w.0 k t) w1 in
+      let z' : tally u (g.feeders v) ≡ 0 = subst (λ (x : ℕ). tally x (g.feeders v) ≡ 0) w.3 z in absurd (omega arith))) in omega arith),
+  λ j h. by_test (missing (take j C) (g.feeders v) == 0)
+      (λ t. let z : missing (take j C) (g.feeders v) ≡ 0 = same_node (missing (take j C) (g.feeders v)) 0 t in
+      let l : 0 < tally (get_or C i 0) (take j C) = all_listed (get_or C i 0) (take j C) (g.feeders v) z feeds in
+      let n : tally (get_or C i 0) (take j C) ≡ 0 = not_in_front C j i once (omega arith) (omega arith) in absurd (omega arith))
+      (λ t. let n : missing (take j C) (g.feeders v) ≡ 0 → ⊥ = other_node (missing (take j C) (g.feeders v)) 0 t in omega arith),
+)
+
+-- where the sink stands in the chain, all that feeds it is before it
+pub fed_there : (g : Graph) (s v : ℕ) (C stuck : List ℕ) (spots : List Spot) → IsListed C stuck spots → IsOrder (add_wire g s v) (nodes_of spots) C stuck → 0 < tally v (nodes_of spots) → place_in spots v < length C → missing (take (place_in spots v) C) (g.feeders v) ≡ 0
+fed_there g s v C stuck spots k o n l =
+    let f : length C < nowhere = listed_short C stuck spots k in
+    let inn : 0 < tally v C = listed_at C stuck spots v k n (λ e. absurd (omega arith)) in
+    let e : get_or C (place_in spots v) 0 ≡ v = (k.seated.placed v inn).1 in
+    let r : IsReady g (nodes_of spots) (take (place_in spots v) C) (get_or C (place_in spots v) 0) = ready_without g s v (nodes_of spots) (take (place_in spots v) C) (get_or C (place_in spots v) 0) ((next_at (add_wire g s v) (nodes_of spots) C (place_in spots v) o.listed l).ready) in
+    subst (λ (w : ℕ). missing (take (place_in spots v) C) (g.feeders w) ≡ 0) e r.fed
+
+pub start_is : (g : Graph) (C : List ℕ) (v after from : ℕ) → IsFedAfter g C v after →
     ((k : ℕ) → k < after → get_or C k 0 ≡ v → ⊥) → after ≤ from → from ≤ length C →
     ((k : ℕ) → after ≤ k → k < from → (get_or C k 0 ≡ v → ⊥) × (g.rank (get_or C k 0) < g.rank v)) → (from < length C → (get_or C from 0 ≡ v) ⊎ (g.rank v ≤ g.rank (get_or C from 0))) → IsStart g C v from
 start_is g C v after from a nv l h b e = record {

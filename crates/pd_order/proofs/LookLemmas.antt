@@ -37,22 +37,22 @@ chain_within g0 g ns new old a ended back (suc i) l x h =
 pub within_all : (g0 g : Graph) (ns new old : List ℕ) → AreNext g ns [] new → ((x : ℕ) → IsReady g0 ns old x → ⊥) → ((T : List ℕ) (y : ℕ) → IsReady g ns T y → IsReady g0 ns T y) → (x : ℕ) → 0 < tally x new → 0 < tally x old
 within_all g0 g ns new old a ended back x h = chain_within g0 g ns new old a ended back (length new) (omega arith) x (subst (λ (l : List ℕ). 0 < tally x l) (sym (take_all (length new) new (omega arith))) h)
 
-pub add_looks : (g : Graph) (s v : ℕ) (ns old new stuck stuck' : List ℕ) (from steps after a b : ℕ) (was mark0 : ℕ → ℕ) → IsOrder (cut_wire g s v) ns old stuck → IsOrder g ns new stuck' → IsOld g ns old from was mark0 →
-    ((x : ℕ) → mark0 x ≡ 0) → 0 < tally s (g.feeders v) → from < length old → get_or old from 0 ≡ v → tally s (take from old) ≡ 0 → IsReached g ns old new from was mark0 0 steps after → IsWindow old new a b →
+pub add_looks : (g : Graph) (s v : ℕ) (ns old new stuck stuck' : List ℕ) (from before steps after a b : ℕ) (was mark0 : ℕ → ℕ) → IsOrder (cut_wire g s v) ns old stuck → IsOrder g ns new stuck' → IsOld g ns old from was mark0 →
+    ((x : ℕ) → 0 < mark0 x → v ≡ x) → from < length old → get_or old from 0 ≡ v → 0 < missing (take from old) (g.feeders v) → IsReached g ns old new from was mark0 before steps after → IsWindow old new a b →
     after ≤ steps + 4 * ((b - a) + window_ends g ns old new a b) + 4 * ends g v + 8
-add_looks g s v ns old new stuck stuck' from steps after a b was mark0 o n od unmarked wire l e un k win =
+add_looks g s v ns old new stuck stuck' from before steps after a b was mark0 o n od only l e held k win =
     let parted : Agree old new from → ⊥ = λ h. by_test (ltb' from (length new))
     (λ t. let ln : from < length new = ltb-true' from (length new) t in
     let q : get_or new from 0 ≡ v = sym (agree_places old new from h l ln) ∙ e in
     let x : IsNext g ns (take from new) (get_or new from 0) = next_at g ns new from n.listed ln in
     let f : missing (take from new) (g.feeders (get_or new from 0)) ≡ 0 = x.ready.fed in
     let f' : missing (take from old) (g.feeders v) ≡ 0 = subst (λ (w : ℕ). missing (take from old) (g.feeders w) ≡ 0) q (subst (λ (T : List ℕ). missing T (g.feeders (get_or new from 0)) ≡ 0) k.front f) in
-    let i : 0 < tally s (take from old) = all_listed s (take from old) (g.feeders v) f' wire in absurd (omega arith))
+    absurd (omega arith))
     (λ t. shorter_differs old new from l (ltb-false' from (length new) t) h) in
-    let wd = wide_is g ns old new from 0 steps after was mark0 k od.old_places od.old_at (omega arith) (chain_once g ns new n.listed) (λ x h. chain_inside g ns new x n.listed h)
+    let wd = wide_is g ns old new from before steps after was mark0 k od.old_places od.old_at (omega arith) (chain_once g ns new n.listed) (λ x h. chain_inside g ns new x n.listed h)
     (λ _ x h. within_all (cut_wire g s v) g ns new old n.listed o.ended (λ T y r. ready_less g s v ns T y r) x h) parted in
-    let bd : after + 0 ≤ steps + 2 * (b - a) + 2 * window_ends g ns old new a b + 2 * length (g.feeders v) + 1 =
-    bounded g ns old new from k.listed k.passed v 0 steps after a b mark0 k.looked wd (λ x h. absurd (let z : mark0 x ≡ 0 = unmarked x in omega arith)) parted win in
+    let bd : after + before ≤ steps + 2 * (b - a) + 2 * window_ends g ns old new a b + 2 * length (g.feeders v) + 1 =
+    bounded g ns old new from k.listed k.passed v before steps after a b mark0 k.looked wd only parted win in
     omega arith
 
 pub cut_looks : (g : Graph) (s v : ℕ) (ns old new stuck stuck' : List ℕ) (from before steps after a b : ℕ) (was mark0 : ℕ → ℕ) → IsLawful g ns → IsOrder (add_wire g s v) ns old stuck → IsOrder g ns new stuck' → IsOld g ns old from was mark0 →
@@ -115,7 +115,7 @@ near_ends g s v ws (x ∷ ns) = kept_le (ends g) (ends (add_wire g s v)) (is_nea
     (near_more g s v ws x) (add_ends g s v x) (near_ends g s v ws ns)
 
 -- the looks of a cut mend, counted in the graph with the wire
-pub cut_total : (g : Graph) (s v : ℕ) (ns old new : List ℕ) (a b start steps after : ℕ) → steps ≤ start + (length (g.feeders v) + 1) →
+pub cut_total : (g : Graph) (s v : ℕ) (ns old new : List ℕ) (a b start steps after : ℕ) → steps ≤ start + 2 * length (g.feeders v) + 3 →
     after ≤ steps + 2 * (b - a) + 2 * window_ends g ns old new a b + 2 * length (g.feeders v) + 1 →
     after ≤ start + 4 * ((b - a) + window_ends (add_wire g s v) ns old new a b) + 4 * ends (add_wire g s v) v + 8
 cut_total g s v ns old new a b start steps after h k =

@@ -3,13 +3,15 @@ use Rattle.std.proofs.Common.{◌≡◌, ℕ, ◌+◌, ◌*◌, ◌<◌, ◌≤�
 use Rattle.std.proofs.lemmas.List.{length-take-le, take-append-drop, get_or-take, take-take, take_all, take_more, length-drop}
 use Rattle.std.specs.Prelude.{Option, Some, None, IfNone, IfSome}
 use Rattle.pd_order.specs.declared.spots.Spot.{Spot}
-use Rattle.pd_order.proofs.Basics.{not_lt, by_test, zero_or, same_node, same_test, other_node, other_test, tally-append, tally_at, length_le, total_le, tally-take_le, missing_one, ltb', ltb-true', ltb-false'}
+use Rattle.pd_order.proofs.Basics.{not_lt, in_rest, by_test, zero_or, same_node, same_test, other_node, other_test, tally-append, tally_at, length_le, total_le, tally-take_le, missing_one, ltb', ltb-true', ltb-false'}
 use Rattle.pd_order.proofs.SpotLemmas.{length-nodes, nodes_once}
+use Rattle.pd_order.proofs.WorkLemmas.{put_at, put_other, known_more}
 use Rattle.pd_order.proofs.RunLemmas.{one_place, AreNext-push, in_front, not_in_front}
 use Rattle.pd_order.proofs.TurnLemmas.{rest_at}
 use Rattle.pd_order.proofs.OrderLemmas.{AreNext_nodes, ready_nodes, AreAlike, AreNext_split, AreNext_join, AreNext_alike, ended_alike, front_chain, next_at, chain_once, chain_inside, chain_closed, waits_old, ready_alike}
 use Rattle.pd_order.specs.Graph.{Graph, tally, total, ends, missing, take_out, cut_wire, AreByRank, IsLeast, IsLawful, IsReady, IsNext, AreNext, IsOrder}
-use Rattle.pd_order.specs.Spots.{nowhere, nodes_of, place_in, mark_in, AreByNode}
+use Rattle.pd_order.specs.Heap.{IsHeap}
+use Rattle.pd_order.specs.Spots.{nowhere, nodes_of, place_in, mark_in, put, AreByNode}
 use Rattle.pd_order.specs.Work.{IsAtWork, IsRunning, IsOld, IsSeated, IsBeside, IsEnded, IsMet, looks_on, looks_back}
 use Rattle.pd_order.specs.Listing.{IsListed}
 
@@ -160,6 +162,23 @@ no_work g nodes T mark z = record {
   inside = λ x l. absurd (let e : mark x ≡ 0 = z x in omega arith);
   is_heap = record { up = λ i a b. absurd (omega arith) };
 }
+
+-- one node is known alone, and held back by so many wires
+pub held_work : (g : Graph) (nodes T : List ℕ) (v held : ℕ) (mk mk' : ℕ → ℕ) (heap heap' spare spare' : List ℕ) → ((x : ℕ) → mk x ≡ 0) → heap ≡ [] → spare ≡ [] → 0 < tally v nodes → tally v T ≡ 0 → missing T (g.feeders v) ≡ held →
+    ((x : ℕ) → mk' x ≡ put mk v (held + 1) x) → ((x : ℕ) → tally x heap' ≡ tally x (cond (held == 0) (v ∷ heap) heap)) → spare' ≡ spare ++ v ∷ [] → IsHeap g.rank heap' → IsAtWork g nodes T T [] mk' heap' spare'
+held_work g nodes T v held mk mk' heap heap' spare spare' z eh es inn un e marks more sp hh =
+    let w : IsAtWork g nodes T T [] mk heap spare = rw (eh, es) (no_work g nodes T mk z) in
+    known_more g nodes T T [] mk mk' heap heap' spare spare' v w (z v) inn un
+    (subst (λ (n : ℕ). (x : ℕ) → mk' x ≡ put mk v (n + 1) x) (sym e) marks)
+    (subst (λ (n : ℕ). (x : ℕ) → tally x heap' ≡ tally x (cond (n == 0) (v ∷ heap) heap)) (sym e) more) sp hh
+
+pub held_known : (v held : ℕ) (mk mk' : ℕ → ℕ) → ((x : ℕ) → mk' x ≡ put mk v (held + 1) x) → 0 < mk' v
+held_known v held mk mk' marks = let e : mk' v ≡ held + 1 = marks v ∙ put_at mk v (held + 1) in omega arith
+
+pub held_alone : (v held : ℕ) (mk mk' : ℕ → ℕ) → ((x : ℕ) → mk x ≡ 0) → ((x : ℕ) → mk' x ≡ put mk v (held + 1) x) → (x : ℕ) → 0 < mk' x → v ≡ x
+held_alone v held mk mk' z marks x h = by_test (v == x)
+    (λ t. same_node v x t)
+    (λ t. let e : mk' x ≡ mk x = marks x ∙ put_other mk v (held + 1) x (other_node v x t) in let n : mk x ≡ 0 = z x in absurd (omega arith))
 
 -- the listed sets met, with the fed node among them: the chains go on alike
 pub met_order : (g0 g : Graph) (v : ℕ) (chain chain' stuck : List ℕ) (spots : List Spot) (from k : ℕ) (place : ℕ → ℕ) → AreAlike g0 g v → IsListed chain stuck spots → IsOrder g0 (nodes_of spots) chain stuck →
@@ -332,6 +351,23 @@ same_met g nodes C p v place a n l e pl = record {
   front_placed = pl;
   rest_placed = λ x _. refl;
 }
+
+-- a wire from a node that isn't listed
+missing_wire : (T us : List ℕ) (s : ℕ) → 0 < tally s us → tally s T ≡ 0 → missing T us ≡ missing T (take_out s us) + 1
+missing_wire T [] s h z = absurd (omega arith)
+missing_wire T (u ∷ us) s h z = by_test (u == s)
+    (λ t. let zu : tally u T ≡ 0 = subst (λ (w : ℕ). tally w T ≡ 0) (sym (same_node u s t)) z in rw (t, zu) (omega arith))
+    (λ t. let k : missing T us ≡ missing T (take_out s us) + 1 = missing_wire T us s (in_rest s u us t h) z in rw t (omega arith))
+
+-- before the added wire nothing held the fed node back at its place
+pub added_held : (g : Graph) (s v : ℕ) (C stuck : List ℕ) (spots : List Spot) (p : ℕ) → IsListed C stuck spots → IsOrder (cut_wire g s v) (nodes_of spots) C stuck → p < length C → get_or C p 0 ≡ v → 0 < tally s (g.feeders v) → p ≤ place_in spots s →
+    missing (take p C) (g.feeders v) ≡ 1
+added_held g s v C stuck spots p k o l e wire h =
+    let once : (x : ℕ) → tally x C ≤ 1 = chain_once (cut_wire g s v) (nodes_of spots) C o.listed in
+    let un : tally s (take p C) ≡ 0 = zero_or (tally s (take p C)) (λ i. let q : place_in spots s < p = (front_places C stuck spots p k once (omega arith) s i).0 in absurd (omega arith)) in
+    let n : IsNext (cut_wire g s v) (nodes_of spots) (take p C) v = subst (λ (w : ℕ). IsNext (cut_wire g s v) (nodes_of spots) (take p C) w) e (next_at (cut_wire g s v) (nodes_of spots) C p o.listed l) in
+    let f : missing (take p C) (take_out s (g.feeders v)) ≡ 0 = (let q : missing (take p C) (cond (v == v) (take_out s (g.feeders v)) (g.feeders v)) ≡ 0 = n.ready.fed in rw (same_test v) at q) in
+    let w : missing (take p C) (g.feeders v) ≡ missing (take p C) (take_out s (g.feeders v)) + 1 = missing_wire (take p C) (g.feeders v) s wire un in omega arith
 
 missing_with : (T us : List ℕ) (s : ℕ) → 0 < tally s T → missing T (take_out s us) ≡ 0 → missing T us ≡ 0
 missing_with T [] s h m = refl

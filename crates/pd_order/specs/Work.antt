@@ -105,6 +105,10 @@ pub record IsStart (g : Graph) (old : List ℕ) (v from : ℕ) : Type 0 where
   pub before : (k : ℕ) → k < from → (slice_index old k ≡ v → ⊥) × ((0 < missing (take k old) (g.feeders v)) ⊎ (g.rank (slice_index old k) ≤ g.rank v))
   pub behind : from < length old → (slice_index old from ≡ v) ⊎ (g.rank v ≤ g.rank (slice_index old from))
 
+-- after k places of the chain, and no sooner, all that feeds v is listed
+abbrev pub IsFedAfter : Graph → List ℕ → ℕ → ℕ → Type 0
+IsFedAfter g chain v k = (k ≤ length chain) × (missing (take k chain) (g.feeders v) ≡ 0) × ((j : ℕ) → j < k → 0 < missing (take j chain) (g.feeders v))
+
 -- a node of higher rank than v stands at a place from `from` to before `to`
 abbrev pub IsHigherBetween : Graph → List ℕ → ℕ → ℕ → ℕ → Type 0
 IsHigherBetween g chain from to v = (i : ℕ) × (from ≤ i) × (i < to) × (g.rank v < g.rank (slice_index chain i))

@@ -2,6 +2,7 @@
 #![tactic(auto)]
 
 mod alone;
+mod feeders;
 mod fold;
 mod heap;
 mod laws;

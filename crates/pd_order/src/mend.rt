@@ -6,9 +6,10 @@ ghost use Rattle.pd_order.specs.Window.{IsWindow, window_ends};
 ghost use Rattle.pd_order.specs.Work.{IsSeated, IsStart, IsHigherBetween, looks_back, looks_on};
 ghost use Rattle.pd_order.specs.Listing.{IsListed};
 
+use crate::feeders::fed_after;
 use crate::rework::rework;
 use crate::spots::{NOWHERE, place, seek_place};
-use crate::work::{front, meet};
+use crate::work::know_held;
 use crate::{SignalGraph, Spot, Steps};
 use std::sync::ledger::Ledger;
 
@@ -52,36 +53,9 @@ pub fn add_over<L: Ledger, G: SignalGraph<L>>(
     if place(spots, source) < at {
         return;
     }
+    // The new wire alone holds the sink back.
+    know_held(graph, spots, heap, spare, sink, 1);
     let _ = rework(graph, chain, stuck, at as usize, spots, heap, spare, steps);
-}
-
-// After how many places all that feeds the node is listed.
-fn fed_after<L: Ledger, G: SignalGraph<L>>(
-    graph: &G,
-    chain: &[u32],
-    spots: &[Spot],
-    node: u32,
-    steps: &mut Steps<L>,
-) -> Option<usize>
-    requires by_node { AreByNode spots.now }
-    requires lawful { IsLawful (G.meaning graph.now) (nodes_of spots.now) }
-    requires seated { IsSeated (nodes_of spots.now) chain.now (place_in spots.now) }
-    requires once { (x : ℕ) → tally x chain.now ≤ 1 }
-    requires few { length chain.now < nowhere }
-    ensures none { IfNone result (0 < missing chain.now ((G.meaning graph.now).feeders node)) }
-    ensures some { IfSome result (λ k. (k ≤ length chain.now) × (missing (take k chain.now) ((G.meaning graph.now).feeders node) ≡ 0) × ((j : ℕ) → j < k → 0 < missing (take j chain.now) ((G.meaning graph.now).feeders node))) }
-    ensures steps { steps.new ≤ steps.old + looks_back (G.meaning graph.now) node }
-{
-    let mut after = 0;
-    for i in 0..graph.feeder_count(node, steps) {
-        let feeder = graph.feeder(node, i, steps);
-        let at = place(spots, feeder);
-        if at == NOWHERE {
-            return None;
-        }
-        after = after.max(at as usize + 1);
-    }
-    Some(after)
 }
 
 // The first place from `from` on at which the node stands or has a lower rank.
@@ -153,7 +127,7 @@ fn cut_from<L: Ledger, G: SignalGraph<L>>(
     ensures heap_capacity { vec_capacity heap.new ≡ vec_capacity heap.old }
     ensures spare_capacity { vec_capacity spare.new ≡ vec_capacity spare.old }
 {
-    meet(graph, front(chain, from), spots, heap, spare, sink, steps);
+    know_held(graph, spots, heap, spare, sink, 0);
     let _ = rework(graph, chain, stuck, from, spots, heap, spare, steps);
 }
 

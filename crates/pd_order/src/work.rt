@@ -64,6 +64,38 @@ fn count_missing<L: Ledger, G: SignalGraph<L>>(
     count
 }
 
+// The node becomes known, held back by so many wires.
+pub fn know_held<L: Ledger, G: SignalGraph<L>>(
+    graph: &G,
+    spots: &mut [Spot],
+    heap: &mut Vec<u32>,
+    spare: &mut Vec<u32>,
+    node: u32,
+    held: u32,
+)
+    requires by_node { AreByNode spots.old }
+    requires few { held + 1 < 2 ^ 32 }
+    requires there { 0 < tally node (nodes_of spots.old) }
+    requires heap { IsHeap (G.meaning graph.now).rank heap.old.items }
+    requires heap_room { vec_len heap.old < vec_capacity heap.old }
+    requires spare_room { vec_len spare.old < vec_capacity spare.old }
+    ensures by_node { AreByNode spots.new }
+    ensures nodes { nodes_of spots.new ≡ nodes_of spots.old }
+    ensures places { (x : ℕ) → place_in spots.new x ≡ place_in spots.old x }
+    ensures marks { (x : ℕ) → mark_in spots.new x ≡ put (mark_in spots.old) node (held + 1) x }
+    ensures heap { IsHeap (G.meaning graph.now).rank heap.new.items }
+    ensures more { (x : ℕ) → tally x heap.new.items ≡ tally x (cond (held == 0) (node ∷ heap.old.items) heap.old.items) }
+    ensures spare { spare.new.items ≡ spare.old.items ++ node ∷ [] }
+    ensures heap_capacity { vec_capacity heap.new ≡ vec_capacity heap.old }
+    ensures spare_capacity { vec_capacity spare.new ≡ vec_capacity spare.old }
+{
+    set_mark(spots, node, held + 1);
+    spare.push_reserved(node);
+    if held == 0 {
+        push(graph, heap, node);
+    }
+}
+
 // The node becomes known.
 fn know<L: Ledger, G: SignalGraph<L>>(
     graph: &G,
@@ -93,11 +125,7 @@ fn know<L: Ledger, G: SignalGraph<L>>(
     ensures steps { steps.new ≡ steps.old + looks_back (G.meaning graph.now) node }
 {
     let held = count_missing(graph, listed, spots, node, steps);
-    set_mark(spots, node, held + 1);
-    spare.push_reserved(node);
-    if held == 0 {
-        push(graph, heap, node);
-    }
+    know_held(graph, spots, heap, spare, node, held);
 }
 
 // The node becomes known, if it wasn't.

@@ -460,7 +460,82 @@ fn graphs_in_turn<L: Ledger>(rt: &impl Abort, alloc: Global, blank: Blank) -> Re
         8,
         &[(7, 1), (1, 3), (3, 0), (0, 1), (3, 5), (6, 2)],
         &mut steps,
+    )?;
+    // Between two feeders of 0 stands a node of many followers; of the feeders of 7, two stand behind the first.
+    cut_each(
+        rt,
+        alloc,
+        8,
+        &[(3, 0), (1, 0), (2, 4), (2, 5), (2, 6), (3, 7)],
+        &mut steps,
+    )?;
+    cut_each(
+        rt,
+        alloc,
+        8,
+        &[(1, 7), (5, 7), (6, 7), (2, 5), (3, 5), (4, 7)],
+        &mut steps,
     )
+}
+
+// How many looks it takes to cut the first wire, which moves node 0 before 5 and 6, and to add it again.
+fn looks_to_move<L: Ledger>(
+    rt: &impl Abort,
+    alloc: Global,
+    wires: &[(u32, u32)],
+    steps: &mut Steps<L>,
+) -> Result<u32, AllocError> {
+    let graph = Wires::new(rt, alloc, 7, wires)?;
+    let mut order = folded(rt, alloc, &graph, steps)?;
+    check_lists(rt, &order, &[1, 2, 3, 4, 5, 6, 0], &[]);
+    graph.calls.set(0);
+    let graph = cut(rt, &mut order, graph, 0, steps);
+    check_lists(rt, &order, &[1, 2, 3, 4, 0, 5, 6], &[]);
+    let graph = add(rt, &mut order, graph, 6, 0, steps)?;
+    check_lists(rt, &order, &[1, 2, 3, 4, 5, 6, 0], &[]);
+    Ok(graph.calls.get())
+}
+
+// Once with two other wires into node 0, and once with ten.
+fn moves_beside_many<L: Ledger>(
+    rt: &impl Abort,
+    alloc: Global,
+    blank: Blank,
+) -> Result<(), AllocError>
+    requires name { blank.name ≡ L.name }
+    requires parts { blank.parts ≡ L.parts }
+    requires some { 0 < blank.parts }
+{
+    let mut steps = Steps::<L>::new(blank);
+    let few = looks_to_move(
+        rt,
+        alloc,
+        &[(6, 0), (1, 2), (3, 4), (5, 6), (2, 0), (4, 0)],
+        &mut steps,
+    )?;
+    let many = looks_to_move(
+        rt,
+        alloc,
+        &[
+            (6, 0),
+            (1, 2),
+            (3, 4),
+            (5, 6),
+            (2, 0),
+            (2, 0),
+            (2, 0),
+            (2, 0),
+            (2, 0),
+            (2, 0),
+            (2, 0),
+            (2, 0),
+            (2, 0),
+            (4, 0),
+        ],
+        &mut steps,
+    )?;
+    assert_eq!(rt; many, few);
+    Ok(())
 }
 
 #[test]
@@ -487,6 +562,12 @@ fn mends_in_a_window(rt: HostRuntime) -> Result<(), Fail> {
 #[test]
 fn takes_no_look_where_nothing_moves(rt: HostRuntime) -> Result<(), Fail> {
     source_moves_unseen::<Brand>(&rt, rt.alloc(), Blank::new(1))?;
+    Ok(())
+}
+
+#[test]
+fn looks_the_same_beside_many_feeders(rt: HostRuntime) -> Result<(), Fail> {
+    moves_beside_many::<Brand>(&rt, rt.alloc(), Blank::new(1))?;
     Ok(())
 }
 

@@ -4,7 +4,7 @@ use Rattle.pd_order.specs.Spots.{nodes_of, place_in, nowhere}
 use Rattle.pd_order.specs.Work.{IsStart, IsHigherBetween}
 use Rattle.pd_order.proofs.SpotLemmas.{length-nodes}
 use Rattle.pd_order.proofs.MendLemmas.{chain_short, listed_at}
-use Rattle.pd_order.proofs.CutLemmas.{cut_same, cut_stuck, start_is, not_before, held_start}
+use Rattle.pd_order.proofs.CutLemmas.{cut_same, cut_stuck, fed_there, start_is, not_before, held_start}
 use Rattle.pd_order.proofs.LookLemmas.{cut_total}
 use Rattle.pd_order.proofs.mend.cut_over.Goals as goal
 
@@ -19,6 +19,14 @@ fed_after-requires-clause-few g c =
     let ln : length nodes ≡ length c.args.spots.now = length-nodes c.args.spots.now in
     let few : length c.args.spots.now < nowhere = c.requires.listed.few in
     rw c.deref-2.ensures.value (omega arith)
+
+pub fed_after-requires-clause-fed : goal.fed_after-requires-clause-fed
+fed_after-requires-clause-fed g c =
+    let G : Graph = g.G.SignalGraph.meaning c.args.graph.now in
+    let v : ℕ = c.args.sink in
+    let nodes : List ℕ = nodes_of c.args.spots.now in
+    let C : List ℕ = c.args.chain.now.items in
+    rw c.deref-2.ensures.value (fed_there G c.args.source v C c.args.stuck.now.items c.args.spots.now c.requires.listed c.requires.order c.requires.there)
 
 pub cut_from-requires-clause-start : goal.cut_from-requires-clause-start
 cut_from-requires-clause-start g c =

@@ -4,7 +4,7 @@ use Rattle.pd_order.specs.Spots.{nodes_of, place_in, nowhere}
 use Rattle.pd_order.proofs.Basics.{by_test, zero_or, same_node, other_node, tally_at}
 use Rattle.pd_order.proofs.TurnLemmas.{max_cases}
 use Rattle.pd_order.proofs.CutLemmas.{fed_more, unfed}
-use Rattle.pd_order.proofs.mend.fed_after.Goals as goal
+use Rattle.pd_order.proofs.feeders.fed_by_feeders.Goals as goal
 
 pub place-at-requires-clause-there : goal.place-at-requires-clause-there
 place-at-requires-clause-there g c =

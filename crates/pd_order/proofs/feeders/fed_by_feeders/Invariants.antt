@@ -1,6 +1,6 @@
 use Rattle.std.proofs.Common.{◌≡◌, ℕ, ◌+◌, ◌<◌, ◌≤◌, length, take}
 use Rattle.pd_order.specs.Graph.{missing}
-use Rattle.pd_order.proofs.mend.fed_after.Given as goal
+use Rattle.pd_order.proofs.feeders.fed_by_feeders.Given as goal
 
 abbrev pub invariant-loop-i : goal.invariant-loop-i
 invariant-loop-i g l = record {
