@@ -1,9 +1,9 @@
 // Orders mended where a wire was added or cut, over their lists.
-ghost use Rattle.std.specs.Prelude.{◌≡◌, ℕ, ◌+◌, ◌-◌, ◌*◌, ◌<◌, ◌≤◌, ◌≢◌, ◌⊎◌, ◌↔◌, IsTrue, Bool, true, false, cond, List, [], ◌∷◌, ◌++◌, length, take, drop, slice_index, IfSome, IfNone, vec_len, vec_capacity};
-ghost use Rattle.pd_order.specs.Graph.{Graph, tally, missing, total, ends, IsLawful, IsOrder, cut_wire, add_wire};
-ghost use Rattle.pd_order.specs.Spots.{nodes_of, place_in, mark_in, AreByNode, nowhere};
+ghost use Rattle.std.specs.Prelude.{◌≡◌, ℕ, ◌+◌, ◌-◌, ◌*◌, ◌<◌, ◌≤◌, ◌≢◌, ◌⊎◌, ◌↔◌, IsTrue, List, [], length, slice_index, vec_capacity};
+ghost use Rattle.pd_order.specs.Graph.{Graph, tally, ends, IsLawful, IsOrder, cut_wire, add_wire};
+ghost use Rattle.pd_order.specs.Spots.{nodes_of, place_in, AreByNode};
 ghost use Rattle.pd_order.specs.Window.{IsWindow, window_ends};
-ghost use Rattle.pd_order.specs.Work.{IsSeated, IsStart, IsHigherBetween, looks_back, looks_on};
+ghost use Rattle.pd_order.specs.Work.{IsStart, IsHigherBetween};
 ghost use Rattle.pd_order.specs.Listing.{IsListed};
 
 use crate::feeders::fed_after;
