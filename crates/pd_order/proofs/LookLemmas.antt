@@ -4,7 +4,7 @@ use Rattle.std.specs.Prelude.{nat_lt}
 use Rattle.std.specs.List.{filter}
 use Rattle.std.proofs.lemmas.Bool.Decides.{nat_tests}
 use Rattle.std.proofs.lemmas.List.{take_all}
-use Rattle.pd_order.proofs.Basics.{by_test, same_node, other_node, all_listed, missing_le, ltb', ltb-true', ltb-false'}
+use Rattle.pd_order.proofs.Basics.{by_test, same_node, other_node, missing_le, ltb', ltb-true', ltb-false'}
 use Rattle.pd_order.proofs.RunLemmas.{front_at}
 use Rattle.pd_order.proofs.OrderLemmas.{next_at, next_once, chain_once, chain_inside, front_le}
 use Rattle.pd_order.proofs.EndLemmas.{same_sets}

@@ -1,4 +1,4 @@
-use Rattle.std.proofs.Common.{◌≡◌, ℕ, ◌+◌, ◌-◌, ◌<◌, ◌≤◌, List, length, get_or, take, sym, subst, arith}
+use Rattle.std.proofs.Common.{◌≡◌, ℕ, ◌-◌, ◌<◌, List, get_or, take, sym, subst, arith}
 use Rattle.pd_order.specs.Graph.{Graph, tally, missing}
 use Rattle.pd_order.specs.Spots.{place_in}
 use Rattle.pd_order.proofs.CutLemmas.{fed_at}

@@ -1,4 +1,4 @@
-use Rattle.std.proofs.Common.{◌≡◌, ℕ, ◌+◌, take}
+use Rattle.std.proofs.Common.{◌≡◌, ◌+◌, take}
 use Rattle.pd_order.specs.Graph.{tally}
 use Rattle.pd_order.proofs.feeders.feeds.Given as goal
 

@@ -1,9 +1,8 @@
-use Rattle.std.proofs.Common.{◌≡◌, ℕ, ◌<◌, inl, inr, List, [], length, get_or, take, arith, sym, ◌∙◌, refl, ap, subst}
-use Rattle.pd_order.specs.Graph.{Graph, tally, add_wire, AreNext}
+use Rattle.std.proofs.Common.{◌≡◌, ℕ, ◌<◌, List, [], length, take, arith, sym, ◌∙◌, refl, ap, subst}
+use Rattle.pd_order.specs.Graph.{Graph, add_wire, AreNext}
 use Rattle.pd_order.specs.Spots.{nodes_of, place_in, mark_in, nowhere}
 use Rattle.pd_order.specs.Work.{IsAtWork, IsMet, IsEnded, IsRunning}
 use Rattle.pd_order.proofs.SpotLemmas.{length-nodes}
-use Rattle.pd_order.proofs.OrderLemmas.{chain_once}
 use Rattle.pd_order.proofs.MendLemmas.{mend_beside, mend_old, mend_running, held_work, held_known, held_alone, mended_order, mended_listed, some_same, none_same}
 use Rattle.pd_order.proofs.CutLemmas.{add_alike, ready_with, cut_front, not_yet, cut_fed, old_same, beside_same, met_same}
 use Rattle.pd_order.specs.Graph.{total}
