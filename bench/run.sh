@@ -8,6 +8,7 @@
 #   fold       the signal order from nothing, of boxes that are each fed by two others
 #   mend       the signal order of voices that feed one box: one voice's wire is cut and added again, where the chain stays and, apart, where it
 #              changes; beside it a fold at the same size
+#   hear       messages heard by one box: a number at the left inlet of `+`, `trigger`, `route`, `pack` and a message box with `$1`
 #
 # Times are of the processor, so other work on the machine lengthens them little; each is the least of five runs. docs/BENCHMARKS.md has
 # targets and figures. With sizes of your own, once the program is built:
@@ -17,6 +18,7 @@
 #   crates/pd_bench/out/pd_bench wires COUNT
 #   crates/pd_bench/out/pd_bench fold BOXES
 #   crates/pd_bench/out/pd_bench mend BOXES
+#   crates/pd_bench/out/pd_bench hear MESSAGES
 #
 # The program is built first where it isn't built, or where a source has changed since; that proves the crates below it, which takes
 # minutes the first time.
@@ -43,6 +45,7 @@ sizes=(
   "wires 10" "wires 100" "wires 1000" "wires 10000"
   "fold 100" "fold 1000" "fold 10000"
   "mend 100" "mend 1000" "mend 10000"
+  "hear 1000000"
 )
 
 run() {

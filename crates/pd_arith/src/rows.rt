@@ -1,6 +1,7 @@
 //! What an arithmetic box does with a message.
 
 ghost use Rattle.std.specs.Prelude.{◌≡◌, pos, unsigned_abs};
+ghost use Rattle.pd_kind.specs.Fit.{IsLike};
 ghost use Rattle.pd_kind.specs.Said.{said_by};
 ghost use Rattle.pd_arith.specs.Rows.{clipped, clip_hot, clip_cold, clip_row, function_of, function_heard, function_row, arith_row, heard};
 
@@ -121,7 +122,8 @@ fn hear_arith(
     atoms: &[Atom],
     out: &mut Sends,
 )
-    ensures { record { state = state.new; said = said_by out.new } ≡ arith_row arith.now state.old inlet selector atoms.now }
+    ensures heard { record { state = state.new; said = said_by out.new } ≡ arith_row arith.now state.old inlet selector atoms.now }
+    ensures kept { IsLike state.old state.new }
 {
     match (arith, state) {
         (Arith::Operation { operation, .. }, State::Operation { left, right }) => {
@@ -179,6 +181,7 @@ pub fn hear(
     out: &mut Sends,
 )
     ensures heard { record { state = state.new; said = said_by out.new } ≡ heard kind.now state.old inlet message.entry.selector message.entry.atoms.now }
+    ensures kept { IsLike state.old state.new }
     ensures names { symbols.new ≡ symbols.old }
 {
     let selector = message.selector;

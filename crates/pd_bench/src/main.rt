@@ -8,6 +8,7 @@ mod benchmark;
 mod clocks;
 mod document;
 mod fold;
+mod hearing;
 mod mend;
 mod numbers;
 mod timing;

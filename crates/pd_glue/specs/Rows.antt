@@ -1,7 +1,9 @@
 -- What a control object does with a message, when its clock fires and when it is resumed; and what a signal object hears.
 use Rattle.std.specs.Prelude.{ℕ, ℤ, List, Option}
 use Rattle.pd_atom.specs.declared.Atom.{Atom}
+use Rattle.std.specs.List.{All}
 use Rattle.pd_atom.specs.Names.{Names}
+use Rattle.pd_atom.specs.Atoms.{IsOf}
 use Rattle.pd_kind.specs.declared.kinds.Kind.{Kind}
 use Rattle.pd_kind.specs.declared.kinds.Kind.TheVariants as kind
 use Rattle.pd_kind.specs.declared.kinds.Glue.{Glue}
@@ -101,13 +103,41 @@ unfoldable pub resumed : Kind → State → Heard
 resumed (kind.Glue g) s = plain.resumed g s
 resumed k s = quiet_state s
 
+-- an object that works with lists keeps one of at most 1,024 atoms
+abbrev pub KeepsList : Glue → State → Type 0
+KeepsList (glue.Trigger w outs) s = IsSmallState s
+KeepsList (glue.Pack slots) s = IsSmallState s
+KeepsList (glue.Unpack slots) s = IsSmallState s
+KeepsList (glue.Route args) s = IsSmallState s
+KeepsList (glue.Select w args) s = IsSmallState s
+KeepsList (glue.ListAppend w a) s = IsSmallState s
+KeepsList (glue.ListPrepend a) s = IsSmallState s
+KeepsList (glue.ListSplit z) s = IsSmallState s
+KeepsList glue.ListTrim s = IsSmallState s
+KeepsList glue.ListLength s = IsSmallState s
+KeepsList g s = Unit {0}
+
+-- a message box keeps a text of at most 1,024 atoms, all of the table
+abbrev pub KeepsText : Names → Glue → State → Type 0
+KeepsText names (glue.Message text) s = message.KeepsText names s
+KeepsText names g s = Unit {0}
+
 -- What is asked of a kind and a state: their lists have at most 1,024 atoms, and their atoms are of the table.
 pub record IsSmallBox (names : Names) (g : Glue) (s : State) : Type 0 where
   pub kind : IsSmallGlue g
   pub text : HasText names g
-  pub lists : IsSmallState s
-  pub message : message.KeepsText names s
+  pub lists : KeepsList g s
+  pub message : KeepsText names g s
 
 abbrev pub IsSmall : Names → Kind → State → Type 0
 IsSmall names (kind.Glue g) s = IsSmallBox names g s
 IsSmall names k s = Unit {0}
+
+-- What is asked of a kind: the atoms of its text are of the table.
+abbrev pub HasTextOf : Names → Glue → Type 0
+HasTextOf names (glue.Message text) = All (IsOf names) text
+HasTextOf names g = HasText names g
+
+abbrev pub HasTexts : Names → Kind → Type 0
+HasTexts names (kind.Glue g) = HasTextOf names g
+HasTexts names k = Unit {0}

@@ -2,7 +2,11 @@
 //! hear.
 #![tactic(auto)]
 
+mod laws;
 mod rows;
 mod sounding;
+#[cfg(test)]
+mod tests;
 
+pub use laws::starts_small;
 pub use rows::{fire, hear, resume};

@@ -5,6 +5,7 @@ ghost use Rattle.std.specs.List.{All};
 ghost use Rattle.std.specs.Option.{option_copied};
 ghost use Rattle.pd_atom.specs.Names.{Extends};
 ghost use Rattle.pd_atom.specs.Atoms.{IsOf};
+ghost use Rattle.pd_kind.specs.Fit.{IsLike};
 ghost use Rattle.pd_kind.specs.Said.{said_by};
 ghost use Rattle.pd_glue.specs.Rows.{IsSmall, IsSmallBox, glue_heard, heard, fired as said_by_clock, resumed as left_by_resume};
 
@@ -37,6 +38,8 @@ fn hear_glue(
     requires table { IfSome (option_copied table) (λ values. length values < 2 ^ 32) }
     ensures heard { record { state = state.new; names = symbols.new; said = said_by out.new } ≡ glue_heard symbols.old glue.now state.old inlet selector atoms.now now (option_copied table.entry) }
     ensures extends { Extends symbols.old symbols.new }
+    ensures small { IsSmallBox symbols.new glue.now state.new }
+    ensures kept { IsLike state.old state.new }
 {
     match glue {
         Glue::Message { .. } => hear_message(state, selector, atoms, symbols, out),
@@ -78,6 +81,8 @@ pub fn hear(
     requires table { IfSome (option_copied around.now.table) (λ values. length values < 2 ^ 32) }
     ensures heard { record { state = state.new; names = symbols.new; said = said_by out.new } ≡ heard symbols.old kind.now state.old inlet message.entry.selector message.entry.atoms.now around.entry.now.now (option_copied around.entry.now.table) }
     ensures extends { Extends symbols.old symbols.new }
+    ensures small { IsSmall symbols.new kind.now state.new }
+    ensures kept { IsLike state.old state.new }
 {
     let selector = message.selector;
     let atoms = message.atoms;
@@ -122,7 +127,8 @@ pub fn fire(kind: &Kind, state: &mut State, out: &mut Sends)
 /// What an `until` does when it is resumed: the state after it, and in `out` what is said. Other boxes say nothing.
 #[tactic(auto, unfolding(crate::specs::Rows::resumed))]
 pub fn resume(kind: &Kind, state: &mut State, out: &mut Sends)
-    ensures { record { state = state.new; said = said_by out.new } ≡ left_by_resume kind.now state.old }
+    ensures said { record { state = state.new; said = said_by out.new } ≡ left_by_resume kind.now state.old }
+    ensures kept { IsLike state.old state.new }
 {
     match kind {
         Kind::Glue(glue) => resume_plain(glue, state, out),

@@ -1,6 +1,7 @@
 //! What a signal object does with a message.
 
 ghost use Rattle.std.specs.Prelude.{◌≡◌, ◌<◌, length, bytes_eq};
+ghost use Rattle.pd_kind.specs.Fit.{IsLike};
 ghost use Rattle.pd_kind.specs.Said.{said_by};
 ghost use Rattle.pd_held.specs.Rows.{leaves, spread as spread_over, hears_numbers as hears_numbers_so, bang_heard, other_heard, hot, cold, sounding_row};
 
@@ -17,7 +18,8 @@ fn hears_numbers(row: SignalRow) -> bool
 
 /// The atoms of a list behind the first are stored.
 fn spread(sort: &Sort, state: &mut State, atoms: &[Atom])
-    ensures { state.new ≡ spread_over sort.now state.old atoms.now }
+    ensures spread { state.new ≡ spread_over sort.now state.old atoms.now }
+    ensures kept { IsLike state.old state.new }
 {
     if let Sort::List = sort {
         store_list(state, atoms);
@@ -44,7 +46,8 @@ fn is_word(bytes: &[u8], word: &[u8]) -> bool
 /// A message of another selector at inlet 0.
 fn hear_other(symbols: &Symbols, row: SignalRow, state: &mut State, selector: Sym, out: &mut Sends)
     requires { selector < length symbols.now }
-    ensures { leaves state.new (said_by out.new) ≡ other_heard symbols.now row state.old selector }
+    ensures heard { leaves state.new (said_by out.new) ≡ other_heard symbols.now row state.old selector }
+    ensures kept { IsLike state.old state.new }
 {
     let is_stop = is_word(symbols.name(selector), b"stop");
     match state {
@@ -66,7 +69,8 @@ fn hear_first(
     out: &mut Sends,
 )
     requires { selector < length symbols.now }
-    ensures { leaves state.new (said_by out.new) ≡ hot symbols.now row state.old selector sort.now }
+    ensures heard { leaves state.new (said_by out.new) ≡ hot symbols.now row state.old selector sort.now }
+    ensures kept { IsLike state.old state.new }
 {
     match sort {
         Sort::Float(number) if hears_numbers(row) => {
@@ -89,7 +93,8 @@ fn hear_later(
     sort: &Sort,
     out: &mut Sends,
 )
-    ensures { leaves state.new (said_by out.new) ≡ cold row state.old inlet selector sort.now }
+    ensures heard { leaves state.new (said_by out.new) ≡ cold row state.old inlet selector sort.now }
+    ensures kept { IsLike state.old state.new }
 {
     match sort {
         Sort::Float(number) => {
@@ -101,7 +106,7 @@ fn hear_later(
 }
 
 /// What a signal object of a row that keeps `state` does with a message at an inlet.
-#[tactic(auto, unfolding(crate::specs::Rows::sounding_row))]
+#[tactic(auto, unfolding(crate::specs::Rows::sounding_row), using(crate::proofs::LikeLemmas::like_chain))]
 pub fn hear_held(
     row: SignalRow,
     state: &mut State,
@@ -112,7 +117,8 @@ pub fn hear_held(
     out: &mut Sends,
 )
     requires { selector < length symbols.now }
-    ensures { record { state = state.new; said = said_by out.new } ≡ sounding_row symbols.now row state.old inlet selector atoms.now }
+    ensures heard { record { state = state.new; said = said_by out.new } ≡ sounding_row symbols.now row state.old inlet selector atoms.now }
+    ensures kept { IsLike state.old state.new }
 {
     let sort = sort_of(selector, atoms);
     if inlet == 0 {

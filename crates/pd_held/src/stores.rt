@@ -1,6 +1,8 @@
 //! Numbers that the inlets of signal objects hold or store.
 
-ghost use Rattle.std.specs.Prelude.{◌≡◌, ◌<◌, ◌+◌, length, drop, slice_get};
+ghost use Rattle.std.specs.Prelude.{◌≡◌, ◌<◌, ◌+◌, ◌*◌, ◌^◌, length, drop, slice_get};
+ghost use Rattle.pd_clock.specs.Rates.{samples};
+ghost use Rattle.pd_kind.specs.Fit.{IsLike};
 ghost use Rattle.pd_held.specs.Stores.{phase_of as phase_of_number, stored_at, held_at, atom_stored, list_stored, with_time};
 
 use crate::slopes::slope_to;
@@ -11,7 +13,8 @@ use pd_num::Num;
 
 /// The phase that a number sets.
 fn phase_of(number: Num, rate: Rate) -> u64
-    ensures { result ≡ phase_of_number number rate }
+    ensures value { result ≡ phase_of_number number rate }
+    ensures below { result < samples rate * 10 ^ 9 }
 {
     let part = (number.micros() * 1000).rem_euclid(1_000_000_000) as u64;
     part * u64::from(rate.hz())
@@ -19,7 +22,8 @@ fn phase_of(number: Num, rate: Rate) -> u64
 
 /// Holds a number at an inlet of a `dac~`, where it has that inlet.
 fn hold_at(held: &mut Items<Num>, inlet: usize, number: Num)
-    ensures { held.new ≡ held_at held.old inlet number }
+    ensures held { held.new ≡ held_at held.old inlet number }
+    ensures count { length held.new ≡ length held.old }
 {
     if inlet < held.as_slice().len() {
         held.set(inlet, number);
@@ -28,7 +32,8 @@ fn hold_at(held: &mut Items<Num>, inlet: usize, number: Num)
 
 /// A number came to the first inlet.
 fn store_first(state: &mut State, number: Num)
-    ensures { state.new ≡ stored_at state.old 0 number }
+    ensures stored { state.new ≡ stored_at state.old 0 number }
+    ensures kept { IsLike state.old state.new }
 {
     match state {
         State::Line(slope) => slope_to(slope, number),
@@ -56,7 +61,8 @@ fn store_first(state: &mut State, number: Num)
 
 /// A number came to the second inlet.
 fn store_second(state: &mut State, number: Num)
-    ensures { state.new ≡ stored_at state.old 1 number }
+    ensures stored { state.new ≡ stored_at state.old 1 number }
+    ensures kept { IsLike state.old state.new }
 {
     match state {
         State::Phasor { phase, rate, .. } => {
@@ -81,7 +87,8 @@ fn store_second(state: &mut State, number: Num)
 /// A number came to the third inlet or a later one.
 fn store_later(state: &mut State, inlet: usize, number: Num)
     requires { 1 < inlet }
-    ensures { state.new ≡ stored_at state.old inlet number }
+    ensures stored { state.new ≡ stored_at state.old inlet number }
+    ensures kept { IsLike state.old state.new }
 {
     match state {
         State::SignalClip { high, .. } if inlet == 2 => *high = number,
@@ -92,7 +99,8 @@ fn store_later(state: &mut State, inlet: usize, number: Num)
 
 /// A number came to an inlet, which holds or stores it.
 pub(crate) fn store(state: &mut State, inlet: usize, number: Num)
-    ensures { state.new ≡ stored_at state.old inlet number }
+    ensures stored { state.new ≡ stored_at state.old inlet number }
+    ensures kept { IsLike state.old state.new }
 {
     match inlet {
         0 => store_first(state, number),
@@ -103,7 +111,8 @@ pub(crate) fn store(state: &mut State, inlet: usize, number: Num)
 
 /// One atom of a spread list.
 fn store_atom(state: &mut State, inlet: usize, atom: Atom)
-    ensures { state.new ≡ atom_stored state.old inlet atom }
+    ensures stored { state.new ≡ atom_stored state.old inlet atom }
+    ensures kept { IsLike state.old state.new }
 {
     if let Atom::Number(number) = atom {
         store(state, inlet, number);
@@ -111,8 +120,10 @@ fn store_atom(state: &mut State, inlet: usize, atom: Atom)
 }
 
 /// The atoms of a spread list behind the first.
+#[tactic(auto, using(crate::proofs::LikeLemmas::like_chain))]
 pub(crate) fn store_list(state: &mut State, atoms: &[Atom])
-    ensures { state.new ≡ list_stored state.old 1 (drop 1 atoms.now) }
+    ensures stored { state.new ≡ list_stored state.old 1 (drop 1 atoms.now) }
+    ensures kept { IsLike state.old state.new }
 {
     for i in 1..atoms.len() {
         store_atom(state, i, atoms[i]);

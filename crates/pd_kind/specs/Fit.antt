@@ -98,3 +98,9 @@ pub record IsOfKind (k : Kind) (s : State) : Type 0 where
   pub same : blank s ≡ blank (start_of k R44100)
   pub count : fixed_count s ≡ fixed_count (start_of k R44100)
   pub within : IsWithin s
+
+-- Another state of the same objects: it has as many values in a list of fixed length, and is within the bounds where the first one is.
+pub record IsLike (old new : State) : Type 0 where
+  pub same : blank new ≡ blank old
+  pub count : fixed_count new ≡ fixed_count old
+  pub within : IsWithin old → IsWithin new

@@ -6,11 +6,16 @@ ghost use Rattle.pd_kind.specs.declared.states.State.{State};
 ghost use Rattle.pd_kind.specs.Ports.{IsSmallKind};
 ghost use Rattle.pd_kind.specs.States.{start_of};
 ghost use Rattle.pd_kind.specs.Tables.{with_value, started, shared_of, with_shared, block_begun};
-ghost use Rattle.pd_kind.specs.Fit.{IsOfKind};
+ghost use Rattle.pd_kind.specs.Fit.{IsOfKind, IsLike};
 
 /// What a box keeps when it is made is of its kind.
 pub fn fresh_fits()
     ensures { (k : Kind) (rate : Rate) → IsSmallKind k → IsOfKind k (start_of k rate) }
+{}
+
+/// A state that is like one of a kind is of that kind.
+pub fn likes_fit()
+    ensures { (k : Kind) (s t : State) → IsOfKind k s → IsLike s t → IsOfKind k t }
 {}
 
 /// What reaches into a state from outside keeps it of its kind, where a loan leaves as many values as it lent.

@@ -26,7 +26,7 @@ pub use kinds::{
     Operation, Panel, Side, Signal, SignalFunction, SignalOperation, Slot, Spelling, Toggle, Tone,
     Trigger, Values,
 };
-pub use laws::{fresh_fits, reached_fits};
+pub use laws::{fresh_fits, likes_fit, reached_fits};
 pub use lists::{Bounded, Items};
 pub use messages::{
     Around, Deed, Message, Notice, Sort, Target, first_sort, sort_of, stored, told,

@@ -2,6 +2,7 @@
 
 ghost use Rattle.std.specs.Prelude.{◌≡◌, ◌≤◌, length};
 ghost use Rattle.pd_kind.specs.Ports.{IsSmallGlue};
+ghost use Rattle.pd_kind.specs.Fit.{IsLike};
 ghost use Rattle.pd_kind.specs.Said.{said_by};
 ghost use Rattle.pd_list.specs.Rows.{IsSmallState, list_row};
 
@@ -28,6 +29,7 @@ pub fn hear_list(
     requires state { IsSmallState state.old }
     ensures heard { record { state = state.new; said = said_by out.new } ≡ list_row glue.now state.old inlet selector atoms.now }
     ensures small { IsSmallState state.new }
+    ensures kept { IsLike state.old state.new }
 {
     match (glue, state) {
         (Glue::Trigger { outlets, .. }, _) => {

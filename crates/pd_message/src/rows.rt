@@ -5,6 +5,7 @@ ghost use Rattle.std.specs.List.{All};
 ghost use Rattle.pd_atom.specs.Atoms.{IsOf};
 ghost use Rattle.pd_atom.specs.Names.{Extends};
 ghost use Rattle.pd_kind.specs.Messages.{sort_of as sort_of_message};
+ghost use Rattle.pd_kind.specs.Fit.{IsLike};
 ghost use Rattle.pd_kind.specs.Said.{said_by};
 ghost use Rattle.pd_kind.specs.declared.states.State.TheVariants as state;
 ghost use Rattle.pd_message.specs.Rows.{message_row, heard_as, IsText, KeepsText};
@@ -53,6 +54,7 @@ pub fn hear_message(
     ensures heard { record { state = state.new; names = symbols.new; said = said_by out.new } ≡ message_row symbols.old state.old selector atoms.now }
     ensures extends { Extends symbols.old symbols.new }
     ensures text { KeepsText symbols.new state.new }
+    ensures kept { IsLike state.old state.new }
 {
     match state {
         State::Message { text } => hear_text(text, selector, atoms, symbols, out),

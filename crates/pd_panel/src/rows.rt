@@ -1,6 +1,7 @@
 //! What a `bng` or `tgl` does.
 
 ghost use Rattle.std.specs.Prelude.{◌≡◌, ◌<◌, length};
+ghost use Rattle.pd_kind.specs.Fit.{IsLike};
 ghost use Rattle.pd_kind.specs.Said.{said_by};
 ghost use Rattle.pd_panel.specs.Rows.{panel_row, heard, panel_loaded, loaded};
 ghost use Rattle.pd_panel.specs.Fold.{ToggleFolds};
@@ -18,7 +19,8 @@ fn hear_panel(
     out: &mut Sends,
 )
     requires { selector < length symbols.now }
-    ensures { record { state = state.new; said = said_by out.new } ≡ panel_row symbols.now panel.now state.old selector atoms.now }
+    ensures heard { record { state = state.new; said = said_by out.new } ≡ panel_row symbols.now panel.now state.old selector atoms.now }
+    ensures kept { IsLike state.old state.new }
 {
     match (panel, state) {
         (Panel::Bng(button), _) => show_bang(button.send, out),
@@ -60,6 +62,7 @@ pub fn hear(
 )
     requires { message.selector < length symbols.old }
     ensures heard { record { state = state.new; said = said_by out.new } ≡ heard symbols.old kind.now state.old message.entry.selector message.entry.atoms.now }
+    ensures kept { IsLike state.old state.new }
     ensures names { symbols.new ≡ symbols.old }
 {
     let selector = message.selector;

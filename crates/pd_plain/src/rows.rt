@@ -4,6 +4,7 @@ ghost use Rattle.std.specs.Prelude.{◌≡◌, ◌<◌, ◌≤◌, ◌^◌, leng
 ghost use Rattle.std.specs.List.{All};
 ghost use Rattle.std.specs.Option.{option_copied};
 ghost use Rattle.pd_atom.specs.Atoms.{IsOf};
+ghost use Rattle.pd_kind.specs.Fit.{IsLike};
 ghost use Rattle.pd_kind.specs.Said.{said_by};
 ghost use Rattle.pd_kind.specs.declared.messages.Deed.TheVariants.{Print};
 ghost use Rattle.pd_plain.specs.Timed.{says_with};
@@ -40,7 +41,8 @@ pub fn hear_plain(
     requires atoms { length atoms.now ≤ 1024 }
     requires text { HasText symbols.now glue.now }
     requires table { IfSome (option_copied table) (λ values. length values < 2 ^ 32) }
-    ensures { record { state = state.new; said = said_by out.new } ≡ plain_row symbols.now glue.now state.old inlet selector atoms.now now (option_copied table.entry) }
+    ensures heard { record { state = state.new; said = said_by out.new } ≡ plain_row symbols.now glue.now state.old inlet selector atoms.now now (option_copied table.entry) }
+    ensures kept { IsLike state.old state.new }
 {
     match glue {
         Glue::Bang { .. } => out.say_bang(0),
@@ -74,7 +76,8 @@ fn hear_value(
     atoms: &[Atom],
     out: &mut Sends,
 )
-    ensures { record { state = state.new; said = said_by out.new } ≡ value_row glue.now state.old inlet selector atoms.now }
+    ensures heard { record { state = state.new; said = said_by out.new } ≡ value_row glue.now state.old inlet selector atoms.now }
+    ensures kept { IsLike state.old state.new }
 {
     match (glue, state) {
         (Glue::Float { .. }, State::Float { value }) => {
@@ -108,7 +111,8 @@ fn hear_gate(
     requires selector { selector < length symbols.now }
     requires atoms { length atoms.now ≤ 1024 }
     requires text { HasText symbols.now glue.now }
-    ensures { record { state = state.new; said = said_by out.new } ≡ gate_row symbols.now glue.now state.old inlet selector atoms.now }
+    ensures heard { record { state = state.new; said = said_by out.new } ≡ gate_row symbols.now glue.now state.old inlet selector atoms.now }
+    ensures kept { IsLike state.old state.new }
 {
     match (glue, state) {
         (Glue::Spigot { .. }, State::Spigot { gate }) => {
@@ -141,7 +145,8 @@ fn hear_timed(
     out: &mut Sends,
 )
     requires { selector < length symbols.now }
-    ensures { record { state = state.new; said = said_by out.new } ≡ timed_row symbols.now glue.now state.old inlet selector atoms.now now }
+    ensures heard { record { state = state.new; said = said_by out.new } ≡ timed_row symbols.now glue.now state.old inlet selector atoms.now now }
+    ensures kept { IsLike state.old state.new }
 {
     match (glue, state) {
         (Glue::Until, State::Until { is_running, count }) => {
@@ -174,7 +179,8 @@ fn hear_table(
     out: &mut Sends,
 )
     requires { IfSome (option_copied table) (λ values. length values < 2 ^ 32) }
-    ensures { record { state = state.new; said = said_by out.new } ≡ table_row (option_copied table.entry) state.old inlet selector atoms.now }
+    ensures heard { record { state = state.new; said = said_by out.new } ≡ table_row (option_copied table.entry) state.old inlet selector atoms.now }
+    ensures kept { IsLike state.old state.new }
 {
     match state {
         State::Tabwrite { index } => hear_tabwrite(table, index, inlet, selector, atoms, out),
@@ -205,7 +211,8 @@ pub fn fire_plain(glue: &Glue, state: &State, out: &mut Sends)
 /// What an `until` does when it is resumed. Other objects say nothing.
 #[tactic(auto, unfolding(crate::specs::Rows::resumed))]
 pub fn resume_plain(glue: &Glue, state: &mut State, out: &mut Sends)
-    ensures { record { state = state.new; said = said_by out.new } ≡ resumed glue.now state.old }
+    ensures heard { record { state = state.new; said = said_by out.new } ≡ resumed glue.now state.old }
+    ensures kept { IsLike state.old state.new }
 {
     match (glue, state) {
         (Glue::Until, State::Until { is_running, count }) => resume_until(*is_running, count, out),
