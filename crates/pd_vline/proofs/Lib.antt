@@ -1,0 +1,4 @@
+pub mod ValueLemmas
+pub mod RampLemmas
+pub mod TakenLemmas
+pub mod RowLemmas

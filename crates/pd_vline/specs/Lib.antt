@@ -1,0 +1,4 @@
+pub mod Ramps
+pub mod Values
+pub mod Taken
+pub mod Rows
