@@ -21,13 +21,13 @@ pub record IsBook (r : Ramps) : Type 0 where
   pub ramps : All IsShort r.ramps
 
 -- with these stored times
-abbrev pub are_stored : Ramps → ℤ → ℤ → Ramps
-are_stored r time delay = record { time = time; delay = delay; end = r.end; base = r.base; ramps = r.ramps; rate = r.rate }
+abbrev pub with_times : Ramps → ℤ → ℤ → Ramps
+with_times r time delay = record { time = time; delay = delay; end = r.end; base = r.base; ramps = r.ramps; rate = r.rate }
 
 -- with a ramp behind the first ones that are kept
-abbrev pub is_added : Ramps → ℕ → Ramp → Ramps
-is_added r kept ramp = record { time = r.time; delay = r.delay; end = r.end; base = r.base; ramps = take kept r.ramps ++ ramp ∷ []; rate = r.rate }
+abbrev pub with_ramp_last : Ramps → ℕ → Ramp → Ramps
+with_ramp_last r kept ramp = record { time = r.time; delay = r.delay; end = r.end; base = r.base; ramps = take kept r.ramps ++ ramp ∷ []; rate = r.rate }
 
 -- once a block has run up to its end: with this base, and without the first ramps
-abbrev pub are_left : Ramps → Option (Ramp × ℤ) → ℕ → ℕ → Ramps
-are_left r base count end = record { time = r.time; delay = r.delay; end = end; base = base; ramps = drop count r.ramps; rate = r.rate }
+abbrev pub block_ended : Ramps → Option (Ramp × ℤ) → ℕ → ℕ → Ramps
+block_ended r base count end = record { time = r.time; delay = r.delay; end = end; base = base; ramps = drop count r.ramps; rate = r.rate }

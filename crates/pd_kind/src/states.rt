@@ -261,7 +261,7 @@ impl Model for RampBook {
 }
 
 impl RampBook {
-    ghost use Rattle.pd_kind.specs.Books.{IsBook, IsShort, IsTime, are_stored, is_added, are_left};
+    ghost use Rattle.pd_kind.specs.Books.{IsBook, IsShort, IsTime, with_times, with_ramp_last, block_ended};
 
     pub fn new(alloc: Global, ramps: Ramps) -> Result<RampBook, AllocError>
         requires { IsBook ramps }
@@ -282,7 +282,7 @@ impl RampBook {
     pub fn store(&mut self, time: Num, delay: Num)
         requires time { IsTime time }
         requires delay { IsTime delay }
-        ensures { self.new ≡ are_stored self.old time delay }
+        ensures { self.new ≡ with_times self.old time delay }
     {
         let ramps = self.inside.as_mut();
         ramps.time = time;
@@ -293,7 +293,7 @@ impl RampBook {
     pub fn add(&mut self, kept: usize, ramp: Ramp)
         requires room { kept < 256 }
         requires short { IsShort ramp }
-        ensures { self.new ≡ is_added self.old kept ramp }
+        ensures { self.new ≡ with_ramp_last self.old kept ramp }
     {
         let ramps = self.inside.as_mut();
         ramps.ramps.truncate(kept);
@@ -304,7 +304,7 @@ impl RampBook {
     pub fn leave(&mut self, base: Option<(Ramp, Sig)>, count: usize, end: Time)
         requires base { IfSome base (λ b. IsShort b.0) }
         requires count { count ≤ length self.old.ramps }
-        ensures { self.new ≡ are_left self.old base count end }
+        ensures { self.new ≡ block_ended self.old base count end }
     {
         let ramps = self.inside.as_mut();
         ramps.base = base;

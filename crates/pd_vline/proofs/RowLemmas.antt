@@ -14,7 +14,7 @@ use Rattle.pd_kind.specs.declared.states.Ramp.{Ramp}
 use Rattle.pd_kind.specs.declared.states.Ramps.{Ramps}
 use Rattle.pd_kind.specs.declared.states.State.{State}
 use Rattle.pd_kind.specs.declared.states.State.TheVariants as state
-use Rattle.pd_kind.specs.Books.{are_stored, is_added}
+use Rattle.pd_kind.specs.Books.{with_times, with_ramp_last}
 use Rattle.pd_kind.specs.Messages.{sort_of}
 use Rattle.pd_kind.specs.Hearing.{first_sort}
 use Rattle.pd_vline.specs.Ramps.{at, added, added_to, from_on, onto, AreBefore, AreFrom, Stands, IsStanding, AreSamples}
@@ -60,7 +60,7 @@ count_is end ramps older new early late le =
     let count : length (onto (grown ramps new) []) ≡ length (grown ramps new) + 0 = length-onto (grown ramps new) [] in
     ap length whole ∙ count ∙ omega (arith, length_grown ramps new)
 
-ramp_stands : (r : Ramps) (new : Ramp) (l : List Ramp) → Stands r l → r.end ≤ new.start → Stands (is_added r (staying new r.ramps) new) (added new l)
+ramp_stands : (r : Ramps) (new : Ramp) (l : List Ramp) → Stands r l → r.end ≤ new.start → Stands (with_ramp_last r (staying new r.ramps) new) (added new l)
 ramp_stands r new l s le = record {
   older = s.older;
   split = ap (added new) s.split ∙ added_is r.end r.ramps s.older new s.early s.late le;
@@ -96,7 +96,7 @@ other_stands names now r selector l s le =
 hot_stands : (names : Names) (now : ℕ) (r : Ramps) (selector : ℕ) (t : Sort) (l : List Ramp) → Stands r l → r.end ≤ now →
     Stands (hot names now r selector t).ramps (list_after names now r selector t l)
 hot_stands names now r selector (sort.Float z) l s le =
-    with_ramp_stands (are_stored r (pos 0) (pos 0)) (float_ramp r now z) l s (omega arith)
+    with_ramp_stands (with_times r (pos 0) (pos 0)) (float_ramp r now z) l s (omega arith)
 hot_stands names now r selector sort.Bang l s le = s
 hot_stands names now r selector (sort.Symbol n) l s le = s
 hot_stands names now r selector sort.List l s le = other_stands names now r selector l s le

@@ -19,7 +19,7 @@ use Rattle.pd_kind.specs.declared.states.Ramp.{Ramp}
 use Rattle.pd_kind.specs.declared.states.Ramps.{Ramps}
 use Rattle.pd_kind.specs.declared.states.State.{State}
 use Rattle.pd_kind.specs.declared.states.State.TheVariants as state
-use Rattle.pd_kind.specs.Books.{are_stored, is_added}
+use Rattle.pd_kind.specs.Books.{with_times, with_ramp_last}
 use Rattle.pd_kind.specs.Hearing.{Heard, first_sort}
 use Rattle.pd_kind.specs.Messages.{sort_of}
 use Rattle.pd_kind.specs.Said.{Said, silent, deaf}
@@ -61,12 +61,12 @@ staying new ramps = prefix_len (λ r. nat_lt r.start new.start) ramps
 -- a ramp is added where less than 256 ramps stay
 abbrev pub with_ramp : Ramps → Ramp → Left
 with_ramp r new =
-    if nat_lt (staying new r.ramps) 256 then leaves (is_added r (staying new r.ramps) new) silent
+    if nat_lt (staying new r.ramps) 256 then leaves (with_ramp_last r (staying new r.ramps) new) silent
     else leaves r (record { sends = []; deed = Nothing; notices = TooManyRamps ∷ [] })
 
 -- a number makes a ramp, and the stored times are set back to 0
 abbrev pub float_heard : Ramps → ℕ → ℤ → Left
-float_heard r now z = with_ramp (are_stored r (pos 0) (pos 0)) (float_ramp r now z)
+float_heard r now z = with_ramp (with_times r (pos 0) (pos 0)) (float_ramp r now z)
 
 -- `stop` makes a ramp that holds the present value
 abbrev pub other_heard : Names → ℕ → Ramps → ℕ → Left
@@ -80,7 +80,7 @@ time_or a time = time
 
 -- a list's second and third atoms are stored before the first is heard
 abbrev pub spread : Sort → Ramps → List Atom → Ramps
-spread sort.List r atoms = are_stored r (time_or (slice_get atoms 1) r.time) (time_or (slice_get atoms 2) r.delay)
+spread sort.List r atoms = with_times r (time_or (slice_get atoms 1) r.time) (time_or (slice_get atoms 2) r.delay)
 spread s r atoms = r
 
 -- inlet 0, once a list is spread
@@ -93,8 +93,8 @@ hot names now r selector sort.Other = other_heard names now r selector
 
 -- inlet 1 stores the ramp time, inlet 2 the delay
 abbrev pub stored_at : Ramps → ℕ → ℤ → Ramps
-stored_at r (suc zero) z = are_stored r (limited z) r.delay
-stored_at r (suc (suc zero)) z = are_stored r r.time (limited z)
+stored_at r (suc zero) z = with_times r (limited z) r.delay
+stored_at r (suc (suc zero)) z = with_times r r.time (limited z)
 stored_at r i z = r
 
 abbrev pub cold : Ramps → ℕ → ℕ → Sort → Left

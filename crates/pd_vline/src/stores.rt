@@ -3,7 +3,7 @@
 ghost use Rattle.std.specs.Prelude.{◌≡◌, ◌+◌, ◌*◌, ◌≤◌, ◌^◌, pos, ◌≤ℤ◌, length, slice_get, nat_lt};
 ghost use Rattle.std.specs.List.{prefix_len};
 ghost use Rattle.std.specs.Option.{option_copied};
-ghost use Rattle.pd_kind.specs.Books.{IsBook, IsShort, IsTime, are_stored};
+ghost use Rattle.pd_kind.specs.Books.{IsBook, IsShort, IsTime, with_times};
 ghost use Rattle.pd_vline.specs.Rows.{limited as limited_to_day, units as units_of, float_ramp as ramp_of_float, stop_ramp as ramp_of_stop, staying as staying_before, time_or, spread as spread_over, stored_at};
 
 use pd_atom::Atom;
