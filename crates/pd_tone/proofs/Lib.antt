@@ -1,0 +1,5 @@
+pub mod Table
+pub mod Points
+pub mod Circle
+pub mod Proportions
+pub mod Blocks
