@@ -1,7 +1,7 @@
 //! The cosine.
 
 ghost use Rattle.std.specs.Prelude.{◌≡◌, ◌<◌, ◌≤◌, ◌+◌, ◌*◌, ◌+ℤ◌, ◌-ℤ◌, ◌*ℤ◌, pos, slice_index_or, unsigned_abs, int_div};
-ghost use Rattle.pd_tone.specs.Cosine.{quarter, point, between as proportion, cosine as cosine_of};
+ghost use Rattle.pd_tone.specs.Cosine.{point, between as proportion, cosine as cosine_of};
 
 /// The cosine at `j` of the 512 parts of a quarter of the circle: a polynomial in `j / 512`.
 macro_rules! quarter_point {
@@ -24,8 +24,8 @@ macro_rules! quarter_point {
     };
 }
 
-/// A quarter of the circle and its end, from the places where its rows of 16 start.
-macro_rules! quarter_points {
+/// The two quarters of a half circle and its end, from the places where the rows of 16 of a quarter start.
+macro_rules! half_points {
     ($($start:literal),*) => {
         [
             $(
@@ -34,40 +34,46 @@ macro_rules! quarter_points {
                 quarter_point!($start + 8), quarter_point!($start + 9), quarter_point!($start + 10), quarter_point!($start + 11),
                 quarter_point!($start + 12), quarter_point!($start + 13), quarter_point!($start + 14), quarter_point!($start + 15),
             )*
-            quarter_point!(512)
+            $(
+                -quarter_point!(512 - $start - 0), -quarter_point!(512 - $start - 1), -quarter_point!(512 - $start - 2), -quarter_point!(512 - $start - 3),
+                -quarter_point!(512 - $start - 4), -quarter_point!(512 - $start - 5), -quarter_point!(512 - $start - 6), -quarter_point!(512 - $start - 7),
+                -quarter_point!(512 - $start - 8), -quarter_point!(512 - $start - 9), -quarter_point!(512 - $start - 10), -quarter_point!(512 - $start - 11),
+                -quarter_point!(512 - $start - 12), -quarter_point!(512 - $start - 13), -quarter_point!(512 - $start - 14), -quarter_point!(512 - $start - 15),
+            )*
+            -quarter_point!(0)
         ]
     };
 }
 
-/// The cosine in billionths at each of the 512 parts of a quarter of the circle, and at its end.
-static QUARTER: [i64; 513] = quarter_points!(
+/// The cosine in billionths at each of the first 1,024 of the 2,048 parts of the circle, and at their end.
+static HALF: [i64; 1025] = half_points!(
     0, 16, 32, 48, 64, 80, 96, 112, 128, 144, 160, 176, 192, 208, 224, 240, 256, 272, 288, 304,
     320, 336, 352, 368, 384, 400, 416, 432, 448, 464, 480, 496
 );
 
 /// The table's entry.
 #[inline]
-fn entry(j: usize) -> i64
-    requires { j ≤ 512 }
-    ensures { result ≡ slice_index_or QUARTER j (pos 0) }
+fn entry(k: usize) -> i64
+    requires { k ≤ 1024 }
+    ensures { result ≡ slice_index_or HALF k (pos 0) }
 {
-    QUARTER[j]
+    HALF[k]
 }
 
-/// The cosine at a part of the first quarter.
+/// The cosine at a part of the first half of the circle.
 #[inline]
 #[tactic(auto, using(crate::proofs::Table::table_at, crate::proofs::Table::table_small))]
-fn at(j: usize) -> i64
-    requires { j ≤ 512 }
-    ensures value { result ≡ quarter j }
+fn at(k: usize) -> i64
+    requires { k ≤ 1024 }
+    ensures value { result ≡ point k }
     ensures small { unsigned_abs result ≤ 1000000000 }
 {
-    entry(j)
+    entry(k)
 }
 
 /// The cosine at a part of the circle and at the next one.
 #[inline]
-#[tactic(auto, using(crate::proofs::Points::first_point, crate::proofs::Points::second_point, crate::proofs::Points::third_point, crate::proofs::Points::fourth_point))]
+#[tactic(auto, using(crate::proofs::Points::first_half, crate::proofs::Points::first_half_next, crate::proofs::Points::second_half, crate::proofs::Points::second_half_next))]
 fn points(k: usize) -> (i64, i64)
     requires { k < 2048 }
     ensures from { result.0 ≡ point k }
@@ -75,12 +81,8 @@ fn points(k: usize) -> (i64, i64)
     ensures small_from { unsigned_abs result.0 ≤ 1000000000 }
     ensures small_to { unsigned_abs result.1 ≤ 1000000000 }
 {
-    match k / 512 {
-        0 => (at(k), at(k + 1)),
-        1 => (-at(1024 - k), -at(1023 - k)),
-        2 => (-at(k - 1024), -at(k - 1023)),
-        _ => (at(2048 - k), at(2047 - k)),
-    }
+    let (from, to) = (at(k % 1024), at(k % 1024 + 1));
+    if k < 1024 { (from, to) } else { (-from, -to) }
 }
 
 #[inline]
