@@ -11,7 +11,7 @@ unfoldable pub quarter : ℕ → ℤ
 quarter j = polynomial j (neg_ℤ (pos 6))
     (pos 471 ∷ neg_ℤ (pos 25202) ∷ pos 919260 ∷ neg_ℤ (pos 20863481) ∷ pos 253669508 ∷ neg_ℤ (pos 1233700550) ∷ pos 1000000000 ∷ [])
 
--- the cosine at k of the 2048 parts of the circle
+-- the cosine at k of the 2048 parts of the circle; past its end it stays as there
 unfoldable pub point : ℕ → ℤ
 point k =
     if nat_le k 512 then quarter k else

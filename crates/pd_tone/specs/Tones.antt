@@ -4,7 +4,7 @@ use Rattle.std.specs.Int.{int_rem_euclid}
 use Rattle.pd_clock.specs.declared.times.Rate.{Rate}
 use Rattle.pd_clock.specs.Rates.{samples}
 
--- a circle counts so many parts: a step of a billionth a sample goes round it once in a billion seconds
+-- how many steps of one go round the circle: a step is a frequency in billionths of a hertz, so that f hertz go round f times in a second
 abbrev pub circle : Rate → ℕ
 circle rate = samples rate * 1000000000
 

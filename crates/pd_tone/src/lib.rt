@@ -5,5 +5,7 @@ mod cosine;
 mod kernels;
 mod phases;
 mod rows;
+#[cfg(test)]
+mod tests;
 
 pub use rows::run;
