@@ -1,6 +1,7 @@
 //! Messages heard by one box: how long one takes, for a few kinds of boxes.
 
-ghost use Rattle.std.specs.Prelude.{IfOk};
+ghost use Rattle.std.specs.Prelude.{◌<◌, length, IfOk};
+ghost use Rattle.pd_glue.specs.Rows.{IsSmall};
 ghost use Rattle.pd_bench.specs.Boxes.{IsFit};
 
 use crate::benchmark::Measures;
@@ -81,9 +82,6 @@ struct Listener {
 }
 
 impl Listener {
-    ghost use Rattle.std.specs.Prelude.{◌<◌, length};
-    ghost use Rattle.pd_glue.specs.Rows.{IsSmall};
-
     fn new(alloc: Global, kind: Kind) -> Result<Listener, AllocError>
         requires { IsFit kind }
     {
