@@ -9,6 +9,7 @@
 #   mend       the signal order of voices that feed one box: one voice's wire is cut and added again, where the chain stays and, apart, where it
 #              changes; beside it a fold at the same size
 #   hear       messages heard by one box: a number at the left inlet of `+`, `trigger`, `route`, `pack` and a message box with `$1`
+#   tone       blocks of phasor~, osc~ and noise~, one after another
 #
 # Times are of the processor, so other work on the machine lengthens them little; each is the least of five runs. docs/BENCHMARKS.md has
 # targets and figures. With sizes of your own, once the program is built:
@@ -19,6 +20,7 @@
 #   crates/pd_bench/out/pd_bench fold BOXES
 #   crates/pd_bench/out/pd_bench mend BOXES
 #   crates/pd_bench/out/pd_bench hear MESSAGES
+#   crates/pd_bench/out/pd_bench tone BLOCKS
 #
 # The program is built first where it isn't built, or where a source has changed since; that proves the crates below it, which takes
 # minutes the first time.
@@ -46,6 +48,7 @@ sizes=(
   "fold 100" "fold 1000" "fold 10000"
   "mend 100" "mend 1000" "mend 10000"
   "hear 1000000"
+  "tone 100000"
 )
 
 run() {

@@ -1,11 +1,11 @@
 //! The benchmarks by name.
 
-use crate::{clocks, document, fold, hearing, mend, wires};
+use crate::{clocks, document, fold, hearing, mend, tone, wires};
 use anyhow::Result;
 use std::time::CpuClock;
 
 pub(crate) const USAGE: &str =
-    "usage: pd_bench document BYTES | clocks OWNERS FIRINGS | wires COUNT | fold BOXES | mend BOXES | hear MESSAGES";
+    "usage: pd_bench document BYTES | clocks OWNERS FIRINGS | wires COUNT | fold BOXES | mend BOXES | hear MESSAGES | tone BLOCKS";
 
 /// What a benchmark uses of the runtime.
 pub(crate) trait Measures: AllocGlobal + CpuClock + Print {}
@@ -21,6 +21,7 @@ pub(crate) enum Benchmark {
     Fold { boxes: u32 },
     Mend { boxes: u32 },
     Hear { messages: u32 },
+    Tone { blocks: u32 },
 }
 
 /// A size that isn't 0.
@@ -44,6 +45,9 @@ impl Benchmark {
             [name, boxes] if name.as_str() == "fold" => Some(Benchmark::Fold {
                 boxes: size(boxes.as_str())?,
             }),
+            [name, blocks] if name.as_str() == "tone" => Some(Benchmark::Tone {
+                blocks: size(blocks.as_str())?,
+            }),
             [name, boxes] if name.as_str() == "mend" => Some(Benchmark::Mend {
                 boxes: size(boxes.as_str())?,
             }),
@@ -62,6 +66,7 @@ impl Benchmark {
             Benchmark::Fold { boxes } => fold::run(rt, boxes),
             Benchmark::Mend { boxes } => mend::run(rt, boxes),
             Benchmark::Hear { messages } => hearing::run(rt, messages),
+            Benchmark::Tone { blocks } => tone::run(rt, blocks),
         }
     }
 }

@@ -12,6 +12,7 @@ mod hearing;
 mod mend;
 mod numbers;
 mod timing;
+mod tone;
 mod wires;
 
 use anyhow::Result;
