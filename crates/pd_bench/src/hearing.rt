@@ -70,88 +70,84 @@ fn message(alloc: Global) -> Result<Kind, AllocError>
     Ok(Kind::Glue(Glue::Message { text }))
 }
 
-/// A box, the names, and what the box says.
-#[derive(Drop)]
-struct Listener {
-    kind: Kind,
-    state: State,
-    symbols: Symbols,
-    out: Sends,
-    ghost small: { IsSmall symbols kind state },
-    ghost named: { 1 < length symbols },
-}
-
-impl Listener {
-    fn new(alloc: Global, kind: Kind) -> Result<Listener, AllocError>
-        requires { IsFit kind }
-    {
-        let state = State::fresh(alloc, &kind, Rate::R44100)?;
-        pd_glue::starts_small();
-        Ok(Listener {
-            kind,
-            state,
-            symbols: Symbols::new(alloc)?,
-            out: Sends::new(alloc)?,
-        })
-    }
-
-    /// Hears a number at its left inlet, and tells how many sends it makes of it.
-    fn hear(&mut self, number: Num) -> usize {
-        let atoms = [Atom::Number(number)];
-        let message = Message {
-            selector: Sym::float(),
-            atoms: &atoms,
-        };
-        let around = Around {
-            now: Time::of_units(0),
-            table: None,
-        };
-        let Listener {
-            kind,
-            state,
-            symbols,
-            out,
-        } = self;
-        match kind {
-            Kind::Arith(_) => pd_arith::hear(kind, state, 0, message, symbols, &around, out),
-            _ => pd_glue::hear(kind, state, 0, message, symbols, &around, out),
-        }
-        out.rows.len()
+/// A number comes to the box's left inlet.
+fn hear(kind: &Kind, state: &mut State, symbols: &mut Symbols, number: Num, out: &mut Sends)
+    requires small { IsSmall symbols.old kind.now state.old }
+    requires named { 1 < length symbols.old }
+    ensures small { IsSmall symbols.new kind.now state.new }
+    ensures named { 1 < length symbols.new }
+{
+    let atoms = [Atom::Number(number)];
+    let message = Message {
+        selector: Sym::float(),
+        atoms: &atoms,
+    };
+    let around = Around {
+        now: Time::of_units(0),
+        table: None,
+    };
+    match kind {
+        Kind::Arith(_) => pd_arith::hear(kind, state, 0, message, symbols, &around, out),
+        _ => pd_glue::hear(kind, state, 0, message, symbols, &around, out),
     }
 }
 
-/// The time of so many messages, of which each is a number from 0 to 7.
-fn measure<R: Measures>(rt: &R, listener: &mut Listener, messages: u32) -> Result<Nanos> {
-    let mut sends = 0usize;
+/// The time of so many messages, each a number from 0 to 7.
+fn measure<R: Measures>(
+    rt: &R,
+    kind: &Kind,
+    state: &mut State,
+    symbols: &mut Symbols,
+    out: &mut Sends,
+    messages: u32,
+) -> Result<Nanos>
+    requires small { IsSmall symbols.old kind.now state.old }
+    requires named { 1 < length symbols.old }
+    ensures small { IsSmall symbols.new kind.now state.new }
+    ensures named { 1 < length symbols.new }
+{
     let watch = Stopwatch::start(rt)?;
     for i in 0..messages {
-        sends = sends.wrapping_add(listener.hear(whole(i64::from(i % 8))));
+        hear(kind, state, symbols, whole(i64::from(i % 8)), out);
     }
-    let time = watch.read(rt)?;
-    if sends == 0 {
-        println!(rt; "hear: nothing was sent")?;
+    Ok(watch.read(rt)?)
+}
+
+/// The least time of a few runs.
+fn least<R: Measures>(
+    rt: &R,
+    kind: &Kind,
+    state: &mut State,
+    symbols: &mut Symbols,
+    messages: u32,
+) -> Result<Nanos>
+    requires small { IsSmall symbols.old kind.now state.old }
+    requires named { 1 < length symbols.old }
+{
+    let mut out = Sends::new(rt.alloc())?;
+    let mut least = measure(rt, kind, state, symbols, &mut out, messages)?;
+    for _ in 1..RUNS {
+        least = least.min(measure(rt, kind, state, symbols, &mut out, messages)?);
     }
-    Ok(time)
+    Ok(least)
 }
 
 /// Measures one kind of box.
-fn run_kind<R: Measures>(rt: &R, name: &str, kind: Kind, messages: u32) -> Result<()>
-    requires { IsFit kind }
+fn run_kind<R: Measures>(rt: &R, name: &str, kind: &Kind, messages: u32) -> Result<()>
+    requires { IsFit kind.now }
 {
-    let mut listener = Listener::new(rt.alloc(), kind)?;
-    let mut least = measure(rt, &mut listener, messages)?;
-    for _ in 1..RUNS {
-        least = least.min(measure(rt, &mut listener, messages)?);
-    }
-    let each = least.each(u64::from(messages));
+    let mut state = State::fresh(rt.alloc(), kind, Rate::R44100)?;
+    pd_glue::starts_small();
+    let mut symbols = Symbols::new(rt.alloc())?;
+    let each = least(rt, kind, &mut state, &mut symbols, messages)?.each(u64::from(messages));
     println!(rt; "hear: {name}, {messages} messages: {each} ns a message")?;
     Ok(())
 }
 
 pub(crate) fn run<R: Measures>(rt: &R, messages: u32) -> Result<()> {
-    run_kind(rt, "+ 1", adder(), messages)?;
-    run_kind(rt, "trigger bang float", trigger(rt.alloc())?, messages)?;
-    run_kind(rt, "route 1 2 3", route(rt.alloc())?, messages)?;
-    run_kind(rt, "pack 0 0", pack(rt.alloc())?, messages)?;
-    run_kind(rt, "a message box with $1", message(rt.alloc())?, messages)
+    run_kind(rt, "+ 1", &adder(), messages)?;
+    run_kind(rt, "trigger bang float", &trigger(rt.alloc())?, messages)?;
+    run_kind(rt, "route 1 2 3", &route(rt.alloc())?, messages)?;
+    run_kind(rt, "pack 0 0", &pack(rt.alloc())?, messages)?;
+    run_kind(rt, "a message box with $1", &message(rt.alloc())?, messages)
 }
