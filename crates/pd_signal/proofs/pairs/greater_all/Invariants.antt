@@ -1,0 +1,9 @@
+use Rattle.std.proofs.Common.{◌≡◌, ◌++◌, take, drop, length}
+use Rattle.pd_signal.specs.Samples.{zip_with, greater_of}
+use Rattle.pd_signal.proofs.pairs.greater_all.Given as goal
+
+abbrev pub invariant-loop-i : goal.invariant-loop-i
+invariant-loop-i l = record {
+  out : take l.i l.out ++ zip_with greater_of (drop l.i l.x) (drop l.i l.y) ≡ zip_with greater_of l.x l.y;
+  len : length l.out ≡ 64;
+}

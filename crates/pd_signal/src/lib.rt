@@ -1,0 +1,17 @@
+//! The signal objects, a block at a time: what each gives from its inlets' samples, and what it keeps then.
+//!
+//! No call takes memory.
+#![tactic(auto)]
+
+mod buses;
+mod delays;
+mod filters;
+mod keepers;
+mod maps;
+mod operations;
+mod pairs;
+mod ramps;
+mod rows;
+mod tables;
+
+pub use rows::run;

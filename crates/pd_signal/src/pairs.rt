@@ -1,0 +1,73 @@
+//! Two blocks, sample by sample.
+
+ghost use Rattle.std.specs.Prelude.{◌≡◌};
+ghost use Rattle.pd_num.specs.Scale.{billionths, sum_of, difference_of, product_of, quotient_of};
+ghost use Rattle.pd_signal.specs.Samples.{zip_with, greater_of, lesser_of};
+
+use pd_num::Sig;
+
+fn greater(x: Sig, y: Sig) -> Sig
+    ensures { result ≡ greater_of x y }
+{
+    if x.nanos() <= y.nanos() { y } else { x }
+}
+
+fn lesser(x: Sig, y: Sig) -> Sig
+    ensures { result ≡ lesser_of x y }
+{
+    if x.nanos() <= y.nanos() { x } else { y }
+}
+
+/// The sums of two blocks.
+pub(crate) fn add_all(x: &[Sig; 64], y: &[Sig; 64], out: &mut [Sig; 64])
+    ensures { out.new ≡ zip_with (sum_of billionths) x.now y.now }
+{
+    for i in 0..64 {
+        out[i] = x[i].add(y[i]);
+    }
+}
+
+/// The differences of two blocks.
+pub(crate) fn subtract_all(x: &[Sig; 64], y: &[Sig; 64], out: &mut [Sig; 64])
+    ensures { out.new ≡ zip_with (difference_of billionths) x.now y.now }
+{
+    for i in 0..64 {
+        out[i] = x[i].sub(y[i]);
+    }
+}
+
+/// The products of two blocks.
+pub(crate) fn multiply_all(x: &[Sig; 64], y: &[Sig; 64], out: &mut [Sig; 64])
+    ensures { out.new ≡ zip_with (product_of billionths) x.now y.now }
+{
+    for i in 0..64 {
+        out[i] = x[i].mul(y[i]);
+    }
+}
+
+/// The quotients of two blocks.
+pub(crate) fn divide_all(x: &[Sig; 64], y: &[Sig; 64], out: &mut [Sig; 64])
+    ensures { out.new ≡ zip_with (quotient_of billionths) x.now y.now }
+{
+    for i in 0..64 {
+        out[i] = x[i].div(y[i]);
+    }
+}
+
+/// The greater of each two samples.
+pub(crate) fn greater_all(x: &[Sig; 64], y: &[Sig; 64], out: &mut [Sig; 64])
+    ensures { out.new ≡ zip_with greater_of x.now y.now }
+{
+    for i in 0..64 {
+        out[i] = greater(x[i], y[i]);
+    }
+}
+
+/// The lesser of each two samples.
+pub(crate) fn lesser_all(x: &[Sig; 64], y: &[Sig; 64], out: &mut [Sig; 64])
+    ensures { out.new ≡ zip_with lesser_of x.now y.now }
+{
+    for i in 0..64 {
+        out[i] = lesser(x[i], y[i]);
+    }
+}
