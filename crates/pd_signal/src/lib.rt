@@ -12,6 +12,8 @@ mod operations;
 mod pairs;
 mod ramps;
 mod rows;
+mod shared_rows;
 mod tables;
 
 pub use rows::run;
+pub use shared_rows::{run_shared, run_table};
