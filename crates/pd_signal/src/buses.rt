@@ -22,7 +22,8 @@ pub(crate) fn no_signal() -> Sig
 /// Keeps a block.
 pub(crate) fn keep_block(kept: &mut Samples, x: &[Sig; 64])
     requires { length kept.old ≡ 64 }
-    ensures { kept.new ≡ x.now }
+    ensures kept { kept.new ≡ x.now }
+    ensures len { length kept.new ≡ 64 }
 {
     for i in 0..64 {
         kept.set(i, x[i]);
@@ -35,6 +36,7 @@ pub(crate) fn take_block(kept: &mut Samples, out: &mut [Sig; 64])
     requires { length kept.old ≡ 64 }
     ensures out { out.new ≡ kept.old }
     ensures kept { kept.new ≡ silent_block }
+    ensures len { length kept.new ≡ 64 }
 {
     out.copy_from_slice(kept.as_slice());
     let mut silent = [no_signal(); 64];

@@ -2,6 +2,7 @@
 
 ghost use Rattle.std.specs.Prelude.{◌≡◌, ◌<◌, ◌≤◌, ◌-◌, ◌+◌, ◌^◌, length};
 ghost use Rattle.pd_kind.specs.States.{line_length};
+ghost use Rattle.pd_signal.specs.Boxes.{IsRing};
 ghost use Rattle.pd_signal.specs.Delays.{place_after as place_after_place, places_on as places_on_from, places_back as places_back_from, written, read_from, way_back as way_back_of, delayed};
 
 use pd_clock::Rate;
@@ -54,6 +55,7 @@ pub(crate) fn write_line(ring: &mut Samples, next: &mut u32, x: &[Sig; 64])
     requires small { length ring.old ≤ 2 ^ 32 }
     ensures ring { ring.new ≡ written ring.old next.old x.now }
     ensures next { next.new ≡ places_on_from (length ring.old) next.old 64 }
+    ensures sized { IsRing ring.new next.new }
 {
     let from = *next;
     write_from(ring, from as usize, x);

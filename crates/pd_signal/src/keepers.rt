@@ -23,7 +23,8 @@ fn last_sample(block: &[Sig; 64]) -> Sig
 /// `line~`
 pub(crate) fn run_line(state: &mut State, outs: &mut [[Sig; 64]])
     requires { 0 < length outs.old }
-    ensures { record { state = state.new; outs = outs.new } ≡ line_row state.old outs.old }
+    ensures ran { record { state = state.new; outs = outs.new } ≡ line_row state.old outs.old }
+    ensures sized { IsSized state.old → IsSized state.new }
 {
     if let State::Line(slope) = state {
         ramp(slope, &mut outs[0]);
@@ -34,7 +35,8 @@ pub(crate) fn run_line(state: &mut State, outs: &mut [[Sig; 64]])
 pub(crate) fn run_samphold(state: &mut State, ins: &[[Sig; 64]], outs: &mut [[Sig; 64]])
     requires inlets { 1 < length ins.now }
     requires outlets { 0 < length outs.old }
-    ensures { record { state = state.new; outs = outs.new } ≡ samphold_row state.old ins.now outs.old }
+    ensures ran { record { state = state.new; outs = outs.new } ≡ samphold_row state.old ins.now outs.old }
+    ensures sized { IsSized state.old → IsSized state.new }
 {
     if let State::Samphold { last, kept, .. } = state {
         let before = *last;
@@ -72,7 +74,8 @@ fn factor(rate: Rate, hertz: Num) -> Sig
 pub(crate) fn run_lop(state: &mut State, ins: &[[Sig; 64]], outs: &mut [[Sig; 64]])
     requires inlets { 0 < length ins.now }
     requires outlets { 0 < length outs.old }
-    ensures { record { state = state.new; outs = outs.new } ≡ lop_row state.old ins.now outs.old }
+    ensures ran { record { state = state.new; outs = outs.new } ≡ lop_row state.old ins.now outs.old }
+    ensures sized { IsSized state.old → IsSized state.new }
 {
     if let State::Lop {
         hertz,
@@ -89,7 +92,8 @@ pub(crate) fn run_lop(state: &mut State, ins: &[[Sig; 64]], outs: &mut [[Sig; 64
 pub(crate) fn run_hip(state: &mut State, ins: &[[Sig; 64]], outs: &mut [[Sig; 64]])
     requires inlets { 0 < length ins.now }
     requires outlets { 0 < length outs.old }
-    ensures { record { state = state.new; outs = outs.new } ≡ hip_row state.old ins.now outs.old }
+    ensures ran { record { state = state.new; outs = outs.new } ≡ hip_row state.old ins.now outs.old }
+    ensures sized { IsSized state.old → IsSized state.new }
 {
     if let State::Hip {
         hertz,
@@ -106,7 +110,8 @@ pub(crate) fn run_hip(state: &mut State, ins: &[[Sig; 64]], outs: &mut [[Sig; 64
 pub(crate) fn run_delwrite(state: &mut State, ins: &[[Sig; 64]])
     requires inlets { 0 < length ins.now }
     requires sized { IsSized state.old }
-    ensures { (outs : List (List ℤ)) → record { state = state.new; outs = outs } ≡ delwrite_row state.old ins.now outs }
+    ensures ran { (outs : List (List ℤ)) → record { state = state.new; outs = outs } ≡ delwrite_row state.old ins.now outs }
+    ensures sized { IsSized state.new }
 {
     if let State::Delwrite {
         values,
@@ -124,7 +129,8 @@ pub(crate) fn run_delwrite(state: &mut State, ins: &[[Sig; 64]])
 pub(crate) fn run_send(state: &mut State, ins: &[[Sig; 64]])
     requires inlets { 0 < length ins.now }
     requires sized { IsSized state.old }
-    ensures { (outs : List (List ℤ)) → record { state = state.new; outs = outs } ≡ send_row state.old ins.now outs }
+    ensures ran { (outs : List (List ℤ)) → record { state = state.new; outs = outs } ≡ send_row state.old ins.now outs }
+    ensures sized { IsSized state.new }
 {
     if let State::SignalSend { block, .. } = state {
         keep_block(block, &ins[0]);
@@ -135,7 +141,8 @@ pub(crate) fn run_send(state: &mut State, ins: &[[Sig; 64]])
 pub(crate) fn run_catch(state: &mut State, outs: &mut [[Sig; 64]])
     requires outlets { 0 < length outs.old }
     requires sized { IsSized state.old }
-    ensures { record { state = state.new; outs = outs.new } ≡ catch_row state.old outs.old }
+    ensures ran { record { state = state.new; outs = outs.new } ≡ catch_row state.old outs.old }
+    ensures sized { IsSized state.new }
 {
     if let State::Catch { sum } = state {
         take_block(sum, &mut outs[0]);
@@ -145,7 +152,8 @@ pub(crate) fn run_catch(state: &mut State, outs: &mut [[Sig; 64]])
 /// `snapshot~`
 pub(crate) fn run_snapshot(state: &mut State, ins: &[[Sig; 64]])
     requires inlets { 0 < length ins.now }
-    ensures { (outs : List (List ℤ)) → record { state = state.new; outs = outs } ≡ snapshot_row state.old ins.now outs }
+    ensures ran { (outs : List (List ℤ)) → record { state = state.new; outs = outs } ≡ snapshot_row state.old ins.now outs }
+    ensures sized { IsSized state.old → IsSized state.new }
 {
     if let State::Snapshot { last, .. } = state {
         *last = last_sample(&ins[0]);

@@ -16,7 +16,8 @@ fn run_signal(signal: &Signal, state: &mut State, ins: &[[Sig; 64]], outs: &mut 
     requires inlets { length ins.now ≡ (signal_ports signal.now).signal_inlets }
     requires outlets { length outs.old ≡ (signal_ports signal.now).signal_outlets }
     requires sized { IsSized state.old }
-    ensures { record { state = state.new; outs = outs.new } ≡ signal_row signal.now state.old ins.now outs.old }
+    ensures ran { record { state = state.new; outs = outs.new } ≡ signal_row signal.now state.old ins.now outs.old }
+    ensures sized { IsSized state.new }
 {
     match signal {
         Signal::Sig { .. } => run_sig(state, outs),
@@ -53,7 +54,8 @@ fn run_signal(signal: &Signal, state: &mut State, ins: &[[Sig; 64]], outs: &mut 
 pub fn run(kind: &Kind, state: &mut State, ins: &[[Sig; 64]], outs: &mut [[Sig; 64]])
     requires blocks { HasBlocks kind.now ins.now outs.old }
     requires sized { IsSized state.old }
-    ensures { record { state = state.new; outs = outs.new } ≡ run_of kind.now state.old ins.now outs.old }
+    ensures ran { record { state = state.new; outs = outs.new } ≡ run_of kind.now state.old ins.now outs.old }
+    ensures sized { IsSized state.new }
 {
     if let Kind::Signal(signal) = kind {
         run_signal(signal, state, ins, outs);

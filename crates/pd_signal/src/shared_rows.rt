@@ -128,7 +128,8 @@ pub fn run_shared(
 )
     requires blocks { HasBlocks kind.now ins.now outs.old }
     requires fits { Fits kind.now shared.old line }
-    ensures { record { ran = record { state = state.new; outs = outs.new }; shared = shared.new } ≡ shared_run_of kind.now state.old ins.now outs.old shared.old line }
+    ensures ran { record { ran = record { state = state.new; outs = outs.new }; shared = shared.new } ≡ shared_run_of kind.now state.old ins.now outs.old shared.old line }
+    ensures kept { state.new ≡ state.old }
 {
     if let Kind::Signal(signal) = kind {
         run_shared_signal(signal, state, ins, shared, line, outs);
@@ -157,7 +158,8 @@ pub fn run_table(
     outs: &mut [[Sig; 64]],
 )
     requires blocks { HasBlocks kind.now ins.now outs.old }
-    ensures { record { state = state.new; outs = outs.new } ≡ table_run_of kind.now state.old ins.now outs.old table.now }
+    ensures ran { record { state = state.new; outs = outs.new } ≡ table_run_of kind.now state.old ins.now outs.old table.now }
+    ensures kept { state.new ≡ state.old }
 {
     if let Kind::Signal(Signal::Tabread { .. }) = kind {
         run_tabread(state, ins, table, outs);
