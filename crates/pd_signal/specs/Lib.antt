@@ -1,5 +1,7 @@
 pub mod Samples
 pub mod Ramps
+pub mod Rings
+pub mod Lines
 pub mod Delays
 pub mod Tables
 pub mod Boxes

@@ -16,7 +16,7 @@ use Rattle.pd_kind.specs.declared.states.State.TheVariants as state
 use Rattle.pd_kind.specs.States.{silent_block}
 use Rattle.pd_signal.specs.Samples.{zip_with, greater_of, lesser_of, magnitude_of, wrapped, clipped, last_of, low_passed, high_passed, kept_values}
 use Rattle.pd_signal.specs.Ramps.{ramp_of, slope_after}
-use Rattle.pd_signal.specs.Delays.{written, places_on}
+use Rattle.pd_signal.specs.Rings.{written, places_on}
 use Rattle.pd_signal.specs.Boxes.{Ran, gives, keeps, inlet}
 
 -- `sig~`

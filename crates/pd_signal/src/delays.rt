@@ -3,7 +3,8 @@
 ghost use Rattle.std.specs.Prelude.{◌≡◌, ◌<◌, ◌≤◌, ◌-◌, ◌+◌, ◌^◌, length};
 ghost use Rattle.pd_kind.specs.States.{line_length};
 ghost use Rattle.pd_signal.specs.Boxes.{IsRing};
-ghost use Rattle.pd_signal.specs.Delays.{place_after as place_after_place, places_on as places_on_from, places_back as places_back_from, written, read_from, way_back as way_back_of, delayed};
+ghost use Rattle.pd_signal.specs.Rings.{place_after as place_after_place, places_on as places_on_from, places_back as places_back_from, written, read_from};
+ghost use Rattle.pd_signal.specs.Delays.{way_back as way_back_of, delayed};
 
 use pd_clock::Rate;
 use pd_kind::{Line, Samples};

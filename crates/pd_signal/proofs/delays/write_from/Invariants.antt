@@ -1,5 +1,5 @@
 use Rattle.std.proofs.Common.{◌≡◌, ◌<◌, drop, length}
-use Rattle.pd_signal.specs.Delays.{written}
+use Rattle.pd_signal.specs.Rings.{written}
 use Rattle.pd_signal.proofs.delays.write_from.Given as goal
 
 abbrev pub invariant-loop-i : goal.invariant-loop-i
