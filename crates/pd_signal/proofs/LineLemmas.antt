@@ -1,6 +1,5 @@
 -- A ring keeps the last of all samples that were written.
-use Rattle.std.proofs.Common.{◌≡◌, ◌≢◌, refl, sym, ◌∙◌, ap, subst, ℕ, ℤ, pos, suc, min, ◌+◌, ◌-◌, ◌<◌, ◌≤◌, Bool, true, false, nat_lt, inl, inr, map, List, [], ◌∷◌, ◌++◌, length, replicate, take, drop, get_or, slice_set, append_assoc, get_or-set_same, get_or-set_other, arith}
-use Rattle.std.specs.List.{range_with_len}
+use Rattle.std.proofs.Common.{◌≡◌, ◌≢◌, refl, sym, ◌∙◌, ap, subst, ℕ, ℤ, pos, suc, min, ◌+◌, ◌-◌, ◌<◌, ◌≤◌, Bool, true, false, nat_lt, inl, inr, List, [], ◌∷◌, ◌++◌, length, replicate, drop, get_or, slice_set, append_assoc, get_or-set_same, get_or-set_other, arith}
 use Rattle.std.proofs.lemmas.Bool.{cases_lt}
 use Rattle.std.proofs.lemmas.Bool.Decides.{nat_tests}
 use Rattle.std.proofs.lemmas.List.{append-nil, length-set, length-append, length-take, length-drop, get_or-take, get_or-drop, get_or-append_right, get_or-replicate, ext_get_or, length-replicate}
@@ -76,16 +75,16 @@ step_at ring all next x lt h back low high =
       | inl first ↦
           (let e : 1 ≡ back = omega arith in
           subst (λ k. get_or (slice_set ring next x) (places_back (length ring) (place_after (length ring) next) k) (pos 0) ≡ sample_back (all ++ x ∷ []) k) e
-            (ap (λ p. get_or (slice_set ring next x) p (pos 0)) (back_one (length ring) next lt)
-              ∙ (get_or-set_same ring next x (pos 0) lt ∙ sym (sample_one all x))))
+          (ap (λ p. get_or (slice_set ring next x) p (pos 0)) (back_one (length ring) next lt)
+          ∙ (get_or-set_same ring next x (pos 0) lt ∙ sym (sample_one all x))))
       | inr later ↦
           (let e : suc (back - 1) ≡ back = omega arith in
           let some : 0 < back - 1 = omega arith in
           let fits : back - 1 < length ring = omega arith in
           subst (λ k. get_or (slice_set ring next x) (places_back (length ring) (place_after (length ring) next) k) (pos 0) ≡ sample_back (all ++ x ∷ []) k) e
-            (ap (λ p. get_or (slice_set ring next x) p (pos 0)) (back_more (length ring) next (back - 1) lt some fits)
-              ∙ (get_or-set_other ring next (places_back (length ring) next (back - 1)) x (pos 0) (back_other (length ring) next (back - 1) lt some fits)
-                ∙ (h (back - 1) some (omega arith) ∙ sym (sample_more all x (back - 1) some)))))
+          (ap (λ p. get_or (slice_set ring next x) p (pos 0)) (back_more (length ring) next (back - 1) lt some fits)
+          ∙ (get_or-set_other ring next (places_back (length ring) next (back - 1)) x (pos 0) (back_other (length ring) next (back - 1) lt some fits)
+          ∙ (h (back - 1) some (omega arith) ∙ sym (sample_more all x (back - 1) some)))))
     ]
 
 step : (ring all : List ℤ) (next : ℕ) (x : ℤ) → next < length ring → Holds ring next all
@@ -93,7 +92,7 @@ step : (ring all : List ℤ) (next : ℕ) (x : ℤ) → next < length ring → H
 step ring all next x lt h back low high =
     let len : length (slice_set ring next x) ≡ length ring = length-set ring next x in
     subst (λ n. get_or (slice_set ring next x) (places_back n (place_after (length ring) next) back) (pos 0) ≡ sample_back (all ++ x ∷ []) back) (sym len)
-      (step_at ring all next x lt h back low (omega arith))
+    (step_at ring all next x lt h back low (omega arith))
 
 past_written : (xs ring all : List ℤ) (next : ℕ) → next < length ring → Holds ring next all
     → Holds (written ring next xs) (place_past (length ring) next xs) (all ++ xs)
@@ -102,9 +101,9 @@ past_written (x ∷ xs) ring all next lt h =
     let len : length (slice_set ring next x) ≡ length ring = length-set ring next x in
     let after : place_after (length ring) next < length ring = within_after (length ring) next lt in
     let rest : Holds (written (slice_set ring next x) (place_after (length ring) next) xs) (place_past (length (slice_set ring next x)) (place_after (length ring) next) xs) ((all ++ x ∷ []) ++ xs) =
-        past_written xs (slice_set ring next x) (all ++ x ∷ []) (place_after (length ring) next) (omega arith) (step ring all next x lt h) in
+    past_written xs (slice_set ring next x) (all ++ x ∷ []) (place_after (length ring) next) (omega arith) (step ring all next x lt h) in
     let same : Holds (written (slice_set ring next x) (place_after (length ring) next) xs) (place_past (length ring) (place_after (length ring) next) xs) ((all ++ x ∷ []) ++ xs) =
-        subst (λ n. Holds (written (slice_set ring next x) (place_after (length ring) next) xs) (place_past n (place_after (length ring) next) xs) ((all ++ x ∷ []) ++ xs)) len rest in
+    subst (λ n. Holds (written (slice_set ring next x) (place_after (length ring) next) xs) (place_past n (place_after (length ring) next) xs) ((all ++ x ∷ []) ++ xs)) len rest in
     subst (Holds (written (slice_set ring next x) (place_after (length ring) next) xs) (place_past (length ring) (place_after (length ring) next) xs)) (append_assoc all (x ∷ []) xs) same
 
 pub holds_written : (ring all xs : List ℤ) (next : ℕ) → next < length ring → length xs ≤ length ring → Holds ring next all
@@ -133,11 +132,11 @@ read_at ring all next back i lt low high h =
     elim (cases_lt i (length ring - places_back (length ring) next back)) [
       | inl near ↦
           (get_or-append (drop (places_back (length ring) next back) ring) ring (pos 0) i (omega arith)
-            ∙ (get_or-drop (places_back (length ring) next back) ring i (pos 0)
-              ∙ (ap (λ p. get_or ring p (pos 0)) (sym (nearer_before (length ring) next back i (places_back (length ring) next back) lt low high refl near)) ∙ held)))
+          ∙ (get_or-drop (places_back (length ring) next back) ring i (pos 0)
+          ∙ (ap (λ p. get_or ring p (pos 0)) (sym (nearer_before (length ring) next back i (places_back (length ring) next back) lt low high refl near)) ∙ held)))
       | inr far ↦
           (get_or-append_right (drop (places_back (length ring) next back) ring) ring (length ring - places_back (length ring) next back) i (pos 0) len far
-            ∙ (ap (λ p. get_or ring p (pos 0)) (sym (nearer_after (length ring) next back i (places_back (length ring) next back) lt low high refl far)) ∙ held))
+          ∙ (ap (λ p. get_or ring p (pos 0)) (sym (nearer_after (length ring) next back i (places_back (length ring) next back) lt low high refl far)) ∙ held))
     ]
 
 length_read : (ring : List ℤ) (at : ℕ) → 64 ≤ length ring → length (read_from ring at) ≡ 64
@@ -151,12 +150,12 @@ read_holds : (ring all : List ℤ) (next back : ℕ) → next < length ring → 
 read_holds ring all next back lt low high h =
     let len : length (read_from ring (places_back (length ring) next back)) ≡ 64 = length_read ring (places_back (length ring) next back) (omega arith) in
     ext_get_or (pos 0) (read_from ring (places_back (length ring) next back)) (block_back all back)
-      (len ∙ sym (length-map-range_with_len (λ i. sample_back all (back - i)) 0 64))
-      (λ i lower.
-        let below : i < 64 = omega arith in
-        get_or-take 64 (drop (places_back (length ring) next back) ring ++ ring) i (pos 0) below
-          ∙ (read_at ring all next back i lt (omega arith) high h
-            ∙ sym (get_or-map-range_with_len (λ k. sample_back all (back - k)) 0 64 i i (pos 0) below (omega arith))))
+    (len ∙ sym (length-map-range_with_len (λ i. sample_back all (back - i)) 0 64))
+    (λ i lower.
+    let below : i < 64 = omega arith in
+    get_or-take 64 (drop (places_back (length ring) next back) ring ++ ring) i (pos 0) below
+    ∙ (read_at ring all next back i lt (omega arith) high h
+    ∙ sym (get_or-map-range_with_len (λ k. sample_back all (back - k)) 0 64 i i (pos 0) below (omega arith))))
 
 -- how far back a reader begins
 way_block : (n : ℕ) (ran : Bool) (delay : ℕ) → 64 ≤ n → 64 ≤ way_back n ran delay
@@ -171,4 +170,4 @@ pub delayed_holds : (ring all : List ℤ) (line : Line) (rate : Rate) (time : �
     → delayed ring line rate time ≡ block_back all (way_back (length ring) line.ran (line_length rate time))
 delayed_holds ring all line rate time block within h =
     read_holds ring all line.next (way_back (length ring) line.ran (line_length rate time)) within
-      (way_block (length ring) line.ran (line_length rate time) block) (way_fits (length ring) line.ran (line_length rate time) block) h
+    (way_block (length ring) line.ran (line_length rate time) block) (way_fits (length ring) line.ran (line_length rate time) block) h

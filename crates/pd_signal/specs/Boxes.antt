@@ -1,5 +1,5 @@
 -- Boxes that run for a block of 64 samples.
-use Rattle.std.specs.Prelude.{◌≡◌, ℕ, ℤ, ◌^◌, ◌<◌, ◌≤◌, List, [], length, slice_index_or, slice_set, replicate}
+use Rattle.std.specs.Prelude.{◌≡◌, ℕ, ℤ, ◌^◌, ◌<◌, ◌≤◌, List, [], length, slice_index_or, slice_set}
 use Rattle.pd_kind.specs.declared.kinds.Kind.{Kind}
 use Rattle.pd_kind.specs.declared.states.State.{State}
 use Rattle.pd_kind.specs.declared.states.State.TheVariants as state

@@ -1,5 +1,5 @@
 -- What the signal objects keep and give that need nothing of another box.
-use Rattle.std.specs.Prelude.{ℕ, ℤ, pos, negsuc, ◌*◌, ◌/◌, min, true, List, map, length, replicate, slice_index_or, Option, Some, None}
+use Rattle.std.specs.Prelude.{ℤ, pos, negsuc, ◌*◌, ◌/◌, min, true, List, map, length, replicate, slice_index_or, Option, Some, None}
 use Rattle.pd_num.specs.Scale.{billionths, signal_of, sum_of, difference_of, product_of, quotient_of}
 use Rattle.pd_clock.specs.declared.times.Rate.{Rate}
 use Rattle.pd_clock.specs.Rates.{samples}

@@ -1,5 +1,5 @@
 -- Samples in order, and what the signal objects make of them.
-use Rattle.std.specs.Prelude.{ℕ, ℤ, pos, int_le, int_lt, unsigned_abs, Bool, List, [], ◌∷◌, if◌then◌else◌}
+use Rattle.std.specs.Prelude.{ℤ, pos, int_le, int_lt, unsigned_abs, List, [], ◌∷◌, if◌then◌else◌}
 use Rattle.std.specs.Int.{int_rem_euclid}
 use Rattle.pd_num.specs.Scale.{billionths, sum_of, difference_of, product_of}
 

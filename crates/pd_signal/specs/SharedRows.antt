@@ -1,5 +1,5 @@
 -- What the signal objects keep and give that look at another box's values: a bus, a delay line or a table, which is empty without that box.
-use Rattle.std.specs.Prelude.{◌≡◌, ◌⊎◌, ℕ, ℤ, pos, ◌<◌, ◌≤◌, List, [], ◌∷◌, map, length, replicate}
+use Rattle.std.specs.Prelude.{◌≡◌, ◌⊎◌, ℤ, ◌<◌, ◌≤◌, List, [], ◌∷◌, map, length}
 use Rattle.pd_num.specs.Scale.{billionths, sum_of}
 use Rattle.pd_kind.specs.declared.kinds.Kind.{Kind}
 use Rattle.pd_kind.specs.declared.kinds.Kind.TheVariants as kind

@@ -5,7 +5,6 @@ ghost use Rattle.pd_num.specs.Scale.{billionths, sum_of};
 ghost use Rattle.pd_kind.specs.States.{silent_block};
 ghost use Rattle.pd_signal.specs.Samples.{zip_with};
 
-use crate::maps::fill;
 use pd_kind::Samples;
 use pd_num::Sig;
 
@@ -39,8 +38,7 @@ pub(crate) fn take_block(kept: &mut Samples, out: &mut [Sig; 64])
     ensures len { length kept.new ≡ 64 }
 {
     out.copy_from_slice(kept.as_slice());
-    let mut silent = [no_signal(); 64];
-    fill(no_signal(), &mut silent);
+    let silent = [no_signal(); 64];
     keep_block(kept, &silent);
 }
 

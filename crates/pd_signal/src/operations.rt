@@ -5,7 +5,6 @@ ghost use Rattle.pd_kind.specs.Ports.{operation_ports_of};
 ghost use Rattle.pd_signal.specs.Samples.{zip_with};
 ghost use Rattle.pd_signal.specs.Rows.{sig_row, operation_of, operation_row, function_row, clip_row};
 
-use crate::buses::no_signal;
 use crate::maps::{clip_all, fill, magnitudes, wrap_all};
 use crate::pairs::{add_all, divide_all, greater_all, lesser_all, multiply_all, subtract_all};
 use pd_kind::{SignalFunction, SignalOperation, State};
@@ -49,8 +48,7 @@ pub(crate) fn run_operation(
     if let State::SignalOperation { right, .. } = state {
         match argument {
             Some(_) => {
-                let mut stored = [no_signal(); 64];
-                fill(Sig::of_num(*right), &mut stored);
+                let stored = [Sig::of_num(*right); 64];
                 operate(operation, &ins[0], &stored, &mut outs[0]);
             }
             None => operate(operation, &ins[0], &ins[1], &mut outs[0]),

@@ -1,4 +1,4 @@
-use Rattle.std.proofs.Common.{◌≡◌, ◌∙◌, sym, ap, ℕ, take, replicate, arith}
+use Rattle.std.proofs.Common.{◌≡◌, ◌∙◌, sym, ap, take, replicate, arith}
 use Rattle.std.proofs.lemmas.List.{take_all}
 use Rattle.pd_signal.proofs.maps.fill.Goals as goal
 

@@ -1,4 +1,4 @@
-use Rattle.std.proofs.Common.{◌≡◌, ◌++◌, take, drop, length, replicate}
+use Rattle.std.proofs.Common.{◌≡◌, take, length, replicate}
 use Rattle.pd_signal.proofs.maps.fill.Given as goal
 
 abbrev pub invariant-loop-x : goal.invariant-loop-x
