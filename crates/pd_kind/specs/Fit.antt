@@ -1,6 +1,5 @@
 -- When a state is of a kind.
-use Rattle.std.specs.Prelude.{ℕ, ℤ, pos, false, ◌≡◌, ◌<◌, ◌≤◌, ◌*◌, ◌^◌, length, List, [], None, Some}
-use Rattle.pd_clock.specs.declared.times.Rate.{Rate}
+use Rattle.std.specs.Prelude.{ℕ, ℤ, pos, false, ◌≡◌, ◌<◌, ◌≤◌, ◌*◌, ◌^◌, length, List, [], None}
 use Rattle.pd_clock.specs.declared.times.Rate.TheVariants.{R44100}
 use Rattle.pd_clock.specs.Rates.{samples}
 use Rattle.pd_kind.specs.declared.kinds.Kind.{Kind}
