@@ -1,6 +1,6 @@
 -- A wire was cut.
 use Rattle.std.proofs.Common.{◌≡◌, ℕ, ◌+◌, ◌<◌, ◌≤◌, ◌==◌, true, false, cond, ◌⊎◌, inl, inr, List, [], ◌∷◌, length, get_or, take, drop, refl, sym, ◌∙◌, ap, subst, arith}
-use Rattle.std.proofs.lemmas.List.{length-take-le, take-append-drop, get_or-take, take_all}
+use Rattle.std.proofs.lemmas.List.{length-take-le, take-append-drop, take_all}
 use Rattle.pd_order.specs.declared.spots.Spot.{Spot}
 use Rattle.pd_order.proofs.Basics.{by_test, zero_or, all_listed, same_test, same_node, other_node, other_test, tally_at, tally-take_le, missing_le, missing_more, missing_one, missing_one_not, missing-append, ltb', ltb-true', ltb-false'}
 use Rattle.pd_order.proofs.RunLemmas.{in_front, front_at, not_in_front}
@@ -9,7 +9,7 @@ use Rattle.pd_order.proofs.MendLemmas.{by_rank_alike, met_order, same_met, front
 use Rattle.pd_order.specs.Graph.{Graph, tally, missing, add_wire, IsLawful, IsReady, IsNext, AreNext, IsOrder}
 use Rattle.pd_order.specs.Spots.{nodes_of, place_in, nowhere}
 use Rattle.pd_order.specs.Listing.{IsListed}
-use Rattle.pd_order.specs.Work.{IsOld, IsBeside, IsMet, IsStart, IsSeated, IsFedAfter, IsHigherBetween, ArePlaced}
+use Rattle.pd_order.specs.Work.{IsOld, IsBeside, IsMet, IsStart, IsFedAfter, IsHigherBetween}
 
 pub add_alike : (g : Graph) (s v : ℕ) → AreAlike (add_wire g s v) g v
 add_alike g s v = record { ranks = refl; others = λ y n. let t : (y == v) ≡ false = other_test y v n in rw t refl }
@@ -132,17 +132,6 @@ met_same g nodes nodes' old chain from k was was' place m en e = subst (λ (ns :
   front_placed = m.front_placed;
   rest_placed = λ x l. m.rest_placed x l ∙ e x;
 })
-
--- the front of a seated chain is placed
-pub front_seated : (nodes C : List ℕ) (p : ℕ) (place : ℕ → ℕ) → IsSeated nodes C place → ((x : ℕ) → tally x C ≤ 1) → p ≤ length C → ArePlaced (take p C) place
-front_seated nodes C p place s once lp x l =
-    let lt : length (take p C) ≡ p = length-take-le p C lp in
-    let l' : 0 < tally x C = (let m : tally x (take p C) ≤ tally x C = tally-take_le x p C in omega arith) in
-    let q : (place x < length C) × (get_or C (place x) 0 ≡ x) = s.placed x l' in
-    by_test (ltb' (place x) p)
-    (λ t. let t' : place x < p = ltb-true' (place x) p t in (omega arith, get_or-take p C (place x) 0 t' ∙ q.1))
-    (λ t. let z : tally (get_or C (place x) 0) (take p C) ≡ 0 = not_in_front C p (place x) once (ltb-false' (place x) p t) q.0 in
-    let z' : tally x (take p C) ≡ 0 = subst (λ (v : ℕ). tally v (take p C) ≡ 0) q.1 z in absurd (omega arith))
 
 -- one more feeder is looked at
 pub fed_more : (C fs : List ℕ) (after after' i u q : ℕ) → ((x : ℕ) → tally x C ≤ 1) → i < length fs → u ≡ get_or fs i 0 → q < length C → get_or C q 0 ≡ u → after ≤ length C → after ≤ after' → q + 1 ≤ after' → (after' ≡ after) ⊎ (after' ≡ q + 1) →
