@@ -135,9 +135,7 @@ impl<T: Drop, const ROOM: usize> Bounded<T, ROOM> {
     {
         self.items.truncate(count);
     }
-}
 
-impl<T: Copy + Drop, const ROOM: usize> Bounded<T, ROOM> {
     /// Takes the first `count` items away.
     pub fn drop_front(&mut self, count: usize)
         requires { count ≤ length self.old }

@@ -60,7 +60,6 @@ fn on_way(from: i128, to: i128, part: i128) -> i128
 }
 
 /// The value between two on the way from the first to the second.
-#[tactic(auto, using(crate::proofs::ValueLemmas::is_part))]
 fn between(from: Sig, target: Sig, done: u128, length: u128) -> Sig
     requires order { done < length }
     requires length { length ≤ 8294400000000000000 }
