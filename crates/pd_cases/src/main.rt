@@ -1,0 +1,34 @@
+//! `pd_cases`: reads cases from standard input, one a line, and prints for each what the crates make of it.
+//!
+//! `name TEXT` asks what a text names, `size RATE TEXT` what it counts at a rate. Words are separated by blanks, and an
+//! empty line is no case. A line that is no case ends the run with status 1, and so does want of memory.
+#![tactic(auto)]
+
+mod case;
+mod naming;
+mod shown;
+
+use anyhow::Result;
+use std::io::{BufRead, BufReader};
+use std::process::ExitCode;
+
+fn run(rt: &(impl AllocGlobal + Input + Print)) -> Result<()> {
+    for line in BufReader::new(rt.alloc(), rt.reader())?.lines(rt.alloc()) {
+        let line = line?;
+        if !line.is_empty() {
+            let answer = case::answer(rt.alloc(), line.as_str())?;
+            println!(rt; "{line} => {answer}")?;
+        }
+    }
+    Ok(())
+}
+
+fn main(rt: HostRuntime) -> ExitCode {
+    match run(&rt) {
+        Ok(()) => ExitCode::SUCCESS,
+        Err(error) => {
+            let _ = eprintln!(rt; "pd_cases: {error}");
+            ExitCode::FAILURE
+        }
+    }
+}
