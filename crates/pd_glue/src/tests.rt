@@ -67,13 +67,7 @@ fn kind_of(alloc: Global, case: Case) -> Result<Kind, AllocError>
 }
 
 /// A number comes to the box's left inlet.
-fn hear_number(
-    kind: &Kind,
-    state: &mut State,
-    number: Num,
-    symbols: &mut Symbols,
-    out: &mut Sends,
-)
+fn hear_number(kind: &Kind, state: &mut State, number: Num, symbols: &mut Symbols, out: &mut Sends)
     requires small { IsSmall symbols.old kind.now state.old }
     requires named { 1 < length symbols.old }
     ensures small { IsSmall symbols.new kind.now state.new }
@@ -171,11 +165,7 @@ fn boxes_hear_and_fire(rt: HostRuntime) -> Result<(), Fail> {
         (Case::Add, 5, b"///"),
         (Case::Float, 5, b"0 float 5|///"),
         (Case::MessageBox, 5, b"0 float 5|///"),
-        (
-            Case::Metro,
-            5,
-            b"0 bang|clock 100/0 bang|clock 100//",
-        ),
+        (Case::Metro, 5, b"0 bang|clock 100/0 bang|clock 100//"),
         (Case::Noise, 5, b"!///"),
         (Case::Oscillator, 5, b"///"),
         (Case::SignalNumber, 5, b"///"),
