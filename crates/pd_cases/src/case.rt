@@ -1,18 +1,24 @@
 //! A case, and its answer.
 
-use crate::{naming, shown};
+use crate::{hearing, naming, shown};
 use anyhow::{Result, bail};
+use pd_atom::Symbols;
 use pd_clock::Rate;
+use pd_kind::Named;
 use std::alloc::Global;
 
 /// What a line asks.
 enum Case<'a> {
+    /// What a text names.
     Name { text: &'a str },
+    /// How many values a text's box counts at a rate.
     Size { rate: Rate, text: &'a str },
+    /// What a text's box says of events, which stand behind bars.
+    Hear { texts: &'a str },
 }
 
 /// The first word of a line, and the rest behind the blank after it.
-fn first_word(line: &str) -> (&str, &str) {
+pub(crate) fn first_word(line: &str) -> (&str, &str) {
     line.split_once(' ').unwrap_or((line, ""))
 }
 
@@ -26,19 +32,35 @@ fn case_of(line: &str) -> Option<Case<'_>> {
             let rate = Rate::of_hz(rate.parse().ok()?)?;
             Some(Case::Size { rate, text })
         }
+        "hear" => Some(Case::Hear { texts: rest }),
         _ => None,
     }
 }
 
-/// What is printed behind a case's line.
+/// What a box says. The first text is the box's, and each other one is of an event.
+fn said(alloc: Global, texts: &str, symbols: &mut Symbols) -> Result<String> {
+    let (text, texts) = texts.split_once(" | ").unwrap_or((texts, ""));
+    let named = naming::named_of(alloc, text, symbols)?;
+    let events = hearing::events_of(alloc, texts, symbols)?;
+    match &named {
+        Named::Kind(kind) => hearing::said(alloc, kind, events.as_slice(), symbols),
+        _ => bail!("no box: {text}"),
+    }
+}
+
+/// What is printed behind a case's line and an arrow; it begins with a blank.
 pub(crate) fn answer(alloc: Global, line: &str) -> Result<String> {
+    let mut symbols = Symbols::new(alloc)?;
     match case_of(line) {
-        Some(Case::Name { text }) => shown::named(alloc, &naming::named_of(alloc, text)?),
+        Some(Case::Name { text }) => {
+            shown::named(alloc, &naming::named_of(alloc, text, &mut symbols)?)
+        }
         Some(Case::Size { rate, text }) => shown::size(
             alloc,
-            &naming::named_of(alloc, text)?,
+            &naming::named_of(alloc, text, &mut symbols)?,
             rate,
         ),
+        Some(Case::Hear { texts }) => said(alloc, texts, &mut symbols),
         None => bail!("no case: {line}"),
     }
 }

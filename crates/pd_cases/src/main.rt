@@ -1,11 +1,14 @@
 //! `pd_cases`: reads cases from standard input, one a line, and prints for each what the crates make of it.
 //!
-//! `name TEXT` asks what a text names, `size RATE TEXT` what it counts at a rate. Words are separated by blanks, and an
-//! empty line is no case. A line that is no case ends the run with status 1, and so does want of memory.
+//! `name TEXT` asks what a text names, `size RATE TEXT` what it counts at a rate, and `hear TEXT | EVENT | EVENT ..` what
+//! its box says of each event: `INLET SELECTOR ATOMS`, `fire` or `load`. Words are separated by blanks, and an empty line
+//! is no case. A line that is no case ends the run with status 1, and so does want of memory.
 #![tactic(auto)]
 
 mod case;
+mod hearing;
 mod naming;
+mod said;
 mod shown;
 
 use anyhow::Result;
@@ -17,7 +20,7 @@ fn run(rt: &(impl AllocGlobal + Input + Print)) -> Result<()> {
         let line = line?;
         if !line.is_empty() {
             let answer = case::answer(rt.alloc(), line.as_str())?;
-            println!(rt; "{line} => {answer}")?;
+            println!(rt; "{line} =>{answer}")?;
         }
     }
     Ok(())

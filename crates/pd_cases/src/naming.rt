@@ -1,6 +1,6 @@
 //! The atoms of a text, and what it names.
 
-ghost use Rattle.std.specs.Prelude.{IfOk};
+ghost use Rattle.std.specs.Prelude.{◌≡◌, true, IfOk};
 ghost use Rattle.std.specs.List.{All};
 ghost use Rattle.pd_atom.specs.Atoms.{IsOf};
 ghost use Rattle.pd_kind.specs.Ports.{IsSmallNamed};
@@ -10,8 +10,28 @@ use pd_atom::{Atom, SymbolRefusal, Symbols, read_token};
 use pd_kind::{Named, kind_of};
 use std::alloc::Global;
 
+/// Whether the name that an atom has, if any, is of the table, and its dollar has at most four digits.
+pub(crate) fn is_of_table(atom: &Atom, symbols: &Symbols) -> bool
+    ensures { result ≡ true → IsOf symbols.now atom.now }
+{
+    match atom {
+        Atom::Symbol(name) | Atom::DollarSymbol(name) => name.number() < symbols.len(),
+        Atom::Dollar(number) => *number <= 9999,
+        Atom::Number(_) | Atom::Comma | Atom::Semi => true,
+    }
+}
+
+pub(crate) fn are_of_table(atoms: &[Atom], symbols: &Symbols) -> bool
+    ensures { result ≡ true → All (IsOf symbols.now) atoms.now }
+{
+    match atoms {
+        [] => true,
+        [first, rest @ ..] => is_of_table(first, symbols) && are_of_table(rest, symbols),
+    }
+}
+
 /// The atoms of a text's words.
-fn atoms_of(alloc: Global, text: &str, symbols: &mut Symbols) -> Result<Vec<Atom>>
+pub(crate) fn atoms_of(alloc: Global, text: &str, symbols: &mut Symbols) -> Result<Vec<Atom>>
     ensures { IfOk result (λ atoms. All (IsOf symbols.new) atoms.items) }
 {
     let mut atoms = Vec::new(alloc);
@@ -27,12 +47,11 @@ fn atoms_of(alloc: Global, text: &str, symbols: &mut Symbols) -> Result<Vec<Atom
     Ok(atoms)
 }
 
-/// What a text names, in a table of its own.
-pub(crate) fn named_of(alloc: Global, text: &str) -> Result<Named>
+/// What a text names; the names that it brings go into the table.
+pub(crate) fn named_of(alloc: Global, text: &str, symbols: &mut Symbols) -> Result<Named>
     ensures { IfOk result IsSmallNamed }
 {
-    let mut symbols = Symbols::new(alloc)?;
-    let atoms = atoms_of(alloc, text, &mut symbols)?;
+    let atoms = atoms_of(alloc, text, symbols)?;
     ensure!(atoms.len() <= 1024, "a text of {} atoms", atoms.len());
-    Ok(kind_of(alloc, atoms.as_slice(), &symbols)?)
+    Ok(kind_of(alloc, atoms.as_slice(), symbols)?)
 }

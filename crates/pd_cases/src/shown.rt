@@ -20,13 +20,11 @@ fn is_between(character: char) -> bool {
     matches!(character, ' ' | '{' | '}' | '(' | ')' | '[' | ']' | ',')
 }
 
-/// The words of a printed value that say something, with blanks between them.
+/// The words of a printed value that say something, each behind a blank.
 fn push_words(printed: &str, shown: &mut String) -> Result<(), AllocError> {
     for word in printed.split(is_between) {
         if tells(word) {
-            if !shown.is_empty() {
-                shown.push(' ')?;
-            }
+            shown.push(' ')?;
             shown.push_str(word)?;
         }
     }
@@ -72,5 +70,5 @@ pub(crate) fn size(alloc: Global, named: &Named, rate: Rate) -> Result<String> {
         Named::Kind(kind) => sound_size(kind, rate),
         _ => 0,
     };
-    Ok(format!(in alloc; "{values}")?)
+    Ok(format!(in alloc; " {values}")?)
 }
