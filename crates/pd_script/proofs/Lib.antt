@@ -1,0 +1,4 @@
+pub mod DigitLemmas
+pub mod TokenLemmas
+pub mod AtomLemmas
+pub mod StepLemmas
