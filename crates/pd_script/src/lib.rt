@@ -7,6 +7,8 @@ mod commands;
 mod fields;
 mod reading;
 mod room;
+#[cfg(test)]
+mod tests;
 mod tokens;
 
 pub use commands::{Command, Script};
