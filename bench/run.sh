@@ -10,6 +10,7 @@
 #              changes; beside it a fold at the same size
 #   hear       messages heard by one box: a number at the left inlet of `+`, `trigger`, `route`, `pack` and a message box with `$1`
 #   tone       blocks of phasor~, osc~ and noise~, one after another
+#   signal     blocks of the other signal objects but vline~ and those of the canvas's ports, one after another
 #
 # Times are of the processor, so other work on the machine lengthens them little; each is the least of five runs. docs/BENCHMARKS.md has
 # targets and figures. With sizes of your own, once the program is built:
@@ -21,6 +22,7 @@
 #   crates/pd_bench/out/pd_bench mend BOXES
 #   crates/pd_bench/out/pd_bench hear MESSAGES
 #   crates/pd_bench/out/pd_bench tone BLOCKS
+#   crates/pd_bench/out/pd_bench signal BLOCKS
 #
 # The program is built first where it isn't built, or where a source has changed since; that proves the crates below it, which takes
 # minutes the first time.
@@ -49,6 +51,7 @@ sizes=(
   "mend 100" "mend 1000" "mend 10000"
   "hear 1000000"
   "tone 100000"
+  "signal 100000"
 )
 
 run() {

@@ -1,11 +1,11 @@
 //! The benchmarks by name.
 
-use crate::{clocks, document, fold, hearing, mend, tone, wires};
+use crate::{clocks, document, fold, hearing, mend, signal, tone, wires};
 use anyhow::Result;
 use std::time::CpuClock;
 
 pub(crate) const USAGE: &str =
-    "usage: pd_bench document BYTES | clocks OWNERS FIRINGS | wires COUNT | fold BOXES | mend BOXES | hear MESSAGES | tone BLOCKS";
+    "usage: pd_bench document BYTES | clocks OWNERS FIRINGS | wires COUNT | fold BOXES | mend BOXES | hear MESSAGES | tone BLOCKS | signal BLOCKS";
 
 /// What a benchmark uses of the runtime.
 pub(crate) trait Measures: AllocGlobal + CpuClock + Print {}
@@ -22,6 +22,7 @@ pub(crate) enum Benchmark {
     Mend { boxes: u32 },
     Hear { messages: u32 },
     Tone { blocks: u32 },
+    Signal { blocks: u32 },
 }
 
 /// A size that isn't 0.
@@ -48,6 +49,9 @@ impl Benchmark {
             [name, blocks] if name.as_str() == "tone" => Some(Benchmark::Tone {
                 blocks: size(blocks.as_str())?,
             }),
+            [name, blocks] if name.as_str() == "signal" => Some(Benchmark::Signal {
+                blocks: size(blocks.as_str())?,
+            }),
             [name, boxes] if name.as_str() == "mend" => Some(Benchmark::Mend {
                 boxes: size(boxes.as_str())?,
             }),
@@ -67,6 +71,7 @@ impl Benchmark {
             Benchmark::Mend { boxes } => mend::run(rt, boxes),
             Benchmark::Hear { messages } => hearing::run(rt, messages),
             Benchmark::Tone { blocks } => tone::run(rt, blocks),
+            Benchmark::Signal { blocks } => signal::run(rt, blocks),
         }
     }
 }

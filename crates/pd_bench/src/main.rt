@@ -11,6 +11,7 @@ mod fold;
 mod hearing;
 mod mend;
 mod numbers;
+mod signal;
 mod timing;
 mod tone;
 mod wires;
