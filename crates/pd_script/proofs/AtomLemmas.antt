@@ -1,8 +1,11 @@
 -- The atoms of tokens, one after the other.
-use Rattle.std.proofs.Common.{◌≡◌, List, [], ◌∷◌, ◌++◌, refl, sym, ap, ◌∙◌, Option, Some, None, append_assoc, ℕ}
+use Rattle.std.proofs.Common.{◌≡◌, List, [], ◌∷◌, ◌++◌, refl, sym, ap, ◌∙◌, Option, Some, None, append_assoc, ℕ, ◌<◌, length, length-append, arith}
 use Rattle.std.proofs.lemmas.List.{append-nil}
 use Rattle.pd_atom.specs.Names.{Names, Extends}
 use Rattle.pd_atom.specs.declared.Atom.{Atom}
+use Rattle.pd_atom.specs.Atoms.{IsOf}
+use Rattle.pd_atom.specs.declared.Atom.TheVariants.{Number, Symbol, Dollar, DollarSymbol, Comma, Semi}
+use Rattle.pd_script.specs.Tables.{AreOf, DocumentOf}
 use Rattle.pd_script.specs.Options.{◌>>=◌}
 use Rattle.pd_script.specs.Atoms.{atom_of, atoms_of}
 
@@ -13,7 +16,26 @@ extends_same names = ([], sym (append-nil names))
 pub extends_on : (a b c : Names) → Extends a b → Extends b c → Extends a c
 extends_on a b c f g = (f.0 ++ g.0, g.1 ∙ ap (λ x. x ++ g.0) f.1 ∙ append_assoc a f.0 g.0)
 
-pub ruleset names_go_on = (extends_same, extends_on)
+pub below_extended : (old new : Names) (s : ℕ) → Extends old new → s < length old → s < length new
+below_extended old new s e h = omega (arith, ap length e.1, length-append old e.0)
+
+pub document_extended : (old new : Names) (d : Option ℕ) → Extends old new → DocumentOf old d → DocumentOf new d
+document_extended old new None e h = tt
+document_extended old new (Some s) e h = below_extended old new s e h
+
+of_extended : (old new : Names) (a : Atom) → Extends old new → IsOf old a → IsOf new a
+of_extended old new (Number z) e h = tt
+of_extended old new (Symbol s) e h = below_extended old new s e h
+of_extended old new (Dollar n) e h = h
+of_extended old new (DollarSymbol s) e h = below_extended old new s e h
+of_extended old new Comma e h = tt
+of_extended old new Semi e h = tt
+
+pub are_of_more : (old new : Names) (front : List Atom) (a : Atom) → Extends old new → AreOf old front → IsOf new a → AreOf new (front ++ a ∷ [])
+are_of_more old new [] a e h k = (k, tt)
+are_of_more old new (b ∷ front) a e h k = (of_extended old new b e h.0, are_of_more old new front a e h.1 k)
+
+pub ruleset names_go_on = (extends_same, extends_on, below_extended, document_extended)
 
 -- the atoms so far, and then those that reading gives
 abbrev pub with_front : List Atom → Option (List Atom × Names) → Option (List Atom × Names)

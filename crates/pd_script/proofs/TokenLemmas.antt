@@ -1,9 +1,9 @@
 -- The first token of a record.
-use Rattle.std.proofs.Common.{◌≡◌, ℕ, ◌+◌, ◌-◌, ◌<◌, ◌≤◌, Bool, true, false, eqb, List, [], ◌∷◌, length, take, drop, refl, sym, ap, ◌∙◌, subst, arith, length-drop, length-take}
-use Rattle.std.specs.Prelude.{slice_range, IsTrue}
+use Rattle.std.proofs.Common.{◌≡◌, ℕ, ◌-◌, ◌<◌, Bool, true, false, eqb, List, [], ◌∷◌, length, take, drop, sym, ap, ◌∙◌, arith, length-drop, length-take}
+use Rattle.std.specs.Prelude.{slice_range}
 use Rattle.std.proofs.lemmas.List.{take_all, take_rest}
 use Rattle.pd_lex.specs.Text.{unescaped}
-use Rattle.pd_lex.specs.Reading.{is_body, pieces, IsNext}
+use Rattle.pd_lex.specs.Reading.{pieces, IsNext}
 use Rattle.pd_lex.specs.declared.Token.{Token}
 use Rattle.pd_script.specs.Tokens.{bytes_of, piece_in}
 use Rattle.pd_script.specs.Splits.{IsSplit}

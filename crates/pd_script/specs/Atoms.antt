@@ -1,6 +1,6 @@
 -- Names and atoms, with the table after them.
 use Rattle.std.specs.Prelude.{ℕ, Bool, true, false, List, [], ◌∷◌, Option, Some, None, Result, Ok, Err, if◌then◌else◌, bytes_eq}
-use Rattle.pd_atom.specs.Names.{Names, Outcome}
+use Rattle.pd_atom.specs.Names.{Names}
 use Rattle.pd_atom.specs.Tokens.{atom_read}
 use Rattle.pd_atom.specs.declared.SymbolRefusal.{SymbolRefusal}
 use Rattle.pd_atom.specs.declared.Atom.{Atom}

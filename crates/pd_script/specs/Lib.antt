@@ -6,3 +6,4 @@ pub mod Atoms
 pub mod Changes
 pub mod Scripts
 pub mod Room
+pub mod Tables

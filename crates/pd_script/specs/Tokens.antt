@@ -1,5 +1,5 @@
 -- The tokens of a record, each as its bytes without its escapes.
-use Rattle.std.specs.Prelude.{ℕ, ◌<◌, ◌≤◌, ◌≡◌, ◌==◌, Bool, IsTrue, List, [], ◌∷◌, length, map, Option, Some, None, if◌then◌else◌, nat_lt, cond}
+use Rattle.std.specs.Prelude.{ℕ, ◌<◌, ◌≤◌, ◌==◌, Bool, IsTrue, List, [], ◌∷◌, length, map, Option, Some, None, if◌then◌else◌, nat_lt}
 use Rattle.std.specs.List.{AllByRecursion}
 use Rattle.pd_lex.specs.Text.{Piece, unescaped}
 use Rattle.pd_lex.specs.Text.Piece.{Word, Comma}

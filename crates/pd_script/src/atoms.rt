@@ -1,8 +1,10 @@
 //! Names and atoms.
 
-ghost use Rattle.std.specs.Prelude.{◌≡◌, ◌<◌, ◌≤◌, length, vec_capacity};
+ghost use Rattle.std.specs.Prelude.{◌≡◌, ◌<◌, ◌≤◌, length, vec_capacity, IfSome};
 ghost use Rattle.std.specs.List.{list_all};
-ghost use Rattle.pd_atom.specs.Names.{Extends};
+ghost use Rattle.pd_atom.specs.Names.{Names, Extends};
+ghost use Rattle.pd_atom.specs.Atoms.{IsOf};
+ghost use Rattle.pd_script.specs.Tables.{AreOf, DocumentOf};
 ghost use Rattle.pd_script.specs.Options.{Gives};
 ghost use Rattle.pd_script.specs.Tokens.{most_tokens};
 ghost use Rattle.pd_script.specs.Atoms.{atom_of, atoms_of, is_plain as is_plain_atom, symbol_in, symbol_of, document_of};
@@ -15,6 +17,7 @@ use pd_atom::{Atom, Sym, Symbols, read_token};
 fn atom(token: &[u8], symbols: &mut Symbols) -> Option<Atom>
     requires { 0 < length token.now }
     ensures exact { Gives (λ a. (a, symbols.new)) result (atom_of symbols.old token.now) }
+    ensures of_table { IfSome result (IsOf symbols.new) }
     ensures extends { Extends symbols.old symbols.new }
 {
     match read_token(symbols, token) {
@@ -33,6 +36,7 @@ pub(crate) fn atoms(
     requires { most_tokens ≤ vec_capacity out.old }
     ensures exact { Gives (λ _. (out.new.items, symbols.new)) result (atoms_of symbols.old tokens.old) }
     ensures capacity { vec_capacity out.new ≡ vec_capacity out.old }
+    ensures of_table { IfSome result (λ _. AreOf symbols.new out.new.items) }
     ensures extends { Extends symbols.old symbols.new }
 {
     out.clear();
@@ -62,7 +66,8 @@ fn is_plain(atom: &Atom) -> bool
 }
 
 fn only_symbol(atom: &Atom) -> Option<Sym>
-    ensures { result ≡ symbol_in atom.now }
+    ensures value { result ≡ symbol_in atom.now }
+    ensures of_table { (names : Names) → IsOf names atom.now → IfSome result (λ s. s < length names) }
 {
     match atom {
         Atom::Symbol(s) => Some(*s),
@@ -74,6 +79,7 @@ fn only_symbol(atom: &Atom) -> Option<Sym>
 pub(crate) fn symbol(token: &[u8], symbols: &mut Symbols) -> Option<Sym>
     requires { 0 < length token.now }
     ensures exact { Gives (λ s. (s, symbols.new)) result (symbol_of symbols.old token.now) }
+    ensures of_table { IfSome result (λ s. s < length symbols.new) }
     ensures extends { Extends symbols.old symbols.new }
 {
     let atom = atom(token, symbols)?;
@@ -84,6 +90,7 @@ pub(crate) fn symbol(token: &[u8], symbols: &mut Symbols) -> Option<Sym>
 pub(crate) fn document(token: &[u8], symbols: &mut Symbols) -> Option<Option<Sym>>
     requires { 0 < length token.now }
     ensures exact { Gives (λ d. (d, symbols.new)) result (document_of symbols.old token.now) }
+    ensures of_table { IfSome result (DocumentOf symbols.new) }
     ensures extends { Extends symbols.old symbols.new }
 {
     if token == b".".as_slice() {

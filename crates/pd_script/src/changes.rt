@@ -1,8 +1,9 @@
 //! The verbs of an edit.
 
-ghost use Rattle.std.specs.Prelude.{◌≡◌, ◌≤◌, bytes_eq, IfNone, vec_capacity};
-ghost use Rattle.pd_atom.specs.Names.{Extends};
+ghost use Rattle.std.specs.Prelude.{◌≡◌, ◌≤◌, bytes_eq, IfNone, IfSome, vec_capacity};
+ghost use Rattle.pd_atom.specs.Names.{Names, Extends};
 ghost use Rattle.pd_script.specs.Options.{Gives};
+ghost use Rattle.pd_script.specs.Tables.{AreOf, EditOf};
 ghost use Rattle.pd_script.specs.Room.{IsWhole};
 ghost use Rattle.pd_script.specs.Changes.{box_verb_of, other_verb_of, verb_of as verb_of_word, made_box as made_box_of, new_box as new_box_of, wire_of, delete_of, move_of, retype_of, change_of};
 
@@ -93,7 +94,8 @@ pub(crate) fn verb_of(word: &[u8]) -> Option<Verb>
 }
 
 fn made_box(shape: BoxVerb, x: Num, y: Num, text: Atoms) -> Edit
-    ensures { result ≡ made_box_of shape x y text }
+    ensures value { result ≡ made_box_of shape x y text }
+    ensures of_table { (names : Names) → AreOf names text → EditOf names result }
 {
     match shape {
         BoxVerb::Obj => Edit::Obj { x, y, text },
@@ -117,6 +119,7 @@ fn new_box(
     ensures exact { Gives (λ e. (e, symbols.new)) result (new_box_of shape symbols.old tokens.old) }
     ensures whole { IfNone result (IsWhole room.new) }
     ensures path { room.new.path ≡ room.old.path }
+    ensures of_table { IfSome result (EditOf symbols.new) }
     ensures extends { Extends symbols.old symbols.new }
 {
     let x = tokens.number()?;
@@ -147,7 +150,8 @@ fn wire(tokens: &mut Tokens<'_>) -> Option<Wire>
 
 #[tactic(auto, unfolding(crate::specs::Changes::delete_of))]
 fn delete(tokens: &mut Tokens<'_>) -> Option<Edit>
-    ensures { result ≡ delete_of tokens.old }
+    ensures exact { result ≡ delete_of tokens.old }
+    ensures of_table { (names : Names) → IfSome result (EditOf names) }
 {
     let number = tokens.whole()?;
     if !tokens.is_empty() {
@@ -158,7 +162,8 @@ fn delete(tokens: &mut Tokens<'_>) -> Option<Edit>
 
 #[tactic(auto, unfolding(crate::specs::Changes::move_of))]
 fn move_box(tokens: &mut Tokens<'_>) -> Option<Edit>
-    ensures { result ≡ move_of tokens.old }
+    ensures exact { result ≡ move_of tokens.old }
+    ensures of_table { (names : Names) → IfSome result (EditOf names) }
 {
     let number = tokens.whole()?;
     let x = tokens.number()?;
@@ -175,6 +180,7 @@ fn retype(tokens: &mut Tokens<'_>, symbols: &mut Symbols, room: &mut CommandRoom
     ensures exact { Gives (λ e. (e, symbols.new)) result (retype_of symbols.old tokens.old) }
     ensures whole { IfNone result (IsWhole room.new) }
     ensures path { room.new.path ≡ room.old.path }
+    ensures of_table { IfSome result (EditOf symbols.new) }
     ensures extends { Extends symbols.old symbols.new }
 {
     let number = tokens.whole()?;
@@ -197,6 +203,7 @@ pub(crate) fn change(
     ensures exact { Gives (λ e. (e, symbols.new)) result (change_of verb symbols.old tokens.old) }
     ensures whole { IfNone result (IsWhole room.new) }
     ensures path { room.new.path ≡ room.old.path }
+    ensures of_table { IfSome result (EditOf symbols.new) }
     ensures extends { Extends symbols.old symbols.new }
 {
     match verb {

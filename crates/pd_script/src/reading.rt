@@ -2,9 +2,10 @@
 
 ghost use Rattle.std.specs.Prelude.{◌≡◌, ◌≤◌, length, option_map, IsTrue, IfNone, IfSome};
 ghost use Rattle.pd_lex.specs.Reading.{is_body};
-ghost use Rattle.pd_atom.specs.Names.{Extends};
+ghost use Rattle.pd_atom.specs.Names.{Names, Extends};
 ghost use Rattle.pd_script.specs.Options.{Gives};
 ghost use Rattle.pd_script.specs.Tokens.{tokens_of, most_tokens, only as only_then};
+ghost use Rattle.pd_script.specs.Tables.{DocumentOf, CommandOf, ScriptOf};
 ghost use Rattle.pd_script.specs.Room.{IsWhole, IsWholeAfter};
 ghost use Rattle.pd_script.specs.Scripts.{word_of as word_of_token, send_of, edit_in as edit_of_document, edit_of, save_of, show_of, script_of, timed_of, command_of};
 
@@ -53,11 +54,12 @@ fn word_of(word: &[u8]) -> Option<Word>
     }
 }
 
-#[tactic(auto, unfolding(crate::specs::Scripts::send_of))]
+#[tactic(auto, using(crate::proofs::AtomLemmas::names_go_on), unfolding(crate::specs::Scripts::send_of))]
 fn send(tokens: &mut Tokens<'_>, symbols: &mut Symbols, room: &mut CommandRoom) -> Option<Command>
     requires { IsWhole room.old }
     ensures exact { Gives (λ c. (c, symbols.new)) result (send_of symbols.old tokens.old) }
     ensures whole { IfNone result (IsWhole room.new) }
+    ensures of_table { IfSome result (CommandOf symbols.new) }
     ensures extends { Extends symbols.old symbols.new }
 {
     let name = symbol(tokens.next()?.as_slice(), symbols)?;
@@ -71,16 +73,18 @@ fn send(tokens: &mut Tokens<'_>, symbols: &mut Symbols, room: &mut CommandRoom) 
     })
 }
 
-#[tactic(auto, unfolding(crate::specs::Scripts::edit_in))]
+#[tactic(auto, using(crate::proofs::AtomLemmas::names_go_on), unfolding(crate::specs::Scripts::edit_in))]
 fn edit_in(
     document: Option<Sym>,
     tokens: &mut Tokens<'_>,
     symbols: &mut Symbols,
     room: &mut CommandRoom,
 ) -> Option<Command>
-    requires { IsWhole room.old }
+    requires of_table { DocumentOf symbols.old document }
+    requires whole { IsWhole room.old }
     ensures exact { Gives (λ c. (c, symbols.new)) result (edit_of_document document symbols.old tokens.old) }
     ensures whole { IfNone result (IsWhole room.new) }
+    ensures of_table { IfSome result (CommandOf symbols.new) }
     ensures extends { Extends symbols.old symbols.new }
 {
     let token = tokens.next()?;
@@ -100,6 +104,7 @@ fn edit(tokens: &mut Tokens<'_>, symbols: &mut Symbols, room: &mut CommandRoom) 
     requires { IsWhole room.old }
     ensures exact { Gives (λ c. (c, symbols.new)) result (edit_of symbols.old tokens.old) }
     ensures whole { IfNone result (IsWhole room.new) }
+    ensures of_table { IfSome result (CommandOf symbols.new) }
     ensures extends { Extends symbols.old symbols.new }
 {
     let token = tokens.next()?;
@@ -110,6 +115,7 @@ fn edit(tokens: &mut Tokens<'_>, symbols: &mut Symbols, room: &mut CommandRoom) 
 #[tactic(auto, unfolding(crate::specs::Scripts::save_of))]
 fn save(tokens: &mut Tokens<'_>, symbols: &mut Symbols) -> Option<Command>
     ensures exact { Gives (λ c. (c, symbols.new)) result (save_of symbols.old tokens.old) }
+    ensures of_table { IfSome result (CommandOf symbols.new) }
     ensures extends { Extends symbols.old symbols.new }
 {
     let token = tokens.next()?;
@@ -124,6 +130,7 @@ fn save(tokens: &mut Tokens<'_>, symbols: &mut Symbols) -> Option<Command>
 fn show(tokens: &mut Tokens<'_>, room: &mut CommandRoom) -> Option<Command>
     requires { IsWhole room.old }
     ensures exact { result ≡ show_of tokens.old }
+    ensures of_table { (names : Names) → IfSome result (CommandOf names) }
     ensures whole { IfNone result (IsWhole room.new) }
 {
     let token = tokens.next()?;
@@ -138,7 +145,8 @@ fn show(tokens: &mut Tokens<'_>, room: &mut CommandRoom) -> Option<Command>
 
 /// The script, where no token is left.
 fn only(tokens: &Tokens<'_>, script: Script) -> Option<Script>
-    ensures { result ≡ only_then tokens.now script }
+    ensures value { result ≡ only_then tokens.now script }
+    ensures of_table { (names : Names) → ScriptOf names script → IfSome result (ScriptOf names) }
 {
     if tokens.is_empty() {
         Some(script)
@@ -158,6 +166,7 @@ fn script(
     requires { IsWhole room.old }
     ensures exact { Gives (λ s. (s, symbols.new)) result (script_of word symbols.old tokens.old) }
     ensures whole { IsWholeAfter result room.new }
+    ensures of_table { IfSome result (ScriptOf symbols.new) }
     ensures extends { Extends symbols.old symbols.new }
 {
     match word {
@@ -181,6 +190,7 @@ fn timed(
     requires { IsWhole room.old }
     ensures exact { Gives (λ r. (r.0, r.1, symbols.new)) result (timed_of symbols.old tokens.old) }
     ensures whole { IsWholeAfter (option_map (λ r. r.1) result) room.new }
+    ensures of_table { IfSome result (λ r. ScriptOf symbols.new r.1) }
     ensures extends { Extends symbols.old symbols.new }
 {
     let time = tokens.next()?;
@@ -207,6 +217,7 @@ pub fn read_command(
     requires body { IsTrue (is_body bytes.now) }
     requires short { length bytes.now ≤ most_tokens }
     ensures exact { Gives (λ r. (r.0, r.1, symbols.new)) result (command_of symbols.old (tokens_of bytes.now)) }
+    ensures of_table { IfSome result (λ r. ScriptOf symbols.new r.1) }
     ensures refused { IfNone result (symbols.new ≡ symbols.old) }
     ensures whole { IsWholeAfter (option_map (λ r. r.1) result) room.new }
 {

@@ -1,6 +1,6 @@
-use Rattle.std.proofs.Common.{arith, rules, sym, ◌∙◌, ap, ◌≡◌, [], ◌∷◌, length, Some, None}
-use Rattle.pd_script.specs.Atoms.{atom_of, atoms_of}
-use Rattle.pd_script.proofs.AtomLemmas.{with_front, atoms_more, atoms_stop, atoms_end, extends_on}
+use Rattle.std.proofs.Common.{arith, rules, sym, ◌∙◌, ap, ◌≡◌, [], ◌∷◌, length, None}
+use Rattle.pd_script.specs.Atoms.{atoms_of}
+use Rattle.pd_script.proofs.AtomLemmas.{with_front, atoms_more, atoms_stop, atoms_end, extends_on, are_of_more}
 use Rattle.pd_script.proofs.atoms.atoms.Goals as goal
 
 pub returns-in_err-atom-clause-exact : goal.returns-in_err-atom-clause-exact
@@ -26,6 +26,10 @@ loop-token-preserved c =
           (rw c.as_slice.ensures.value at c.in_ok-atom.ensures.exact) w);
       room = omega (arith, c.loop-token.invariant.room, c.push_reserved.ensures.len, ap length c.in-Some.ensures.some.0);
       capacity = search rules;
+      of_table =
+          rw c.push_reserved.ensures.items
+          (are_of_more c.loop-token.symbols c.atom.new.symbols front c.in_ok-atom.field-0 c.in_ok-atom.ensures.extends c.loop-token.invariant.of_table
+          c.in_ok-atom.ensures.of_table);
       extends = extends_on _ _ _ c.loop-token.invariant.extends c.in_ok-atom.ensures.extends;
     }
 

@@ -1,7 +1,6 @@
-use Rattle.std.proofs.Common.{arith, rules, ◌+◌, sym, ◌∙◌, ap, ◌≡◌, get_or, Some, ℕ, eqb, false}
+use Rattle.std.proofs.Common.{arith, ◌+◌, sym, ◌∙◌, ◌≡◌, get_or, ℕ, eqb, false}
 use Rattle.std.proofs.lemmas.Bool.Decides.{nat_tests}
 use Rattle.std.specs.Prelude.{slice_range}
-use Rattle.pd_script.specs.Fields.{step_of, steps_of, parts_after}
 use Rattle.pd_script.proofs.StepLemmas.{goes_on_slash, goes_on_other, no_part}
 use Rattle.pd_script.proofs.fields.steps.Goals as goal
 use Rattle.pd_script.proofs.fields.steps.Goals.{then-rest-i-eq47+in_ok-step, else-rest-i-eq47}
