@@ -1,10 +1,10 @@
 //! The verbs of an edit.
 
-ghost use Rattle.std.specs.Prelude.{◌≡◌, ◌≤◌, bytes_eq, IfNone, IfSome, vec_capacity};
+ghost use Rattle.std.specs.Prelude.{◌≡◌, ℕ, ◌≤◌, bytes_eq, IfNone, IfSome, vec_capacity};
 ghost use Rattle.pd_atom.specs.Names.{Names, Extends};
 ghost use Rattle.pd_script.specs.Options.{Gives};
 ghost use Rattle.pd_script.specs.Tables.{AreOf, EditOf};
-ghost use Rattle.pd_script.specs.Room.{IsWhole};
+ghost use Rattle.pd_script.specs.Room.{IsWhole, HasAtomsBeside};
 ghost use Rattle.pd_script.specs.Changes.{box_verb_of, other_verb_of, verb_of as verb_of_word, made_box as made_box_of, new_box as new_box_of, wire_of, delete_of, move_of, retype_of, change_of};
 
 use crate::atoms::atoms;
@@ -95,6 +95,7 @@ pub(crate) fn verb_of(word: &[u8]) -> Option<Verb>
 
 fn made_box(shape: BoxVerb, x: Num, y: Num, text: Atoms) -> Edit
     ensures value { result ≡ made_box_of shape x y text }
+    ensures rest { (atoms : ℕ) → HasAtomsBeside result atoms }
     ensures of_table { (names : Names) → AreOf names text → EditOf names result }
 {
     match shape {
@@ -119,6 +120,7 @@ fn new_box(
     ensures exact { Gives (λ e. (e, symbols.new)) result (new_box_of shape symbols.old tokens.old) }
     ensures whole { IfNone result (IsWhole room.new) }
     ensures path { room.new.path ≡ room.old.path }
+    ensures rest { IfSome result (λ e. HasAtomsBeside e (vec_capacity room.new.atoms)) }
     ensures of_table { IfSome result (EditOf symbols.new) }
     ensures extends { Extends symbols.old symbols.new }
 {
@@ -151,6 +153,7 @@ fn wire(tokens: &mut Tokens<'_>) -> Option<Wire>
 #[tactic(auto, unfolding(crate::specs::Changes::delete_of))]
 fn delete(tokens: &mut Tokens<'_>) -> Option<Edit>
     ensures exact { result ≡ delete_of tokens.old }
+    ensures rest { (atoms : ℕ) → 65536 ≤ atoms → IfSome result (λ e. HasAtomsBeside e atoms) }
     ensures of_table { (names : Names) → IfSome result (EditOf names) }
 {
     let number = tokens.whole()?;
@@ -163,6 +166,7 @@ fn delete(tokens: &mut Tokens<'_>) -> Option<Edit>
 #[tactic(auto, unfolding(crate::specs::Changes::move_of))]
 fn move_box(tokens: &mut Tokens<'_>) -> Option<Edit>
     ensures exact { result ≡ move_of tokens.old }
+    ensures rest { (atoms : ℕ) → 65536 ≤ atoms → IfSome result (λ e. HasAtomsBeside e atoms) }
     ensures of_table { (names : Names) → IfSome result (EditOf names) }
 {
     let number = tokens.whole()?;
@@ -180,6 +184,7 @@ fn retype(tokens: &mut Tokens<'_>, symbols: &mut Symbols, room: &mut CommandRoom
     ensures exact { Gives (λ e. (e, symbols.new)) result (retype_of symbols.old tokens.old) }
     ensures whole { IfNone result (IsWhole room.new) }
     ensures path { room.new.path ≡ room.old.path }
+    ensures rest { IfSome result (λ e. HasAtomsBeside e (vec_capacity room.new.atoms)) }
     ensures of_table { IfSome result (EditOf symbols.new) }
     ensures extends { Extends symbols.old symbols.new }
 {
@@ -203,6 +208,7 @@ pub(crate) fn change(
     ensures exact { Gives (λ e. (e, symbols.new)) result (change_of verb symbols.old tokens.old) }
     ensures whole { IfNone result (IsWhole room.new) }
     ensures path { room.new.path ≡ room.old.path }
+    ensures rest { IfSome result (λ e. HasAtomsBeside e (vec_capacity room.new.atoms)) }
     ensures of_table { IfSome result (EditOf symbols.new) }
     ensures extends { Extends symbols.old symbols.new }
 {

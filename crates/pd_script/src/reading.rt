@@ -1,12 +1,13 @@
 //! Reading a record as a command.
 
-ghost use Rattle.std.specs.Prelude.{◌≡◌, ◌≤◌, length, option_map, IsTrue, IfNone, IfSome};
+ghost use Rattle.std.specs.Prelude.{◌≡◌, ◌≤◌, length, option_map, IsTrue, IfNone, IfSome, Some};
+ghost use Rattle.pd_script.specs.declared.room.CommandRoom.{CommandRoom};
 ghost use Rattle.pd_lex.specs.Reading.{is_body};
 ghost use Rattle.pd_atom.specs.Names.{Names, Extends};
 ghost use Rattle.pd_script.specs.Options.{Gives};
 ghost use Rattle.pd_script.specs.Tokens.{tokens_of, most_tokens, only as only_then};
 ghost use Rattle.pd_script.specs.Tables.{DocumentOf, CommandOf, ScriptOf};
-ghost use Rattle.pd_script.specs.Room.{IsWhole, IsWholeAfter};
+ghost use Rattle.pd_script.specs.Room.{IsWhole, IsWholeAfter, HasRest};
 ghost use Rattle.pd_script.specs.Scripts.{word_of as word_of_token, send_of, edit_in as edit_of_document, edit_of, save_of, show_of, script_of, timed_of, command_of};
 
 use crate::atoms::{are_plain, atoms, document, symbol};
@@ -59,6 +60,7 @@ fn send(tokens: &mut Tokens<'_>, symbols: &mut Symbols, room: &mut CommandRoom) 
     requires { IsWhole room.old }
     ensures exact { Gives (λ c. (c, symbols.new)) result (send_of symbols.old tokens.old) }
     ensures whole { IfNone result (IsWhole room.new) }
+    ensures rest { IfSome result (λ c. HasRest c room.new) }
     ensures of_table { IfSome result (CommandOf symbols.new) }
     ensures extends { Extends symbols.old symbols.new }
 {
@@ -84,6 +86,7 @@ fn edit_in(
     requires whole { IsWhole room.old }
     ensures exact { Gives (λ c. (c, symbols.new)) result (edit_of_document document symbols.old tokens.old) }
     ensures whole { IfNone result (IsWhole room.new) }
+    ensures rest { IfSome result (λ c. HasRest c room.new) }
     ensures of_table { IfSome result (CommandOf symbols.new) }
     ensures extends { Extends symbols.old symbols.new }
 {
@@ -104,6 +107,7 @@ fn edit(tokens: &mut Tokens<'_>, symbols: &mut Symbols, room: &mut CommandRoom) 
     requires { IsWhole room.old }
     ensures exact { Gives (λ c. (c, symbols.new)) result (edit_of symbols.old tokens.old) }
     ensures whole { IfNone result (IsWhole room.new) }
+    ensures rest { IfSome result (λ c. HasRest c room.new) }
     ensures of_table { IfSome result (CommandOf symbols.new) }
     ensures extends { Extends symbols.old symbols.new }
 {
@@ -115,6 +119,7 @@ fn edit(tokens: &mut Tokens<'_>, symbols: &mut Symbols, room: &mut CommandRoom) 
 #[tactic(auto, unfolding(crate::specs::Scripts::save_of))]
 fn save(tokens: &mut Tokens<'_>, symbols: &mut Symbols) -> Option<Command>
     ensures exact { Gives (λ c. (c, symbols.new)) result (save_of symbols.old tokens.old) }
+    ensures rest { (room : CommandRoom) → IsWhole room → IfSome result (λ c. HasRest c room) }
     ensures of_table { IfSome result (CommandOf symbols.new) }
     ensures extends { Extends symbols.old symbols.new }
 {
@@ -130,6 +135,7 @@ fn save(tokens: &mut Tokens<'_>, symbols: &mut Symbols) -> Option<Command>
 fn show(tokens: &mut Tokens<'_>, room: &mut CommandRoom) -> Option<Command>
     requires { IsWhole room.old }
     ensures exact { result ≡ show_of tokens.old }
+    ensures rest { IfSome result (λ c. HasRest c room.new) }
     ensures of_table { (names : Names) → IfSome result (CommandOf names) }
     ensures whole { IfNone result (IsWhole room.new) }
 {
@@ -146,6 +152,7 @@ fn show(tokens: &mut Tokens<'_>, room: &mut CommandRoom) -> Option<Command>
 /// The script, where no token is left.
 fn only(tokens: &Tokens<'_>, script: Script) -> Option<Script>
     ensures value { result ≡ only_then tokens.now script }
+    ensures rest { (room : CommandRoom) → IsWhole room → IsWholeAfter (Some script) room → IsWholeAfter result room }
     ensures of_table { (names : Names) → ScriptOf names script → IfSome result (ScriptOf names) }
 {
     if tokens.is_empty() {

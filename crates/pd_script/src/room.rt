@@ -44,6 +44,7 @@ impl CommandRoom {
     /// Takes the path out.
     pub(crate) fn take_path(&mut self) -> Numbers
         ensures path { result ≡ self.old.path.items }
+        ensures atoms { self.new.atoms ≡ self.old.atoms }
     {
         let alloc = *self.path.allocator();
         Numbers::from_vec(mem::replace(&mut self.path, Vec::new(alloc)))
