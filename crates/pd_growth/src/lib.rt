@@ -1,0 +1,6 @@
+//! Growth: the running boxes of a document.
+#![tactic(auto)]
+
+mod growing;
+
+pub use growing::Stop;
