@@ -1,3 +1,4 @@
 pub mod TreeLemmas
 pub mod Standings
 pub mod Plantings
+pub mod Freshness

@@ -3,6 +3,7 @@ use Rattle.std.proofs.Common.{◌≡◌, ◌≢◌, ℕ, zero, suc, ◌+◌, ◌
 use Rattle.std.specs.Prelude.{option_map}
 use Rattle.std.proofs.lemmas.List.{append-nil}
 use Rattle.slab.specs.Slab.{Slab, get}
+use Rattle.pd_clock.specs.declared.times.Rate.{Rate}
 use Rattle.pd_tree.specs.declared.rows.Sheet.{Sheet}
 use Rattle.pd_tree.specs.Trees.{Cell, Trees, Done, Leaf, Holder, Stand, join, width, stands_of}
 use Rattle.pd_grove.specs.declared.nodes.Node.{Node}
@@ -10,6 +11,7 @@ use Rattle.pd_grove.specs.declared.boards.Board.{Board}
 use Rattle.pd_grove.specs.declared.seeds.Seed.{Seed}
 use Rattle.pd_grove.specs.Standing.{NodeSeen, node_seen, BoardSeen, board_seen, Stands, depth_of, board_room, with_inner, Gains}
 use Rattle.pd_grove.specs.Planting.{stands_ready, AreRoomy, HaveRoom, Keeps, Plants, PlantsInside, with_keys}
+use Rattle.pd_grove.specs.States.{AreFresh, NodesFresh}
 use Rattle.pd_grove.proofs.TreeLemmas.{width-join, join-assoc, first_box, other_boxes, first_other, first_width, first_stands, no_boxes}
 use Rattle.pd_grove.proofs.Standings.{stands_on, stands_join}
 
@@ -30,6 +32,7 @@ pub record Halfway (nodes₀ nodes₁ : Slab Node) (boards₀ boards₁ : Slab B
   pub room : HaveRoom nodes₁ boards₁ (length seeds₁)
   pub roomy : AreRoomy seeds₁
   pub fewer : length seeds₁ ≤ length seeds₀
+  pub fresh : (rate : Rate) (now : ℕ) → AreFresh rate now seeds₀ → NodesFresh rate now (get nodes₀) → AreFresh rate now seeds₁ × NodesFresh rate now (get nodes₁)
   pub splits : (t : Trees) (more : List Stand) → stands_ready seeds₀ ≡ stands_of t ++ more → width t ≡ count
       → Split (get nodes₀) (get nodes₁) (get boards₀) (get boards₁) seeds₁ b d i t more
 
@@ -81,6 +84,7 @@ halfway_start nodes boards seeds b d count l R A = record {
   room = R;
   roomy = A;
   fewer = omega arith;
+  fresh = λ rate now f g. (f, g);
   splits = λ t more h w. record { done = Done; left = t; whole = refl; wide = refl; plants = plants_none (get nodes) (get boards) b d; ready = h };
 }
 
@@ -125,15 +129,17 @@ pub halfway_next : (n₀ n₁ n₂ : Slab Node) (b₀ b₁ b₂ : Slab Board) (s
     → Keeps (get n₁) (get n₂) (get b₁) (get b₂) b
     → board_room (get b₁ b) ≤ board_room (get b₂ b) + 1
     → HaveRoom n₂ b₂ (length seeds₂) → AreRoomy seeds₂ → length seeds₂ ≤ length seeds₁
+    → ((rate : Rate) (now : ℕ) → AreFresh rate now seeds₁ → NodesFresh rate now (get n₁) → AreFresh rate now seeds₂ × NodesFresh rate now (get n₂))
     → ((u : Trees) (rest : List Stand) → stands_ready seeds₁ ≡ stands_of u ++ rest → width u ≡ 1 → Plants (get n₁) (get n₂) (get b₁) (get b₂) b d u × (stands_ready seeds₂ ≡ rest))
     → Halfway n₀ n₂ b₀ b₂ seeds₀ seeds₂ b d (i + 1) count
-halfway_next n₀ n₁ n₂ b₀ b₁ b₂ seeds₀ seeds₁ seeds₂ b d i count l e H K O R A F P = record {
+halfway_next n₀ n₁ n₂ b₀ b₁ b₂ seeds₀ seeds₁ seeds₂ b d i count l e H K O R A F N P = record {
   within = omega (arith, l);
   kept = keeps_then (get n₀) (get n₁) (get n₂) (get b₀) (get b₁) (get b₂) b H.kept K;
   own_room = (let o = H.own_room in omega (arith, o, O));
   room = R;
   roomy = A;
   fewer = (let f = H.fewer in omega (arith, f, F));
+  fresh = λ rate now f g. let x = H.fresh rate now f g in N rate now x.0 x.1;
   splits = λ t more h w. split_next (get n₀) (get n₁) (get n₂) (get b₀) (get b₁) (get b₂) seeds₁ seeds₂ b d i count t more l w (H.kept.depth ∙ e) K P (H.splits t more h w);
 }
 

@@ -1,2 +1,3 @@
 pub mod Standing
 pub mod Planting
+pub mod States

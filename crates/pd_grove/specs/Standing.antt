@@ -1,10 +1,12 @@
 -- Which tree stands under keys.
 use Rattle.std.specs.Prelude.{◌≡◌, ◌≢◌, ℕ, ◌+◌, ◌-◌, List, [], ◌∷◌, ◌++◌, Option, Some, None, option_map, vec_len, vec_capacity}
+use Rattle.slab.specs.Slab.{get}
 use Rattle.pd_canvas.specs.Views.{entry_of}
 use Rattle.pd_tree.specs.declared.rows.Sheet.{Sheet}
 use Rattle.pd_tree.specs.Trees.{Cell, Trees, Done, Leaf, Holder}
 use Rattle.pd_grove.specs.declared.nodes.Node.{Node}
 use Rattle.pd_grove.specs.declared.boards.Board.{Board}
+use Rattle.pd_grove.specs.declared.grove.Grove.{Grove}
 
 -- what is seen of a box: the key of its canvas, what it is, and the key of the canvas that it holds
 pub record NodeSeen : Type 0 where
@@ -62,3 +64,13 @@ pub record Gains (old new : ℕ → Option Board) (b k : ℕ) : Type 0 where
   pub seen : option_map board_seen (new b) ≡ option_map (λ s. record { holder = s.holder; depth = s.depth; sheet = s.sheet; keys = s.keys ++ k ∷ [] }) (option_map board_seen (old b))
   pub room : board_room (new b) + 1 ≡ board_room (old b)
   pub others : (j : ℕ) → j ≢ b → new j ≡ old j
+
+-- no key has a value
+abbrev pub IsEmpty : {A : Type 0} → (ℕ → Option A) → Type 0
+IsEmpty at = (k : ℕ) → at k ≡ None
+
+-- the tree under keys is that of a root canvas with this sheet and these boxes
+pub record GroveStands (g : Grove) (s : Sheet) (t : Trees) : Type 0 where
+  pub keys : List ℕ
+  pub root : option_map board_seen (get g.boards g.root) ≡ Some (record { holder = None; depth = 0; sheet = s; keys = keys })
+  pub stands : Stands (get g.nodes) (get g.boards) g.root 0 keys t

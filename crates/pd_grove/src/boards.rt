@@ -53,3 +53,21 @@ pub(crate) fn open_board(
     });
     key as u32
 }
+
+/// Opens the root canvas without boxes.
+pub(crate) fn open_root(boards: &mut Slab<Board>, sheet: Sheet, nodes: Vec<u32>) -> u32
+    requires room { HasRoomFor boards.old 1 }
+    requires small { boards.old.capacity ≤ 2 ^ 32 }
+    ensures opened { get boards.new result ≡ Some (record { holder = None; depth = 0; sheet = sheet; nodes = nodes }) }
+    ensures others { (k : ℕ) → k ≢ result → get boards.new k ≡ get boards.old k }
+    ensures len { slab_len boards.new ≡ slab_len boards.old + 1 }
+    ensures capacity { boards.new.capacity ≡ boards.old.capacity }
+{
+    let key = boards.insert_reserved(Board {
+        holder: None,
+        depth: 0,
+        sheet,
+        nodes,
+    });
+    key as u32
+}

@@ -2,10 +2,12 @@
 #![tactic(auto)]
 
 mod boards;
+mod grove;
 mod nodes;
 mod planting;
 mod seeds;
 
 pub use boards::Board;
+pub use grove::Grove;
 pub use nodes::Node;
 pub use seeds::{Seed, Seeds};

@@ -6,6 +6,8 @@ ghost use Rattle.pd_tree.specs.Trees.{Trees, Stand, width, stands_of};
 ghost use Rattle.pd_grove.specs.Standing.{depth_of, board_room};
 ghost use Rattle.pd_grove.specs.Planting.{seeds_in, AreRoomy, IsRoomy, stands_ready, seed_stand, HaveRoom, Keeps, Plants, PlantsInside, one};
 ghost use Rattle.pd_tree.specs.declared.rows.Sheet.{Sheet};
+ghost use Rattle.pd_clock.specs.declared.times.Rate.{Rate};
+ghost use Rattle.pd_grove.specs.States.{IsFresh, AreFresh, NodesFresh};
 
 use crate::boards::{Board, open_board, put_last};
 use crate::nodes::{Node, put_node, set_inner};
@@ -33,6 +35,8 @@ pub(crate) fn plant_boxes(
     ensures own_room { board_room (get boards.old board) ≤ board_room (get boards.new board) + count }
     ensures room { HaveRoom nodes.new boards.new (length (seeds_in seeds.new)) }
     ensures roomy { AreRoomy (seeds_in seeds.new) }
+    ensures fresh { (rate : Rate) (now : ℕ) → AreFresh rate now (seeds_in seeds.old) → NodesFresh rate now (get nodes.old) →
+        AreFresh rate now (seeds_in seeds.new) × NodesFresh rate now (get nodes.new) }
     ensures fewer { length (seeds_in seeds.new) ≤ length (seeds_in seeds.old) }
     ensures plants { (t : Trees) (more : List Stand) → stands_ready (seeds_in seeds.old) ≡ stands_of t ++ more → width t ≡ count →
         Plants (get nodes.old) (get nodes.new) (get boards.old) (get boards.new) board depth t × (stands_ready (seeds_in seeds.new) ≡ more) }
@@ -61,6 +65,8 @@ fn plant_next(
     ensures own_room { board_room (get boards.old board) ≤ board_room (get boards.new board) + 1 }
     ensures room { HaveRoom nodes.new boards.new (length (seeds_in seeds.new)) }
     ensures roomy { AreRoomy (seeds_in seeds.new) }
+    ensures fresh { (rate : Rate) (now : ℕ) → AreFresh rate now (seeds_in seeds.old) → NodesFresh rate now (get nodes.old) →
+        AreFresh rate now (seeds_in seeds.new) × NodesFresh rate now (get nodes.new) }
     ensures fewer { length (seeds_in seeds.new) ≤ length (seeds_in seeds.old) }
     ensures plants { (t : Trees) (more : List Stand) → stands_ready (seeds_in seeds.old) ≡ stands_of t ++ more → width t ≡ 1 →
         Plants (get nodes.old) (get nodes.new) (get boards.old) (get boards.new) board depth t × (stands_ready (seeds_in seeds.new) ≡ more) }
@@ -91,6 +97,8 @@ fn plant_box(
     ensures own_room { board_room (get boards.old board) ≤ board_room (get boards.new board) + 1 }
     ensures room { HaveRoom nodes.new boards.new (length (seeds_in seeds.new)) }
     ensures roomy { AreRoomy (seeds_in seeds.new) }
+    ensures fresh { (rate : Rate) (now : ℕ) → IsFresh rate now seed → AreFresh rate now (seeds_in seeds.old) → NodesFresh rate now (get nodes.old) →
+        AreFresh rate now (seeds_in seeds.new) × NodesFresh rate now (get nodes.new) }
     ensures fewer { length (seeds_in seeds.new) ≤ length (seeds_in seeds.old) }
     ensures plants { (t : Trees) (more : List Stand) → one (seed_stand seed) (stands_ready (seeds_in seeds.old)) ≡ stands_of t ++ more → width t ≡ 1 →
         Plants (get nodes.old) (get nodes.new) (get boards.old) (get boards.new) board depth t × (stands_ready (seeds_in seeds.new) ≡ more) }
@@ -146,6 +154,8 @@ fn plant_inside(
     ensures boards_stay { (k : ℕ) → IsSome (get boards.old k) → get boards.new k ≡ get boards.old k }
     ensures room { HaveRoom nodes.new boards.new (length (seeds_in seeds.new)) }
     ensures roomy { AreRoomy (seeds_in seeds.new) }
+    ensures fresh { (rate : Rate) (now : ℕ) → AreFresh rate now (seeds_in seeds.old) → NodesFresh rate now (get nodes.old) →
+        AreFresh rate now (seeds_in seeds.new) × NodesFresh rate now (get nodes.new) }
     ensures fewer { length (seeds_in seeds.new) ≤ length (seeds_in seeds.old) }
     ensures plain { sheet ≡ None → (get nodes.new key ≡ get nodes.old key) × (seeds_in seeds.new ≡ seeds_in seeds.old) }
     ensures plants { (s : Sheet) (t : Trees) (more : List Stand) → sheet ≡ Some s → stands_ready (seeds_in seeds.old) ≡ stands_of t ++ more → width t ≡ boxes →

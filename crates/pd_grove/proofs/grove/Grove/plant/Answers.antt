@@ -1,0 +1,39 @@
+use Rattle.std.proofs.Common.{◌≡◌, ◌+◌, ◌≤◌, ℕ, List, [], ◌++◌, length, Some, None, refl, sym, ap, ◌∙◌, arith}
+use Rattle.std.specs.Prelude.{option_map}
+use Rattle.std.proofs.lemmas.List.{append-nil}
+use Rattle.std.proofs.lemmas.Option.{none-some}
+use Rattle.slab.specs.Slab.{get, slab_len}
+use Rattle.pd_tree.specs.Trees.{stands_of}
+use Rattle.pd_grove.specs.Standing.{board_seen}
+use Rattle.pd_grove.specs.Planting.{seeds_in, stands_ready, with_keys}
+use Rattle.pd_grove.proofs.Freshness.{as_many}
+use Rattle.pd_grove.proofs.grove.Grove.plant.Goals as goal
+
+pub plant_boxes-requires-clause-room : goal.plant_boxes-requires-clause-room
+plant_boxes-requires-clause-room c =
+    let n = as_many (seeds_in c.in_ok-seeds.seeds) c.args.rows.items c.in_ok-seeds.ensures.ready in
+    let m = c.len-most.ensures in
+    let a = c.in_ok-nodes.ensures in
+    let b = c.in_ok-boards.ensures in
+    let r = c.open_root-root.ensures in
+    let k = c.args.rows.ok in
+    let nr = a.room in
+    let br = b.room in
+    let rl = r.len in
+    let rc = r.capacity in
+    let bs = b.small in
+    record { nodes_fit = omega (arith, n, m, nr, k); boards_fit = omega (arith, n, m, br, rl, rc, k); nodes_small = a.small; boards_small = omega (arith, bs, rc) }
+
+pub returns-clause-stands : goal.returns-clause-stands
+returns-clause-stands c = λ t h w.
+    let p = (c.plant_boxes.ensures.plants t [] (c.in_ok-seeds.ensures.ready ∙ h ∙ sym (append-nil (stands_of t))) w).0 in
+    record {
+      keys = p.keys;
+      root = p.gains ∙ ap (λ o. option_map (with_keys p.keys) (option_map board_seen o)) c.open_root-root.ensures.opened
+          ∙ ap (λ (ks : List ℕ). Some (record { holder = None; depth = 0; sheet = c.args.sheet; keys = ks })) (ap (λ xs. xs ++ p.keys) c.in_ok-room.ensures.items);
+      stands = p.stands;
+    }
+
+pub returns-clause-fresh : goal.returns-clause-fresh
+returns-clause-fresh c =
+    (c.plant_boxes.ensures.fresh c.args.rate c.args.now c.in_ok-seeds.ensures.fresh (λ k n h. absurd (none-some n (sym (c.in_ok-nodes.ensures.empty k) ∙ h)))).1

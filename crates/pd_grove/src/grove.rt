@@ -1,0 +1,70 @@
+//! A running tree under keys.
+
+ghost use Rattle.std.specs.Prelude.{◌≡◌, ◌+◌, ◌<◌, ◌≤◌, ◌^◌, ℕ, length, IfOk};
+ghost use Rattle.slab.specs.Slab.{get, HasRoomFor, slab_len};
+ghost use Rattle.pd_tree.specs.Trees.{Trees, width, stands_of, stands_in};
+ghost use Rattle.pd_grove.specs.Standing.{GroveStands, IsEmpty};
+ghost use Rattle.pd_grove.specs.States.{AreSmall, NodesFresh};
+
+use crate::boards::{Board, open_root};
+use crate::nodes::Node;
+use crate::planting::plant_boxes;
+use crate::seeds::Seeds;
+use pd_clock::{Rate, Time};
+use pd_tree::{Row, Sheet};
+use slab::Slab;
+use std::alloc::{AllocError, Global};
+
+/// Boxes and canvases under keys, and the key of the root canvas.
+#[derive(Drop)]
+pub struct Grove {
+    nodes: Slab<Node>,
+    boards: Slab<Board>,
+    root: u32,
+}
+
+impl Grove {
+    /// Plants a grown document: its root's sheet, its boxes in text order, of which `count` are the root's own.
+    ///
+    /// # Errors
+    ///
+    /// `AllocError` where memory ran out.
+    pub fn plant(
+        alloc: Global,
+        sheet: Sheet,
+        rows: Vec<Row>,
+        count: u32,
+        rate: Rate,
+        now: Time,
+    ) -> Result<Grove, AllocError>
+        requires { AreSmall rows.items }
+        ensures stands { (t : Trees) → stands_in rows.items ≡ stands_of t → width t ≡ count → IfOk result (λ g. GroveStands g sheet t) }
+        ensures fresh { IfOk result (λ g. NodesFresh rate now (get g.nodes)) }
+    {
+        let most = rows.len();
+        let mut nodes = with_room(alloc, most)?;
+        let mut boards = with_room(alloc, most + 1)?;
+        let mut seeds = Seeds::prepare(alloc, rows, rate, now)?;
+        let room = Vec::with_capacity(alloc, count as usize)?;
+        let root = open_root(&mut boards, sheet, room);
+        plant_boxes(&mut nodes, &mut boards, &mut seeds, root, 0, count);
+        Ok(Grove {
+            nodes,
+            boards,
+            root,
+        })
+    }
+}
+
+/// An empty slab with room for so many values, whose keys are below 2^32.
+fn with_room<T: Drop>(alloc: Global, most: usize) -> Result<Slab<T>, AllocError>
+    ensures empty { IfOk result (λ s. IsEmpty (get s)) }
+    ensures room { IfOk result (λ s. HasRoomFor s most) }
+    ensures small { IfOk result (λ s. s.capacity ≤ 2 ^ 32) }
+{
+    let slab = Slab::with_capacity(alloc, most)?;
+    if slab.capacity() > 4_294_967_296 {
+        return Err(AllocError);
+    }
+    Ok(slab)
+}
