@@ -5,9 +5,11 @@ mod boards;
 mod grove;
 mod nodes;
 mod planting;
+mod ports;
 mod seeds;
 
 pub use boards::Board;
 pub use grove::Grove;
 pub use nodes::Node;
+pub use ports::{PortSpot, Side, ports_of};
 pub use seeds::{Seed, Seeds};
