@@ -2,3 +2,4 @@ pub mod Standing
 pub mod Planting
 pub mod States
 pub mod Ports
+pub mod Telling

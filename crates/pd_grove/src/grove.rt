@@ -18,9 +18,9 @@ use std::alloc::{AllocError, Global};
 /// Boxes and canvases under keys, and the key of the root canvas.
 #[derive(Drop)]
 pub struct Grove {
-    nodes: Slab<Node>,
-    boards: Slab<Board>,
-    root: u32,
+    pub(crate) nodes: Slab<Node>,
+    pub(crate) boards: Slab<Board>,
+    pub(crate) root: u32,
 }
 
 impl Grove {

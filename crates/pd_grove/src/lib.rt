@@ -7,6 +7,7 @@ mod nodes;
 mod planting;
 mod ports;
 mod seeds;
+mod telling;
 
 pub use boards::Board;
 pub use grove::Grove;

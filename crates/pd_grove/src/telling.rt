@@ -1,0 +1,83 @@
+//! What a running tree tells by its keys.
+
+ghost use Rattle.std.specs.Prelude.{◌≡◌, Some, None, IsSome, slice_get, option_and_then};
+ghost use Rattle.slab.specs.Slab.{get, ContainsKey};
+ghost use Rattle.pd_grove.specs.Telling.{kind_in, inner_in, state_in, keys_in, step_in, reached, Keeps};
+
+use crate::grove::Grove;
+use pd_kind::{Kind, State};
+
+impl Grove {
+    /// The key of the root canvas.
+    pub fn root(&self) -> u32
+        ensures { result ≡ self.now.root }
+    {
+        self.root
+    }
+
+    /// The kind of a live box.
+    pub fn kind_at(&self, node: u32) -> &Kind
+        requires { ContainsKey self.now.nodes node }
+        ensures { kind_in (get self.now.nodes node) ≡ Some result.now }
+    {
+        &self.nodes[node as usize].kind
+    }
+
+    /// The key of the canvas that a live box holds; `None` exactly where it holds none.
+    pub fn canvas_in(&self, node: u32) -> Option<u32>
+        requires { ContainsKey self.now.nodes node }
+        ensures { result ≡ inner_in (get self.now.nodes node) }
+    {
+        self.nodes[node as usize].inner
+    }
+
+    /// The key of the box of a number of a live canvas; `None` exactly from the canvas's number of boxes on.
+    pub fn box_key(&self, canvas: u32, number: u32) -> Option<u32>
+        requires { ContainsKey self.now.boards canvas }
+        ensures { result ≡ slice_get (keys_in (get self.now.boards canvas)) number }
+    {
+        self.boards[canvas as usize]
+            .nodes
+            .get(number as usize)
+            .copied()
+    }
+
+    /// The key of the canvas to which a path of box numbers leads from the root; `None` exactly where it leads to none.
+    pub fn place_key(&self, path: &[u32]) -> Option<u32>
+        ensures { result ≡ reached self.now (Some self.now.root) path.now }
+    {
+        let mut here = Some(self.root);
+        for number in path {
+            here = self.step(here, *number);
+        }
+        here
+    }
+
+    /// The canvas in a box of a canvas.
+    fn step(&self, canvas: Option<u32>, number: u32) -> Option<u32>
+        ensures { result ≡ option_and_then (λ c. step_in self.now c number) canvas }
+    {
+        let board = self.boards.get(canvas? as usize)?;
+        let key = board.nodes.get(number as usize)?;
+        self.nodes.get(*key as usize)?.inner
+    }
+
+    /// Takes out what a live box keeps. Its state has to be in.
+    pub fn take_state(&mut self, node: u32) -> State
+        requires { IsSome (state_in (get self.old.nodes node)) }
+        ensures state { state_in (get self.old.nodes node) ≡ Some result }
+        ensures keeps { Keeps self.old self.new node None }
+    {
+        let node = &mut self.nodes[node as usize];
+        node.state.take().unwrap()
+    }
+
+    /// Gives a live box what it keeps.
+    pub fn put_state(&mut self, node: u32, state: State)
+        requires { ContainsKey self.old.nodes node }
+        ensures { Keeps self.old self.new node (Some state) }
+    {
+        let node = &mut self.nodes[node as usize];
+        node.state = Some(state);
+    }
+}
