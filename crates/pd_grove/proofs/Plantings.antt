@@ -1,5 +1,5 @@
 -- Planting box by box.
-use Rattle.std.proofs.Common.{◌≡◌, ◌≢◌, ℕ, zero, suc, ◌+◌, ◌-◌, ◌<◌, ◌≤◌, List, [], ◌∷◌, ◌++◌, append_assoc, length, Option, Some, None, IsSome, refl, sym, ap, ◌∙◌, subst, arith}
+use Rattle.std.proofs.Common.{◌≡◌, ◌≢◌, ℕ, suc, ◌+◌, ◌-◌, ◌<◌, ◌≤◌, List, [], ◌∷◌, ◌++◌, append_assoc, length, Option, Some, None, IsSome, refl, sym, ap, ◌∙◌, subst, arith}
 use Rattle.std.specs.Prelude.{option_map}
 use Rattle.std.proofs.lemmas.List.{append-nil}
 use Rattle.slab.specs.Slab.{Slab, get}
@@ -9,7 +9,7 @@ use Rattle.pd_tree.specs.Trees.{Cell, Trees, Done, Leaf, Holder, Stand, join, wi
 use Rattle.pd_grove.specs.declared.nodes.Node.{Node}
 use Rattle.pd_grove.specs.declared.boards.Board.{Board}
 use Rattle.pd_grove.specs.declared.seeds.Seed.{Seed}
-use Rattle.pd_grove.specs.Standing.{NodeSeen, node_seen, BoardSeen, board_seen, Stands, depth_of, board_room, with_inner, Gains}
+use Rattle.pd_grove.specs.Standing.{NodeSeen, node_seen, BoardSeen, board_seen, depth_of, board_room, with_inner, Gains}
 use Rattle.pd_grove.specs.Planting.{stands_ready, AreRoomy, HaveRoom, Keeps, Plants, PlantsInside, with_keys}
 use Rattle.pd_grove.specs.States.{AreFresh, NodesFresh}
 use Rattle.pd_grove.proofs.TreeLemmas.{width-join, join-assoc, first_box, other_boxes, first_other, first_width, first_stands, no_boxes}
@@ -179,7 +179,7 @@ pub box_planted : (n₀ n₁ n₂ : ℕ → Option Node) (b₀ b₁ b₂ : ℕ �
     → option_map node_seen (n₁ k) ≡ Some (record { board = b; cell = c; inner = None })
     → (sheet ≡ None → (n₂ k ≡ n₁ k) × (seeds' ≡ seeds))
     → ((s : Sheet) (t : Trees) (more : List Stand) → sheet ≡ Some s → stands_ready seeds ≡ stands_of t ++ more → width t ≡ boxes
-        → PlantsInside n₁ n₂ b₀ b₁ k (d + 1) s t × (stands_ready seeds' ≡ more))
+    → PlantsInside n₁ n₂ b₀ b₁ k (d + 1) s t × (stands_ready seeds' ≡ more))
     → ((j : ℕ) → IsSome (b₀ j) → b₁ j ≡ b₀ j)
     → Gains b₁ b₂ b k
     → (t : Trees) (more : List Stand) → record { cell = c; sheet = sheet; boxes = boxes } ∷ stands_ready seeds ≡ stands_of t ++ more → width t ≡ 1

@@ -1,5 +1,5 @@
 -- Boxes put one after another.
-use Rattle.std.proofs.Common.{◌≡◌, ℕ, zero, suc, ◌+◌, List, [], ◌∷◌, ◌++◌, append_assoc, refl, sym, ap, ◌∙◌, Some, arith}
+use Rattle.std.proofs.Common.{◌≡◌, ℕ, suc, ◌+◌, List, [], ◌∷◌, ◌++◌, refl, sym, ap, Some, arith}
 use Rattle.pd_tree.specs.Trees.{Trees, Done, Leaf, Holder, Stand, join, width, stands_of}
 
 pub width-join : (a b : Trees) → width (join a b) ≡ width a + width b

@@ -1,5 +1,5 @@
 -- What planting does.
-use Rattle.std.specs.Prelude.{◌≡◌, ◌≢◌, ℕ, ◌+◌, ◌^◌, ◌≤◌, List, [], ◌∷◌, ◌++◌, length, map, Option, Some, None, option_map, IsSome, vec_len, vec_capacity}
+use Rattle.std.specs.Prelude.{◌≡◌, ◌≢◌, ℕ, ◌^◌, ◌≤◌, List, [], ◌∷◌, ◌++◌, map, Option, Some, None, option_map, IsSome, vec_len, vec_capacity}
 use Rattle.std.specs.List.{AllByRecursion}
 use Rattle.slab.specs.Slab.{Slab, HasRoomFor}
 use Rattle.pd_tree.specs.declared.rows.Sheet.{Sheet}
@@ -8,7 +8,7 @@ use Rattle.pd_grove.specs.declared.nodes.Node.{Node}
 use Rattle.pd_grove.specs.declared.boards.Board.{Board}
 use Rattle.pd_grove.specs.declared.seeds.Seed.{Seed}
 use Rattle.pd_grove.specs.declared.seeds.Seeds.{Seeds}
-use Rattle.pd_grove.specs.Standing.{NodeSeen, node_seen, BoardSeen, board_seen, Stands, depth_of, with_inner}
+use Rattle.pd_grove.specs.Standing.{BoardSeen, board_seen, Stands, depth_of, with_inner}
 
 abbrev pub seeds_in : Seeds → List Seed
 seeds_in s = s.items.items

@@ -1,5 +1,5 @@
 -- What a grove tells by its keys.
-use Rattle.std.specs.Prelude.{◌≡◌, ◌≢◌, ℕ, List, [], ◌∷◌, Option, Some, None, slice_get, option_map, option_and_then, IsSome}
+use Rattle.std.specs.Prelude.{◌≡◌, ◌≢◌, ℕ, List, [], ◌∷◌, Option, Some, None, slice_get, option_map, option_and_then}
 use Rattle.slab.specs.Slab.{get}
 use Rattle.pd_kind.specs.declared.kinds.Kind.{Kind}
 use Rattle.pd_kind.specs.declared.states.State.{State}

@@ -8,6 +8,8 @@ mod planting;
 mod ports;
 mod seeds;
 mod telling;
+#[cfg(test)]
+mod tests;
 
 pub use boards::Board;
 pub use grove::Grove;

@@ -1,6 +1,7 @@
 //! What a running tree tells by its keys.
 
 ghost use Rattle.std.specs.Prelude.{◌≡◌, Some, None, IsSome, slice_get, option_and_then};
+ghost use Rattle.std.specs.Option.{option_copied};
 ghost use Rattle.slab.specs.Slab.{get, ContainsKey};
 ghost use Rattle.pd_grove.specs.Telling.{kind_in, inner_in, state_in, keys_in, step_in, reached, Keeps};
 
@@ -23,23 +24,26 @@ impl Grove {
         &self.nodes[node as usize].kind
     }
 
-    /// The key of the canvas that a live box holds; `None` exactly where it holds none.
+    /// The key of the canvas that a box holds; `None` exactly where it holds none.
     pub fn canvas_in(&self, node: u32) -> Option<u32>
-        requires { ContainsKey self.now.nodes node }
         ensures { result ≡ inner_in (get self.now.nodes node) }
     {
-        self.nodes[node as usize].inner
+        self.nodes.get(node as usize)?.inner
     }
 
-    /// The key of the box of a number of a live canvas; `None` exactly from the canvas's number of boxes on.
+    /// The key of the box of a number of a canvas; `None` exactly from the canvas's number of boxes on.
     pub fn box_key(&self, canvas: u32, number: u32) -> Option<u32>
-        requires { ContainsKey self.now.boards canvas }
         ensures { result ≡ slice_get (keys_in (get self.now.boards canvas)) number }
     {
-        self.boards[canvas as usize]
-            .nodes
-            .get(number as usize)
-            .copied()
+        let board = self.boards.get(canvas as usize)?;
+        board.nodes.get(number as usize).copied()
+    }
+
+    /// What a box keeps, where it is in.
+    pub fn state_at(&self, node: u32) -> Option<&State>
+        ensures { option_copied result ≡ state_in (get self.now.nodes node) }
+    {
+        self.nodes.get(node as usize)?.state.as_ref()
     }
 
     /// The key of the canvas to which a path of box numbers leads from the root; `None` exactly where it leads to none.

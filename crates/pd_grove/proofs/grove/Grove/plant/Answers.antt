@@ -1,11 +1,10 @@
-use Rattle.std.proofs.Common.{◌≡◌, ◌+◌, ◌≤◌, ℕ, List, [], ◌++◌, length, Some, None, refl, sym, ap, ◌∙◌, arith}
+use Rattle.std.proofs.Common.{ℕ, List, [], ◌++◌, Some, None, sym, ap, ◌∙◌, arith}
 use Rattle.std.specs.Prelude.{option_map}
 use Rattle.std.proofs.lemmas.List.{append-nil}
 use Rattle.std.proofs.lemmas.Option.{none-some}
-use Rattle.slab.specs.Slab.{get, slab_len}
 use Rattle.pd_tree.specs.Trees.{stands_of}
 use Rattle.pd_grove.specs.Standing.{board_seen}
-use Rattle.pd_grove.specs.Planting.{seeds_in, stands_ready, with_keys}
+use Rattle.pd_grove.specs.Planting.{seeds_in, with_keys}
 use Rattle.pd_grove.proofs.Freshness.{as_many}
 use Rattle.pd_grove.proofs.grove.Grove.plant.Goals as goal
 
