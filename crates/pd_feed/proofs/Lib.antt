@@ -1,2 +1,4 @@
 pub mod Steps
 pub mod Parts
+pub mod ScanLemmas
+pub mod FeedLemmas
