@@ -1,13 +1,14 @@
 -- What a feed does with the bytes at hand.
-use Rattle.std.proofs.Common.{◌≡◌, ◌≢◌, ℕ, zero, suc, ◌+◌, ◌-◌, ◌<◌, ◌≤◌, Bool, true, false, not, ◌&&◌, ◌||◌, List, [], ◌∷◌, ◌++◌, length, take, drop, Option, Some, None, refl, sym, ap, ◌∙◌, subst, arith, eqb, ltb, cond}
-use Rattle.std.proofs.lemmas.List.{take-append-drop, length-take-le, take_all}
+use Rattle.std.proofs.Common.{◌≡◌, ◌≢◌, ℕ, zero, suc, ◌+◌, ◌-◌, ◌<◌, ◌≤◌, Bool, true, false, not, ◌&&◌, ◌||◌, List, [], ◌∷◌, ◌++◌, length, take, drop, Option, Some, None, refl, sym, ap, ◌∙◌, subst, arith, eqb, ltb, cond, length-append, Result, Ok, Err, IfOk, OnErr}
+use Rattle.std.proofs.lemmas.List.{take-append-drop, length-take-le, take_all, take-append-le, append-nil}
 use Rattle.std.specs.List.{prefix_len}
 use Rattle.pd_lex.specs.Text.{is_space}
 use Rattle.pd_lex.specs.Reading.{semicolon, is_body}
 use Rattle.pd_feed.specs.Scan.{scan_of, later}
 use Rattle.pd_feed.specs.Script.{is_white, record_text}
+use Rattle.pd_feed.specs.Bytes.{Gains}
 use Rattle.pd_feed.specs.Kept.{IsSearched}
-use Rattle.pd_feed.proofs.ScanLemmas.{place_of, semicolon-scan, scan-append, found-within, prefix_take}
+use Rattle.pd_feed.proofs.ScanLemmas.{place_of, semicolon-scan, scan-append, found-within, prefix_take, by_test}
 use Rattle.pd_feed.specs.declared.scan.Scan.{Scan}
 use Rattle.pd_feed.specs.declared.scan.Scan.TheVariants.{Found, Ended}
 
@@ -47,3 +48,21 @@ semicolon-within bytes place h = place_within bytes place (scan_of false bytes) 
 -- the text of a record that has no white space before it
 pub text_begun : (bytes : List ℕ) (place : ℕ) → prefix_len is_space bytes ≡ 0 → take place bytes ≡ record_text place bytes
 text_begun bytes place h = sym (ap (λ n. drop n (take place bytes)) (prefix_take place bytes h))
+
+-- ---- more bytes at hand
+
+begun-append : (bytes piece : List ℕ) → 0 < length bytes → prefix_len is_space bytes ≡ 0 → prefix_len is_space (bytes ++ piece) ≡ 0
+begun-append [] piece z h = absurd (omega arith)
+begun-append (b ∷ bytes) piece z h = by_test (is_space b) (λ e. absurd (let q = rw e at h in omega arith)) (λ e. rw e refl)
+
+pub searched_more : (bytes piece : List ℕ) (n : ℕ) (escaped : Bool) → IsSearched bytes n escaped → IsSearched (bytes ++ piece) n escaped
+searched_more bytes piece n escaped h = record {
+  within = omega (arith, h.within, length-append bytes piece);
+  none = ap (scan_of false) (take-append-le n bytes piece h.within) ∙ h.none;
+  begun = λ z. begun-append bytes piece (omega (arith, h.within)) (h.begun z);
+}
+
+pub came_behind : {E : Type 0} (r : Result ℕ E) (old new : List ℕ) (x y : Option (List ℕ)) → IfOk r (λ n. Gains n old x new y) → OnErr r (new ≡ old) →
+    (piece : List ℕ) × (new ≡ old ++ piece)
+came_behind (Ok n) old new x y g e = (g.piece, g.bytes)
+came_behind (Err f) old new x y g e = ([], e ∙ sym (append-nil old))

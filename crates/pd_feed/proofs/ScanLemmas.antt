@@ -21,7 +21,7 @@ abbrev pub place_of : Scan → Option ℕ
 place_of (Found k) = Some k
 place_of (Ended e) = None
 
-place_of-later : (n : ℕ) (s : Scan) → place_of (later n s) ≡ plus n (place_of s)
+pub place_of-later : (n : ℕ) (s : Scan) → place_of (later n s) ≡ plus n (place_of s)
 place_of-later n (Found k) = refl
 place_of-later n (Ended e) = refl
 

@@ -1,6 +1,8 @@
 -- What a feed has, and what becomes of it.
 use Rattle.std.specs.Prelude.{◌≡◌, ℕ, ◌+◌, Bool, true, false, List, [], ◌++◌, length, drop, Option, Some, None, IfSome, IsTrue, IsFalse}
+use Rattle.std.specs.List.{prefix_len}
 use Rattle.pd_io.specs.Stream.{with_front}
+use Rattle.pd_lex.specs.Text.{is_space}
 use Rattle.pd_lex.specs.Reading.{semicolon}
 use Rattle.pd_feed.specs.Script.{is_white, fed_of, is_shown, record_text}
 use Rattle.pd_feed.specs.declared.feed.Fed.{Fed}
@@ -61,4 +63,21 @@ pub record Waits (old : Feed) (left_old : Option (List ℕ)) (new : Feed) (left_
   pub given : List ℕ
   pub came : left_old ≡ with_front given left_new
   pub stays : Stays old (old.bytes ++ given) new new.bytes
+  pub unshown : IsFalse (is_shown (fed_of new.passed new.blank new.bytes))
+
+-- Where the source tells what it has: all that was ahead is still ahead.
+abbrev pub WaitsAll : Feed → Option (List ℕ) → Feed → Option (List ℕ) → Type 0
+WaitsAll old left_old new left_new =
+    (before after : List ℕ) → left_old ≡ Some before → left_new ≡ Some after → Stays old (old.bytes ++ before) new (new.bytes ++ after)
+
+-- the bytes at hand show this answer
+pub record Shows (fed : Fed) (old new : Feed) : Type 0 where
+  pub answer : fed ≡ fed_of old.passed old.blank old.bytes
+  pub shown : IsTrue (is_shown fed)
+  pub leaves : Leaves fed old old.bytes new new.bytes
+
+-- the bytes at hand show no answer; the white space before them is counted
+pub record Unshown (old new : Feed) : Type 0 where
+  pub stays : Stays old old.bytes new new.bytes
+  pub begun : prefix_len is_space new.bytes ≡ 0
   pub unshown : IsFalse (is_shown (fed_of new.passed new.blank new.bytes))

@@ -6,7 +6,7 @@ ghost use Rattle.pd_lex.specs.Text.{is_space};
 ghost use Rattle.pd_lex.specs.Reading.{is_body, semicolon};
 ghost use Rattle.pd_feed.specs.Bytes.{Gains};
 ghost use Rattle.pd_feed.specs.Script.{fed_of, is_shown, is_long, is_beyond, is_white};
-ghost use Rattle.pd_feed.specs.Feed.{Feed, Takes, Stays, Leaves, Feeds, FeedsAll, Waits};
+ghost use Rattle.pd_feed.specs.Feed.{Feed, Takes, Stays, Leaves, Feeds, FeedsAll, Waits, WaitsAll, Shows, Unshown};
 
 use crate::buffer::Buffer;
 use crate::scan::{Scan, find_semicolon, spaces};
@@ -119,11 +119,103 @@ impl RecordFeed {
         ensures { Takes self.old self.old.bytes self.new self.new.bytes }
     {
         self.last.clear();
-        self.last.extend_from_slice(&self.buffer.bytes()[..place]).unwrap();
+        self.last
+            .extend_from_slice(&self.buffer.bytes()[..place])
+            .unwrap();
         self.buffer.skip(place + 1);
         self.passed += self.blank + place + 1;
         self.blank = 0;
         self.searched = 0;
         self.escaped = false;
+    }
+}
+
+impl RecordFeed {
+    /// The answer for the record whose semicolon stands at the place; it is taken where it isn't too long.
+    fn give(&mut self, place: usize) -> Fed
+        requires begun { prefix_len is_space self.old.bytes ≡ 0 }
+        requires ends { semicolon self.old.bytes ≡ Some place }
+        ensures fed { result ≡ fed_of self.old.passed self.old.blank self.old.bytes }
+        ensures leaves { Leaves result self.old self.old.bytes self.new self.new.bytes }
+    {
+        let count = self.blank + place + 1;
+        if count > MOST_IN_RECORD || self.passed + count > MOST_IN_SCRIPT {
+            return Fed::TooLong;
+        }
+        self.take(place);
+        Fed::Record
+    }
+
+    /// Whether a rest is too long, whatever follows it.
+    fn is_rest_too_long(&self) -> bool
+        requires begun { prefix_len is_space self.now.bytes ≡ 0 }
+        requires none { semicolon self.now.bytes ≡ None }
+        ensures { result ≡ is_shown (fed_of self.now.passed self.now.blank self.now.bytes) }
+    {
+        let len = self.buffer.len();
+        let count = self.blank + len;
+        self.passed + count > MOST_IN_SCRIPT || (len > 0 && count > MOST_IN_RECORD)
+    }
+
+    /// The answer for a rest that isn't too long.
+    fn rest(&self) -> Fed
+        requires begun { prefix_len is_space self.now.bytes ≡ 0 }
+        requires unshown { IsFalse (is_shown (fed_of self.now.passed self.now.blank self.now.bytes)) }
+        ensures { result ≡ fed_of self.now.passed self.now.blank self.now.bytes }
+    {
+        if self.buffer.len() == 0 {
+            Fed::End
+        } else {
+            Fed::Unfinished
+        }
+    }
+
+    /// Reads once.
+    fn fill<S: Source>(&mut self, source: &mut S) -> Result<usize, SourceFailed>
+        requires begun { prefix_len is_space self.old.bytes ≡ 0 }
+        requires unshown { IsFalse (is_shown (fed_of self.old.passed self.old.blank self.old.bytes)) }
+        ensures gains { IfOk result (λ n. Gains n self.old.bytes (S.left source.old) self.new.bytes (S.left source.new)) }
+        ensures at_end { IfOk result (λ n. IfSome (S.left source.old) (λ left. (n ≡ 0) ↔ (left ≡ []))) }
+        ensures passed { self.new.passed ≡ self.old.passed }
+        ensures blank { self.new.blank ≡ self.old.blank }
+        ensures last { self.new.last ≡ self.old.last }
+        ensures same { OnErr result (self.new.bytes ≡ self.old.bytes) }
+        ensures failed { OnErr result (S.left source.new ≡ S.left source.old) }
+        ensures cause { OnErr result (Rose (S.faults source.old) (S.faults source.new)) }
+        ensures counted { S.faults source.old ≤ S.faults source.new }
+    {
+        self.buffer.fill(source)
+    }
+
+    /// The answer that the bytes at hand show. A record is taken.
+    fn shown(&mut self) -> Option<Fed>
+        ensures fed { IfSome result (λ fed. Shows fed self.old self.new) }
+        ensures unshown { IfNone result (Unshown self.old self.new) }
+    {
+        self.skip_white();
+        match self.find() {
+            Some(place) => Some(self.give(place)),
+            None => self.is_rest_too_long().then_some(Fed::TooLong),
+        }
+    }
+
+    /// Takes the next record of the script out of the bytes at hand, reading more as long as they show no answer.
+    pub fn next<S: Source>(&mut self, source: &mut S) -> Result<Fed, SourceFailed>
+        ensures fed { IfOk result (λ fed. Feeds fed self.old (S.left source.old) self.new (S.left source.new)) }
+        ensures all { IfOk result (λ fed. FeedsAll fed self.old (S.left source.old) self.new (S.left source.new)) }
+        ensures waits { OnErr result (Waits self.old (S.left source.old) self.new (S.left source.new)) }
+        ensures waits_all { OnErr result (WaitsAll self.old (S.left source.old) self.new (S.left source.new)) }
+        ensures at_hand { IsTrue (is_shown (fed_of self.old.passed self.old.blank self.old.bytes)) → source.new ≡ source.old }
+        ensures cause { OnErr result (Rose (S.faults source.old) (S.faults source.new)) }
+        ensures counted { S.faults source.old ≤ S.faults source.new }
+    {
+        'reading: loop {
+            if let Some(fed) = self.shown() {
+                return Ok(fed);
+            }
+            if self.fill(source)? == 0 {
+                return Ok(self.rest());
+            }
+        }
     }
 }

@@ -37,7 +37,7 @@ invariant_of-self c =
     let f = c.in-Ended.ensures ∙ ap (scan_of i.escaped) (take_rest c.bytes.result.now i.searched ∙ ap (drop i.searched) b) in
     record {
       search = searched_all i.buffer i.searched i.escaped c.in-Ended.escaped c.self.invariant.search
-        (ap (λ (f : Feed). prefix_len is_space f.bytes) c.self.view_is ∙ c.requires) f _ c.len-self-inside.ensures;
+          (ap (λ (f : Feed). prefix_len is_space f.bytes) c.self.view_is ∙ c.requires) f _ c.len-self-inside.ensures;
       counted = c.self.invariant.counted;
       body = c.self.invariant.body;
       short = c.self.invariant.short;
