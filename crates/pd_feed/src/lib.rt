@@ -7,5 +7,7 @@
 mod buffer;
 mod feed;
 mod scan;
+#[cfg(test)]
+mod tests;
 
 pub use feed::{Fed, RecordFeed};
