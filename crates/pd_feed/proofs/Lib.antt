@@ -4,3 +4,4 @@ pub mod ScanLemmas
 pub mod FeedLemmas
 pub mod FedLemmas
 pub mod NextLemmas
+pub mod ScriptLemmas

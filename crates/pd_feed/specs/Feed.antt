@@ -4,7 +4,7 @@ use Rattle.std.specs.List.{prefix_len}
 use Rattle.pd_io.specs.Stream.{with_front}
 use Rattle.pd_lex.specs.Text.{is_space}
 use Rattle.pd_lex.specs.Reading.{semicolon}
-use Rattle.pd_feed.specs.Script.{is_white, fed_of, is_shown, record_text}
+use Rattle.pd_feed.specs.Script.{is_white, fed_of, is_shown, record_text, Script, with_first, ends_as, script_of}
 use Rattle.pd_feed.specs.declared.feed.Fed.{Fed}
 use Rattle.pd_feed.specs.declared.feed.Fed.TheVariants.{Record, End, TooLong, Unfinished}
 
@@ -57,6 +57,23 @@ abbrev pub FeedsAll : Fed → Feed → Option (List ℕ) → Feed → Option (Li
 FeedsAll fed old left_old new left_new =
     (before after : List ℕ) → left_old ≡ Some before → left_new ≡ Some after →
     (fed ≡ fed_of old.passed old.blank (old.bytes ++ before)) × Leaves fed old (old.bytes ++ before) new (new.bytes ++ after)
+
+-- all that comes, from the bytes at hand and those that the source has left
+abbrev pub script_ahead : Feed → List ℕ → Script
+script_ahead feed left = script_of feed.passed feed.blank (feed.bytes ++ left)
+
+-- the record given was the first, and the others are still ahead; or there was none, and what is ahead ends so
+abbrev pub Reads : Fed → List ℕ → Script → Script → Type 0
+Reads Record last old new = old ≡ with_first last new
+Reads End last old new = (old ≡ ends_as End) × (new ≡ old)
+Reads TooLong last old new = (old ≡ ends_as TooLong) × (new ≡ old)
+Reads Unfinished last old new = (old ≡ ends_as Unfinished) × (new ≡ old)
+
+-- the same of the script, where the source tells what it has
+abbrev pub ReadsScript : Fed → Feed → Option (List ℕ) → Feed → Option (List ℕ) → Type 0
+ReadsScript fed old left_old new left_new =
+    (before after : List ℕ) → left_old ≡ Some before → left_new ≡ Some after →
+    Reads fed new.last (script_ahead old before) (script_ahead new after)
 
 -- The source failed: what it gave before that is at hand, and shows no answer.
 pub record Waits (old : Feed) (left_old : Option (List ℕ)) (new : Feed) (left_new : Option (List ℕ)) : Type 0 where

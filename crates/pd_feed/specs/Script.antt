@@ -1,5 +1,5 @@
 -- What comes next in a script, by its bytes alone.
-use Rattle.std.specs.Prelude.{ℕ, ◌+◌, Bool, true, false, List, length, Option, Some, None, if◌then◌else◌, ◌||◌, nat_lt, take, drop}
+use Rattle.std.specs.Prelude.{ℕ, zero, suc, ◌+◌, Bool, true, false, List, [], ◌∷◌, length, Option, Some, None, if◌then◌else◌, ◌||◌, nat_lt, take, drop}
 use Rattle.std.specs.List.{prefix_len, list_all}
 use Rattle.pd_lex.specs.Text.{is_space}
 use Rattle.pd_lex.specs.Reading.{semicolon}
@@ -45,3 +45,34 @@ is_shown Unfinished = false
 -- a record whose semicolon stands at the place: without it, and without the white space before
 abbrev pub record_text : ℕ → List ℕ → List ℕ
 record_text place bytes = let body = take place bytes in drop (prefix_len is_space body) body
+
+-- a script's records, and the answer after the last of them
+pub record Script : Type 0 where
+  pub records : List (List ℕ)
+  pub end : Fed
+
+abbrev pub with_first : List ℕ → Script → Script
+with_first text script = record { records = text ∷ script.records; end = script.end }
+
+abbrev pub ends_as : Fed → Script
+ends_as fed = record { records = []; end = fed }
+
+-- after this answer, and where a record ends at the place, after it
+abbrev pub script_at : Fed → Option ℕ → (ℕ → Script) → Script
+script_at Record (Some place) after = after place
+script_at Record None after = ends_as Record
+script_at End place after = ends_as End
+script_at TooLong place after = ends_as TooLong
+script_at Unfinished place after = ends_as Unfinished
+
+-- at most so many records
+abbrev pub script_within : ℕ → ℕ → ℕ → List ℕ → Script
+script_within zero passed blank bytes = ends_as (fed_of passed blank bytes)
+script_within (suc n) passed blank bytes =
+    script_at (fed_of passed blank bytes) (semicolon bytes)
+    (λ place. with_first (record_text place bytes) (script_within n (passed + (blank + place + 1)) 0 (drop (place + 1) bytes)))
+
+-- All that comes where so many bytes of the script have passed through the last whole record, and so many bytes of white space and then these
+-- bytes follow. There are no more records than bytes.
+unfoldable pub script_of : ℕ → ℕ → List ℕ → Script
+script_of passed blank bytes = script_within (length bytes) passed blank bytes

@@ -6,7 +6,7 @@ ghost use Rattle.pd_lex.specs.Text.{is_space};
 ghost use Rattle.pd_lex.specs.Reading.{is_body, semicolon};
 ghost use Rattle.pd_feed.specs.Bytes.{Gains};
 ghost use Rattle.pd_feed.specs.Script.{fed_of, is_shown, is_long, is_beyond, is_white};
-ghost use Rattle.pd_feed.specs.Feed.{Feed, Takes, Stays, Leaves, Feeds, FeedsAll, Waits, WaitsAll, Shows, Unshown};
+ghost use Rattle.pd_feed.specs.Feed.{Feed, Takes, Stays, Leaves, Feeds, FeedsAll, ReadsScript, Waits, WaitsAll, Shows, Unshown};
 
 use crate::buffer::Buffer;
 use crate::scan::{Scan, find_semicolon, spaces};
@@ -203,6 +203,7 @@ impl RecordFeed {
     pub fn next<S: Source>(&mut self, source: &mut S) -> Result<Fed, SourceFailed>
         ensures fed { IfOk result (λ fed. Feeds fed self.old (S.left source.old) self.new (S.left source.new)) }
         ensures all { IfOk result (λ fed. FeedsAll fed self.old (S.left source.old) self.new (S.left source.new)) }
+        ensures script { IfOk result (λ fed. ReadsScript fed self.old (S.left source.old) self.new (S.left source.new)) }
         ensures waits { OnErr result (Waits self.old (S.left source.old) self.new (S.left source.new)) }
         ensures waits_all { OnErr result (WaitsAll self.old (S.left source.old) self.new (S.left source.new)) }
         ensures at_hand { IsTrue (is_shown (fed_of self.old.passed self.old.blank self.old.bytes)) → source.new ≡ source.old }

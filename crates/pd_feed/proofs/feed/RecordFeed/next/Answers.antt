@@ -2,6 +2,7 @@ use Rattle.std.proofs.Common.{◌≡◌, ap, sym, ◌∙◌, arith}
 use Rattle.std.proofs.lemmas.Result.{err_from_is_err_and}
 use Rattle.pd_feed.specs.Feed.{Feed}
 use Rattle.pd_feed.proofs.NextLemmas.{shown_feeds, feeds_all, waits_all, waits_now, not_shown, ends_feeds, goes_on, stays_on, smaller}
+use Rattle.pd_feed.proofs.ScriptLemmas.{reads_script}
 use Rattle.pd_feed.proofs.feed.RecordFeed.next.Goals as goal
 
 pub returns-in-Some-clause-fed : goal.returns-in-Some-clause-fed
@@ -12,6 +13,12 @@ pub returns-in-Some-clause-all : goal.returns-in-Some-clause-all
 returns-in-Some-clause-all g c =
     feeds_all c.in-Some.fed c.args.self.now c.shown.new.self _ _
     (shown_feeds c.in-Some.fed c.args.self.now c.reading.self c.shown.new.self _ _ c.reading.invariant.way c.in-Some.ensures.fed)
+
+pub returns-in-Some-clause-script : goal.returns-in-Some-clause-script
+returns-in-Some-clause-script g c =
+    reads_script c.in-Some.fed c.args.self.now c.shown.new.self _ _
+    (feeds_all c.in-Some.fed c.args.self.now c.shown.new.self _ _
+    (shown_feeds c.in-Some.fed c.args.self.now c.reading.self c.shown.new.self _ _ c.reading.invariant.way c.in-Some.ensures.fed))
 
 pub returns-in_err-fill-clause-waits : goal.returns-in_err-fill-clause-waits
 returns-in_err-fill-clause-waits g c =
@@ -46,6 +53,14 @@ returns-then-branch-eq0-clause-all g c =
     feeds_all c.rest.result c.args.self.now c.fill.new.self _ _
     (ends_feeds c.rest.result c.args.self.now c.reading.self c.shown.new.self c.fill.new.self _ _ _ c.in_ok-fill.field-0 c.reading.invariant.way
     c.in_default.ensures.unshown f.gains c.if-branch-eq0.true f.at_end f.passed f.blank f.last c.rest.ensures)
+
+pub returns-then-branch-eq0-clause-script : goal.returns-then-branch-eq0-clause-script
+returns-then-branch-eq0-clause-script g c =
+    let f = c.in_ok-fill.ensures in
+    reads_script c.rest.result c.args.self.now c.fill.new.self _ _
+    (feeds_all c.rest.result c.args.self.now c.fill.new.self _ _
+    (ends_feeds c.rest.result c.args.self.now c.reading.self c.shown.new.self c.fill.new.self _ _ _ c.in_ok-fill.field-0 c.reading.invariant.way
+    c.in_default.ensures.unshown f.gains c.if-branch-eq0.true f.at_end f.passed f.blank f.last c.rest.ensures))
 
 pub returns-then-branch-eq0-clause-at_hand : goal.returns-then-branch-eq0-clause-at_hand
 returns-then-branch-eq0-clause-at_hand g c =
