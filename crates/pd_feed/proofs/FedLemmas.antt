@@ -1,5 +1,5 @@
 -- What comes next in a script: white space before it, and bytes behind it.
-use Rattle.std.proofs.Common.{◌≡◌, ◌≢◌, ℕ, zero, suc, ◌+◌, ◌-◌, ◌<◌, ◌≤◌, Bool, true, false, ◌&&◌, ◌||◌, List, [], ◌∷◌, ◌++◌, length, Option, Some, None, refl, sym, ap, subst, ◌∙◌, arith, ltb, cond, ◌⊎◌, inl, inr, length-append, append_assoc}
+use Rattle.std.proofs.Common.{◌≡◌, ◌≢◌, ℕ, ◌+◌, ◌<◌, ◌≤◌, Bool, true, false, ◌||◌, List, [], ◌∷◌, ◌++◌, length, Option, Some, None, refl, sym, ap, subst, ◌∙◌, arith, ◌⊎◌, inl, inr, length-append}
 use Rattle.std.proofs.lemmas.Bool.Decides.{nat_tests}
 use Rattle.std.specs.List.{prefix_len}
 use Rattle.pd_lex.specs.Text.{is_space}
@@ -9,8 +9,7 @@ use Rattle.pd_feed.specs.Script.{is_white, is_long, is_beyond, record_fed, rest_
 use Rattle.pd_feed.proofs.ScanLemmas.{by_test, place_of, place_of-later, semicolon-scan, scan-append, scan-found, scan-white, white-append, begun_not_white}
 use Rattle.pd_feed.specs.declared.scan.Scan.{Scan}
 use Rattle.pd_feed.specs.declared.scan.Scan.TheVariants.{Found, Ended}
-use Rattle.pd_feed.specs.declared.feed.Fed.{Fed}
-use Rattle.pd_feed.specs.declared.feed.Fed.TheVariants.{Record, End, TooLong, Unfinished}
+use Rattle.pd_feed.specs.declared.feed.Fed.TheVariants.{TooLong, Unfinished}
 
 -- ---- white space before
 

@@ -1,11 +1,11 @@
 -- What a feed does with the bytes at hand.
-use Rattle.std.proofs.Common.{◌≡◌, ◌≢◌, ℕ, zero, suc, ◌+◌, ◌-◌, ◌<◌, ◌≤◌, Bool, true, false, not, ◌&&◌, ◌||◌, List, [], ◌∷◌, ◌++◌, length, take, drop, Option, Some, None, refl, sym, ap, ◌∙◌, subst, arith, eqb, ltb, cond, length-append, Result, Ok, Err, IfOk, OnErr}
+use Rattle.std.proofs.Common.{◌≡◌, ℕ, ◌+◌, ◌<◌, Bool, false, List, [], ◌∷◌, ◌++◌, length, take, drop, Option, Some, None, refl, sym, ap, ◌∙◌, arith, length-append, Result, Ok, Err, IfOk, OnErr}
 use Rattle.std.proofs.lemmas.List.{take-append-drop, length-take-le, take_all, take-append-le, append-nil}
 use Rattle.std.specs.List.{prefix_len}
 use Rattle.pd_lex.specs.Text.{is_space}
-use Rattle.pd_lex.specs.Reading.{semicolon, is_body}
+use Rattle.pd_lex.specs.Reading.{semicolon}
 use Rattle.pd_feed.specs.Scan.{scan_of, later}
-use Rattle.pd_feed.specs.Script.{is_white, record_text}
+use Rattle.pd_feed.specs.Script.{record_text}
 use Rattle.pd_feed.specs.Bytes.{Gains}
 use Rattle.pd_feed.specs.Kept.{IsSearched}
 use Rattle.pd_feed.proofs.ScanLemmas.{place_of, semicolon-scan, scan-append, found-within, prefix_take, by_test}

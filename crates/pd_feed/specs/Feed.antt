@@ -1,5 +1,5 @@
 -- What a feed has, and what becomes of it.
-use Rattle.std.specs.Prelude.{◌≡◌, ℕ, ◌+◌, Bool, true, false, List, [], ◌++◌, length, drop, Option, Some, None, IfSome, IsTrue, IsFalse}
+use Rattle.std.specs.Prelude.{◌≡◌, ℕ, ◌+◌, List, [], ◌++◌, length, drop, Option, Some, IfSome, IsTrue, IsFalse}
 use Rattle.std.specs.List.{prefix_len}
 use Rattle.pd_io.specs.Stream.{with_front}
 use Rattle.pd_lex.specs.Text.{is_space}

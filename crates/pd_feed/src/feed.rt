@@ -199,7 +199,16 @@ impl RecordFeed {
         }
     }
 
-    /// Takes the next record of the script out of the bytes at hand, reading more as long as they show no answer.
+    /// Takes the next record of the script, with the white space before it and its semicolon, out of the bytes at hand. It
+    /// reads only as long as they don't show the answer. With another answer all that was ahead stays ahead: a further call
+    /// gives that answer again, unless the source has got more bytes.
+    ///
+    /// `fed` says it of the bytes that the source gave, `all` of all that it still has, and `script` of the list of records;
+    /// so the answers depend on the bytes alone, and not on the pieces in which they come.
+    ///
+    /// # Errors
+    ///
+    /// `SourceFailed` where a read failed. The bytes at hand stay, and no whole record is among them; a later call goes on.
     pub fn next<S: Source>(&mut self, source: &mut S) -> Result<Fed, SourceFailed>
         ensures fed { IfOk result (λ fed. Feeds fed self.old (S.left source.old) self.new (S.left source.new)) }
         ensures all { IfOk result (λ fed. FeedsAll fed self.old (S.left source.old) self.new (S.left source.new)) }

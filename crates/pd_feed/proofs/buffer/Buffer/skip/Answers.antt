@@ -1,5 +1,4 @@
-use Rattle.std.proofs.Common.{◌≤◌, ◌-◌, length, arith, ap, sym, ◌∙◌, drop}
-use Rattle.std.specs.Prelude.{slice_range}
+use Rattle.std.proofs.Common.{◌≤◌, ◌-◌, length, arith, ap, ◌∙◌, drop}
 use Rattle.pd_feed.proofs.Parts.{range-drop, length-range}
 use Rattle.pd_feed.proofs.buffer.Buffer.skip.Goals as goal
 

@@ -1,6 +1,5 @@
-use Rattle.std.proofs.Common.{◌≡◌, ◌+◌, ◌≤◌, length, ap, sym, ◌∙◌, subst, arith}
+use Rattle.std.proofs.Common.{length, ap, arith}
 use Rattle.pd_feed.specs.Feed.{Feed}
-use Rattle.pd_feed.specs.Kept.{IsSearched}
 use Rattle.pd_feed.proofs.FedLemmas.{unshown}
 use Rattle.pd_feed.proofs.FeedLemmas.{searched_more, came_behind}
 use Rattle.pd_feed.proofs.feed.RecordFeed.fill.Goals as goal

@@ -1,4 +1,4 @@
-use Rattle.std.proofs.Common.{◌≡◌, ◌+◌, ◌<◌, ◌≤◌, length, ap, arith}
+use Rattle.std.proofs.Common.{length, ap, arith}
 use Rattle.pd_feed.specs.Feed.{Feed}
 use Rattle.pd_feed.proofs.FeedLemmas.{semicolon-within}
 use Rattle.pd_feed.proofs.feed.RecordFeed.give.Goals as goal

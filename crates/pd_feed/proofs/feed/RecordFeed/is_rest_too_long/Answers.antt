@@ -1,4 +1,4 @@
-use Rattle.std.proofs.Common.{◌≡◌, ◌+◌, ◌<◌, ◌≤◌, length, ap, sym, ◌∙◌, arith}
+use Rattle.std.proofs.Common.{◌≡◌, ◌+◌, length, ap, ◌∙◌, arith}
 use Rattle.pd_feed.specs.Feed.{Feed}
 use Rattle.pd_feed.specs.Script.{is_long}
 use Rattle.pd_feed.proofs.FedLemmas.{rest_test}

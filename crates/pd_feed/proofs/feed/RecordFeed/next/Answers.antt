@@ -1,6 +1,5 @@
-use Rattle.std.proofs.Common.{◌≡◌, ap, sym, ◌∙◌, arith}
+use Rattle.std.proofs.Common.{arith}
 use Rattle.std.proofs.lemmas.Result.{err_from_is_err_and}
-use Rattle.pd_feed.specs.Feed.{Feed}
 use Rattle.pd_feed.proofs.NextLemmas.{shown_feeds, feeds_all, waits_all, waits_now, not_shown, ends_feeds, goes_on, stays_on, smaller}
 use Rattle.pd_feed.proofs.ScriptLemmas.{reads_script}
 use Rattle.pd_feed.proofs.feed.RecordFeed.next.Goals as goal

@@ -1,4 +1,4 @@
-use Rattle.std.proofs.Common.{◌≡◌, length, ap, sym, ◌∙◌}
+use Rattle.std.proofs.Common.{length, ap, ◌∙◌}
 use Rattle.pd_feed.specs.Feed.{Feed}
 use Rattle.pd_feed.proofs.FedLemmas.{unfinished_is}
 use Rattle.pd_feed.proofs.feed.RecordFeed.rest.Goals as goal

@@ -1,5 +1,4 @@
-use Rattle.std.proofs.Common.{◌≡◌, ap, sym, ◌∙◌, subst}
-use Rattle.pd_lex.specs.Reading.{semicolon}
+use Rattle.std.proofs.Common.{sym, ◌∙◌, subst}
 use Rattle.pd_feed.specs.Feed.{Feed, Stays}
 use Rattle.pd_feed.proofs.FedLemmas.{found_is_shown, too_long_is}
 use Rattle.pd_feed.proofs.NextLemmas.{shows_after, stays_self, then_shows}

@@ -1,9 +1,6 @@
-use Rattle.std.proofs.Common.{◌≡◌, ◌+◌, ◌<◌, ◌≤◌, Some, length, take, drop, ap, sym, refl, ◌∙◌, arith, length-drop}
-use Rattle.std.specs.List.{prefix_len}
+use Rattle.std.proofs.Common.{◌≡◌, ◌+◌, length, take, drop, ap, sym, refl, ◌∙◌, arith, length-drop}
 use Rattle.std.proofs.lemmas.List.{length-take-le}
 use Rattle.std.proofs.lemmas.Slice.{pushed}
-use Rattle.pd_lex.specs.Text.{is_space}
-use Rattle.pd_lex.specs.Reading.{semicolon, is_body}
 use Rattle.pd_feed.specs.Feed.{Feed}
 use Rattle.pd_feed.proofs.FeedLemmas.{semicolon-within, text_begun}
 use Rattle.pd_feed.proofs.ScanLemmas.{body_found}
