@@ -15,7 +15,7 @@ pub record IsSearched (bytes : List ℕ) (searched : ℕ) (escaped : Bool) : Typ
   pub begun : 0 < searched → prefix_len is_space bytes ≡ 0
 
 pub record IsKept (f : Inside) : Type 0 where
-  pub search : IsSearched f.buffer f.searched f.escaped
+  pub searching : IsSearched f.buffer f.searched f.escaped
   pub counted : f.passed + f.blank + length f.buffer ≤ 1073807361
   pub body : IsTrue (is_body f.last.items)
   pub short : length f.last.items ≤ 65535

@@ -18,7 +18,7 @@ invariant_of-self g c =
     let i = c.self.inside in
     let m = came_behind c.fill.result i.buffer c.fill.new.self _ _ c.fill.ensures.gains c.fill.ensures.same in
     record {
-      search = rw m.1 (searched_more i.buffer m.0 i.searched i.escaped c.self.invariant.search);
+      searching = rw m.1 (searched_more i.buffer m.0 i.searched i.escaped c.self.invariant.searching);
       counted = omega (arith, u.in_script, c.fill.ensures.short, ap (λ (f : Feed). f.passed) v, ap (λ (f : Feed). f.blank) v);
       body = c.self.invariant.body;
       short = c.self.invariant.short;

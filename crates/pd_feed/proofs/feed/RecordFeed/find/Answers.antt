@@ -13,7 +13,7 @@ overflow_add-result c =
     let i = c.self.inside in
     let b = c.bytes.ensures.value in
     let f = c.in-Found.ensures ∙ ap (scan_of i.escaped) (take_rest c.bytes.result.now i.searched ∙ ap (drop i.searched) b) in
-    let w = semicolon-within i.buffer (i.searched + c.in-Found.place) (sym (found_next i.buffer i.searched i.escaped c.in-Found.place c.self.invariant.search f)) in
+    let w = semicolon-within i.buffer (i.searched + c.in-Found.place) (sym (found_next i.buffer i.searched i.escaped c.in-Found.place c.self.invariant.searching f)) in
     omega (arith, w, c.self.invariant.counted)
 
 pub returns-in-Found-clause-place : goal.returns-in-Found-clause-place
@@ -21,14 +21,14 @@ returns-in-Found-clause-place c =
     let i = c.self.inside in
     let b = c.bytes.ensures.value in
     let f = c.in-Found.ensures ∙ ap (scan_of i.escaped) (take_rest c.bytes.result.now i.searched ∙ ap (drop i.searched) b) in
-    found_next i.buffer i.searched i.escaped c.in-Found.place c.self.invariant.search f ∙ ap (λ (f : Feed). semicolon f.bytes) c.self.view_is
+    found_next i.buffer i.searched i.escaped c.in-Found.place c.self.invariant.searching f ∙ ap (λ (f : Feed). semicolon f.bytes) c.self.view_is
 
 pub returns-in-Ended-clause-place : goal.returns-in-Ended-clause-place
 returns-in-Ended-clause-place c =
     let i = c.self.inside in
     let b = c.bytes.ensures.value in
     let f = c.in-Ended.ensures ∙ ap (scan_of i.escaped) (take_rest c.bytes.result.now i.searched ∙ ap (drop i.searched) b) in
-    ended_next i.buffer i.searched i.escaped c.in-Ended.escaped c.self.invariant.search f
+    ended_next i.buffer i.searched i.escaped c.in-Ended.escaped c.self.invariant.searching f
 
 pub invariant_of-self : goal.invariant_of-self
 invariant_of-self c =
@@ -36,7 +36,7 @@ invariant_of-self c =
     let b = c.bytes.ensures.value in
     let f = c.in-Ended.ensures ∙ ap (scan_of i.escaped) (take_rest c.bytes.result.now i.searched ∙ ap (drop i.searched) b) in
     record {
-      search = searched_all i.buffer i.searched i.escaped c.in-Ended.escaped c.self.invariant.search
+      searching = searched_all i.buffer i.searched i.escaped c.in-Ended.escaped c.self.invariant.searching
           (ap (λ (f : Feed). prefix_len is_space f.bytes) c.self.view_is ∙ c.requires) f _ c.len-self-inside.ensures;
       counted = c.self.invariant.counted;
       body = c.self.invariant.body;

@@ -27,7 +27,7 @@ invariant_of-self c =
     ∙ ap (take c.args.place) (c.bytes.ensures.value ∙ ap (λ (f : Feed). f.bytes) v) in
     let n : length (take c.args.place c.args.self.now.bytes) ≡ c.args.place = length-take-le c.args.place c.args.self.now.bytes (omega (arith, w)) in
     record {
-      search = record { within = omega arith; none = refl; begun = λ z. absurd (omega arith) };
+      searching = record { within = omega arith; none = refl; begun = λ z. absurd (omega arith) };
       counted =
           omega (arith, c.self.invariant.counted, ap length c.skip.ensures, length-drop (c.args.place + 1) c.self.inside.buffer, w, l);
       body = rw t (body_found c.args.self.now.bytes c.args.place c.requires.ends);
