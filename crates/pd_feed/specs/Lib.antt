@@ -1,0 +1,5 @@
+pub mod Scan
+pub mod Bytes
+pub mod Script
+pub mod Feed
+pub mod Kept
