@@ -2,3 +2,4 @@ pub mod TreeLemmas
 pub mod Standings
 pub mod Plantings
 pub mod Freshness
+pub mod TextOrders

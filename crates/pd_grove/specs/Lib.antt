@@ -3,3 +3,4 @@ pub mod Planting
 pub mod States
 pub mod Ports
 pub mod Telling
+pub mod TextOrder

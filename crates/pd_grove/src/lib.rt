@@ -8,6 +8,7 @@ mod planting;
 mod ports;
 mod seeds;
 mod telling;
+mod text_order;
 #[cfg(test)]
 mod tests;
 
