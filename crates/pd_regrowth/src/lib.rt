@@ -1,0 +1,6 @@
+//! Laws of growth: what it takes, that it is local, and that the document it came from grows to it again.
+#![tactic(auto)]
+
+mod laws;
+
+pub use laws::growth_takes;
