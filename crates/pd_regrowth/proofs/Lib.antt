@@ -1,3 +1,4 @@
 pub mod StepLemmas
 pub mod MakeLemmas
 pub mod TakeLemmas
+pub mod ExpandLemmas

@@ -1,1 +1,2 @@
 pub mod Regrowth
+pub mod Suits
