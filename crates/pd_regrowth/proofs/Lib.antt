@@ -2,3 +2,5 @@ pub mod StepLemmas
 pub mod MakeLemmas
 pub mod TakeLemmas
 pub mod ExpandLemmas
+pub mod NamingLemmas
+pub mod AgainLemmas

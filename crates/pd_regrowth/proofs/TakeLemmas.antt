@@ -92,7 +92,7 @@ canvas_takes inner a p h text numbers w u v t k own first e =
       takes = record { zeros = both.zeros ∙ ap (λ x. x ++ v.zeros) (sym zeros); room = omega (arith, both.room); names = both.names };
     })
 
-making_takes : (inner : Inner) (a : Around) (e : Entry) (text : List Atom) (m : Making) (w : Stock) (t : Trees) (v : Stock) → InnerTakes inner
+pub making_takes : (inner : Inner) (a : Around) (e : Entry) (text : List Atom) (m : Making) (w : Stock) (t : Trees) (v : Stock) → InnerTakes inner
     → MakesBy e.head.form m → box_made inner a e text m w ≡ gives t v → BoxTakes w t v
 making_takes inner a e text (Plain k fault) w t v i f h =
     let leaf = Leaf (cell_of e.head text k fault) Done in
@@ -135,7 +135,7 @@ nothing_takes : InnerTakes (λ a p w. gives Done w)
 nothing_takes a p w t v h =
     subst (λ x. Takes w (zeros_in x) (weight x) v) (gives_same Done t w v h) (subst (Takes w [] 0) (gives_stock Done t w v h) (takes_none w))
 
-inner_takes : (lib : ℕ → Option Answer) (root : List ℕ) (left : ℕ) → InnerTakes (inner_of lib root left)
+pub inner_takes : (lib : ℕ → Option Answer) (root : List ℕ) (left : ℕ) → InnerTakes (inner_of lib root left)
 inner_takes lib root zero a p w t v h = nothing_takes a p w t v h
 inner_takes lib root (suc n) a p w t v h =
     boxes_take lib root n (inner_of lib root n) a (elements_of p) w t v (inner_takes lib root n) (sym (page_is lib root n a p w) ∙ h)

@@ -16,3 +16,12 @@ pub record Takes (w : Stock) (numbers : List ℕ) (boxes : ℕ) (v : Stock) : Ty
 abbrev pub inner_of : (ℕ → Option Answer) → List ℕ → ℕ → Inner
 inner_of lib root zero = λ a p w. gives Done w
 inner_of lib root (suc n) = page_grown lib root n
+
+abbrev pub stock : Names → List ℕ → ℕ → Stock
+stock names zeros room = record { names = names; zeros = zeros; room = room }
+
+-- In each table that goes on where this one ends, the step gives this again where it finds these numbers and so much room,
+-- and leaves what comes after them.
+abbrev pub GivesAgain : {A : Type 0} → (Stock → Step A) → A → Names → List ℕ → ℕ → Type 0
+GivesAgain f a names numbers boxes = (names2 : Names) (more : List ℕ) (room : ℕ) → Extends names names2 →
+    f (stock names2 (numbers ++ more) (boxes + room)) ≡ gives a (stock names2 more room)

@@ -6,7 +6,8 @@ ghost use Rattle.pd_tree.specs.Trees.{Tree, Trees, weight, zeros_in, zeros_of};
 ghost use Rattle.pd_growth.specs.Making.{Around};
 ghost use Rattle.pd_growth.specs.Steps.{Stock, gives};
 ghost use Rattle.pd_growth.specs.Growth.{box_grown, boxes_grown, page_grown, grown};
-ghost use Rattle.pd_regrowth.specs.Regrowth.{Takes, inner_of};
+ghost use Rattle.pd_regrowth.specs.Regrowth.{Takes, GivesAgain, inner_of};
+ghost use Rattle.pd_regrowth.specs.Suits.{TextsOf, IsEntryOf, AreEntriesOf, IsLibraryOf, IsAroundOf, AnswersAlike};
 
 /// Growth takes the `$0` numbers of what it gives, in text order, and as much room as that has boxes, and may bring names.
 pub fn growth_takes()
@@ -18,4 +19,24 @@ pub fn growth_takes()
         page_grown lib root left a p w ≡ gives t v → Takes w (zeros_in t) (weight t) v }
     ensures patch { (lib : ℕ → Option Answer) (name : List ℕ) (p : Page) (w v : Stock) (t : Tree) →
         grown lib name p w ≡ gives t v → Takes w (zeros_of t) (weight t.boxes) v }
+{}
+
+/// What grew grows again, for each library that answers so too, in each table of names that goes on, with the same `$0`
+/// numbers: it depends on nothing but the boxes, what is around them, the library's answers and these numbers.
+pub fn growth_is_local()
+    ensures one { (lib lib2 : ℕ → Option Answer) (root : List ℕ) (left : ℕ) (a : Around) (e : Entry) (w v : Stock) (t : Trees) →
+        AnswersAlike lib lib2 → IsLibraryOf w.names lib → IsAroundOf w.names a → IsEntryOf w.names e →
+        box_grown lib root left (inner_of lib root left) a e w ≡ gives t v →
+        GivesAgain (box_grown lib2 root left (inner_of lib2 root left) a e) t v.names (zeros_in t) (weight t) }
+    ensures several { (lib lib2 : ℕ → Option Answer) (root : List ℕ) (left : ℕ) (a : Around) (es : List Entry) (w v : Stock)
+        (t : Trees) → AnswersAlike lib lib2 → IsLibraryOf w.names lib → IsAroundOf w.names a → AreEntriesOf w.names es →
+        boxes_grown lib root left (inner_of lib root left) a es w ≡ gives t v →
+        GivesAgain (boxes_grown lib2 root left (inner_of lib2 root left) a es) t v.names (zeros_in t) (weight t) }
+    ensures page { (lib lib2 : ℕ → Option Answer) (root : List ℕ) (left : ℕ) (a : Around) (p : Page) (w v : Stock) (t : Trees) →
+        AnswersAlike lib lib2 → IsLibraryOf w.names lib → IsAroundOf w.names a → TextsOf w.names p.boxes →
+        page_grown lib root left a p w ≡ gives t v →
+        GivesAgain (page_grown lib2 root left a p) t v.names (zeros_in t) (weight t) }
+    ensures patch { (lib lib2 : ℕ → Option Answer) (name : List ℕ) (p : Page) (w v : Stock) (t : Tree) →
+        AnswersAlike lib lib2 → IsLibraryOf w.names lib → TextsOf w.names p.boxes →
+        grown lib name p w ≡ gives t v → GivesAgain (grown lib2 name p) t v.names (zeros_of t) (weight t.boxes) }
 {}
