@@ -4,3 +4,4 @@ pub mod TakeLemmas
 pub mod ExpandLemmas
 pub mod NamingLemmas
 pub mod AgainLemmas
+pub mod DocumentLemmas

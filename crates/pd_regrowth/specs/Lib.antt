@@ -1,2 +1,3 @@
 pub mod Regrowth
 pub mod Suits
+pub mod Rewiring

@@ -5,7 +5,8 @@ use Rattle.pd_atom.specs.Names.{Names}
 use Rattle.pd_atom.specs.Atoms.{IsOf}
 use Rattle.pd_atom.specs.declared.Atom.{Atom}
 use Rattle.pd_canvas.specs.declared.tree.Doc.{Doc}
-use Rattle.pd_canvas.specs.Pages.{Head, Frame, Boxes, End, Box, Entry}
+use Rattle.pd_canvas.specs.Pages.{Head, Frame, Boxes, End, Box, Entry, page_of}
+use Rattle.pd_canvas.specs.Proper.{HoldsNone}
 use Rattle.pd_library.specs.declared.answers.Answer.{Answer}
 use Rattle.pd_library.specs.declared.answers.Answer.TheVariants.{Found}
 use Rattle.pd_growth.specs.Making.{Around}
@@ -37,3 +38,8 @@ pub record IsAroundOf (names : Names) (a : Around) : Type 0 where
 -- where one library answers, the other answers so too
 abbrev pub AnswersAlike : (ℕ → Option Answer) → (ℕ → Option Answer) → Type 0
 AnswersAlike lib lib2 = (s : ℕ) (x : Answer) → lib s ≡ Some x → lib2 s ≡ Some x
+
+-- each box that is no subpatch has the empty page beside it
+abbrev pub HoldNone : Boxes → Type 0
+HoldNone End = Unit {0}
+HoldNone (Box h f inner rest) = HoldsNone h.form (page_of f inner) × HoldNone inner × HoldNone rest

@@ -1,13 +1,14 @@
 //! Laws over the growth of documents.
-ghost use Rattle.std.specs.Prelude.{◌≡◌, ℕ, List, Option};
+ghost use Rattle.std.specs.Prelude.{◌≡◌, ◌≤◌, ℕ, List, Option};
 ghost use Rattle.pd_canvas.specs.Pages.{Page, Entry};
+ghost use Rattle.pd_canvas.specs.Proper.{levels};
 ghost use Rattle.pd_library.specs.declared.answers.Answer.{Answer};
-ghost use Rattle.pd_tree.specs.Trees.{Tree, Trees, weight, zeros_in, zeros_of};
+ghost use Rattle.pd_tree.specs.Trees.{Tree, Trees, document_boxes, document_in, weight, zeros_in, zeros_of};
 ghost use Rattle.pd_growth.specs.Making.{Around};
 ghost use Rattle.pd_growth.specs.Steps.{Stock, gives};
 ghost use Rattle.pd_growth.specs.Growth.{box_grown, boxes_grown, page_grown, grown};
 ghost use Rattle.pd_regrowth.specs.Regrowth.{Takes, GivesAgain, inner_of};
-ghost use Rattle.pd_regrowth.specs.Suits.{TextsOf, IsEntryOf, AreEntriesOf, IsLibraryOf, IsAroundOf, AnswersAlike};
+ghost use Rattle.pd_regrowth.specs.Suits.{HoldNone, TextsOf, IsEntryOf, AreEntriesOf, IsLibraryOf, IsAroundOf, AnswersAlike};
 
 /// Growth takes the `$0` numbers of what it gives, in text order, and as much room as that has boxes, and may bring names.
 pub fn growth_takes()
@@ -39,4 +40,12 @@ pub fn growth_is_local()
     ensures patch { (lib lib2 : ℕ → Option Answer) (name : List ℕ) (p : Page) (w v : Stock) (t : Tree) →
         AnswersAlike lib lib2 → IsLibraryOf w.names lib → TextsOf w.names p.boxes →
         grown lib name p w ≡ gives t v → GivesAgain (grown lib2 name p) t v.names (zeros_of t) (weight t.boxes) }
+{}
+
+/// A tree has in it the document from which it grew.
+pub fn document_stays()
+    ensures page { (lib : ℕ → Option Answer) (root : List ℕ) (left : ℕ) (a : Around) (p : Page) (w v : Stock) (t : Trees) →
+        levels p.boxes ≤ left → HoldNone p.boxes → page_grown lib root left a p w ≡ gives t v → document_boxes t ≡ p.boxes }
+    ensures patch { (lib : ℕ → Option Answer) (name : List ℕ) (p : Page) (w v : Stock) (t : Tree) →
+        levels p.boxes ≤ 255 → HoldNone p.boxes → grown lib name p w ≡ gives t v → document_in t ≡ p }
 {}

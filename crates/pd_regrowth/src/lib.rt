@@ -3,4 +3,4 @@
 
 mod laws;
 
-pub use laws::{growth_is_local, growth_takes};
+pub use laws::{document_stays, growth_is_local, growth_takes};
