@@ -5,3 +5,4 @@ pub mod ExpandLemmas
 pub mod NamingLemmas
 pub mod AgainLemmas
 pub mod DocumentLemmas
+pub mod AlikeLemmas
