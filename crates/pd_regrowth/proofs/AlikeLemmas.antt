@@ -20,6 +20,7 @@ use Rattle.pd_regrowth.specs.Rewiring.{with_wires, IsHolderAlike, AreAlike, IsTr
 use Rattle.pd_regrowth.proofs.StepLemmas.{no_boxes, more_boxes, page_is, gives_same, gives_stock, chain, BoxWent, box_went, boxes_went}
 use Rattle.pd_regrowth.proofs.MakeLemmas.{MakesBy, made_by}
 use Rattle.pd_regrowth.proofs.TakeLemmas.{canvas_went, patch_went}
+use Rattle.pd_regrowth.proofs.AgainLemmas.{entries_of}
 
 -- ---- boxes of the document as a list, and their texts
 
@@ -186,3 +187,92 @@ boxes_alike lib root left inner a (e ∷ es) w t v u i h alike =
     ∙ ap (λ y. y >>= after) one.grows ∙ ap (λ y. y >>= (λ r x. gives (join one.first r) x)) rest.grows ∙ ap (λ y. gives y v) (sym one.tree);
       texts = λ names o. subst (AreEntriesOf names) (sym one.entries) (one.texts names o.0, rest.texts names o.1);
     }
+
+nothing_alike : InnerAlike (λ a p w. gives Done w)
+nothing_alike a p w t v u h alike =
+    let none : u ≡ Done = subst (λ y. AreAlike y u) (sym (gives_same Done t w v h)) alike in
+    record {
+      grows = λ q e. ap (gives Done) (gives_stock Done t w v h) ∙ ap (λ y. gives y v) (sym none);
+      texts = λ names o. subst (λ y. TextsOf names (document_boxes y)) (sym none) tt;
+    }
+
+inner_alike : (lib : ℕ → Option Answer) (root : List ℕ) (left : ℕ) → InnerAlike (inner_of lib root left)
+inner_alike lib root zero a p w t v u h alike = nothing_alike a p w t v u h alike
+inner_alike lib root (suc n) a p w t v u h alike =
+    let b = boxes_alike lib root n (inner_of lib root n) a (elements_of p) w t v u (inner_alike lib root n) (sym (page_is lib root n a p w) ∙ h) alike in
+    record {
+      grows = λ q e. page_is lib root n a q w ∙ ap (λ y. boxes_grown lib root n (inner_of lib root n) a (listed y) w) e ∙ b.grows;
+      texts = λ names o. texts_from names (document_boxes u) (b.texts names (entries_of names p.boxes o));
+    }
+
+pub page_alike : (lib : ℕ → Option Answer) (root : List ℕ) (left : ℕ) (a : Around) (p q : Page) (w v : Stock) (t u : Trees)
+    → page_grown lib root left a p w ≡ gives t v → AreAlike t u → q.boxes ≡ document_boxes u → page_grown lib root left a q w ≡ gives u v
+page_alike lib root left a p q w v t u h alike e =
+    let b = boxes_alike lib root left (inner_of lib root left) a (elements_of p) w t v u (inner_alike lib root left) (sym (page_is lib root left a p w) ∙ h) alike in
+    page_is lib root left a q w ∙ ap (λ y. boxes_grown lib root left (inner_of lib root left) a (listed y) w) e ∙ b.grows
+
+pub page_texts : (lib : ℕ → Option Answer) (root : List ℕ) (left : ℕ) (a : Around) (p : Page) (w v : Stock) (t u : Trees) (names : Names)
+    → page_grown lib root left a p w ≡ gives t v → AreAlike t u → TextsOf names p.boxes → TextsOf names (document_boxes u)
+page_texts lib root left a p w v t u names h alike o =
+    let b = boxes_alike lib root left (inner_of lib root left) a (elements_of p) w t v u (inner_alike lib root left) (sym (page_is lib root left a p w) ∙ h) alike in
+    texts_from names (document_boxes u) (b.texts names (entries_of names p.boxes o))
+
+sheet_again : (own : ℕ) (p : Page) (s : Sheet) (ws : List Wire) (b : Boxes) → s ≡ with_wires ws (sheet_of own [] p) → sheet_of own [] (page_of (frame_in s) b) ≡ s
+sheet_again own p s ws b e = subst (λ y. sheet_of own [] (page_of (frame_in y) b) ≡ y) (sym e) refl
+
+pub patch_alike : (lib : ℕ → Option Answer) (name : List ℕ) (p : Page) (w v : Stock) (t u : Tree)
+    → grown lib name p w ≡ gives t v → IsTreeAlike t u → grown lib name (document_in u) w ≡ gives u v
+patch_alike lib name p w v t u h alike =
+    let g = patch_went lib name p w t v h in
+    let q = document_in u in
+    let boxes = page_alike lib (without_ending name) 255 (around_root g.own) p q g.named v g.boxes u.boxes g.boxes_is
+    (subst (λ (y : Tree). AreAlike y.boxes u.boxes) (sym g.tree_is) alike.boxes) refl in
+    let sheet = sheet_again g.own p u.sheet alike.wires (document_boxes u.boxes) (alike.sheet ∙ ap (λ (y : Tree). with_wires alike.wires y.sheet) (sym g.tree_is)) in
+    let tree : ℕ → Trees → Tree = λ z bs. record { sheet = sheet_of z [] q; boxes = bs } in
+    let after : ℕ → Stock → Step Tree = λ z x. page_grown lib (without_ending name) 255 (around_root z) q x >>= (λ bs y. gives (tree z bs) y) in
+    ap (λ y. y >>= (λ z x. brought (receiver_bytes name) x >>= (λ _ s. after z s))) g.own_is
+    ∙ ap (λ y. y >>= (λ _ s. after g.own s)) g.name_is
+    ∙ ap (λ y. y >>= (λ bs s. gives (tree g.own bs) s)) boxes
+    ∙ ap (λ s. gives (record { sheet = s; boxes = u.boxes }) v) sheet
+
+pub patch_texts : (lib : ℕ → Option Answer) (name : List ℕ) (p : Page) (w v : Stock) (t u : Tree) (names : Names)
+    → grown lib name p w ≡ gives t v → IsTreeAlike t u → TextsOf names p.boxes → TextsOf names (document_boxes u.boxes)
+patch_texts lib name p w v t u names h alike o =
+    let g = patch_went lib name p w t v h in
+    page_texts lib (without_ending name) 255 (around_root g.own) p g.named v g.boxes u.boxes names g.boxes_is
+    (subst (λ (y : Tree). AreAlike y.boxes u.boxes) (sym g.tree_is) alike.boxes) o
+
+-- ---- what does not change with wires
+
+pub holder_cases : (P : Trees → Type 0) (form : Shape) (c : Cell) (s : Sheet) (inner rest u : Trees)
+    → ((ws : List Wire) (boxes others : Trees) → AreAlike inner boxes → AreAlike rest others → P (Holder c (with_wires ws s) boxes others))
+    → ((others : Trees) → AreAlike rest others → P (Holder c s inner others))
+    → IsHolderAlike form c s inner (AreAlike inner) (AreAlike rest) u → P u
+holder_cases P Sub c s inner rest u f g h = subst P (sym h.3) (f h.0 h.1 h.2 h.4 h.5)
+holder_cases P form c s inner rest u f g h = subst P (sym h.1) (g h.0 h.2)
+
+own_same : (form : Shape) (ws : List Wire) (s : Sheet) → own_zeros form (with_wires ws s) ≡ own_zeros form s
+own_same Sub ws s = refl
+own_same form ws s = refl
+
+pub zeros_alike : (t u : Trees) → AreAlike t u → zeros_in u ≡ zeros_in t
+zeros_alike Done u h = ap zeros_in h
+zeros_alike (Leaf c rest) u h = ap zeros_in h.1 ∙ zeros_alike rest h.0 h.2
+zeros_alike (Holder c s inner rest) u h =
+    holder_cases (λ y. zeros_in y ≡ own_zeros c.head.form s ++ (zeros_in inner ++ zeros_in rest)) c.head.form c s inner rest u
+    (λ ws boxes others i r. ap (λ x. x ++ (zeros_in boxes ++ zeros_in others)) (own_same c.head.form ws s)
+    ∙ ap (λ x. own_zeros c.head.form s ++ (x ++ zeros_in others)) (zeros_alike inner boxes i)
+    ∙ ap (λ x. own_zeros c.head.form s ++ (zeros_in inner ++ x)) (zeros_alike rest others r))
+    (λ others r. ap (λ x. own_zeros c.head.form s ++ (zeros_in inner ++ x)) (zeros_alike rest others r)) h
+
+pub weight_alike : (t u : Trees) → AreAlike t u → weight u ≡ weight t
+weight_alike Done u h = ap weight h
+weight_alike (Leaf c rest) u h = ap weight h.1 ∙ ap (λ n. n + 1) (weight_alike rest h.0 h.2)
+weight_alike (Holder c s inner rest) u h =
+    holder_cases (λ y. weight y ≡ weight inner + weight rest + 1) c.head.form c s inner rest u
+    (λ ws boxes others i r. ap (λ n. n + weight others + 1) (weight_alike inner boxes i) ∙ ap (λ n. weight inner + n + 1) (weight_alike rest others r))
+    (λ others r. ap (λ n. weight inner + n + 1) (weight_alike rest others r)) h
+
+pub zeros_of_alike : (t u : Tree) → IsTreeAlike t u → zeros_of u ≡ zeros_of t
+zeros_of_alike t u h =
+    ap (λ (s : Sheet). s.zero ∷ zeros_in u.boxes) h.sheet ∙ ap (λ l. t.sheet.zero ∷ l) (zeros_alike t.boxes u.boxes h.boxes)

@@ -6,3 +6,5 @@ pub mod NamingLemmas
 pub mod AgainLemmas
 pub mod DocumentLemmas
 pub mod AlikeLemmas
+pub mod TrimLemmas
+pub mod SuitLemmas

@@ -27,3 +27,16 @@ pub record IsTreeAlike (t u : Tree) : Type 0 where
   pub wires : List Wire
   pub sheet : u.sheet ≡ with_wires wires t.sheet
   pub boxes : AreAlike t.boxes u.boxes
+
+-- The boxes with the wires that fit in the canvases of the document itself. Abstractions have all the wires of their files.
+abbrev pub holder_trimmed : Shape → Cell → Sheet → Trees → Trees → Trees → Trees
+holder_trimmed Sub c s inner inside rest = Holder c (trimmed_sheet inner s) inside rest
+holder_trimmed form c s inner inside rest = Holder c s inner rest
+
+abbrev pub own_trimmed : Trees → Trees
+own_trimmed Done = Done
+own_trimmed (Leaf c rest) = Leaf c (own_trimmed rest)
+own_trimmed (Holder c s inner rest) = holder_trimmed c.head.form c s inner (own_trimmed inner) (own_trimmed rest)
+
+abbrev pub own_trimmed_tree : Tree → Tree
+own_trimmed_tree t = record { sheet = trimmed_sheet t.boxes t.sheet; boxes = own_trimmed t.boxes }
