@@ -274,7 +274,7 @@ drop_of : (names : Names) (text : List Atom) → AreOf names text → AreOf name
 drop_of names [] h = tt
 drop_of names (a ∷ text) h = h.1
 
-around_of : (names : Names) (a : Around) (own s : ℕ) (text : List Atom) → IsAroundOf names a → s < length names → AreOf names text
+pub around_of : (names : Names) (a : Around) (own s : ℕ) (text : List Atom) → IsAroundOf names a → s < length names → AreOf names text
     → IsAroundOf names (around_instance a own s (arguments_of (drop 1 text)))
 around_of names a own s text i low k =
     record { arguments = arguments_are_of names (drop 1 text) (drop_of names text k); inside = (low, i.inside) }

@@ -8,3 +8,4 @@ pub mod DocumentLemmas
 pub mod AlikeLemmas
 pub mod TrimLemmas
 pub mod SuitLemmas
+pub mod TableLemmas

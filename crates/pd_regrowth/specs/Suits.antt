@@ -9,6 +9,7 @@ use Rattle.pd_canvas.specs.Pages.{Head, Frame, Boxes, End, Box, Entry, page_of}
 use Rattle.pd_canvas.specs.Proper.{HoldsNone}
 use Rattle.pd_library.specs.declared.answers.Answer.{Answer}
 use Rattle.pd_library.specs.declared.answers.Answer.TheVariants.{Found}
+use Rattle.pd_tree.specs.Trees.{Cell, Trees, Done, Leaf, Holder}
 use Rattle.pd_growth.specs.Making.{Around}
 
 abbrev pub AreOf : Names → List Atom → Type 0
@@ -43,3 +44,9 @@ AnswersAlike lib lib2 = (s : ℕ) (x : Answer) → lib s ≡ Some x → lib2 s �
 abbrev pub HoldNone : Boxes → Type 0
 HoldNone End = Unit {0}
 HoldNone (Box h f inner rest) = HoldsNone h.form (page_of f inner) × HoldNone inner × HoldNone rest
+
+-- the texts of running boxes, and the arguments of the canvases that they hold
+abbrev pub TreesOf : Names → Trees → Type 0
+TreesOf names Done = Unit {0}
+TreesOf names (Leaf c rest) = AreOf names c.text × TreesOf names rest
+TreesOf names (Holder c s inner rest) = AreOf names c.text × AreOf names s.arguments × TreesOf names inner × TreesOf names rest

@@ -11,7 +11,7 @@ ghost use Rattle.pd_growth.specs.Steps.{Stock, gives};
 ghost use Rattle.pd_growth.specs.Growth.{box_grown, boxes_grown, page_grown, grown};
 ghost use Rattle.pd_regrowth.specs.Regrowth.{Takes, GivesAgain, inner_of};
 ghost use Rattle.pd_regrowth.specs.Rewiring.{AreAlike, IsTreeAlike, own_trimmed_tree};
-ghost use Rattle.pd_regrowth.specs.Suits.{HoldNone, TextsOf, IsEntryOf, AreEntriesOf, IsLibraryOf, IsAroundOf, AnswersAlike};
+ghost use Rattle.pd_regrowth.specs.Suits.{HoldNone, TreesOf, TextsOf, IsEntryOf, AreEntriesOf, IsLibraryOf, IsAroundOf, AnswersAlike};
 
 /// Growth takes the `$0` numbers of what it gives, in text order, and as much room as that has boxes, and may bring names.
 pub fn growth_takes()
@@ -60,6 +60,8 @@ pub fn wires_are_unseen()
         page_grown lib root left a q w ≡ gives u v }
     ensures patch { (lib : ℕ → Option Answer) (name : List ℕ) (p : Page) (w v : Stock) (t u : Tree) →
         grown lib name p w ≡ gives t v → IsTreeAlike t u → grown lib name (document_in u) w ≡ gives u v }
+    ensures texts { (lib : ℕ → Option Answer) (name : List ℕ) (p : Page) (w v : Stock) (t u : Tree) (names : Names) →
+        grown lib name p w ≡ gives t v → IsTreeAlike t u → TextsOf names p.boxes → TextsOf names (document_in u).boxes }
     ensures numbers { (t u : Tree) → IsTreeAlike t u → zeros_of u ≡ zeros_of t }
     ensures weight { (t u : Tree) → IsTreeAlike t u → weight u.boxes ≡ weight t.boxes }
 {}
@@ -95,4 +97,20 @@ pub fn longer_tables_suit()
     ensures entries { (old new : Names) (es : List Entry) → Extends old new → AreEntriesOf old es → AreEntriesOf new es }
     ensures library { (old new : Names) (lib : ℕ → Option Answer) → Extends old new → IsLibraryOf old lib → IsLibraryOf new lib }
     ensures around { (old new : Names) (a : Around) → Extends old new → IsAroundOf old a → IsAroundOf new a }
+    ensures trees { (old new : Names) (t : Trees) → Extends old new → TreesOf old t → TreesOf new t }
+{}
+
+/// The texts that grow, and the arguments that canvases have, are of the table after growth.
+pub fn grown_texts_are_known()
+    ensures one { (lib : ℕ → Option Answer) (root : List ℕ) (left : ℕ) (a : Around) (e : Entry) (w v : Stock) (t : Trees) →
+        IsLibraryOf w.names lib → IsAroundOf w.names a → IsEntryOf w.names e →
+        box_grown lib root left (inner_of lib root left) a e w ≡ gives t v → TreesOf v.names t }
+    ensures several { (lib : ℕ → Option Answer) (root : List ℕ) (left : ℕ) (a : Around) (es : List Entry) (w v : Stock)
+        (t : Trees) → IsLibraryOf w.names lib → IsAroundOf w.names a → AreEntriesOf w.names es →
+        boxes_grown lib root left (inner_of lib root left) a es w ≡ gives t v → TreesOf v.names t }
+    ensures page { (lib : ℕ → Option Answer) (root : List ℕ) (left : ℕ) (a : Around) (p : Page) (w v : Stock) (t : Trees) →
+        IsLibraryOf w.names lib → IsAroundOf w.names a → TextsOf w.names p.boxes →
+        page_grown lib root left a p w ≡ gives t v → TreesOf v.names t }
+    ensures patch { (lib : ℕ → Option Answer) (name : List ℕ) (p : Page) (w v : Stock) (t : Tree) →
+        IsLibraryOf w.names lib → TextsOf w.names p.boxes → grown lib name p w ≡ gives t v → TreesOf v.names t.boxes }
 {}

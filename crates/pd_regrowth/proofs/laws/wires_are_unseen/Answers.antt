@@ -1,4 +1,4 @@
-use Rattle.pd_regrowth.proofs.AlikeLemmas.{page_alike, patch_alike, zeros_of_alike, weight_alike}
+use Rattle.pd_regrowth.proofs.AlikeLemmas.{page_alike, patch_alike, patch_texts, zeros_of_alike, weight_alike}
 use Rattle.pd_regrowth.proofs.laws.wires_are_unseen.Goals as goal
 
 pub returns-clause-page : goal.returns-clause-page
@@ -12,3 +12,6 @@ returns-clause-numbers c = zeros_of_alike
 
 pub returns-clause-weight : goal.returns-clause-weight
 returns-clause-weight c = λ t u h. weight_alike t.boxes u.boxes h.boxes
+
+pub returns-clause-texts : goal.returns-clause-texts
+returns-clause-texts c = patch_texts
