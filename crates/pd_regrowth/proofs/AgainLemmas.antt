@@ -1,5 +1,5 @@
 -- Growth again: in a table that goes on, from the same `$0` numbers, what grew grows.
-use Rattle.std.proofs.Common.{◌≡◌, ℕ, zero, suc, ◌+◌, ◌<◌, Bool, true, false, cond, ◌||◌, List, [], ◌∷◌, ◌++◌, length, drop, Option, Some, None, Result, Ok, Err, if◌then◌else◌, nat_lt, bytes_eq, codes, refl, sym, ap, ◌∙◌, subst, arith, append_assoc, append-nil}
+use Rattle.std.proofs.Common.{◌≡◌, ℕ, zero, suc, ◌+◌, ◌<◌, Bool, true, false, ◌||◌, List, [], ◌∷◌, ◌++◌, length, drop, Option, Some, None, Result, Ok, if◌then◌else◌, nat_lt, bytes_eq, codes, refl, sym, ap, ◌∙◌, subst, arith, append_assoc, append-nil}
 use Rattle.std.specs.List.{AllByRecursion, list_any}
 use Rattle.pd_atom.specs.declared.Atom.{Atom}
 use Rattle.pd_atom.specs.declared.Atom.TheVariants as atom
@@ -9,23 +9,21 @@ use Rattle.pd_kind.specs.declared.kinds.Kind.TheVariants as kind
 use Rattle.pd_kind.specs.declared.kinds.Named.{Named}
 use Rattle.pd_kind.specs.declared.kinds.Named.TheVariants as named
 use Rattle.pd_kind.specs.Naming.{arguments_of, named_by}
-use Rattle.pd_canvas.specs.declared.tree.Doc.{Doc}
-use Rattle.pd_canvas.specs.Pages.{Shape, Obj, Msg, Comment, FloatBox, SymbolBox, Sub, Array, Other, Head, Boxes, End, Box, Page, Entry, page_of, listed, elements_of}
+use Rattle.pd_canvas.specs.Pages.{Shape, Obj, Msg, Comment, FloatBox, SymbolBox, Sub, Array, Other, Head, Boxes, End, Box, Page, Entry, listed, elements_of}
 use Rattle.pd_library.specs.declared.answers.Answer.{Answer}
-use Rattle.pd_library.specs.declared.answers.Answer.TheVariants.{Found}
 use Rattle.pd_tree.specs.declared.rows.Fault.{Fault}
 use Rattle.pd_tree.specs.declared.rows.Fault.TheVariants.{Unknown, InsideItself}
 use Rattle.pd_tree.specs.Trees.{Trees, Done, Leaf, Holder, Tree, join, weight, sheet_of, own_zeros, zeros_in, zeros_of}
 use Rattle.pd_growth.specs.declared.growing.Stop.{Stop}
 use Rattle.pd_growth.specs.declared.growing.Stop.TheVariants.{Lacks}
-use Rattle.pd_growth.specs.Steps.{Stock, Step, gives, goes_on, ◌>>=◌, with_names, named_step, box_by_room, counted, number_from, numbered, brought, text_expanded}
+use Rattle.pd_growth.specs.Steps.{Stock, Step, gives, goes_on, ◌>>=◌, named_step, counted, numbered, brought, text_expanded}
 use Rattle.pd_growth.specs.Making.{Around, Making, Plain, Subpatch, File, unmade, is_inside, has_slash, answer_made, abstraction_made, object_made, made, is_expanded}
 use Rattle.pd_growth.specs.Growth.{Inner, cell_of, canvas_grown, receiver_bytes, second_named, receiver_named, brought_if, receiver_brought, around_instance, box_made, own_text, box_grown, boxes_grown, page_grown, without_ending, around_root, grown}
-use Rattle.pd_regrowth.specs.Regrowth.{Takes, inner_of, stock, GivesAgain}
+use Rattle.pd_regrowth.specs.Regrowth.{inner_of, stock, GivesAgain}
 use Rattle.pd_regrowth.specs.Suits.{AreOf, TextsOf, IsEntryOf, AreEntriesOf, IsLibraryOf, IsAroundOf, AnswersAlike}
-use Rattle.pd_regrowth.proofs.StepLemmas.{no_boxes, more_boxes, page_is, gives_same, gives_stock, ok_same, err_never, chain, box_went, boxes_went, named_went, extends_same, extends_on, counted_takes, numbered_takes, brought_takes}
-use Rattle.pd_regrowth.proofs.MakeLemmas.{HoldsOf, object_holds, MakesBy, made_by}
-use Rattle.pd_regrowth.proofs.TakeLemmas.{zeros_join, weight_join, text_takes, receiver_takes, canvas_went, InnerTakes, BoxTakes, making_takes, box_takes, boxes_take, inner_takes, page_takes, patch_went}
+use Rattle.pd_regrowth.proofs.StepLemmas.{no_boxes, more_boxes, page_is, gives_same, gives_stock, ok_same, err_never, chain, box_went, boxes_went, named_went, extends_on, counted_takes, numbered_takes, brought_takes}
+use Rattle.pd_regrowth.proofs.MakeLemmas.{object_holds, MakesBy, made_by}
+use Rattle.pd_regrowth.proofs.TakeLemmas.{zeros_join, weight_join, text_takes, receiver_takes, canvas_went, InnerTakes, making_takes, box_takes, boxes_take, inner_takes, page_takes, patch_went}
 use Rattle.pd_regrowth.proofs.ExpandLemmas.{name_stays, below_more, are_of_more, interned_again, text_again, text_of}
 use Rattle.pd_regrowth.proofs.NamingLemmas.{arguments_are_of, named_again, named_below}
 
@@ -263,11 +261,11 @@ canvas_again lib inner inner2 a p h text own w v t k l i es own_is e names2 zs m
     record {
       rest = zeros_in c.boxes ++ more;
       numbers = numbers ∙ ap (λ y. zeros_in y ++ more) (sym c.tree_is) ∙ ap (λ y. (y ++ (zeros_in c.boxes ++ [])) ++ more) own_is
-    ∙ ap (λ y. (own ++ y) ++ more) (append-nil (zeros_in c.boxes)) ∙ append_assoc own (zeros_in c.boxes) more;
+          ∙ ap (λ y. (own ++ y) ++ more) (append-nil (zeros_in c.boxes)) ∙ append_assoc own (zeros_in c.boxes) more;
       grows = ap (λ y. y >>= (λ boxes u. gives (Holder (cell_of h text kind.Canvas None) s boxes Done) u))
-    (again_at (inner2 a p) c.boxes v.names (zeros_in c.boxes) (weight c.boxes) (k a p w c.boxes v l i es c.boxes_is) names2 (zeros_in c.boxes ++ more) more n room x refl
-    (omega (arith, count, weighs)))
-    ∙ ap (λ y. gives y (stock names2 more room)) c.tree_is;
+          (again_at (inner2 a p) c.boxes v.names (zeros_in c.boxes) (weight c.boxes) (k a p w c.boxes v l i es c.boxes_is) names2 (zeros_in c.boxes ++ more) more n room x refl
+          (omega (arith, count, weighs)))
+          ∙ ap (λ y. gives y (stock names2 more room)) c.tree_is;
     }
 
 drop_of : (names : Names) (text : List Atom) → AreOf names text → AreOf names (drop 1 text)

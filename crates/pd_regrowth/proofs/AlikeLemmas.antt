@@ -1,21 +1,21 @@
 -- Growth never looks at wires: a document with other wires grows to the tree with those wires.
-use Rattle.std.proofs.Common.{◌≡◌, ℕ, zero, suc, ◌+◌, Bool, List, [], ◌∷◌, ◌++◌, Option, None, Result, Ok, drop, refl, sym, ap, ◌∙◌, subst, arith}
+use Rattle.std.proofs.Common.{◌≡◌, ℕ, zero, suc, ◌+◌, List, [], ◌∷◌, ◌++◌, Option, None, drop, refl, sym, ap, ◌∙◌, subst}
 use Rattle.pd_atom.specs.Names.{Names}
 use Rattle.pd_atom.specs.declared.Atom.{Atom}
 use Rattle.pd_kind.specs.declared.kinds.Kind.{Kind}
 use Rattle.pd_kind.specs.declared.kinds.Kind.TheVariants as kind
 use Rattle.pd_kind.specs.Naming.{arguments_of}
 use Rattle.pd_canvas.specs.declared.wires.Wire.{Wire}
-use Rattle.pd_canvas.specs.Pages.{Shape, Obj, Msg, Comment, FloatBox, SymbolBox, Sub, Array, Other, Head, Frame, Boxes, End, Box, Page, Entry, page_of, frame_of, empty_page, listed, elements_of}
+use Rattle.pd_canvas.specs.Pages.{Shape, Obj, Sub, Head, Boxes, End, Box, Page, Entry, page_of, empty_page, listed, elements_of}
 use Rattle.pd_library.specs.declared.answers.Answer.{Answer}
 use Rattle.pd_tree.specs.declared.rows.Fault.{Fault}
 use Rattle.pd_tree.specs.declared.rows.Sheet.{Sheet}
 use Rattle.pd_tree.specs.Trees.{Cell, Trees, Done, Leaf, Holder, Tree, join, weight, sheet_of, frame_in, box_with, document_boxes, document_in, own_zeros, zeros_in, zeros_of}
-use Rattle.pd_growth.specs.Steps.{Stock, Step, gives, goes_on, ◌>>=◌, counted, numbered, brought}
+use Rattle.pd_growth.specs.Steps.{Stock, Step, gives, goes_on, ◌>>=◌, numbered, brought}
 use Rattle.pd_growth.specs.Making.{Around, Making, Plain, Subpatch, File, made}
 use Rattle.pd_growth.specs.Growth.{Inner, cell_of, canvas_grown, receiver_bytes, receiver_brought, around_instance, box_made, own_text, box_grown, boxes_grown, page_grown, without_ending, around_root, grown}
 use Rattle.pd_regrowth.specs.Regrowth.{inner_of}
-use Rattle.pd_regrowth.specs.Suits.{AreOf, TextsOf, IsEntryOf, AreEntriesOf}
+use Rattle.pd_regrowth.specs.Suits.{TextsOf, IsEntryOf, AreEntriesOf}
 use Rattle.pd_regrowth.specs.Rewiring.{with_wires, IsHolderAlike, AreAlike, IsTreeAlike}
 use Rattle.pd_regrowth.proofs.StepLemmas.{no_boxes, more_boxes, page_is, gives_same, gives_stock, chain, BoxWent, box_went, boxes_went}
 use Rattle.pd_regrowth.proofs.MakeLemmas.{MakesBy, made_by}
@@ -95,7 +95,7 @@ subpatch_alike inner a e text w between boxes v rest u i f brought_is boxes_is k
       entries = ap (λ y. listed (document_boxes y)) h.3 ∙ ap (λ y. listed (box_with y e.head own (document_boxes h.1) (document_boxes h.2))) f;
       head = refl;
       grows = ap (λ y. y >>= (λ _ x. canvas_grown inner a page e.head text x)) brought_is
-    ∙ ap (λ y. y >>= (λ bs x. gives (Holder c own bs Done) x)) (inside.grows page refl);
+          ∙ ap (λ y. y >>= (λ bs x. gives (Holder c own bs Done) x)) (inside.grows page refl);
       alike = h.5;
       texts = λ names o. record { text = o.text; inner = inside.texts names o.inner };
     }
@@ -173,7 +173,7 @@ boxes_alike lib root left inner a [] w t v u i h alike =
     let none : u ≡ Done = subst (λ y. AreAlike y u) (sym (gives_same Done t w v e)) alike in
     record {
       grows = ap (λ y. boxes_grown lib root left inner a (listed (document_boxes y)) w) none ∙ no_boxes lib root left inner a w
-    ∙ ap (gives Done) (gives_stock Done t w v e) ∙ ap (λ y. gives y v) (sym none);
+          ∙ ap (gives Done) (gives_stock Done t w v e) ∙ ap (λ y. gives y v) (sym none);
       texts = λ names o. subst (λ y. AreEntriesOf names (listed (document_boxes y))) (sym none) tt;
     }
 boxes_alike lib root left inner a (e ∷ es) w t v u i h alike =
@@ -184,7 +184,7 @@ boxes_alike lib root left inner a (e ∷ es) w t v u i h alike =
     let after : Trees → Stock → Step Trees = λ box x. boxes_grown lib root left inner a others x >>= (λ r y. gives (join box r) y) in
     record {
       grows = ap (λ l. boxes_grown lib root left inner a l w) one.entries ∙ more_boxes lib root left inner a one.entry others w
-    ∙ ap (λ y. y >>= after) one.grows ∙ ap (λ y. y >>= (λ r x. gives (join one.first r) x)) rest.grows ∙ ap (λ y. gives y v) (sym one.tree);
+          ∙ ap (λ y. y >>= after) one.grows ∙ ap (λ y. y >>= (λ r x. gives (join one.first r) x)) rest.grows ∙ ap (λ y. gives y v) (sym one.tree);
       texts = λ names o. subst (AreEntriesOf names) (sym one.entries) (one.texts names o.0, rest.texts names o.1);
     }
 

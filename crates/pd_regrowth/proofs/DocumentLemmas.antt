@@ -1,20 +1,18 @@
 -- The document from which a tree grew stays in it.
-use Rattle.std.proofs.Common.{◌≡◌, ℕ, zero, suc, ◌+◌, ◌≤◌, max, List, [], ◌∷◌, Option, drop, refl, sym, ap, ◌∙◌, subst, arith}
+use Rattle.std.proofs.Common.{◌≡◌, ℕ, zero, suc, ◌+◌, ◌≤◌, max, List, Option, drop, refl, sym, ap, ◌∙◌, subst, arith}
 use Rattle.pd_atom.specs.declared.Atom.{Atom}
-use Rattle.pd_kind.specs.declared.kinds.Kind.TheVariants as kind
 use Rattle.pd_kind.specs.Naming.{arguments_of}
-use Rattle.pd_canvas.specs.Pages.{Shape, Obj, Msg, Comment, FloatBox, SymbolBox, Sub, Array, Other, Head, Frame, Boxes, End, Box, Page, Entry, page_of, frame_of, empty_page, listed, elements_of}
+use Rattle.pd_canvas.specs.Pages.{Shape, Obj, Msg, Comment, FloatBox, SymbolBox, Sub, Array, Other, Boxes, End, Box, Page, Entry, page_of, frame_of, empty_page, listed}
 use Rattle.pd_canvas.specs.Proper.{HoldsNone, levels_of, levels}
 use Rattle.pd_library.specs.declared.answers.Answer.{Answer}
-use Rattle.pd_tree.specs.declared.rows.Sheet.{Sheet}
-use Rattle.pd_tree.specs.Trees.{Trees, Done, Leaf, Holder, Tree, join, sheet_of, frame_in, box_with, document_boxes, document_in}
-use Rattle.pd_growth.specs.Steps.{Stock, gives, ◌>>=◌, numbered}
+use Rattle.pd_tree.specs.Trees.{Trees, Done, Leaf, Tree, join, sheet_of, box_with, document_boxes, document_in}
+use Rattle.pd_growth.specs.Steps.{Stock, gives, numbered}
 use Rattle.pd_growth.specs.Making.{Around, Making, Plain, Subpatch, File}
 use Rattle.pd_growth.specs.Growth.{Inner, cell_of, canvas_grown, receiver_brought, around_instance, box_made, box_grown, boxes_grown, page_grown, without_ending, around_root, grown}
 use Rattle.pd_regrowth.specs.Regrowth.{inner_of}
 use Rattle.pd_regrowth.specs.Suits.{HoldNone}
 use Rattle.pd_regrowth.proofs.StepLemmas.{no_boxes, page_is, gives_same, chain, box_went, boxes_went}
-use Rattle.pd_regrowth.proofs.MakeLemmas.{IsNoSub, MakesBy, made_by}
+use Rattle.pd_regrowth.proofs.MakeLemmas.{MakesBy, made_by}
 use Rattle.pd_regrowth.proofs.TakeLemmas.{canvas_went, patch_went}
 
 -- the page beside a box that is no subpatch is the empty one

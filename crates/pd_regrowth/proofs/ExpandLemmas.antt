@@ -1,7 +1,7 @@
 -- A table that goes on gives the same names, the same numbers of names, and the same expanded texts.
-use Rattle.std.proofs.Common.{◌≡◌, ◌≢◌, ℕ, zero, suc, ◌+◌, ◌<◌, ◌≤◌, Bool, true, false, cond, eqb, List, [], ◌∷◌, ◌++◌, length, get_or, Option, Some, None, Result, Ok, Err, is_ok, nat_lt, position, bytes_eq, slice_get, take, refl, sym, ap, ◌∙◌, subst, arith, true≢false, length-append}
+use Rattle.std.proofs.Common.{◌≡◌, ℕ, zero, suc, ◌+◌, ◌<◌, ◌≤◌, Bool, true, false, cond, eqb, List, [], ◌∷◌, ◌++◌, length, get_or, Option, Some, None, Result, Ok, Err, is_ok, nat_lt, position, bytes_eq, slice_get, take, refl, sym, ap, ◌∙◌, subst, arith, true≢false, length-append}
 use Rattle.std.proofs.Math.Path.{fun_ext}
-use Rattle.std.specs.List.{AllByRecursion, position_or_len, prefix_len}
+use Rattle.std.specs.List.{position_or_len}
 use Rattle.std.proofs.lemmas.List.{get_or_append_left}
 use Rattle.std.proofs.lemmas.List.Folds.{prefix_len-append}
 use Rattle.std.proofs.lemmas.List.Sums.{position_or_len_is}
@@ -13,14 +13,14 @@ use Rattle.pd_atom.specs.declared.SymbolRefusal.{SymbolRefusal}
 use Rattle.pd_atom.specs.declared.SymbolRefusal.TheVariants.{TooLong, Full}
 use Rattle.pd_atom.specs.Names.{Names, name_of, Extends, Outcome, given, refused, longest, most, interned, answer_map, outcome_map}
 use Rattle.pd_atom.specs.Atoms.{IsOf, spelled}
-use Rattle.pd_atom.specs.Expansion.{units, argument, run_argument, argument_text, run_text, runs_of, filled, first_missing, dollar_expanded, expanded_name, expanded}
+use Rattle.pd_atom.specs.Expansion.{argument, run_argument, argument_text, run_text, runs_of, filled, first_missing, dollar_expanded, expanded_name, expanded}
 use Rattle.pd_atom.proofs.CaseLemmas.{by_test}
 use Rattle.pd_atom.proofs.TokenLemmas.{by_option, none_not_some}
 use Rattle.pd_atom.proofs.LawLemmas.{of_extended}
-use Rattle.pd_atom.proofs.NameLemmas.{bytes_other, bytes_same, last_name, lt_true, lt_false, lt_from, some_same, position_low, absent_at, interned_long, interned_found, interned_full, interned_new}
+use Rattle.pd_atom.proofs.NameLemmas.{bytes_other, bytes_same, last_name, lt_true, lt_from, some_same, position_low, absent_at, interned_long, interned_found, interned_full, interned_new}
 use Rattle.pd_growth.specs.Steps.{outcome_after, outcome_then, text_expanded}
 use Rattle.pd_regrowth.specs.Suits.{AreOf}
-use Rattle.pd_regrowth.proofs.StepLemmas.{extends_same, extends_on, text_extends, interned_extends, expanded_extends}
+use Rattle.pd_regrowth.proofs.StepLemmas.{extends_on, text_extends, interned_extends, expanded_extends}
 
 -- ---- names
 
@@ -280,6 +280,7 @@ unfolding text_expanded
 text_of own args [] names text final k h g = subst (AreOf final) (given_same [] text names final g) tt
 text_of own args (a ∷ atoms) names text final k h g =
     let t = text_went own args a atoms names text final g in
-    subst (AreOf final) t.all_is
-    (of_extended t.between final t.one.atom t.onward (expanded_of names a own args t.one t.between h.0 k t.one_is),
-    text_of own args atoms t.between t.rest final (are_of_more names t.between t.extends args k) (are_of_more names t.between t.extends atoms h.1) t.rest_is)
+    subst (AreOf final) t.all_is (
+      of_extended t.between final t.one.atom t.onward (expanded_of names a own args t.one t.between h.0 k t.one_is),
+      text_of own args atoms t.between t.rest final (are_of_more names t.between t.extends args k) (are_of_more names t.between t.extends atoms h.1) t.rest_is,
+    )

@@ -1,6 +1,5 @@
 -- What a text names, and what a box makes, is the same in a table that goes on.
-use Rattle.std.proofs.Common.{◌≡◌, ℕ, zero, suc, ◌<◌, Bool, true, false, cond, ◌||◌, List, [], ◌∷◌, ◌++◌, length, map, filter, Option, Some, None, option_map, Result, Ok, Err, if◌then◌else◌, slice_get, bytes_eq, codes, refl, sym, ap, ◌∙◌, subst, true≢false}
-use Rattle.std.specs.List.{AllByRecursion, list_any}
+use Rattle.std.proofs.Common.{◌≡◌, ℕ, zero, suc, ◌<◌, Bool, true, false, List, [], ◌∷◌, length, map, Option, Some, None, option_map, if◌then◌else◌, bytes_eq, codes, refl, ap, ◌∙◌, subst, true≢false}
 use Rattle.pd_atom.specs.declared.Atom.{Atom}
 use Rattle.pd_atom.specs.declared.Atom.TheVariants as atom
 use Rattle.pd_atom.specs.Names.{Names, name_of, Extends}
@@ -12,7 +11,6 @@ use Rattle.pd_kind.specs.declared.kinds.Named.TheVariants as named
 use Rattle.pd_kind.specs.declared.kinds.Glue.{Glue}
 use Rattle.pd_kind.specs.declared.kinds.Glue.TheVariants as glue
 use Rattle.pd_kind.specs.declared.kinds.Panel.{Panel}
-use Rattle.pd_kind.specs.declared.kinds.Panel.TheVariants as panel
 use Rattle.pd_kind.specs.declared.kinds.Signal.TheVariants as signal
 use Rattle.pd_kind.specs.declared.kinds.Spelling.TheVariants.{Whole, Short}
 use Rattle.pd_kind.specs.declared.kinds.Slot.{Slot}
@@ -20,7 +18,7 @@ use Rattle.pd_kind.specs.declared.kinds.Slot.TheVariants as slot
 use Rattle.pd_kind.specs.declared.kinds.Trigger.{Trigger}
 use Rattle.pd_kind.specs.declared.kinds.Trigger.TheVariants as trigger
 use Rattle.std.specs.Prelude.{pos, ◌==◌}
-use Rattle.pd_kind.specs.Naming.{first_of, is_argument, arguments_of, symbol_in, name_at, number_at, trigger_letter, first_letter, trigger_of, slot_of, channels_of, or_default, triggers_of, slots_of, choices_of, listed_named, unless_empty, panel_name, button_of, is_whole_text, toggle_of, panel_named, simple_kind, listed_kind, word_kind, kind_or_abstraction, is_foreign_word, begins_foreign, list_of_word, list_of, list_named, object_named, named_by}
+use Rattle.pd_kind.specs.Naming.{first_of, arguments_of, trigger_letter, first_letter, trigger_of, slot_of, channels_of, or_default, triggers_of, slots_of, choices_of, listed_named, panel_name, button_of, is_whole_text, toggle_of, panel_named, simple_kind, listed_kind, word_kind, kind_or_abstraction, is_foreign_word, begins_foreign, list_of_word, list_of, list_named, object_named, named_by}
 use Rattle.pd_regrowth.specs.Suits.{AreOf}
 use Rattle.pd_regrowth.proofs.ExpandLemmas.{name_stays}
 

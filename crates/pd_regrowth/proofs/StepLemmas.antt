@@ -5,7 +5,7 @@ use Rattle.pd_atom.specs.declared.Atom.TheVariants as atom
 use Rattle.pd_atom.specs.declared.Expanded.{Expanded}
 use Rattle.pd_atom.specs.declared.SymbolRefusal.{SymbolRefusal}
 use Rattle.pd_atom.specs.declared.SymbolRefusal.TheVariants.{TooLong, Full}
-use Rattle.pd_atom.specs.Names.{Names, Extends, Outcome, given, refused, longest, most, placed, interned, outcome_map}
+use Rattle.pd_atom.specs.Names.{Names, Extends, Outcome, given, refused, longest, most, placed, interned}
 use Rattle.pd_atom.specs.Expansion.{expanded}
 use Rattle.pd_canvas.specs.Pages.{Page, Entry, elements_of}
 use Rattle.pd_library.specs.declared.answers.Answer.{Answer}

@@ -1,8 +1,8 @@
 -- A sound document suits growth.
 use Rattle.std.proofs.Common.{List, [], ◌∷◌}
-use Rattle.pd_atom.specs.Names.{Names, Extends}
+use Rattle.pd_atom.specs.Names.{Names}
 use Rattle.pd_atom.specs.declared.Atom.{Atom}
-use Rattle.pd_canvas.specs.Pages.{Boxes, End, Box, Page, Entry}
+use Rattle.pd_canvas.specs.Pages.{Boxes, End, Box, Page}
 use Rattle.pd_canvas.specs.Proper.{AreReady, AreBoxes, IsSound}
 use Rattle.pd_regrowth.specs.Suits.{AreOf, TextsOf, HoldNone}
 

@@ -1,20 +1,18 @@
 -- The texts that grow, and the arguments, are of the table.
-use Rattle.std.proofs.Common.{◌≡◌, ℕ, zero, suc, List, [], ◌∷◌, Option, drop, refl, sym, ap, ◌∙◌, subst}
+use Rattle.std.proofs.Common.{◌≡◌, ℕ, zero, suc, List, [], ◌∷◌, Option, drop, sym, ◌∙◌, subst}
 use Rattle.pd_atom.specs.declared.Atom.{Atom}
 use Rattle.pd_atom.specs.Names.{Names, Extends}
-use Rattle.pd_kind.specs.declared.kinds.Kind.TheVariants as kind
 use Rattle.pd_kind.specs.Naming.{arguments_of}
-use Rattle.pd_canvas.specs.Pages.{Head, Boxes, Page, Entry, elements_of}
+use Rattle.pd_canvas.specs.Pages.{Head, Page, Entry, elements_of}
 use Rattle.pd_library.specs.declared.answers.Answer.{Answer}
-use Rattle.pd_tree.specs.Trees.{Trees, Done, Leaf, Holder, Tree, join, sheet_of}
-use Rattle.pd_growth.specs.Steps.{Stock, gives, ◌>>=◌, numbered}
+use Rattle.pd_tree.specs.Trees.{Trees, Done, Leaf, Holder, Tree, join}
+use Rattle.pd_growth.specs.Steps.{Stock, gives, numbered}
 use Rattle.pd_growth.specs.Making.{Around, Making, Plain, Subpatch, File}
 use Rattle.pd_growth.specs.Growth.{Inner, cell_of, canvas_grown, receiver_bytes, receiver_brought, around_instance, box_made, box_grown, boxes_grown, page_grown, without_ending, around_root, grown}
 use Rattle.pd_regrowth.specs.Regrowth.{inner_of}
 use Rattle.pd_regrowth.specs.Suits.{AreOf, TextsOf, IsEntryOf, AreEntriesOf, IsLibraryOf, IsAroundOf, TreesOf}
 use Rattle.pd_regrowth.proofs.StepLemmas.{no_boxes, page_is, gives_same, gives_stock, chain, box_went, boxes_went, extends_on, counted_takes, numbered_takes, brought_takes}
-use Rattle.pd_regrowth.proofs.MakeLemmas.{made_by}
-use Rattle.pd_regrowth.proofs.TakeLemmas.{text_takes, receiver_takes, canvas_went, InnerTakes, making_takes, box_takes, boxes_take, inner_takes, patch_went}
+use Rattle.pd_regrowth.proofs.TakeLemmas.{text_takes, receiver_takes, canvas_went, InnerTakes, box_takes, boxes_take, inner_takes, patch_went}
 use Rattle.pd_regrowth.proofs.ExpandLemmas.{below_more, are_of_more}
 use Rattle.pd_regrowth.proofs.AgainLemmas.{texts_more, entries_more, entries_of, library_more, around_more, around_of, IsFileOf, made_of, own_text_of}
 

@@ -1,26 +1,18 @@
 -- What growth takes: the `$0` numbers of what it gives, and as much room as that has boxes.
-use Rattle.std.proofs.Common.{◌≡◌, ℕ, zero, suc, ◌+◌, Bool, true, false, List, [], ◌∷◌, ◌++◌, Option, Some, None, Result, Ok, Err, if◌then◌else◌, nat_lt, refl, sym, ap, ◌∙◌, subst, arith, append_assoc, append-nil, true≢false}
+use Rattle.std.proofs.Common.{◌≡◌, ℕ, zero, suc, ◌+◌, Bool, true, false, List, [], ◌∷◌, ◌++◌, Option, Some, None, if◌then◌else◌, refl, sym, ap, ◌∙◌, subst, arith, append_assoc, append-nil}
 use Rattle.std.specs.Prelude.{drop}
 use Rattle.pd_atom.specs.declared.Atom.{Atom}
-use Rattle.pd_atom.specs.Names.{Names}
-use Rattle.pd_kind.specs.declared.kinds.Kind.{Kind}
 use Rattle.pd_kind.specs.declared.kinds.Kind.TheVariants as kind
-use Rattle.pd_kind.specs.declared.kinds.Named.{Named}
-use Rattle.pd_kind.specs.declared.kinds.Named.TheVariants as named
-use Rattle.pd_kind.specs.Naming.{arguments_of, named_by}
-use Rattle.pd_canvas.specs.Pages.{Shape, Obj, Msg, Comment, FloatBox, SymbolBox, Sub, Array, Other, Head, Page, Entry, elements_of}
+use Rattle.pd_kind.specs.Naming.{arguments_of}
+use Rattle.pd_canvas.specs.Pages.{Head, Page, Entry, elements_of}
 use Rattle.pd_library.specs.declared.answers.Answer.{Answer}
-use Rattle.pd_library.specs.declared.answers.Answer.TheVariants.{Found, Absent, Bad}
-use Rattle.pd_tree.specs.declared.rows.Fault.{Fault}
-use Rattle.pd_tree.specs.declared.rows.Sheet.{Sheet}
-use Rattle.pd_tree.specs.Trees.{Cell, Trees, Done, Leaf, Holder, Tree, join, weight, sheet_of, own_zeros, zeros_in, zeros_of}
-use Rattle.pd_growth.specs.declared.growing.Stop.{Stop}
-use Rattle.pd_growth.specs.Steps.{Stock, Step, gives, ends, goes_on, ◌>>=◌, counted, numbered, named_step, brought, text_expanded}
-use Rattle.pd_growth.specs.Making.{Around, Making, Plain, Subpatch, File, unmade, is_inside, has_slash, file_made, answer_made, abstraction_made, nothing_made, object_made, made, is_expanded}
+use Rattle.pd_tree.specs.Trees.{Trees, Done, Leaf, Holder, Tree, join, weight, sheet_of, own_zeros, zeros_in, zeros_of}
+use Rattle.pd_growth.specs.Steps.{Stock, gives, ◌>>=◌, numbered, named_step, brought, text_expanded}
+use Rattle.pd_growth.specs.Making.{Around, Making, Plain, Subpatch, File, is_expanded}
 use Rattle.pd_growth.specs.Growth.{Inner, cell_of, canvas_grown, receiver_bytes, receiver_named, brought_if, receiver_brought, around_instance, box_made, own_text, box_grown, boxes_grown, page_grown, without_ending, around_root, grown}
 use Rattle.pd_regrowth.specs.Regrowth.{Takes, inner_of}
-use Rattle.pd_regrowth.proofs.MakeLemmas.{IsNoSub, MakesBy, made_by}
-use Rattle.pd_regrowth.proofs.StepLemmas.{no_boxes, page_is, gives_same, gives_stock, ok_same, err_never, chain, last, takes_number, BoxWent, box_went, BoxesWent, boxes_went, takes_none, takes_on, takes_then, counted_takes, numbered_takes, named_takes, text_extends, brought_takes}
+use Rattle.pd_regrowth.proofs.MakeLemmas.{MakesBy, made_by}
+use Rattle.pd_regrowth.proofs.StepLemmas.{no_boxes, page_is, gives_same, gives_stock, chain, last, takes_number, box_went, boxes_went, takes_none, takes_on, takes_then, counted_takes, numbered_takes, named_takes, text_extends, brought_takes}
 
 -- ---- lists of a tree
 

@@ -1,7 +1,7 @@
 -- Trees that differ in the wires of the document alone.
-use Rattle.std.specs.Prelude.{◌≡◌, List, filter}
+use Rattle.std.specs.Prelude.{◌≡◌, List}
 use Rattle.pd_canvas.specs.declared.wires.Wire.{Wire}
-use Rattle.pd_canvas.specs.Pages.{Shape, Obj, Msg, Comment, FloatBox, SymbolBox, Sub, Array, Other}
+use Rattle.pd_canvas.specs.Pages.{Shape, Sub}
 use Rattle.pd_tree.specs.declared.rows.Sheet.{Sheet}
 use Rattle.pd_tree.specs.Trees.{Cell, Trees, Done, Leaf, Holder, Tree}
 use Rattle.pd_tree.specs.Ports.{trimmed_sheet}

@@ -5,11 +5,11 @@ use Rattle.pd_atom.specs.Names.{Names}
 use Rattle.pd_atom.specs.Atoms.{IsOf}
 use Rattle.pd_atom.specs.declared.Atom.{Atom}
 use Rattle.pd_canvas.specs.declared.tree.Doc.{Doc}
-use Rattle.pd_canvas.specs.Pages.{Head, Frame, Boxes, End, Box, Entry, page_of}
+use Rattle.pd_canvas.specs.Pages.{Boxes, End, Box, Entry, page_of}
 use Rattle.pd_canvas.specs.Proper.{HoldsNone}
 use Rattle.pd_library.specs.declared.answers.Answer.{Answer}
 use Rattle.pd_library.specs.declared.answers.Answer.TheVariants.{Found}
-use Rattle.pd_tree.specs.Trees.{Cell, Trees, Done, Leaf, Holder}
+use Rattle.pd_tree.specs.Trees.{Trees, Done, Leaf, Holder}
 use Rattle.pd_growth.specs.Making.{Around}
 
 abbrev pub AreOf : Names → List Atom → Type 0
