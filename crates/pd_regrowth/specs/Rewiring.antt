@@ -28,11 +28,12 @@ pub record IsTreeAlike (t u : Tree) : Type 0 where
   pub sheet : u.sheet ≡ with_wires wires t.sheet
   pub boxes : AreAlike t.boxes u.boxes
 
--- The boxes with the wires that fit in the canvases of the document itself. Abstractions have all the wires of their files.
+-- a box that holds a canvas: a subpatch with the wires that fit and with these boxes, and an abstraction as it is
 abbrev pub holder_trimmed : Shape → Cell → Sheet → Trees → Trees → Trees → Trees
 holder_trimmed Sub c s inner inside rest = Holder c (trimmed_sheet inner s) inside rest
 holder_trimmed form c s inner inside rest = Holder c s inner rest
 
+-- The boxes with the wires that fit in the canvases of the document itself. Abstractions have all the wires of their files.
 abbrev pub own_trimmed : Trees → Trees
 own_trimmed Done = Done
 own_trimmed (Leaf c rest) = Leaf c (own_trimmed rest)
