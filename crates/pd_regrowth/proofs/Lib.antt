@@ -1,0 +1,11 @@
+pub mod StepLemmas
+pub mod MakeLemmas
+pub mod TakeLemmas
+pub mod ExpandLemmas
+pub mod NamingLemmas
+pub mod AgainLemmas
+pub mod DocumentLemmas
+pub mod AlikeLemmas
+pub mod TrimLemmas
+pub mod SuitLemmas
+pub mod TableLemmas

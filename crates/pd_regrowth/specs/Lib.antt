@@ -1,0 +1,3 @@
+pub mod Regrowth
+pub mod Suits
+pub mod Rewiring
