@@ -3,8 +3,8 @@
 ghost use Rattle.std.specs.Prelude.{◌≡◌, IfOk};
 ghost use Rattle.pd_kind.specs.Ports.{IsSmallKind};
 
-use crate::{Grove, Side, ports_of};
-use pd_canvas::{AtomRows, Atoms, Element, Form, Wires};
+use crate::Grove;
+use pd_canvas::{AtomRows, Atoms, Canvas, Element, Form, Wires};
 use pd_clock::{Rate, Time};
 use pd_kind::{Glue, Kind, Side as PortSide, Signal, State};
 use pd_num::Num;
@@ -44,14 +44,14 @@ fn sheet(alloc: Global, zero: u32) -> Sheet {
     }
 }
 
-fn row(alloc: Global, x: i64, case: Case, sheet: Option<Sheet>, boxes: u32) -> Row
+fn row(alloc: Global, x: i64, case: Case, form: Form, sheet: Option<Sheet>, boxes: u32) -> Row
     ensures { IsSmallKind result.kind }
 {
     Row {
         element: Element {
             x: Num::of_micros(x).unwrap_or_default(),
             y: Num::default(),
-            form: Form::Obj,
+            form,
             text: Atoms::new(alloc),
             width: None,
             tail: AtomRows::new(alloc),
@@ -64,13 +64,20 @@ fn row(alloc: Global, x: i64, case: Case, sheet: Option<Sheet>, boxes: u32) -> R
     }
 }
 
+/// A subpatch with two inlets and an abstraction, and a `timer`.
 fn planted(alloc: Global) -> Result<Grove, AllocError> {
     let mut rows = Vec::new(alloc);
-    rows.push(row(alloc, 0, Case::Canvas, Some(sheet(alloc, 7)), 3))?;
-    rows.push(row(alloc, 100, Case::Inlet, None, 0))?;
-    rows.push(row(alloc, 10, Case::SignalInlet, None, 0))?;
-    rows.push(row(alloc, 100, Case::Inlet, None, 0))?;
-    rows.push(row(alloc, 0, Case::Timer, None, 0))?;
+    let subpatch = Form::Sub(Box::new(
+        alloc,
+        Canvas::new(alloc, Atoms::new(alloc)),
+    )?);
+    let inside = Some(sheet(alloc, 1001));
+    let instance = Some(sheet(alloc, 1002));
+    rows.push(row(alloc, 0, Case::Canvas, subpatch, inside, 3))?;
+    rows.push(row(alloc, 100, Case::Inlet, Form::Obj, None, 0))?;
+    rows.push(row(alloc, 10, Case::SignalInlet, Form::Obj, None, 0))?;
+    rows.push(row(alloc, 0, Case::Canvas, Form::Obj, instance, 0))?;
+    rows.push(row(alloc, 0, Case::Timer, Form::Obj, None, 0))?;
     Grove::plant(
         alloc,
         sheet(alloc, 1001),
@@ -91,6 +98,9 @@ fn a_tree_is_told_by_its_keys(rt: HostRuntime) -> Result<(), Fail> {
     assert_eq!(rt; grove.place_key(&[0]), Some(inner));
     assert_eq!(rt; grove.place_key(&[1]), None);
     assert_eq!(rt; grove.place_key(&[0, 0]), None);
+    assert!(rt; grove.place_key(&[0, 2]).is_some());
+    let zeros = grove.zeros(rt.alloc())?;
+    assert!(rt; zeros.as_slice() == [1001, 1002].as_slice());
     assert_eq!(rt; grove.box_key(root, 2), None);
     assert_eq!(rt; grove.box_key(inner, 2).is_some(), true);
     assert_eq!(rt; grove.box_key(inner, 3), None);
