@@ -3,3 +3,4 @@ pub mod Standings
 pub mod Plantings
 pub mod Freshness
 pub mod TextOrders
+pub mod PlaceLemmas

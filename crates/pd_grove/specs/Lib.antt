@@ -4,3 +4,4 @@ pub mod States
 pub mod Ports
 pub mod Telling
 pub mod TextOrder
+pub mod Places

@@ -3,17 +3,19 @@
 
 mod boards;
 mod grove;
+mod laws;
 mod nodes;
 mod planting;
 mod ports;
 mod seeds;
 mod telling;
-mod text_order;
 #[cfg(test)]
 mod tests;
+mod text_order;
 
 pub use boards::Board;
 pub use grove::Grove;
+pub use laws::trees_are_told;
 pub use nodes::Node;
 pub use ports::{PortSpot, Side, ports_of};
 pub use seeds::{Seed, Seeds};

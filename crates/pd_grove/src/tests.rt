@@ -67,10 +67,7 @@ fn row(alloc: Global, x: i64, case: Case, form: Form, sheet: Option<Sheet>, boxe
 /// A subpatch with two inlets and an abstraction, and a `timer`.
 fn planted(alloc: Global) -> Result<Grove, AllocError> {
     let mut rows = Vec::new(alloc);
-    let subpatch = Form::Sub(Box::new(
-        alloc,
-        Canvas::new(alloc, Atoms::new(alloc)),
-    )?);
+    let subpatch = Form::Sub(Box::new(alloc, Canvas::new(alloc, Atoms::new(alloc)))?);
     let inside = Some(sheet(alloc, 1001));
     let instance = Some(sheet(alloc, 1002));
     rows.push(row(alloc, 0, Case::Canvas, subpatch, inside, 3))?;

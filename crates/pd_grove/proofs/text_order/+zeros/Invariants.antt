@@ -1,6 +1,6 @@
-use Rattle.std.proofs.Common.{◌≡◌, ℕ, ◌+◌, ◌*◌, ◌≤◌, ◌++◌, List, drop}
+use Rattle.std.proofs.Common.{ℕ, ◌+◌, ◌*◌, ◌≤◌, drop}
 use Rattle.slab.specs.Slab.{get}
-use Rattle.pd_tree.specs.Trees.{Trees, zeros_in}
+use Rattle.pd_tree.specs.Trees.{Trees}
 use Rattle.pd_grove.specs.Standing.{Stands}
 use Rattle.pd_grove.specs.TextOrder.{deep}
 use Rattle.pd_grove.proofs.TextOrders.{Told}
