@@ -50,7 +50,7 @@ fn apply(alloc: Global, files: &mut Files, step: Step) -> Result<(), AllocError>
     }
 }
 
-fn known(files: &Files, name: Sym) -> Known {
+fn known_of(files: &Files, name: Sym) -> Known {
     match files.answer(name) {
         None => Known::Nothing,
         Some(Answer::Absent) => Known::Absent,
@@ -75,8 +75,8 @@ fn known_after_each_call(rt: HostRuntime) -> Result<(), Fail> {
     for (step, len, of_first, of_second) in rows {
         apply(rt.alloc(), &mut files, step)?;
         assert!(rt; files.len() == len);
-        assert!(rt; known(&files, first) == of_first);
-        assert!(rt; known(&files, second) == of_second);
+        assert!(rt; known_of(&files, first) == of_first);
+        assert!(rt; known_of(&files, second) == of_second);
     }
     Ok(())
 }
