@@ -2,5 +2,10 @@
 #![tactic(auto)]
 
 mod growing;
+mod making;
+mod rows;
+mod scope;
+mod supply;
+mod texts;
 
 pub use growing::Stop;

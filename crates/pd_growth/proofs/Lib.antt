@@ -1,0 +1,3 @@
+pub mod SupplyLemmas
+pub mod TextLemmas
+pub mod NameLemmas
