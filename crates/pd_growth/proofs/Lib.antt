@@ -1,3 +1,5 @@
 pub mod SupplyLemmas
 pub mod TextLemmas
 pub mod NameLemmas
+pub mod SuitLemmas
+pub mod StepLemmas

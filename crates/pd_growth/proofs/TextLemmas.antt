@@ -131,3 +131,6 @@ text_all own args names front text i whole l w =
     sym w ∙ ap (λ x. with_front front (text_expanded own args x names)) (drop_all i text l) ∙ text_end own args names front
 
 pub ruleset argument_steps = (extends_same)
+
+pub drop_item : {A : Type 0} (l : List A) (i : ℕ) (e : A) → i < length l → e ≡ get_or l i e → drop i l ≡ e ∷ drop (i + 1) l
+drop_item l i e h k = drop_at l i e h ∙ ap (λ x. x ∷ drop (i + 1) l) (sym k)

@@ -5,9 +5,9 @@ use Rattle.pd_atom.specs.declared.SymbolRefusal.TheVariants.{Full}
 use Rattle.pd_atom.specs.Names.{Names, Outcome, given, refused}
 use Rattle.pd_library.specs.declared.answers.Answer.{Answer}
 use Rattle.pd_tree.specs.declared.rows.Row.{Row}
-use Rattle.pd_tree.specs.Trees.{Trees, Done, Stand, stands_of, stands_in}
+use Rattle.pd_tree.specs.Trees.{Trees, Done, Stand, width, stands_of, stands_in}
 use Rattle.pd_tree.specs.declared.rows.Sheet.{Sheet}
-use Rattle.pd_canvas.specs.Pages.{Head}
+use Rattle.pd_canvas.specs.Pages.{Head, Entry}
 use Rattle.pd_atom.specs.declared.Atom.{Atom}
 use Rattle.pd_kind.specs.declared.kinds.Kind.TheVariants as kind
 use Rattle.pd_growth.specs.declared.growing.Stop.{Stop}
@@ -22,9 +22,10 @@ use Rattle.pd_kind.specs.declared.kinds.Named.TheVariants as named
 use Rattle.pd_kind.specs.Ports.{IsSmallKind}
 use Rattle.pd_canvas.specs.Proper.{levels}
 use Rattle.pd_library.specs.Files.{answer_in}
-use Rattle.pd_growth.specs.Steps.{Stock, Step, gives, ends, zeros_from}
+use Rattle.pd_growth.specs.Steps.{Stock, Step, gives, ends, goes_on, zeros_from}
 use Rattle.pd_growth.specs.Making.{Around, Making, Plain, File}
-use Rattle.pd_growth.specs.Growth.{Inner, cell_of, page_grown}
+use Rattle.pd_growth.specs.Making.{made as made_by}
+use Rattle.pd_growth.specs.Growth.{Inner, cell_of, box_made, boxes_grown, page_grown}
 use Rattle.pd_growth.specs.Suits.{TextSuits, PageSuits, RowSuits}
 
 -- the stock that the code keeps as a table and a supply
@@ -89,19 +90,29 @@ Yields (Err (Lacks s)) names o = ⊥
 abbrev pub holder_stand : Head → List Atom → Sheet → ℕ → Stand
 holder_stand h text s boxes = record { cell = cell_of h text kind.Canvas None; sheet = Some s; boxes = boxes }
 
--- the boxes that a step gives stand behind the rows before them
-pub record Grown (before after : List Row) (w : Stock) (s : Step Trees) : Type 0 where
+-- so many boxes that a step gives, with what they hold, stand behind the rows before them
+pub record Grown (n : ℕ) (before after : List Row) (w : Stock) (s : Step Trees) : Type 0 where
   pub boxes : Trees
   pub step : s ≡ gives boxes w
+  pub wide : width boxes ≡ n
   pub rows : stands_in after ≡ stands_in before ++ stands_of boxes
   pub suit : AllByRecursion (RowSuits w.names) after
 
--- What growing boxes behind the rows before them answers.
-abbrev pub Grows : Result (Unit {0}) Stop → List Row → List Row → Stock → Step Trees → Type 0
-Grows (Ok u) before after w s = Grown before after w s
-Grows (Err e) before after w s = Refuses e w s
+-- What growing so many boxes behind the rows before them answers.
+abbrev pub Grows : ℕ → Result (Unit {0}) Stop → List Row → List Row → Stock → Step Trees → Type 0
+Grows n (Ok u) before after w s = Grown n before after w s
+Grows n (Err e) before after w s = Refuses e w s
 
 -- the canvases inside the boxes of a canvas, inside which so many canvases may lie in one another
 abbrev pub inside_grown : (ℕ → Option Answer) → List ℕ → ℕ → Inner
 inside_grown lib root zero = λ a p w. gives Done w
 inside_grown lib root (suc n) = page_grown lib root n
+
+-- the boxes of a canvas, inside which so many canvases may lie in one another
+abbrev pub boxes_in_turn : (ℕ → Option Answer) → List ℕ → ℕ → Around → List Entry → Stock → Step Trees
+boxes_in_turn lib root left a es w = boxes_grown lib root left (inside_grown lib root left) a es w
+
+-- a box whose text is expanded
+abbrev pub box_with_text : (ℕ → Option Answer) → List ℕ → ℕ → Around → Entry → List Atom → Stock → Step Trees
+box_with_text lib root left a e text w =
+    goes_on (made_by lib root left a w.names e.head.form text) w (λ m t. box_made (inside_grown lib root left) a e text m t)

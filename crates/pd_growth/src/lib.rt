@@ -1,6 +1,7 @@
 //! Growth: the running boxes of a document.
 #![tactic(auto)]
 
+mod boxes;
 mod growing;
 mod making;
 mod rows;

@@ -1,21 +1,21 @@
 //! Texts: dollars, arguments and receivers.
 
-ghost use Rattle.std.specs.Prelude.{◌≡◌, ◌≤◌, ◌<◌, ◌∷◌, ◌++◌, codes, length, drop, IfOk};
+ghost use Rattle.std.specs.Prelude.{◌≡◌, ◌≤◌, ◌<◌, ◌∷◌, ◌++◌, codes, length, drop, option_map, IfOk, IfSome};
 ghost use Rattle.std.specs.List.{All};
-ghost use Rattle.pd_atom.specs.Names.{Extends, outcome_map};
+ghost use Rattle.pd_atom.specs.Names.{Extends, name_of, outcome_map};
 ghost use Rattle.pd_atom.specs.Atoms.{IsOf};
 ghost use Rattle.pd_atom.specs.Expansion.{expanded};
 ghost use Rattle.pd_kind.specs.Naming.{is_argument as counts, arguments_of};
 ghost use Rattle.pd_canvas.specs.Views.{shape_of, entry_of};
 ghost use Rattle.pd_growth.specs.Steps.{Stock, outcome_then, text_expanded, with_names, brought};
 ghost use Rattle.pd_growth.specs.Making.{is_expanded};
-ghost use Rattle.pd_growth.specs.Growth.{own_text as own_text_of, receiver_bytes, receiver_brought};
+ghost use Rattle.pd_growth.specs.Growth.{own_text as own_text_of, receiver_bytes, second_named, receiver_named, receiver_brought};
 ghost use Rattle.pd_growth.specs.Growing.{Answers, Yields, around_of, ScopeSuits};
 ghost use Rattle.pd_growth.specs.Suits.{TextSuits};
 
 use crate::growing::Stop;
 use crate::scope::Scope;
-use pd_atom::{Atom, Symbols, expand};
+use pd_atom::{Atom, Sym, Symbols, expand};
 use pd_canvas::{Atoms, Element, Form};
 use std::alloc::{AllocError, Global};
 
@@ -166,4 +166,67 @@ pub(crate) fn bring_receiver(alloc: Global, name: &[u8], symbols: &mut Symbols) 
 {
     let bytes = receiver(alloc, name)?;
     bring(bytes.as_slice(), symbols)
+}
+
+/// The symbol that comes first.
+fn first_name(atoms: &[Atom], symbols: &Symbols) -> Option<Sym>
+    requires { All (IsOf symbols.now) atoms.now }
+    ensures value { option_map (λ s. receiver_bytes (name_of symbols.now s)) result ≡ second_named symbols.now atoms.now }
+    ensures of_table { IfSome result (λ s. s < length symbols.now) }
+{
+    match atoms {
+        [Atom::Symbol(name), ..] => Some(*name),
+        _ => None,
+    }
+}
+
+/// The symbol behind `pd` in the text of a subpatch.
+fn name_behind_pd(text: &[Atom], symbols: &Symbols) -> Option<Sym>
+    requires { All (IsOf symbols.now) text.now }
+    ensures value { option_map (λ s. receiver_bytes (name_of symbols.now s)) result ≡ receiver_named symbols.now text.now }
+    ensures of_table { IfSome result (λ s. s < length symbols.now) }
+{
+    match text {
+        [Atom::Symbol(word), rest @ ..] => {
+            if symbols.name(*word) == b"pd".as_slice() {
+                first_name(rest, symbols)
+            } else {
+                None
+            }
+        }
+        _ => None,
+    }
+}
+
+/// Brings the receiver of a subpatch, where it has one.
+pub(crate) fn bring_subpatch(
+    alloc: Global,
+    is_top: bool,
+    text: &[Atom],
+    symbols: &mut Symbols,
+) -> Result<(), Stop>
+    requires { All (IsOf symbols.old) text.now }
+    ensures exact { (w : Stock) → Answers (λ u. u) result (with_names symbols.new w) (receiver_brought is_top text.now (with_names symbols.old w)) }
+    ensures extends { Extends symbols.old symbols.new }
+{
+    if !is_top {
+        return Ok(());
+    }
+    match name_behind_pd(text, symbols) {
+        Some(name) => {
+            let bytes = receiver(alloc, symbols.name(name))?;
+            bring(bytes.as_slice(), symbols)
+        }
+        None => Ok(()),
+    }
+}
+
+/// The name of an abstraction before those around it.
+pub(crate) fn names_inside(alloc: Global, name: Sym, inside: &[Sym]) -> Result<Vec<Sym>, AllocError>
+    ensures { IfOk result (λ names. names.items ≡ name ∷ inside.now) }
+{
+    let mut names = Vec::with_capacity(alloc, 1)?;
+    names.push(name)?;
+    names.extend_from_slice(inside)?;
+    Ok(names)
 }
