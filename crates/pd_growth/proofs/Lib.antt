@@ -3,3 +3,5 @@ pub mod TextLemmas
 pub mod NameLemmas
 pub mod SuitLemmas
 pub mod StepLemmas
+pub mod FileLemmas
+pub mod GrownLemmas

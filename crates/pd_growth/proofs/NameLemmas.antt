@@ -10,7 +10,7 @@ use Rattle.pd_kind.specs.declared.kinds.Kind.{Kind}
 use Rattle.pd_kind.specs.declared.kinds.Named.{Named}
 use Rattle.pd_kind.specs.declared.kinds.Named.TheVariants as named
 use Rattle.pd_kind.specs.Ports.{IsSmallNamed}
-use Rattle.pd_kind.specs.Naming.{named_by, object_named, list_named, kind_or_abstraction, begins_foreign, word_kind}
+use Rattle.pd_kind.specs.Naming.{named_by, object_named, kind_or_abstraction, begins_foreign, word_kind}
 use Rattle.pd_growth.specs.Growing.{NameSuits}
 
 -- an abstraction of this name, or a kind

@@ -1,9 +1,8 @@
 -- Growth step by step.
-use Rattle.std.proofs.Common.{◌≡◌, ℕ, zero, suc, ◌+◌, ◌-◌, ◌<◌, ◌≤◌, List, [], ◌∷◌, ◌++◌, append_assoc, length, drop, Option, Some, None, Result, Ok, Err, refl, sym, ap, subst, ◌∙◌, arith}
+use Rattle.std.proofs.Common.{◌≡◌, ℕ, zero, suc, ◌+◌, ◌-◌, ◌<◌, List, [], ◌∷◌, ◌++◌, append_assoc, length, drop, Option, Some, None, Result, Ok, Err, refl, sym, ap, subst, ◌∙◌, arith}
 use Rattle.std.specs.List.{AllByRecursion}
 use Rattle.std.proofs.lemmas.List.{append-nil, drop_all}
 use Rattle.pd_atom.specs.declared.Atom.{Atom}
-use Rattle.pd_atom.specs.Names.{Names, Extends}
 use Rattle.pd_canvas.specs.declared.tree.Element.{Element}
 use Rattle.pd_canvas.specs.Pages.{Head, Page, Entry, elements_of}
 use Rattle.pd_canvas.specs.Views.{entry_of, entries_of}
@@ -13,14 +12,14 @@ use Rattle.pd_kind.specs.declared.kinds.Kind.TheVariants as kind
 use Rattle.pd_tree.specs.declared.rows.Fault.{Fault}
 use Rattle.pd_tree.specs.declared.rows.Row.{Row}
 use Rattle.pd_tree.specs.declared.rows.Sheet.{Sheet}
-use Rattle.pd_tree.specs.Trees.{Cell, Trees, Done, Leaf, Holder, Stand, join, width, stands_of, stands_in, sheet_of}
+use Rattle.pd_tree.specs.Trees.{Trees, Done, Leaf, Holder, join, width, stands_of, stands_in, sheet_of}
 use Rattle.pd_growth.specs.declared.growing.Stop.{Stop}
 use Rattle.pd_growth.specs.declared.growing.Stop.TheVariants.{SymbolsFull, TooManyBoxes, Lacks, NoMemory}
-use Rattle.pd_growth.specs.Steps.{Stock, Step, gives, ends, goes_on, ◌>>=◌}
+use Rattle.pd_growth.specs.Steps.{Stock, Step, gives, goes_on, ◌>>=◌}
 use Rattle.pd_growth.specs.Making.{Around, Plain}
 use Rattle.pd_growth.specs.Growth.{Inner, cell_of, canvas_grown, box_made, box_grown, boxes_grown, page_grown}
 use Rattle.pd_growth.specs.Suits.{RowSuits}
-use Rattle.pd_growth.specs.Growing.{Refuses, Grown, Grows, inside_grown, boxes_in_turn, holder_stand}
+use Rattle.pd_growth.specs.Growing.{Refuses, HasGrown, Grows, inside_grown, boxes_in_turn, holder_stand}
 
 -- a step that gives a value goes on with it
 pub step_then : {A B : Type 0} (s : Step A) (a : A) (v : Stock) (f : A → Stock → Step B) → s ≡ gives a v → (s >>= f) ≡ f a v
@@ -122,7 +121,7 @@ whole_next lib root left a es w₀ w before after i e d H =
 
 pub halfway_next : (lib : ℕ → Option Answer) (root : List ℕ) (left : ℕ) (a : Around) (es : List Element) (w₀ w w' : Stock) (before after after' : List Row) (i : ℕ) (e : Element)
     → drop i es ≡ e ∷ drop (i + 1) es → Halfway lib root left a es w₀ w before after i
-    → Grown 1 after after' w' (box_grown lib root left (inside_grown lib root left) a (entry_of e) w)
+    → HasGrown 1 after after' w' (box_grown lib root left (inside_grown lib root left) a (entry_of e) w)
     → Halfway lib root left a es w₀ w' before after' (i + 1)
 halfway_next lib root left a es w₀ w w' before after after' i e d H G = record {
   done = join H.done G.boxes;
@@ -147,7 +146,7 @@ halfway_refused lib root left a es w₀ w w' before after i e x d H R =
 
 pub halfway_end : (lib : ℕ → Option Answer) (root : List ℕ) (left : ℕ) (a : Around) (es : List Element) (w₀ w : Stock) (before after : List Row) (i : ℕ)
     → i ≡ length es → Halfway lib root left a es w₀ w before after i
-    → Grown (length es) before after w (boxes_in_turn lib root left a (entries_of es) w₀)
+    → HasGrown (length es) before after w (boxes_in_turn lib root left a (entries_of es) w₀)
 halfway_end lib root left a es w₀ w before after i l H = record {
   boxes = H.done;
   step = H.step ∙ ap (λ x. with_front H.done (boxes_in_turn lib root left a (entries_of x) w)) (drop_all i es (omega (arith, l)))
@@ -157,7 +156,7 @@ halfway_end lib root left a es w₀ w before after i l H = record {
   suit = H.suit;
 }
 
-page_boxes : (lib : ℕ → Option Answer) (root : List ℕ) (n : ℕ) (a : Around) (p : Page) (w : Stock) → page_grown lib root n a p w ≡ boxes_in_turn lib root n a (elements_of p) w
+pub page_boxes : (lib : ℕ → Option Answer) (root : List ℕ) (n : ℕ) (a : Around) (p : Page) (w : Stock) → page_grown lib root n a p w ≡ boxes_in_turn lib root n a (elements_of p) w
 unfolding page_grown
 page_boxes lib root zero a p w = refl
 page_boxes lib root (suc n) a p w = refl
@@ -190,5 +189,5 @@ canvas_grows lib root left a p h text n w w' sheet before middle after (Ok u) l 
 -- a box that holds no canvas
 pub plain_grows : (inner : Inner) (a : Around) (e : Entry) (text : List Atom) (k : Kind) (fault : Option Fault) (w : Stock) (before after : List Row)
     → stands_in after ≡ stands_in before ++ stands_of (Leaf (cell_of e.head text k fault) Done) → AllByRecursion (RowSuits w.names) after
-    → Grown 1 before after w (box_made inner a e text (Plain k fault) w)
+    → HasGrown 1 before after w (box_made inner a e text (Plain k fault) w)
 plain_grows inner a e text k fault w before after r s = record { boxes = Leaf (cell_of e.head text k fault) Done; step = refl; wide = refl; rows = r; suit = s }

@@ -1,18 +1,17 @@
 -- What can grow can grow under a table that goes on.
-use Rattle.std.proofs.Common.{◌≡◌, ℕ, ◌+◌, ◌<◌, ◌≤◌, max, List, [], ◌∷◌, length, Option, Some, None, refl, sym, ap, subst, arith}
+use Rattle.std.proofs.Common.{◌≡◌, ℕ, ◌<◌, ◌≤◌, List, [], ◌∷◌, length, Option, Some, None, refl, sym, ap, subst, arith}
 use Rattle.pd_canvas.specs.declared.tree.Element.{Element}
 use Rattle.pd_canvas.specs.Views.{entry_of, entries_of}
 use Rattle.std.specs.List.{All, AllByRecursion}
 use Rattle.std.proofs.lemmas.List.Elements.{All-weaker, All-cons}
-use Rattle.pd_atom.specs.declared.Atom.{Atom}
 use Rattle.pd_atom.specs.Names.{Names, Extends}
-use Rattle.pd_canvas.specs.Pages.{Head, Frame, Boxes, End, Box, Page, Entry, listed, boxed, elements_of, weight}
+use Rattle.pd_canvas.specs.Pages.{Boxes, End, Box, Page, Entry, listed, boxed, weight}
 use Rattle.pd_canvas.specs.Proper.{levels}
 use Rattle.pd_library.specs.declared.answers.Answer.{Answer}
 use Rattle.pd_library.specs.declared.answers.Answer.TheVariants.{Found, Absent, Bad}
 use Rattle.pd_tree.specs.declared.rows.Row.{Row}
 use Rattle.pd_growth.specs.declared.scope.Scope.{Scope}
-use Rattle.pd_growth.specs.Suits.{TextSuits, TextsSuit, PageSuits, EntrySuits, RootSuits, AnswerSuits, FilesSuit, RowSuits}
+use Rattle.pd_growth.specs.Suits.{TextsSuit, PageSuits, EntrySuits, AnswerSuits, FilesSuit, RowSuits}
 use Rattle.pd_growth.specs.Growing.{ScopeSuits}
 use Rattle.pd_growth.proofs.TextLemmas.{longer_table, text_extended}
 

@@ -1,7 +1,6 @@
 -- The `$0` numbers that there still are.
-use Rattle.std.proofs.Common.{◌≡◌, ℕ, zero, suc, ◌+◌, ◌-◌, ◌<◌, ◌≤◌, List, [], ◌∷◌, refl, sym, ap, ◌∙◌, arith}
-use Rattle.pd_growth.specs.Steps.{Stock, Step, gives, ends, numbers_up, zeros_from, counted, box_by_room, numbered}
-use Rattle.pd_growth.specs.declared.growing.Stop.TheVariants.{TooManyBoxes}
+use Rattle.std.proofs.Common.{◌≡◌, ℕ, zero, suc, ◌+◌, ◌-◌, ◌<◌, ◌≤◌, [], ◌∷◌, refl, ap, ◌∙◌, arith}
+use Rattle.pd_growth.specs.Steps.{Stock, gives, numbers_up, zeros_from, box_by_room}
 
 up_none : (n : ℕ) → numbers_up n zero ≡ []
 unfolding numbers_up

@@ -5,13 +5,14 @@ use Rattle.pd_atom.specs.declared.SymbolRefusal.TheVariants.{Full}
 use Rattle.pd_atom.specs.Names.{Names, Outcome, given, refused}
 use Rattle.pd_library.specs.declared.answers.Answer.{Answer}
 use Rattle.pd_tree.specs.declared.rows.Row.{Row}
-use Rattle.pd_tree.specs.Trees.{Trees, Done, Stand, width, stands_of, stands_in}
+use Rattle.pd_tree.specs.Trees.{Tree, Trees, Done, Stand, width, stands_of, stands_in}
 use Rattle.pd_tree.specs.declared.rows.Sheet.{Sheet}
 use Rattle.pd_canvas.specs.Pages.{Head, Entry}
 use Rattle.pd_atom.specs.declared.Atom.{Atom}
 use Rattle.pd_kind.specs.declared.kinds.Kind.TheVariants as kind
 use Rattle.pd_growth.specs.declared.growing.Stop.{Stop}
 use Rattle.pd_growth.specs.declared.growing.Stop.TheVariants.{SymbolsFull, TooManyBoxes, Lacks, NoMemory}
+use Rattle.pd_growth.specs.declared.documents.Grown.{Grown}
 use Rattle.pd_growth.specs.declared.supply.Supply.{Supply}
 use Rattle.pd_growth.specs.declared.scope.Scope.{Scope}
 use Rattle.pd_growth.specs.declared.scope.Setting.{Setting}
@@ -91,7 +92,7 @@ abbrev pub holder_stand : Head → List Atom → Sheet → ℕ → Stand
 holder_stand h text s boxes = record { cell = cell_of h text kind.Canvas None; sheet = Some s; boxes = boxes }
 
 -- so many boxes that a step gives, with what they hold, stand behind the rows before them
-pub record Grown (n : ℕ) (before after : List Row) (w : Stock) (s : Step Trees) : Type 0 where
+pub record HasGrown (n : ℕ) (before after : List Row) (w : Stock) (s : Step Trees) : Type 0 where
   pub boxes : Trees
   pub step : s ≡ gives boxes w
   pub wide : width boxes ≡ n
@@ -100,7 +101,7 @@ pub record Grown (n : ℕ) (before after : List Row) (w : Stock) (s : Step Trees
 
 -- What growing so many boxes behind the rows before them answers.
 abbrev pub Grows : ℕ → Result (Unit {0}) Stop → List Row → List Row → Stock → Step Trees → Type 0
-Grows n (Ok u) before after w s = Grown n before after w s
+Grows n (Ok u) before after w s = HasGrown n before after w s
 Grows n (Err e) before after w s = Refuses e w s
 
 -- the canvases inside the boxes of a canvas, inside which so many canvases may lie in one another
@@ -116,3 +117,27 @@ boxes_in_turn lib root left a es w = boxes_grown lib root left (inside_grown lib
 abbrev pub box_with_text : (ℕ → Option Answer) → List ℕ → ℕ → Around → Entry → List Atom → Stock → Step Trees
 box_with_text lib root left a e text w =
     goes_on (made_by lib root left a w.names e.head.form text) w (λ m t. box_made (inside_grown lib root left) a e text m t)
+
+-- a growth gives this sheet and these rows, with these names after it
+pub record GivesTree (g : Grown) (table : Names) (s : Step Tree) : Type 0 where
+  pub tree : Tree
+  pub after : Stock
+  pub step : s ≡ gives tree after
+  pub sheet : g.sheet ≡ tree.sheet
+  pub rows : stands_in g.rows.items ≡ stands_of tree.boxes
+  pub names : table ≡ after.names
+
+-- a growth ends so, with these names after it
+pub record EndsSo (e : Stop) (table : Names) (s : Step Tree) : Type 0 where
+  pub after : Stock
+  pub step : s ≡ ends e after
+  pub names : table ≡ after.names
+
+abbrev pub EndsUnlessMemory : Stop → Names → Step Tree → Type 0
+EndsUnlessMemory NoMemory names s = Unit {0}
+EndsUnlessMemory e names s = EndsSo e names s
+
+-- What growing a document answers is what growth gives, with these names after it, unless memory ran out.
+abbrev pub GrowsTo : Result Grown Stop → Names → Step Tree → Type 0
+GrowsTo (Ok g) names s = GivesTree g names s
+GrowsTo (Err e) names s = EndsUnlessMemory e names s

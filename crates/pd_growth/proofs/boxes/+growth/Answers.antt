@@ -1,4 +1,4 @@
-use Rattle.std.proofs.Common.{◌≡◌, ◌+◌, ◌-◌, ◌∷◌, List, length, drop, sym, ap, subst, ◌∙◌, arith}
+use Rattle.std.proofs.Common.{◌+◌, ◌-◌, List, length, drop, sym, ap, subst, ◌∙◌, arith}
 use Rattle.std.specs.List.{AllByRecursion}
 use Rattle.std.proofs.lemmas.Result.{err_from_is_err_and}
 use Rattle.pd_atom.specs.declared.Atom.{Atom}
@@ -7,7 +7,7 @@ use Rattle.pd_canvas.specs.Pages.{Entry, Page}
 use Rattle.pd_canvas.specs.Views.{entry_of, entries_of}
 use Rattle.pd_growth.specs.declared.making.Made.{Made}
 use Rattle.pd_growth.specs.Growth.{receiver_brought, canvas_grown, box_made}
-use Rattle.pd_growth.specs.Growing.{stock, around_of, lib_of, making_of, Grown, Grows, inside_grown, boxes_in_turn}
+use Rattle.pd_growth.specs.Growing.{stock, around_of, lib_of, making_of, HasGrown, Grows, inside_grown, boxes_in_turn}
 use Rattle.pd_growth.specs.Suits.{EntrySuits}
 use Rattle.pd_growth.proofs.TextLemmas.{extends_on, drop_item, text_extended, arguments_suit}
 use Rattle.pd_growth.proofs.SuitLemmas.{scope_extended, files_extended, entry_extended, entries_extended, page_extended, rows_extended, split_suits, boxes_suit, names_with}
@@ -167,5 +167,5 @@ grow_made-returns-in_ok-push_plain-in-Plain-clause-grows t c =
     let a = around_of c.args.scope.now in
     let e = entry_of c.args.element.now in
     let pushed = c.in_ok-push_plain-in-Plain.ensures in
-    subst (λ (m : Made). Grown 1 c.args.rows.now.items c.push_plain.new.rows.items w (box_made inner a e c.args.text (making_of m) w)) (sym c.in-Plain.is)
+    subst (λ (m : Made). HasGrown 1 c.args.rows.now.items c.push_plain.new.rows.items w (box_made inner a e c.args.text (making_of m) w)) (sym c.in-Plain.is)
     (plain_grows inner a e c.args.text c.in-Plain.kind c.in-Plain.fault w c.args.rows.now.items c.push_plain.new.rows.items pushed.rows (pushed.suit c.args.symbols.now c.requires.text c.requires.rows))
