@@ -2,5 +2,10 @@
 #![tactic(auto)]
 
 mod answers;
+mod files;
 
 pub use answers::Answer;
+pub use files::Files;
+
+#[cfg(test)]
+mod tests;
