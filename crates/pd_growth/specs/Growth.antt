@@ -1,5 +1,5 @@
 -- The running tree of a document: box by box in text order.
-use Rattle.std.specs.Prelude.{ℕ, zero, suc, ◌-◌, Bool, true, false, List, [], ◌∷◌, ◌++◌, drop, take, length, Option, Some, None, if◌then◌else◌, nat_lt, bytes_eq, codes}
+use Rattle.std.specs.Prelude.{ℕ, zero, suc, ◌-◌, Bool, true, false, List, [], ◌∷◌, ◌++◌, drop, take, length, Option, Some, None, if◌then◌else◌, bytes_eq, codes}
 use Rattle.pd_atom.specs.declared.Atom.{Atom}
 use Rattle.pd_atom.specs.declared.Atom.TheVariants as atom
 use Rattle.pd_atom.specs.Names.{Names, name_of}
@@ -9,10 +9,8 @@ use Rattle.pd_kind.specs.Naming.{arguments_of}
 use Rattle.pd_canvas.specs.Pages.{Head, Page, Entry, elements_of}
 use Rattle.pd_library.specs.declared.answers.Answer.{Answer}
 use Rattle.pd_tree.specs.declared.rows.Fault.{Fault}
-use Rattle.pd_tree.specs.declared.rows.Sheet.{Sheet}
 use Rattle.pd_tree.specs.Trees.{Cell, Trees, Done, Leaf, Holder, Tree, join, sheet_of}
-use Rattle.pd_growth.specs.declared.growing.Stop.{Stop}
-use Rattle.pd_growth.specs.Steps.{Stock, Step, gives, ends, goes_on, ◌>>=◌, named_step, counted, numbered, brought, text_expanded}
+use Rattle.pd_growth.specs.Steps.{Stock, Step, gives, goes_on, ◌>>=◌, named_step, counted, numbered, brought, text_expanded}
 use Rattle.pd_growth.specs.Making.{Around, Making, Plain, Subpatch, File, made, is_expanded}
 
 -- the boxes of a canvas of this page, grown under what is around them

@@ -1,5 +1,5 @@
 -- Steps of growth: what each gives or why growth ends there, and what it leaves.
-use Rattle.std.specs.Prelude.{◌≡◌, ℕ, zero, suc, ◌+◌, ◌-◌, ◌≤◌, List, [], ◌∷◌, length, Result, Ok, Err, if◌then◌else◌, nat_lt, IfOk}
+use Rattle.std.specs.Prelude.{ℕ, zero, suc, ◌+◌, ◌-◌, List, [], ◌∷◌, length, Result, Ok, Err, if◌then◌else◌, nat_lt}
 use Rattle.pd_atom.specs.declared.Atom.{Atom}
 use Rattle.pd_atom.specs.Names.{Names, Outcome, given, refused, longest, interned}
 use Rattle.pd_atom.specs.Expansion.{expanded}

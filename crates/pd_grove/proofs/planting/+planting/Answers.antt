@@ -1,0 +1,27 @@
+use Rattle.std.proofs.Common.{◌≡◌, ◌+◌, ◌≤◌, ◌<◌, ℕ, List, length, [], ◌∷◌, ◌++◌, Some, None, IsSome, refl, sym, ap, ◌∙◌, arith}
+use Rattle.std.specs.Prelude.{option_map}
+use Rattle.slab.specs.Slab.{get}
+use Rattle.pd_canvas.specs.Views.{entry_of}
+use Rattle.pd_tree.specs.Trees.{Trees, Stand, width, stands_of}
+use Rattle.pd_grove.specs.Standing.{node_seen}
+use Rattle.pd_grove.specs.Planting.{seeds_in, stands_ready}
+use Rattle.pd_grove.proofs.Plantings.{Halfway, halfway_start, halfway_next, split_end, box_planted, none_left}
+use Rattle.pd_grove.proofs.planting.+planting.Goals as goal
+
+pub plant_boxes-loop-preserved : goal.plant_boxes-loop-preserved
+plant_boxes-loop-preserved t c =
+    let p = c.plant_next.ensures in
+    halfway_next c.args.nodes.now c.loop.nodes c.plant_next.new.nodes c.args.boards.now c.loop.boards c.plant_next.new.boards (seeds_in c.args.seeds.now) (seeds_in c.loop.seeds) (seeds_in c.plant_next.new.seeds)
+        c.args.board c.args.depth c.loop.counter c.args.count (omega arith) c.requires.depth c.loop.invariant p.kept p.own_room p.room p.roomy p.fewer p.plants
+
+pub plant_boxes-returns-clause-plants : goal.plant_boxes-returns-clause-plants
+plant_boxes-returns-clause-plants t c = λ u more h w.
+    split_end (get c.args.nodes.now) (get c.loop.nodes) (get c.args.boards.now) (get c.loop.boards) (seeds_in c.loop.seeds) c.args.board c.args.depth c.loop.counter u more (omega (arith, w)) (c.loop.invariant.splits u more h w)
+
+pub plant_box-returns-clause-plants : goal.plant_box-returns-clause-plants
+plant_box-returns-clause-plants t c = λ u more h w.
+    let row = c.args.seed.row in
+    let p = c.plant_inside.ensures in
+    box_planted (get c.args.nodes.now) (get c.put_node-key.new.nodes) (get c.plant_inside.new.nodes) (get c.args.boards.now) (get c.plant_inside.new.boards) (get c.put_last.new.boards)
+        c.put_node-key.result c.args.board c.args.depth row.boxes (record { head = (entry_of row.element).head; text = row.text; kind = row.kind; fault = row.fault }) row.sheet
+        (seeds_in c.args.seeds.now) (seeds_in c.plant_inside.new.seeds) c.requires.here c.requires.depth (ap (option_map node_seen) c.put_node-key.ensures.is) p.plain p.plants p.boards_stay c.put_last.ensures.gains u more h w

@@ -1,0 +1,159 @@
+//! Planting: boxes in text order get keys.
+
+ghost use Rattle.std.specs.Prelude.{◌≡◌, ◌+◌, ◌-◌, ◌*◌, ◌^◌, ◌≤◌, ◌<◌, ℕ, List, length, ◌++◌, ◌≢◌, [], vec_len, vec_capacity, Some, None, IsSome};
+ghost use Rattle.slab.specs.Slab.{get, ContainsKey, HasRoomFor};
+ghost use Rattle.pd_tree.specs.Trees.{Trees, Stand, width, stands_of};
+ghost use Rattle.pd_grove.specs.Standing.{depth_of, board_room};
+ghost use Rattle.pd_grove.specs.Planting.{seeds_in, AreRoomy, IsRoomy, stands_ready, seed_stand, HaveRoom, Keeps, Plants, PlantsInside, one};
+ghost use Rattle.pd_tree.specs.declared.rows.Sheet.{Sheet};
+
+use crate::boards::{Board, open_board, put_last};
+use crate::nodes::{Node, put_node, set_inner};
+use crate::seeds::{Seed, Seeds};
+use pd_tree::{Row, Sheet};
+use slab::Slab;
+
+/// Plants the next so many boxes of a canvas, each with what it holds.
+#[cycle(planting)]
+pub(crate) fn plant_boxes(
+    nodes: &mut Slab<Node>,
+    boards: &mut Slab<Board>,
+    seeds: &mut Seeds,
+    board: u32,
+    depth: u32,
+    count: u32,
+)
+    requires here { ContainsKey boards.old board }
+    requires depth { depth_of (get boards.old board) ≡ depth }
+    requires deep { depth + length (seeds_in seeds.old) < 2 ^ 32 }
+    requires own_room { count ≤ board_room (get boards.old board) }
+    requires room { HaveRoom nodes.old boards.old (length (seeds_in seeds.old)) }
+    requires roomy { AreRoomy (seeds_in seeds.old) }
+    ensures kept { Keeps (get nodes.old) (get nodes.new) (get boards.old) (get boards.new) board }
+    ensures own_room { board_room (get boards.old board) ≤ board_room (get boards.new board) + count }
+    ensures room { HaveRoom nodes.new boards.new (length (seeds_in seeds.new)) }
+    ensures roomy { AreRoomy (seeds_in seeds.new) }
+    ensures fewer { length (seeds_in seeds.new) ≤ length (seeds_in seeds.old) }
+    ensures plants { (t : Trees) (more : List Stand) → stands_ready (seeds_in seeds.old) ≡ stands_of t ++ more → width t ≡ count →
+        Plants (get nodes.old) (get nodes.new) (get boards.old) (get boards.new) board depth t × (stands_ready (seeds_in seeds.new) ≡ more) }
+{
+    for _ in 0..count {
+        plant_next(nodes, boards, seeds, board, depth);
+    }
+}
+
+/// Plants the next box of a canvas, with what it holds.
+#[cycle(planting)]
+fn plant_next(
+    nodes: &mut Slab<Node>,
+    boards: &mut Slab<Board>,
+    seeds: &mut Seeds,
+    board: u32,
+    depth: u32,
+)
+    requires here { ContainsKey boards.old board }
+    requires depth { depth_of (get boards.old board) ≡ depth }
+    requires deep { depth + length (seeds_in seeds.old) < 2 ^ 32 }
+    requires own_room { 1 ≤ board_room (get boards.old board) }
+    requires room { HaveRoom nodes.old boards.old (length (seeds_in seeds.old)) }
+    requires roomy { AreRoomy (seeds_in seeds.old) }
+    ensures kept { Keeps (get nodes.old) (get nodes.new) (get boards.old) (get boards.new) board }
+    ensures own_room { board_room (get boards.old board) ≤ board_room (get boards.new board) + 1 }
+    ensures room { HaveRoom nodes.new boards.new (length (seeds_in seeds.new)) }
+    ensures roomy { AreRoomy (seeds_in seeds.new) }
+    ensures fewer { length (seeds_in seeds.new) ≤ length (seeds_in seeds.old) }
+    ensures plants { (t : Trees) (more : List Stand) → stands_ready (seeds_in seeds.old) ≡ stands_of t ++ more → width t ≡ 1 →
+        Plants (get nodes.old) (get nodes.new) (get boards.old) (get boards.new) board depth t × (stands_ready (seeds_in seeds.new) ≡ more) }
+{
+    if let Some(seed) = seeds.next() {
+        plant_box(nodes, boards, seeds, seed, board, depth);
+    }
+}
+
+/// Plants a box of a canvas, with what it holds.
+#[cycle(planting)]
+fn plant_box(
+    nodes: &mut Slab<Node>,
+    boards: &mut Slab<Board>,
+    seeds: &mut Seeds,
+    seed: Seed,
+    board: u32,
+    depth: u32,
+)
+    requires here { ContainsKey boards.old board }
+    requires depth { depth_of (get boards.old board) ≡ depth }
+    requires deep { depth + 1 + length (seeds_in seeds.old) < 2 ^ 32 }
+    requires own_room { 1 ≤ board_room (get boards.old board) }
+    requires room { HaveRoom nodes.old boards.old (length (seeds_in seeds.old) + 1) }
+    requires roomy { AreRoomy (seeds_in seeds.old) }
+    requires seed { IsRoomy seed }
+    ensures kept { Keeps (get nodes.old) (get nodes.new) (get boards.old) (get boards.new) board }
+    ensures own_room { board_room (get boards.old board) ≤ board_room (get boards.new board) + 1 }
+    ensures room { HaveRoom nodes.new boards.new (length (seeds_in seeds.new)) }
+    ensures roomy { AreRoomy (seeds_in seeds.new) }
+    ensures fewer { length (seeds_in seeds.new) ≤ length (seeds_in seeds.old) }
+    ensures plants { (t : Trees) (more : List Stand) → one (seed_stand seed) (stands_ready (seeds_in seeds.old)) ≡ stands_of t ++ more → width t ≡ 1 →
+        Plants (get nodes.old) (get nodes.new) (get boards.old) (get boards.new) board depth t × (stands_ready (seeds_in seeds.new) ≡ more) }
+{
+    let Seed { row, state, room } = seed;
+    let Row {
+        element,
+        text,
+        kind,
+        fault,
+        sheet,
+        boxes,
+    } = row;
+    let key = put_node(
+        nodes,
+        Node {
+            board,
+            element,
+            text,
+            kind,
+            fault,
+            state: Some(state),
+            inner: None,
+        },
+    );
+    plant_inside(nodes, boards, seeds, sheet, room, key, depth + 1, boxes);
+    put_last(boards, board, key);
+}
+
+/// Plants what a box holds, where it holds a canvas.
+#[cycle(planting)]
+fn plant_inside(
+    nodes: &mut Slab<Node>,
+    boards: &mut Slab<Board>,
+    seeds: &mut Seeds,
+    sheet: Option<Sheet>,
+    room: Vec<u32>,
+    key: u32,
+    depth: u32,
+    boxes: u32,
+)
+    requires here { ContainsKey nodes.old key }
+    requires deep { depth + length (seeds_in seeds.old) < 2 ^ 32 }
+    requires none { room.items ≡ [] }
+    requires empty { vec_len room ≡ 0 }
+    requires own_room { boxes ≤ vec_capacity room }
+    requires nodes_room { HasRoomFor nodes.old (length (seeds_in seeds.old)) }
+    requires boards_room { HasRoomFor boards.old (length (seeds_in seeds.old) + 1) }
+    requires nodes_small { nodes.old.capacity ≤ 2 ^ 32 }
+    requires boards_small { boards.old.capacity ≤ 2 ^ 32 }
+    requires roomy { AreRoomy (seeds_in seeds.old) }
+    ensures nodes_stay { (k : ℕ) → k ≢ key → IsSome (get nodes.old k) → get nodes.new k ≡ get nodes.old k }
+    ensures boards_stay { (k : ℕ) → IsSome (get boards.old k) → get boards.new k ≡ get boards.old k }
+    ensures room { HaveRoom nodes.new boards.new (length (seeds_in seeds.new)) }
+    ensures roomy { AreRoomy (seeds_in seeds.new) }
+    ensures fewer { length (seeds_in seeds.new) ≤ length (seeds_in seeds.old) }
+    ensures plain { sheet ≡ None → (get nodes.new key ≡ get nodes.old key) × (seeds_in seeds.new ≡ seeds_in seeds.old) }
+    ensures plants { (s : Sheet) (t : Trees) (more : List Stand) → sheet ≡ Some s → stands_ready (seeds_in seeds.old) ≡ stands_of t ++ more → width t ≡ boxes →
+        PlantsInside (get nodes.old) (get nodes.new) (get boards.old) (get boards.new) key depth s t × (stands_ready (seeds_in seeds.new) ≡ more) }
+{
+    if let Some(sheet) = sheet {
+        let inner = open_board(boards, key, depth, sheet, room);
+        set_inner(nodes, key, inner);
+        plant_boxes(nodes, boards, seeds, inner, depth, boxes);
+    }
+}
