@@ -6,8 +6,8 @@ use Rattle.pd_atom.specs.Atoms.{IsOf, spelled}
 use Rattle.pd_atom.specs.declared.Atom.{Atom}
 use Rattle.pd_atom.specs.declared.Atom.TheVariants.{Number, Symbol, Dollar, DollarSymbol, Comma, Semi}
 use Rattle.pd_atom.proofs.LawLemmas.{of_extended, settled_extended}
-use Rattle.pd_canvas.specs.Pages.{Shape, Obj, Msg, Comment, FloatBox, SymbolBox, Sub, Array, Other, Head, Frame, Boxes, End, Box, Entry, frame_of}
-use Rattle.pd_canvas.specs.Proper.{IsReady, AreReady, IsText, IsKept, is_record_word, FitsForm, IsHead, IsFrame, AreBoxes, IsSmall}
+use Rattle.pd_canvas.specs.Pages.{Shape, Obj, Msg, Comment, FloatBox, SymbolBox, Sub, Array, Other, Head, Frame, Boxes, End, Box, Page, Entry, frame_of}
+use Rattle.pd_canvas.specs.Proper.{IsReady, AreReady, IsText, IsKept, is_record_word, FitsForm, IsHead, IsFrame, AreBoxes, IsSmall, IsProper}
 use Rattle.pd_canvas.proofs.SoundLemmas.{IsEntry}
 use Rattle.pd_doc.specs.States.{Level}
 use Rattle.pd_doc.proofs.ResultLemmas.{extends_same, extends_on}
@@ -109,6 +109,12 @@ entry_grows old new g e h = record {
 entries_grow : (old new : Names) → Grows old new → (es : List Entry) → AllByRecursion (IsEntry old) es → AllByRecursion (IsEntry new) es
 entries_grow old new g [] h = tt
 entries_grow old new g (e ∷ es) h = (entry_grows old new g e h.0, entries_grow old new g es h.1)
+
+pub proper_grows : (old new : Names) → Grows old new → (p : Page) → IsProper old p → IsProper new p
+proper_grows old new g p h = record {
+  sound = (frame_grows old new g (frame_of p) h.sound.0, boxes_grow old new g p.boxes h.sound.1);
+  limits = h.limits;
+}
 
 -- ---- canvases that are open
 

@@ -1,7 +1,7 @@
 //! Laws over reading and writing.
 
 ghost use Rattle.std.specs.Prelude.{◌≡◌, ℕ, List, Ok};
-ghost use Rattle.pd_atom.specs.Names.{Names, IsTable};
+ghost use Rattle.pd_atom.specs.Names.{Names, IsTable, Extends};
 ghost use Rattle.pd_canvas.specs.Pages.{Page};
 ghost use Rattle.pd_canvas.specs.Proper.{IsProper};
 ghost use Rattle.pd_doc.specs.Atoms.{PageOf};
@@ -30,6 +30,11 @@ pub fn read_proper()
 /// The atoms of a proper document are of the table.
 pub fn proper_pages()
     ensures { (names : Names) (p : Page) → IsProper names p → PageOf names p }
+{}
+
+/// Where a table goes on, documents that are proper in it stay so.
+pub fn proper_extended()
+    ensures { (old new : Names) (p : Page) → Extends old new → IsTable old → IsTable new → IsProper old p → IsProper new p }
 {}
 
 /// Reading, writing and reading again gives the same document and the same table.

@@ -17,7 +17,7 @@ mod rows;
 mod tests;
 mod writing;
 
-pub use laws::{proper_pages, read_again, read_proper, written_read};
+pub use laws::{proper_extended, proper_pages, read_again, read_proper, written_read};
 pub use pd_canvas::{
     AtomRows, Atoms, Canvas, Doc, Edit, Element, Elements, Form, Numbers, Nums, Place, Wire, Wires,
     apply_plain, can_apply, canvas_at, copy,

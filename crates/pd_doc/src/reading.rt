@@ -186,6 +186,7 @@ pub fn read(alloc: Global, bytes: &[u8], symbols: &mut Symbols) -> Result<Doc, D
     ensures exact { Answers (λ d. (d.root, symbols.new)) result (document_of symbols.old bytes.now) }
     ensures proper { IfOk result (λ d. IsProper symbols.new d.root) }
     ensures of_table { IfOk result (λ d. PageOf symbols.new d.root) }
+    ensures extends { Extends symbols.old symbols.new }
     ensures refused { OnErr result (symbols.new ≡ symbols.old) }
 {
     let len = symbols.len();

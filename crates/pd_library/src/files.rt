@@ -1,5 +1,5 @@
 //! The files of abstractions, by their names.
-ghost use Rattle.std.specs.Prelude.{◌≡◌, ◌++◌, ◌∷◌, [], take, length, None, OnOk, OnErr};
+ghost use Rattle.std.specs.Prelude.{◌≡◌, ◌<◌, ◌^◌, ◌++◌, ◌∷◌, [], take, length, None, OnOk, OnErr};
 ghost use Rattle.std.specs.Option.{option_copied};
 ghost use Rattle.pd_library.specs.Files.{answer_in, with_answer, HasDistinctNames};
 ghost use Rattle.pd_library.specs.declared.answers.Answer.TheVariants.{Found};
@@ -79,6 +79,7 @@ impl Files {
     /// How many names there are.
     pub fn len(&self) -> usize
         ensures count { result ≡ length self.now }
+        ensures few { result < 2 ^ 63 }
         ensures distinct { HasDistinctNames self.now }
     {
         self.answers.len()

@@ -1,0 +1,4 @@
+pub mod SuitLemmas
+pub mod LackLemmas
+pub mod AskLemmas
+pub mod GatherLemmas

@@ -1,0 +1,3 @@
+pub mod Fetching
+pub mod Gather
+pub mod Steps
