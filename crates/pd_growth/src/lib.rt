@@ -9,6 +9,8 @@ mod rows;
 mod scope;
 mod suits;
 mod supply;
+#[cfg(test)]
+mod tests;
 mod texts;
 
 pub use documents::{Grown, grow};
