@@ -1,5 +1,5 @@
 -- What gathering asks for, by what growing answers.
-use Rattle.std.proofs.Common.{◌≡◌, ℕ, List, ◌++◌, length, take, Result, Ok, Err, None, refl, ap, sym, ◌∙◌, subst}
+use Rattle.std.proofs.Common.{◌≡◌, ℕ, List, length, take, Result, Ok, Err, None, refl, ap, sym, ◌∙◌, subst}
 use Rattle.std.specs.Option.{unwrap_or}
 use Rattle.std.specs.Result.{result_err}
 use Rattle.std.proofs.Math.Seq.{take-append_seam}
@@ -9,7 +9,7 @@ use Rattle.pd_library.specs.Files.{answer_in}
 use Rattle.pd_tree.specs.Trees.{Tree}
 use Rattle.pd_growth.specs.declared.growing.Stop.{Stop}
 use Rattle.pd_growth.specs.declared.growing.Stop.TheVariants.{Lacks, SymbolsFull, TooManyBoxes}
-use Rattle.pd_growth.specs.Steps.{Stock, Step, beginning, ends}
+use Rattle.pd_growth.specs.Steps.{Stock, Step, beginning}
 use Rattle.pd_growth.specs.Growth.{grown}
 use Rattle.pd_growth.specs.declared.documents.Grown.{Grown}
 use Rattle.pd_growth.specs.Growing.{GrowsTo, EndsUnlessMemory}

@@ -3,12 +3,10 @@ use Rattle.std.proofs.Common.{◌≡◌, ℕ, ◌≤◌, List, [], ◌∷◌, �
 use Rattle.std.specs.Option.{option_map_or}
 use Rattle.pd_canvas.specs.Pages.{Page}
 use Rattle.pd_canvas.specs.Proper.{IsProper}
-use Rattle.pd_atom.specs.Names.{Names, Extends, name_of}
-use Rattle.pd_io.specs.Rows.{held_at}
+use Rattle.pd_atom.specs.Names.{Extends}
 use Rattle.pd_io.specs.declared.files.FileRow.{FileRow}
 use Rattle.pd_library.specs.declared.answers.Answer.{Answer}
 use Rattle.pd_gather.specs.declared.fetching.Fetch.{Fetch}
-use Rattle.pd_gather.specs.Fetching.{file_of, given, answer_given}
 use Rattle.pd_gather.specs.Gather.{Known, Gathering, Asks, Gathered, Full, asked, learned, after, gathered, IsHeld, AreHeld, Gathers, GoesOn, AreProper}
 use Rattle.pd_gather.specs.Steps.{IsGiven, LearnsOne, FillsTable}
 

@@ -3,19 +3,19 @@ use Rattle.std.proofs.Common.{◌≡◌, ℕ, zero, suc, Bool, true, false, List
 use Rattle.std.specs.Prelude.{drop}
 use Rattle.pd_atom.specs.declared.Atom.{Atom}
 use Rattle.pd_atom.specs.declared.SymbolRefusal.{SymbolRefusal}
-use Rattle.pd_atom.specs.Names.{Names, Outcome, interned, longest, name_of}
+use Rattle.pd_atom.specs.Names.{Names, interned, longest, name_of}
 use Rattle.pd_kind.specs.declared.kinds.Named.{Named}
 use Rattle.pd_kind.specs.declared.kinds.Named.TheVariants as named
 use Rattle.pd_kind.specs.Naming.{arguments_of, named_by}
 use Rattle.pd_canvas.specs.Pages.{Shape, Obj, Msg, Comment, FloatBox, SymbolBox, Sub, Array, Other, Head, Page, Entry, elements_of}
 use Rattle.pd_library.specs.declared.answers.Answer.{Answer}
 use Rattle.pd_library.specs.declared.answers.Answer.TheVariants.{Found, Absent, Bad}
-use Rattle.pd_tree.specs.Trees.{Trees, Holder, Done, Tree, join, sheet_of}
+use Rattle.pd_tree.specs.Trees.{Done, Tree}
 use Rattle.pd_growth.specs.declared.growing.Stop.{Stop}
 use Rattle.pd_growth.specs.declared.growing.Stop.TheVariants.{SymbolsFull, TooManyBoxes, Lacks, NoMemory}
 use Rattle.pd_growth.specs.Steps.{Stock, Step, gives, ends, goes_on, ◌>>=◌, counted, box_by_room, numbered, number_from, named_answer, named_step, brought, with_names, text_expanded}
-use Rattle.pd_growth.specs.Making.{Around, Making, Plain, Subpatch, File, is_inside, has_slash, answer_made, abstraction_made, object_made, made, is_expanded}
-use Rattle.pd_growth.specs.Growth.{Inner, cell_of, canvas_grown, receiver_bytes, receiver_named, brought_if, receiver_brought, around_instance, box_made, own_text, box_grown, boxes_grown, page_grown, without_ending, around_root, grown}
+use Rattle.pd_growth.specs.Making.{Around, Making, Plain, Subpatch, File, is_inside, has_slash, answer_made, object_made, made, is_expanded}
+use Rattle.pd_growth.specs.Growth.{Inner, canvas_grown, receiver_bytes, receiver_named, brought_if, receiver_brought, around_instance, box_made, own_text, box_grown, boxes_grown, page_grown, without_ending, around_root, grown}
 
 module _ (lib : ℕ → Option Answer) where
   -- it is a lack of a file of which nothing is known, or none

@@ -1,5 +1,5 @@
 -- Proper documents can grow, and stay proper where the table goes on.
-use Rattle.std.proofs.Common.{ℕ, ◌==◌, ◌≤◌, Bool, true, false, List, [], ◌∷◌, ◌++◌, Option, Some, None, if◌then◌else◌}
+use Rattle.std.proofs.Common.{ℕ, ◌==◌, Bool, true, false, List, [], ◌∷◌, ◌++◌, Option, Some, if◌then◌else◌}
 use Rattle.pd_atom.specs.Names.{Names, IsTable, Extends}
 use Rattle.pd_canvas.specs.Pages.{Page}
 use Rattle.pd_canvas.specs.Proper.{IsProper}

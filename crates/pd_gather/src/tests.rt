@@ -1,5 +1,8 @@
 //! What is gathered for documents, from shelves in memory.
 
+ghost use Rattle.std.specs.Prelude.{IfOk};
+ghost use Rattle.pd_canvas.specs.Proper.{IsProper};
+
 use crate::{GatherRefusal, Library};
 use pd_atom::Symbols;
 use pd_doc::{Doc, read};
@@ -114,6 +117,15 @@ fn knows(library: &Library, names: &[(&[u8], u8)], symbols: &mut Symbols) -> boo
     library.files().len() == names.len()
 }
 
+fn document(alloc: Global, text: &[u8], symbols: &mut Symbols) -> Result<Doc, AllocError>
+    ensures { IfOk result (λ d. IsProper symbols.new d.root) }
+{
+    if text.len() > 65_536 {
+        return Err(AllocError);
+    }
+    read(alloc, text, symbols).map_err(|_| AllocError)
+}
+
 /// A library that gathers for a document, and the names after it.
 #[derive(Drop)]
 struct Gathered {
@@ -124,9 +136,7 @@ struct Gathered {
 
 fn gather(alloc: Global, text: &[u8], failing: u64) -> Result<Gathered, AllocError> {
     let mut symbols = Symbols::new(alloc)?;
-    let Ok(doc) = read(alloc, text, &mut symbols) else {
-        return Err(AllocError);
-    };
+    let doc = document(alloc, text, &mut symbols)?;
     let mut library = Library::new(alloc)?;
     let mut shelf = shelf(alloc, failing)?;
     let answer = library.gather(&doc, b"main.pd", &mut shelf, &mut symbols);
@@ -145,6 +155,20 @@ fn known_after_gathering(rt: HostRuntime) -> Result<(), Fail> {
             knows(&run.library, case.known, &mut run.symbols),
             "case {i}"
         );
+    }
+    Ok(())
+}
+
+#[test]
+fn words(rt: HostRuntime) -> Result<(), Fail> {
+    let words = [
+        (GatherRefusal::ShelfFault, "shelf fault"),
+        (GatherRefusal::SymbolsFull, "too many symbols"),
+        (GatherRefusal::NoMemory, "out of memory"),
+    ];
+    for (refusal, words) in words {
+        let text = format!(in rt.alloc(); "{refusal}")?;
+        assert!(rt; text.as_str() == words);
     }
     Ok(())
 }

@@ -1,4 +1,4 @@
-use Rattle.std.proofs.Common.{◌≡◌, ◌∙◌, ◌≤◌, subst, arith, rules}
+use Rattle.std.proofs.Common.{◌∙◌, subst, arith, rules}
 use Rattle.pd_doc.proofs.ResultLemmas.{extends_on}
 use Rattle.pd_gather.specs.Gather.{known}
 use Rattle.pd_gather.specs.Steps.{LearnsOne, FillsTable}

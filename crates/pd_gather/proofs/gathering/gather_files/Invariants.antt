@@ -1,4 +1,4 @@
-use Rattle.std.proofs.Common.{ℕ, ◌-◌, ◌^◌, length}
+use Rattle.std.proofs.Common.{◌-◌, ◌^◌, length}
 use Rattle.pd_gather.specs.Gather.{known}
 use Rattle.pd_gather.proofs.GatherLemmas.{IsUnderWay}
 use Rattle.pd_gather.proofs.gathering.gather_files.Given as goal

@@ -3,7 +3,7 @@ use Rattle.std.specs.Option.{unwrap_or}
 use Rattle.pd_doc.proofs.ResultLemmas.{extends_same}
 use Rattle.pd_atom.specs.Names.{Extends}
 use Rattle.pd_canvas.specs.Proper.{IsProper}
-use Rattle.pd_growth.specs.declared.growing.Stop.TheVariants.{Lacks, SymbolsFull, TooManyBoxes}
+use Rattle.pd_growth.specs.declared.growing.Stop.TheVariants.{TooManyBoxes}
 use Rattle.pd_gather.specs.Gather.{known, Gathered}
 use Rattle.pd_gather.proofs.SuitLemmas.{root_suits, files_suit, still_proper, still_found}
 use Rattle.pd_gather.proofs.AskLemmas.{lack_asked, lack_unknown, full_asked, none_asked, names_cut}
