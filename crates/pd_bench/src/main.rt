@@ -8,6 +8,7 @@ mod benchmark;
 mod clocks;
 mod document;
 mod fold;
+mod growth;
 mod hearing;
 mod mend;
 mod numbers;
