@@ -8,7 +8,6 @@
 #   fold       the signal order from nothing, of boxes that are each fed by two others
 #   mend       the signal order of voices that feed one box: one voice's wire is cut and added again, where the chain stays and, apart, where it
 #              changes; beside it a fold at the same size
-#   growth     a document of objects that are each fed by two others: growth, and planting what has grown
 #   hear       messages heard by one box: a number at the left inlet of `+`, `trigger`, `route`, `pack` and a message box with `$1`
 #   tone       blocks of phasor~, osc~ and noise~, one after another
 #   signal     blocks of the other signal objects but vline~ and those of the canvas's ports, one after another
@@ -21,7 +20,6 @@
 #   crates/pd_bench/out/pd_bench wires COUNT
 #   crates/pd_bench/out/pd_bench fold BOXES
 #   crates/pd_bench/out/pd_bench mend BOXES
-#   crates/pd_bench/out/pd_bench growth BOXES
 #   crates/pd_bench/out/pd_bench hear MESSAGES
 #   crates/pd_bench/out/pd_bench tone BLOCKS
 #   crates/pd_bench/out/pd_bench signal BLOCKS

@@ -1,11 +1,11 @@
 //! The benchmarks by name.
 
-use crate::{clocks, document, fold, growth, hearing, mend, signal, tone, wires};
+use crate::{clocks, document, fold, hearing, mend, signal, tone, wires};
 use anyhow::Result;
 use std::time::CpuClock;
 
 pub(crate) const USAGE: &str =
-    "usage: pd_bench document BYTES | clocks OWNERS FIRINGS | wires COUNT | fold BOXES | mend BOXES | growth BOXES | hear MESSAGES | tone BLOCKS | signal BLOCKS";
+    "usage: pd_bench document BYTES | clocks OWNERS FIRINGS | wires COUNT | fold BOXES | mend BOXES | hear MESSAGES | tone BLOCKS | signal BLOCKS";
 
 /// What a benchmark uses of the runtime.
 pub(crate) trait Measures: AllocGlobal + CpuClock + Print {}
@@ -20,7 +20,6 @@ pub(crate) enum Benchmark {
     Wires { count: u32 },
     Fold { boxes: u32 },
     Mend { boxes: u32 },
-    Growth { boxes: u32 },
     Hear { messages: u32 },
     Tone { blocks: u32 },
     Signal { blocks: u32 },
@@ -56,9 +55,6 @@ impl Benchmark {
             [name, boxes] if name.as_str() == "mend" => Some(Benchmark::Mend {
                 boxes: size(boxes.as_str())?,
             }),
-            [name, boxes] if name.as_str() == "growth" => Some(Benchmark::Growth {
-                boxes: size(boxes.as_str())?,
-            }),
             [name, messages] if name.as_str() == "hear" => Some(Benchmark::Hear {
                 messages: size(messages.as_str())?,
             }),
@@ -73,7 +69,6 @@ impl Benchmark {
             Benchmark::Wires { count } => wires::run(rt, count),
             Benchmark::Fold { boxes } => fold::run(rt, boxes),
             Benchmark::Mend { boxes } => mend::run(rt, boxes),
-            Benchmark::Growth { boxes } => growth::run(rt, boxes),
             Benchmark::Hear { messages } => hearing::run(rt, messages),
             Benchmark::Tone { blocks } => tone::run(rt, blocks),
             Benchmark::Signal { blocks } => signal::run(rt, blocks),

@@ -8,7 +8,6 @@ mod benchmark;
 mod clocks;
 mod document;
 mod fold;
-mod growth;
 mod hearing;
 mod mend;
 mod numbers;

@@ -1,6 +1,6 @@
 //! A case, and its answer.
 
-use crate::{hearing, naming, shown, trees};
+use crate::{hearing, naming, shown};
 use anyhow::{Result, bail};
 use pd_atom::Symbols;
 use pd_clock::Rate;
@@ -15,8 +15,6 @@ enum Case<'a> {
     Size { rate: Rate, text: &'a str },
     /// What a text's box says of events, which stand behind bars.
     Hear { texts: &'a str },
-    /// The running tree of a patch, which is the first text; the other ones are files.
-    Tree { texts: &'a str },
 }
 
 /// The first word of a line, and the rest behind the blank after it.
@@ -35,7 +33,6 @@ fn case_of(line: &str) -> Option<Case<'_>> {
             Some(Case::Size { rate, text })
         }
         "hear" => Some(Case::Hear { texts: rest }),
-        "tree" => Some(Case::Tree { texts: rest }),
         _ => None,
     }
 }
@@ -64,7 +61,6 @@ pub(crate) fn answer(alloc: Global, line: &str) -> Result<String> {
             rate,
         ),
         Some(Case::Hear { texts }) => said(alloc, texts, &mut symbols),
-        Some(Case::Tree { texts }) => trees::shown(alloc, texts, &mut symbols),
         None => bail!("no case: {line}"),
     }
 }

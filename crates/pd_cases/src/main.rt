@@ -1,8 +1,7 @@
 //! `pd_cases`: reads cases from standard input, one a line, and prints for each what the crates make of it.
 //!
 //! `name TEXT` asks what a text names, `size RATE TEXT` what it counts at a rate, and `hear TEXT | EVENT | EVENT ..` what
-//! its box says of each event: `INLET SELECTOR ATOMS`, `fire` or `load`. `tree NAME TEXT | NAME TEXT ..` asks how the patch that is the first
-//! text runs, with the files of all texts at hand. Words are separated by blanks, and an empty line
+//! its box says of each event: `INLET SELECTOR ATOMS`, `fire` or `load`. Words are separated by blanks, and an empty line
 //! is no case. A line that is no case ends the run with status 1, and so does want of memory.
 #![tactic(auto)]
 
@@ -11,7 +10,6 @@ mod hearing;
 mod naming;
 mod said;
 mod shown;
-mod trees;
 
 use anyhow::Result;
 use std::io::{BufRead, BufReader};
