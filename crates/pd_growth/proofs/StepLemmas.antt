@@ -101,12 +101,12 @@ pub record Halfway (lib : ℕ → Option Answer) (root : List ℕ) (left : ℕ) 
   pub step : boxes_in_turn lib root left a (entries_of es) w₀ ≡ with_front done (boxes_in_turn lib root left a (entries_of (drop i es)) w)
   pub suit : AllByRecursion (RowSuits w.names) after
 
-pub halfway_start : (lib : ℕ → Option Answer) (root : List ℕ) (left : ℕ) (a : Around) (es : List Element) (w : Stock) (rows : List Row)
-    → AllByRecursion (RowSuits w.names) rows → Halfway lib root left a es w w rows rows 0
-halfway_start lib root left a es w rows h = record {
+pub halfway_start : (lib : ℕ → Option Answer) (root : List ℕ) (left : ℕ) (a : Around) (es : List Element) (w : Stock) (first : List Row)
+    → AllByRecursion (RowSuits w.names) first → Halfway lib root left a es w w first first 0
+halfway_start lib root left a es w first h = record {
   done = Done;
   wide = refl;
-  rows = sym (append-nil (stands_in rows));
+  rows = sym (append-nil (stands_in first));
   step = (let s = boxes_in_turn lib root left a (entries_of es) w in front_none s.answer s.stock);
   suit = h;
 }
