@@ -4,3 +4,4 @@ pub mod Plantings
 pub mod Freshness
 pub mod TextOrders
 pub mod PlaceLemmas
+pub mod SpotLemmas

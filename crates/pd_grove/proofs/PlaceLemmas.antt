@@ -15,11 +15,11 @@ seen_inner : (o : Option Node) (s : NodeSeen) → option_map node_seen o ≡ Som
 seen_inner None s h = absurd (none-some s h)
 seen_inner (Some n) s h = ap (λ (x : NodeSeen). x.inner) (same_Some (node_seen n) s h)
 
-seen_cell : (o : Option Node) (s : NodeSeen) → option_map node_seen o ≡ Some s → option_map (λ (x : Node). (node_seen x).cell) o ≡ Some s.cell
+pub seen_cell : (o : Option Node) (s : NodeSeen) → option_map node_seen o ≡ Some s → option_map (λ (x : Node). (node_seen x).cell) o ≡ Some s.cell
 seen_cell None s h = absurd (none-some s h)
 seen_cell (Some n) s h = ap (λ (x : NodeSeen). Some x.cell) (same_Some (node_seen n) s h)
 
-seen_keys : (o : Option Board) (s : BoardSeen) → option_map board_seen o ≡ Some s → keys_in o ≡ s.keys
+pub seen_keys : (o : Option Board) (s : BoardSeen) → option_map board_seen o ≡ Some s → keys_in o ≡ s.keys
 seen_keys None s h = absurd (none-some s h)
 seen_keys (Some b) s h = ap (λ (x : BoardSeen). x.keys) (same_Some (board_seen b) s h)
 

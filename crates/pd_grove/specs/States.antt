@@ -9,8 +9,15 @@ use Rattle.pd_tree.specs.declared.rows.Row.{Row}
 use Rattle.pd_grove.specs.declared.nodes.Node.{Node}
 use Rattle.pd_grove.specs.declared.seeds.Seed.{Seed}
 
+-- every row, seed or box has a kind with no more ports than a text can give it
 abbrev pub AreSmall : List Row → Type 0
 AreSmall rows = AllByRecursion (λ r. IsSmallKind r.kind) rows
+
+abbrev pub SeedsSmall : List Seed → Type 0
+SeedsSmall seeds = AllByRecursion (λ s. IsSmallKind s.row.kind) seeds
+
+abbrev pub NodesSmall : (ℕ → Option Node) → Type 0
+NodesSmall nodes = (k : ℕ) (n : Node) → nodes k ≡ Some n → IsSmallKind n.kind
 
 -- a box keeps what its kind keeps at first, and a `timer` is reset now
 abbrev pub IsFresh : Rate → ℕ → Seed → Type 0

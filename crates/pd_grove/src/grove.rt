@@ -4,7 +4,7 @@ ghost use Rattle.std.specs.Prelude.{◌≡◌, ◌+◌, ◌<◌, ◌≤◌, ◌^
 ghost use Rattle.slab.specs.Slab.{get, HasRoomFor, slab_len};
 ghost use Rattle.pd_tree.specs.Trees.{Trees, width, stands_of, stands_in};
 ghost use Rattle.pd_grove.specs.Standing.{GroveStands, IsEmpty};
-ghost use Rattle.pd_grove.specs.States.{AreSmall, NodesFresh};
+ghost use Rattle.pd_grove.specs.States.{AreSmall, NodesFresh, NodesSmall};
 
 use crate::boards::{Board, open_root};
 use crate::nodes::Node;
@@ -40,6 +40,7 @@ impl Grove {
         requires { AreSmall rows.items }
         ensures stands { (t : Trees) → stands_in rows.items ≡ stands_of t → width t ≡ count → IfOk result (λ g. GroveStands g sheet t) }
         ensures fresh { IfOk result (λ g. NodesFresh rate now (get g.nodes)) }
+        ensures small { IfOk result (λ g. NodesSmall (get g.nodes)) }
     {
         let most = rows.len();
         let mut nodes = with_room(alloc, most)?;

@@ -8,6 +8,7 @@ mod nodes;
 mod planting;
 mod ports;
 mod seeds;
+mod spots;
 mod telling;
 #[cfg(test)]
 mod tests;
@@ -19,3 +20,4 @@ pub use laws::trees_are_told;
 pub use nodes::Node;
 pub use ports::{PortSpot, Side, ports_of};
 pub use seeds::{Seed, Seeds};
+pub use spots::Spot;

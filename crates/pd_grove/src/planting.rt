@@ -5,9 +5,10 @@ ghost use Rattle.slab.specs.Slab.{get, ContainsKey, HasRoomFor};
 ghost use Rattle.pd_tree.specs.Trees.{Trees, Stand, width, stands_of};
 ghost use Rattle.pd_grove.specs.Standing.{depth_of, board_room};
 ghost use Rattle.pd_grove.specs.Planting.{seeds_in, AreRoomy, IsRoomy, stands_ready, seed_stand, HaveRoom, Keeps, Plants, PlantsInside, one};
+ghost use Rattle.pd_kind.specs.Ports.{IsSmallKind};
 ghost use Rattle.pd_tree.specs.declared.rows.Sheet.{Sheet};
 ghost use Rattle.pd_clock.specs.declared.times.Rate.{Rate};
-ghost use Rattle.pd_grove.specs.States.{IsFresh, AreFresh, NodesFresh};
+ghost use Rattle.pd_grove.specs.States.{IsFresh, AreFresh, NodesFresh, SeedsSmall, NodesSmall};
 
 use crate::boards::{Board, open_board, put_last};
 use crate::nodes::{Node, put_node, set_inner};
@@ -37,6 +38,7 @@ pub(crate) fn plant_boxes(
     ensures roomy { AreRoomy (seeds_in seeds.new) }
     ensures fresh { (rate : Rate) (now : ℕ) → AreFresh rate now (seeds_in seeds.old) → NodesFresh rate now (get nodes.old) →
         AreFresh rate now (seeds_in seeds.new) × NodesFresh rate now (get nodes.new) }
+    ensures small { SeedsSmall (seeds_in seeds.old) → NodesSmall (get nodes.old) → SeedsSmall (seeds_in seeds.new) × NodesSmall (get nodes.new) }
     ensures fewer { length (seeds_in seeds.new) ≤ length (seeds_in seeds.old) }
     ensures plants { (t : Trees) (more : List Stand) → stands_ready (seeds_in seeds.old) ≡ stands_of t ++ more → width t ≡ count →
         Plants (get nodes.old) (get nodes.new) (get boards.old) (get boards.new) board depth t × (stands_ready (seeds_in seeds.new) ≡ more) }
@@ -67,6 +69,7 @@ fn plant_next(
     ensures roomy { AreRoomy (seeds_in seeds.new) }
     ensures fresh { (rate : Rate) (now : ℕ) → AreFresh rate now (seeds_in seeds.old) → NodesFresh rate now (get nodes.old) →
         AreFresh rate now (seeds_in seeds.new) × NodesFresh rate now (get nodes.new) }
+    ensures small { SeedsSmall (seeds_in seeds.old) → NodesSmall (get nodes.old) → SeedsSmall (seeds_in seeds.new) × NodesSmall (get nodes.new) }
     ensures fewer { length (seeds_in seeds.new) ≤ length (seeds_in seeds.old) }
     ensures plants { (t : Trees) (more : List Stand) → stands_ready (seeds_in seeds.old) ≡ stands_of t ++ more → width t ≡ 1 →
         Plants (get nodes.old) (get nodes.new) (get boards.old) (get boards.new) board depth t × (stands_ready (seeds_in seeds.new) ≡ more) }
@@ -99,6 +102,7 @@ fn plant_box(
     ensures roomy { AreRoomy (seeds_in seeds.new) }
     ensures fresh { (rate : Rate) (now : ℕ) → IsFresh rate now seed → AreFresh rate now (seeds_in seeds.old) → NodesFresh rate now (get nodes.old) →
         AreFresh rate now (seeds_in seeds.new) × NodesFresh rate now (get nodes.new) }
+    ensures small { IsSmallKind seed.row.kind → SeedsSmall (seeds_in seeds.old) → NodesSmall (get nodes.old) → SeedsSmall (seeds_in seeds.new) × NodesSmall (get nodes.new) }
     ensures fewer { length (seeds_in seeds.new) ≤ length (seeds_in seeds.old) }
     ensures plants { (t : Trees) (more : List Stand) → one (seed_stand seed) (stands_ready (seeds_in seeds.old)) ≡ stands_of t ++ more → width t ≡ 1 →
         Plants (get nodes.old) (get nodes.new) (get boards.old) (get boards.new) board depth t × (stands_ready (seeds_in seeds.new) ≡ more) }
@@ -156,6 +160,7 @@ fn plant_inside(
     ensures roomy { AreRoomy (seeds_in seeds.new) }
     ensures fresh { (rate : Rate) (now : ℕ) → AreFresh rate now (seeds_in seeds.old) → NodesFresh rate now (get nodes.old) →
         AreFresh rate now (seeds_in seeds.new) × NodesFresh rate now (get nodes.new) }
+    ensures small { SeedsSmall (seeds_in seeds.old) → NodesSmall (get nodes.old) → SeedsSmall (seeds_in seeds.new) × NodesSmall (get nodes.new) }
     ensures fewer { length (seeds_in seeds.new) ≤ length (seeds_in seeds.old) }
     ensures plain { sheet ≡ None → (get nodes.new key ≡ get nodes.old key) × (seeds_in seeds.new ≡ seeds_in seeds.old) }
     ensures plants { (s : Sheet) (t : Trees) (more : List Stand) → sheet ≡ Some s → stands_ready (seeds_in seeds.old) ≡ stands_of t ++ more → width t ≡ boxes →

@@ -4,7 +4,7 @@ ghost use Rattle.std.specs.Prelude.{◌≡◌, ◌∷◌, [], MatchOption, IfOk}
 ghost use Rattle.pd_kind.specs.Ports.{IsSmallKind};
 ghost use Rattle.pd_tree.specs.Trees.{stands_in};
 ghost use Rattle.pd_grove.specs.Planting.{seeds_in, stands_ready, IsRoomy, AreRoomy};
-ghost use Rattle.pd_grove.specs.States.{AreSmall, IsFresh, AreFresh};
+ghost use Rattle.pd_grove.specs.States.{AreSmall, IsFresh, AreFresh, SeedsSmall};
 
 use pd_clock::{Rate, Time};
 use pd_kind::State;
@@ -42,6 +42,7 @@ impl Seeds {
         ensures ready { IfOk result (λ seeds. stands_ready (seeds_in seeds) ≡ stands_in rows.items) }
         ensures roomy { IfOk result (λ seeds. AreRoomy (seeds_in seeds)) }
         ensures fresh { IfOk result (λ seeds. AreFresh rate now (seeds_in seeds)) }
+        ensures small { IfOk result (λ seeds. SeedsSmall (seeds_in seeds)) }
     {
         let mut rows = VecDeque::from_vec(rows);
         let mut items = VecDeque::with_capacity(alloc, rows.len())?;
@@ -65,6 +66,7 @@ fn ready(alloc: Global, row: Row, rate: Rate, now: Time) -> Result<Seed, AllocEr
     ensures stand { IfOk result (λ seed. seed.row ≡ row) }
     ensures roomy { IfOk result IsRoomy }
     ensures fresh { IfOk result (IsFresh rate now) }
+    ensures small { IfOk result (λ seed. IsSmallKind seed.row.kind) }
 {
     let mut state = State::fresh(alloc, &row.kind, rate)?;
     state.start(now);

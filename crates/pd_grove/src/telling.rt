@@ -1,14 +1,44 @@
 //! What a running tree tells by its keys.
 
-ghost use Rattle.std.specs.Prelude.{◌≡◌, Some, None, IsSome, slice_get, option_and_then};
+ghost use Rattle.std.specs.Prelude.{◌≡◌, ◌≤◌, length, Some, None, IsSome, slice_get, option_and_then};
 ghost use Rattle.std.specs.Option.{option_copied};
 ghost use Rattle.slab.specs.Slab.{get, ContainsKey};
 ghost use Rattle.pd_grove.specs.Telling.{kind_in, inner_in, state_in, keys_in, step_in, reached, Keeps};
 
+use crate::boards::Board;
 use crate::grove::Grove;
+use crate::nodes::Node;
 use pd_kind::{Kind, State};
 
 impl Grove {
+    /// A box; `None` exactly where none lives under the key.
+    pub fn node(&self, key: u32) -> Option<&Node>
+        ensures { option_copied result ≡ get self.now.nodes key }
+    {
+        self.nodes.get(key as usize)
+    }
+
+    /// A canvas; `None` exactly where none lives under the key.
+    pub fn board(&self, key: u32) -> Option<&Board>
+        ensures { option_copied result ≡ get self.now.boards key }
+    {
+        self.boards.get(key as usize)
+    }
+
+    /// A number above the keys of all boxes.
+    pub fn nodes_end(&self) -> usize
+        ensures { length self.now.nodes.slots ≤ result }
+    {
+        self.nodes.capacity()
+    }
+
+    /// A number above the keys of all canvases.
+    pub fn boards_end(&self) -> usize
+        ensures { length self.now.boards.slots ≤ result }
+    {
+        self.boards.capacity()
+    }
+
     /// The key of the root canvas.
     pub fn root(&self) -> u32
         ensures { result ≡ self.now.root }

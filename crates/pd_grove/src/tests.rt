@@ -105,6 +105,24 @@ fn a_tree_is_told_by_its_keys(rt: HostRuntime) -> Result<(), Fail> {
 }
 
 #[test]
+fn boxes_come_before_those_inside_them(rt: HostRuntime) -> Result<(), Fail> {
+    let grove = planted(rt.alloc())?;
+    let root = grove.root();
+    let holder = grove.box_key(root, 0).unwrap_or(99);
+    let inner = grove.canvas_in(holder).unwrap_or(99);
+    let keys = [
+        holder,
+        grove.box_key(inner, 0).unwrap_or(99),
+        grove.box_key(inner, 1).unwrap_or(99),
+        grove.box_key(inner, 2).unwrap_or(99),
+        grove.box_key(root, 1).unwrap_or(99),
+    ];
+    let told = grove.in_text_order(rt.alloc())?;
+    assert!(rt; told.as_slice() == keys.as_slice());
+    Ok(())
+}
+
+#[test]
 fn states_are_taken_out_and_put_back(rt: HostRuntime) -> Result<(), Fail> {
     let mut grove = planted(rt.alloc())?;
     let timer = grove.box_key(grove.root(), 1).unwrap_or(99);

@@ -4,7 +4,7 @@ use Rattle.slab.specs.Slab.{get}
 use Rattle.pd_canvas.specs.Views.{entry_of}
 use Rattle.pd_grove.specs.Standing.{node_seen}
 use Rattle.pd_grove.specs.Planting.{seeds_in}
-use Rattle.pd_grove.proofs.Freshness.{fresh_put, fresh_inner}
+use Rattle.pd_grove.proofs.Freshness.{fresh_put, fresh_inner, small_put, small_inner}
 use Rattle.pd_grove.proofs.Plantings.{halfway_next, split_end, box_planted}
 use Rattle.pd_grove.proofs.planting.+planting.Goals as goal
 
@@ -12,7 +12,7 @@ pub plant_boxes-loop-preserved : goal.plant_boxes-loop-preserved
 plant_boxes-loop-preserved t c =
     let p = c.plant_next.ensures in
     halfway_next c.args.nodes.now c.loop.nodes c.plant_next.new.nodes c.args.boards.now c.loop.boards c.plant_next.new.boards (seeds_in c.args.seeds.now) (seeds_in c.loop.seeds) (seeds_in c.plant_next.new.seeds)
-    c.args.board c.args.depth c.loop.counter c.args.count (omega arith) c.requires.depth c.loop.invariant p.kept p.own_room p.room p.roomy p.fewer p.fresh p.plants
+    c.args.board c.args.depth c.loop.counter c.args.count (omega arith) c.requires.depth c.loop.invariant p.kept p.own_room p.room p.roomy p.fewer p.fresh p.small p.plants
 
 pub plant_boxes-returns-clause-plants : goal.plant_boxes-returns-clause-plants
 plant_boxes-returns-clause-plants t c = λ u more h w.
@@ -33,3 +33,11 @@ plant_box-returns-clause-fresh t c = λ rate now s f n.
 pub plant_inside-returns-in-Some-clause-fresh : goal.plant_inside-returns-in-Some-clause-fresh
 plant_inside-returns-in-Some-clause-fresh t c = λ rate now f n.
     c.plant_boxes.ensures.fresh rate now f (fresh_inner rate now c.open_board-inner.result (get c.args.nodes.now) (get c.set_inner.new.nodes) c.args.key c.set_inner.ensures.is c.set_inner.ensures.others n)
+
+pub plant_box-returns-clause-small : goal.plant_box-returns-clause-small
+plant_box-returns-clause-small t c = λ s f n.
+    c.plant_inside.ensures.small f (small_put (get c.args.nodes.now) (get c.put_node-key.new.nodes) c.put_node-key.result _ c.put_node-key.ensures.is c.put_node-key.ensures.others s n)
+
+pub plant_inside-returns-in-Some-clause-small : goal.plant_inside-returns-in-Some-clause-small
+plant_inside-returns-in-Some-clause-small t c = λ f n.
+    c.plant_boxes.ensures.small f (small_inner c.open_board-inner.result (get c.args.nodes.now) (get c.set_inner.new.nodes) c.args.key c.set_inner.ensures.is c.set_inner.ensures.others n)

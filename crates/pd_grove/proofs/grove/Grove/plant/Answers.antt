@@ -36,3 +36,7 @@ returns-clause-stands c = λ t h w.
 pub returns-clause-fresh : goal.returns-clause-fresh
 returns-clause-fresh c =
     (c.plant_boxes.ensures.fresh c.args.rate c.args.now c.in_ok-seeds.ensures.fresh (λ k n h. absurd (none-some n (sym (c.in_ok-nodes.ensures.empty k) ∙ h)))).1
+
+pub returns-clause-small : goal.returns-clause-small
+returns-clause-small c =
+    (c.plant_boxes.ensures.small c.in_ok-seeds.ensures.small (λ k n h. absurd (none-some n (sym (c.in_ok-nodes.ensures.empty k) ∙ h)))).1

@@ -1,0 +1,2 @@
+pub mod OwningLemmas
+pub mod FindLemmas

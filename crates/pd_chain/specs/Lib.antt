@@ -1,0 +1,4 @@
+pub mod Entries
+pub mod Wires
+pub mod Tables
+pub mod Numbers

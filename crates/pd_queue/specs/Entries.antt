@@ -1,0 +1,13 @@
+-- An edit as it is stored.
+use Rattle.std.specs.Prelude.{List}
+use Rattle.pd_atom.specs.declared.Atom.{Atom}
+use Rattle.pd_canvas.specs.declared.edits.Edit.{Edit}
+use Rattle.pd_canvas.specs.declared.edits.Edit.TheVariants as edit
+use Rattle.pd_queue.specs.declared.entries.Change.{Change}
+use Rattle.pd_queue.specs.declared.entries.Change.TheVariants.{Box, Connect, Disconnect}
+use Rattle.pd_queue.specs.Asking.{box_edit}
+
+abbrev pub edit_of : Change → List Atom → Edit
+edit_of (Box verb x y) text = box_edit verb x y text
+edit_of (Connect wire) text = edit.Connect wire
+edit_of (Disconnect wire) text = edit.Disconnect wire
