@@ -1,9 +1,2 @@
-pub mod GatheringLemmas
-pub mod MessageLemmas
-pub mod LoadLemmas
-pub mod TableLemmas
 pub mod ReportLemmas
-pub mod RunLemmas
-pub mod PatchLemmas
-pub mod KindLemmas
 pub mod CauseLemmas

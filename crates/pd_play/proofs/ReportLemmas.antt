@@ -1,7 +1,7 @@
 -- How the line of a refused patch is put together.
 use Rattle.std.proofs.Common.{◌≡◌, ◌++◌, ℕ, List, Option, append_assoc, subst}
-use Rattle.pd_play.specs.Gathering.{Says, Fails}
-use Rattle.pd_play.proofs.GatheringLemmas.{says_then, says_then_fails, fails_sooner}
+use Rattle.pd_say.specs.Gathering.{Says, Fails}
+use Rattle.pd_say.proofs.GatheringLemmas.{says_then, says_then_fails, fails_sooner}
 
 parts : (e n r d s c l : List ℕ) → (e ++ n) ++ ((r ++ (d ++ s)) ++ (c ++ l)) ≡ e ++ (n ++ (r ++ (d ++ (s ++ (c ++ l)))))
 parts e n r d s c l = simp append_assoc

@@ -2,8 +2,10 @@
 use Rattle.std.specs.Prelude.{ℕ, List, [], ◌++◌, codes, decimal}
 use Rattle.pd_play.specs.declared.status.Status.{Status}
 use Rattle.pd_play.specs.declared.status.Status.TheVariants.{Done, Usage, PatchAbsent, PatchBad, ScriptBad, ReadFault, WriteFault, ShelfFault, NoMemory}
-use Rattle.pd_play.specs.declared.status.BadCause.{BadCause}
-use Rattle.pd_play.specs.declared.status.BadCause.TheVariants.{BadRecord, DataStructure, TooDeep, TooLong, TooManyBoxes, TooManyWires, TooMuchSound, SymbolsFull}
+use Rattle.pd_engine.specs.declared.refusals.OpenRefusal.{OpenRefusal}
+use Rattle.pd_engine.specs.declared.refusals.OpenRefusal.TheVariants as opening
+use Rattle.pd_engine.specs.declared.refusals.BadCause.{BadCause}
+use Rattle.pd_engine.specs.declared.refusals.BadCause.TheVariants.{BadRecord, DataStructure, TooDeep, TooLong, TooManyBoxes, TooManyWires, TooMuchSound, SymbolsFull}
 
 abbrev pub code_of : Status → ℕ
 code_of Done = 0
@@ -42,3 +44,11 @@ status_line name ReadFault = codes "error: script read failed\n"
 status_line name WriteFault = []
 status_line name ShelfFault = codes "error: shelf failed\n"
 status_line name NoMemory = codes "error: out of memory\n"
+
+-- how a run ends whose patch doesn't open
+abbrev pub opened_as : OpenRefusal → Status
+opened_as opening.Absent = PatchAbsent
+opened_as (opening.Bad number cause) = PatchBad number cause
+opened_as opening.ShelfFault = ShelfFault
+opened_as opening.WriteFault = WriteFault
+opened_as opening.NoMemory = NoMemory

@@ -1,7 +1,3 @@
+pub mod Causes
 pub mod Ending
-pub mod Gathering
-pub mod Flat
-pub mod Messages
-pub mod Load
-pub mod Run
-pub mod Opening
+pub mod Telling

@@ -1,15 +1,15 @@
 //! The lines that tell how a run ended.
 ghost use Rattle.std.specs.Prelude.{◌≡◌, ◌≤◌, ◌++◌, [], OnOk, OnErr, decimal};
 ghost use Rattle.pd_io.specs.Stream.{grown, TookPart};
-ghost use Rattle.pd_play.specs.Gathering.{Says, Fails, HasCause};
+ghost use Rattle.pd_say.specs.Gathering.{Says, Fails, HasCause};
 ghost use Rattle.pd_play.specs.Ending.{bad_text, cause_text, status_line};
-ghost use Rattle.pd_play.specs.Run.{told, Answers};
+ghost use Rattle.pd_play.specs.Telling.{told, Answers};
 
-use crate::line::{Held, flush, put};
-use crate::say::put_pair;
-use crate::status::{BadCause, Status};
+use crate::status::Status;
 use itoa::Buffer;
+use pd_engine::BadCause;
 use pd_io::{Sink, SinkFailed};
+use pd_say::{Held, flush, put};
 
 /// The words of a cause.
 #[tactic(auto, unfolding(crate::specs::Ending::cause_text))]
@@ -26,6 +26,21 @@ fn cause_words(cause: BadCause) -> &'static [u8]
         BadCause::TooMuchSound => b"too much sound",
         BadCause::SymbolsFull => b"too many symbols",
     }
+}
+
+/// Says two pieces.
+fn put_pair<L: Sink>(
+    first: &[u8],
+    second: &[u8],
+    held: &mut Held,
+    sink: &mut L,
+) -> Result<(), SinkFailed>
+    ensures ok { OnOk result (Says (L.taken sink.old) held.old.items (L.taken sink.new) held.new.items (first.now ++ second.now)) }
+    ensures err { OnErr result (Fails (L.taken sink.old) held.old.items (L.taken sink.new) (first.now ++ second.now)) }
+    ensures cause { HasCause (L.faults sink.old) (L.faults sink.new) result }
+{
+    put(first, held, sink)?;
+    put(second, held, sink)
 }
 
 /// Says three pieces.

@@ -2,18 +2,7 @@
 ghost use Rattle.std.specs.Prelude.{◌≡◌};
 ghost use Rattle.pd_play.specs.Ending.{code_of};
 
-/// Why a patch file is refused.
-#[derive(Debug, Clone, Copy, PartialEq, Eq)]
-pub enum BadCause {
-    BadRecord,
-    DataStructure,
-    TooDeep,
-    TooLong,
-    TooManyBoxes,
-    TooManyWires,
-    TooMuchSound,
-    SymbolsFull,
-}
+use pd_engine::BadCause;
 
 /// How a run ended.
 #[derive(Debug, Clone, Copy, PartialEq, Eq)]
@@ -34,7 +23,7 @@ pub enum Status {
     WriteFault,
     /// The folder couldn't be read.
     ShelfFault,
-    /// There was no memory to open the patch with.
+    /// There was no memory to read the words or to open the patch with.
     NoMemory,
 }
 

@@ -127,6 +127,27 @@ impl WireBook {
         link_of(&self.nodes, Side::Fan, end).count
     }
 
+    /// How many wires come to an inlet.
+    fn feed_len(&self, end: usize) -> usize
+        requires { IsEnd self.now end }
+        ensures { result ≡ length (feeds_of self.now end) }
+    {
+        link_of(&self.nodes, Side::Feed, end).count
+    }
+
+    /// A new wire, last in the fan-out of its source and last among the feeds of its sink. It walks no list.
+    pub fn add_last(&mut self, source: End, sink: End) -> WireKey
+        requires room { 0 < self.old.spare_wires }
+        requires source { IsEnd self.old source }
+        requires sink { IsEnd self.old sink }
+        ensures { Adds self.old self.new result source (length (fan_of self.old source)) sink (length (feeds_of self.old sink)) }
+    {
+        let fan_place = self.fan_len(source.key);
+        let feed_place = self.feed_len(sink.key);
+        let key = self.insert(source.key, fan_place, sink.key, feed_place);
+        WireKey { key }
+    }
+
     /// A new wire, last in the fan-out of its source and at a place among the feeds of its sink.
     ///
     /// Only the feeds before that place are walked, and none where it is the place behind the last.

@@ -48,3 +48,19 @@ impl Model for WireKey {
 
     ghost inverse = { λ n. record { key = n } };
 }
+
+impl WireKey {
+    /// A number that no other live wire of the same book has.
+    pub fn number(self) -> usize
+        ensures { result ≡ self }
+    {
+        self.key
+    }
+
+    /// The key with this number, whether it is a wire's or not.
+    pub fn of_number(number: usize) -> WireKey
+        ensures { result ≡ number }
+    {
+        WireKey { key: number }
+    }
+}

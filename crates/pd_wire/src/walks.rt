@@ -1,6 +1,6 @@
 //! Walks along the lists of a book.
 
-ghost use Rattle.std.specs.Prelude.{ℕ, Some, slice_get, ◌≡◌};
+ghost use Rattle.std.specs.Prelude.{ℕ, Some, is_some, slice_get, ◌≡◌};
 ghost use Rattle.pd_wire.specs.Book.{IsEnd, IsWire, fan_of, feeds_of, wire_at, IsNext};
 
 use crate::book::WireBook;
@@ -8,6 +8,16 @@ use crate::keys::{End, WireKey};
 use crate::links::{Side, first, link_of, next};
 
 impl WireBook {
+    /// Whether a key is a wire's.
+    pub fn has_wire(&self, key: WireKey) -> bool
+        ensures { result ≡ is_some (wire_at self.now key) }
+    {
+        match self.nodes.get(key.key) {
+            Some(node) => !node.is_end,
+            None => false,
+        }
+    }
+
     /// The first wire of an outlet's fan-out.
     pub fn fan_first(&self, source: End) -> Option<WireKey>
         requires { IsEnd self.now source }

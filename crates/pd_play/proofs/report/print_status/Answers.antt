@@ -1,5 +1,5 @@
 use Rattle.std.proofs.lemmas.Result.{err_from_is_err_and, on_ok_weaker, on_err_weaker}
-use Rattle.pd_play.proofs.GatheringLemmas.{broken_line, taken_line, torn_line}
+use Rattle.pd_say.proofs.GatheringLemmas.{broken_line, taken_line, torn_line}
 use Rattle.pd_play.proofs.report.print_status.Goals as goal
 
 pub returns-in_err-put_status-clause-err : goal.returns-in_err-put_status-clause-err

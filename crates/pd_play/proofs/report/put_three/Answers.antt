@@ -1,6 +1,6 @@
 use Rattle.std.proofs.Common.{◌++◌}
 use Rattle.std.proofs.lemmas.Result.{err_from_is_err_and, on_err_weaker}
-use Rattle.pd_play.proofs.GatheringLemmas.{says_then_fails, fails_sooner}
+use Rattle.pd_say.proofs.GatheringLemmas.{says_then_fails, fails_sooner}
 use Rattle.pd_play.proofs.report.put_three.Goals as goal
 
 pub returns-in_err-put-clause-err : goal.returns-in_err-put-clause-err

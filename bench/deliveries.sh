@@ -1,0 +1,81 @@
+#!/usr/bin/env bash
+# Measures delivery in whole runs: bench/deliveries.sh [EVENTS]
+#
+# Each patch loops by `until`; an event of pdplay makes nearly 1,000,000 deliveries, resumptions among them, and a run has EVENTS events (50).
+# Printed are nanoseconds per delivery of the whole run less those of a run without events:
+#
+#   flat       `until` through `f` and `+ 1`, back to the right inlet of `f`
+#   subpatch   the same with `f` and `+ 1` in a subpatch
+#   name       the same, from `until` to `f` by `send` and `receive`
+#   chain      through a chain that makes 1,000 boxes in all
+#
+# Beside it stands the same loop in Pd (`pd -nogui -batch`), where `pd` is installed. Build the program first, by ./play.
+set -u
+top=$(cd "$(dirname "$0")/.." && pwd) || exit 2
+program=$top/crates/pdplay/out/pdplay
+[ -x "$program" ] || { echo "bench: build the program first: ./play examples/hello/main.pd" >&2; exit 2; }
+events=${1:-50}
+folder=$(mktemp -d)
+trap 'rm -rf "$folder"' EXIT
+cd "$folder" || exit 2
+
+# The loop of a patch whose boxes begin at number $1: its first box is `until`.
+flat() {
+  echo "#X obj 0 0 until; #X obj 0 0 f; #X obj 0 0 + 1;"
+  echo "#X connect $1 0 $(($1 + 1)) 0; #X connect $(($1 + 1)) 0 $(($1 + 2)) 0; #X connect $(($1 + 2)) 0 $(($1 + 1)) 1;"
+}
+subpatch() {
+  echo "#X obj 0 0 until; #N canvas 0 0 100 100 s 0; #X obj 0 0 inlet; #X obj 0 0 f; #X obj 0 0 + 1;"
+  echo "#X connect 0 0 1 0; #X connect 1 0 2 0; #X connect 2 0 1 1; #X restore 0 0 pd s; #X connect $1 0 $(($1 + 1)) 0;"
+}
+name() {
+  echo "#X obj 0 0 until; #X obj 0 0 s tick; #X obj 0 0 r tick; #X obj 0 0 f; #X obj 0 0 + 1;"
+  echo "#X connect $1 0 $(($1 + 1)) 0; #X connect $(($1 + 2)) 0 $(($1 + 3)) 0; #X connect $(($1 + 3)) 0 $(($1 + 4)) 0;"
+  echo "#X connect $(($1 + 4)) 0 $(($1 + 3)) 1;"
+}
+chain() {
+  local i
+  echo "#X obj 0 0 until;"
+  for ((i = 1; i < 999; i++)); do echo "#X obj 0 0 f;"; done
+  for ((i = 0; i < 997; i++)); do echo "#X connect $(($1 + i)) 0 $(($1 + i + 1)) 0;"; done
+  echo "#X connect $(($1 + 997)) 0 $(($1 + 998)) 1;"
+}
+
+# Seconds of the processor that a command takes, the least of three runs.
+seconds() {
+  local i best= now
+  for i in 1 2 3; do
+    now=$( { TIMEFORMAT='%U %S'; time "$@" >/dev/null 2>&1 </dev/stdin; } 2>&1 <"$folder/script" | awk '{ print $1 + $2 }')
+    best=$(awk -v a="$best" -v b="$now" 'BEGIN { print (a == "" || b < a) ? b : a }')
+  done
+  echo "$best"
+}
+
+printf '%-10s %12s %12s\n' loop pdplay pd
+for loop in flat subpatch name chain; do
+  case $loop in
+    flat) steps=4 ;;
+    subpatch) steps=5 ;;
+    name) steps=6 ;;
+    chain) steps=999 ;;
+  esac
+  turns=$((999990 / steps))
+  { echo "#N canvas 0 0 400 300 12; #X obj 0 0 r go;"; $loop 1; echo "#X connect 0 0 1 0;"; } >main.pd
+  : >script
+  idle=$(seconds "$program" main.pd)
+  for ((i = 0; i < events; i++)); do echo "0 send go $turns;"; done >script
+  ours=$(seconds "$program" main.pd)
+  theirs=-
+  if command -v pd >/dev/null; then
+    {
+      echo "#N canvas 0 0 400 300 12; #X obj 0 0 loadbang; #X obj 0 0 t b b; #X msg 0 0 $events; #X obj 0 0 until; #X msg 0 0 $turns; #X msg 0 0 \; pd quit;"
+      $loop 6
+      echo "#X connect 0 0 1 0; #X connect 1 1 2 0; #X connect 2 0 3 0; #X connect 3 0 4 0; #X connect 4 0 6 0; #X connect 1 0 5 0;"
+    } >loop.pd
+    sed "s/#X msg 0 0 $events;/#X msg 0 0 0;/" loop.pd >idle.pd
+    theirs=$(awk -v a="$(seconds pd -nogui -noprefs -batch -open loop.pd)" -v b="$(seconds pd -nogui -noprefs -batch -open idle.pd)" \
+      -v n=$((events * turns * steps)) 'BEGIN { printf "%.1f ns", (a - b) * 1e9 / n }')
+  fi
+  awk -v l=$loop -v a="$ours" -v b="$idle" -v n=$((events * turns * steps)) -v t="$theirs" \
+    'BEGIN { printf "%-10s %9.1f ns %12s\n", l, (a - b) * 1e9 / n, t }'
+done

@@ -1,0 +1,256 @@
+//! A patch is opened: fetched, read, grown and loaded.
+
+ghost use Rattle.std.specs.Prelude.{◌≡◌, ◌≤◌, false, IfOk};
+ghost use Rattle.pd_say.specs.Gathering.{HasCause};
+ghost use Rattle.pd_engine.specs.Causes.{HasOpeningCauses};
+ghost use Rattle.pd_atom.specs.Names.{Extends};
+ghost use Rattle.pd_canvas.specs.Proper.{IsProper};
+ghost use Rattle.pd_gather.specs.Gather.{AreProper};
+
+use crate::engine::Engine;
+use crate::refusals::{BadCause, OpenRefusal, ungathered, ungrown, unread};
+use crate::remarks::say_remarks;
+use crate::time::BLOCK;
+use pd_atom::Symbols;
+use pd_clock::{Rate, Time};
+use pd_doc::{Doc, proper_extended, read};
+use pd_gather::Library;
+use pd_io::{Fetched, Shelf, ShelfError, Sink, SinkFailed};
+use pd_patch::{Patch, Report};
+use pd_queue::EditQueue;
+use pd_say::{Held, flush};
+use pd_walk::Walker;
+use std::alloc::{AllocError, Global};
+
+/// The `$0` of the patch.
+const FIRST_ZERO: u32 = 1001;
+
+/// The most boxes whose numbers a line tells.
+const MOST_BOXES: usize = 16_384;
+
+/// The room of events.
+#[derive(Drop)]
+struct Room {
+    walker: Walker,
+    queue: EditQueue,
+    numbers: Vec<u32>,
+}
+
+impl Room {
+    fn new(alloc: Global) -> Result<Room, AllocError> {
+        Ok(Room {
+            walker: Walker::new(alloc)?,
+            queue: EditQueue::new(alloc)?,
+            numbers: Vec::with_capacity(alloc, MOST_BOXES)?,
+        })
+    }
+}
+
+impl Engine {
+    /// Opens the patch of a file name in a folder: it is fetched and read, its abstractions are fetched, it grows, the lines of growth
+    /// are printed, and its load boxes send.
+    ///
+    /// # Errors
+    ///
+    /// Why it doesn't open. After each refusal but `WriteFault` nothing was printed.
+    pub fn open<H: Shelf, L: Sink>(
+        alloc: Global,
+        name: &[u8],
+        rate: Rate,
+        shelf: &mut H,
+        lines: &mut L,
+    ) -> Result<Engine, OpenRefusal>
+        ensures running { IfOk result (λ e. e.stopped ≡ false) }
+        ensures kept { H.holds shelf.new ≡ H.holds shelf.old }
+        ensures causes { HasOpeningCauses (H.faults shelf.old) (H.faults shelf.new) (L.faults lines.old) (L.faults lines.new) result }
+    {
+        let room = Room::new(alloc)?;
+        let mut symbols = Symbols::new(alloc)?;
+        let doc = fetch_document(alloc, name, shelf, &mut symbols)?;
+        open_document(alloc, name, rate, doc, symbols, room, shelf, lines)
+    }
+
+    /// Opens a document as the patch of a file name: as `open`, but that it is there already, with its table of names.
+    ///
+    /// # Errors
+    ///
+    /// Why it doesn't open. After each refusal but `WriteFault` nothing was printed.
+    pub fn from_doc<H: Shelf, L: Sink>(
+        alloc: Global,
+        name: &[u8],
+        rate: Rate,
+        doc: Doc,
+        symbols: Symbols,
+        shelf: &mut H,
+        lines: &mut L,
+    ) -> Result<Engine, OpenRefusal>
+        requires { IsProper symbols doc.root }
+        ensures running { IfOk result (λ e. e.stopped ≡ false) }
+        ensures kept { H.holds shelf.new ≡ H.holds shelf.old }
+        ensures causes { HasOpeningCauses (H.faults shelf.old) (H.faults shelf.new) (L.faults lines.old) (L.faults lines.new) result }
+    {
+        let room = Room::new(alloc)?;
+        open_document(alloc, name, rate, doc, symbols, room, shelf, lines)
+    }
+}
+
+/// Fetches and reads the document of a file name.
+fn fetch_document<H: Shelf>(
+    alloc: Global,
+    name: &[u8],
+    shelf: &mut H,
+    symbols: &mut Symbols,
+) -> Result<Doc, OpenRefusal>
+    ensures proper { IfOk result (λ doc. IsProper symbols.new doc.root) }
+    ensures kept { H.holds shelf.new ≡ H.holds shelf.old }
+    ensures causes { HasOpeningCauses (H.faults shelf.old) (H.faults shelf.new) 0 0 result }
+{
+    let mut text = Vec::new(alloc);
+    match shelf.fetch(name, &mut text) {
+        Ok(Fetched::Found) => read_document(alloc, text.as_slice(), symbols),
+        Ok(Fetched::Absent) => Err(OpenRefusal::Absent),
+        Ok(Fetched::TooLong) => Err(OpenRefusal::Bad {
+            number: 0,
+            cause: BadCause::TooLong,
+        }),
+        Err(ShelfError::Failed) => Err(OpenRefusal::ShelfFault),
+        Err(ShelfError::NoMemory) => Err(OpenRefusal::NoMemory),
+    }
+}
+
+fn read_document(alloc: Global, text: &[u8], symbols: &mut Symbols) -> Result<Doc, OpenRefusal>
+    ensures proper { IfOk result (λ doc. IsProper symbols.new doc.root) }
+    ensures causes { HasOpeningCauses 0 0 0 0 result }
+{
+    if text.len() > 16_777_216 {
+        return Err(OpenRefusal::Bad {
+            number: 0,
+            cause: BadCause::TooLong,
+        });
+    }
+    match read(alloc, text, symbols) {
+        Ok(doc) => Ok(doc),
+        Err(refusal) => Err(unread(refusal)),
+    }
+}
+
+/// Gathers the files that a document asks for.
+fn gather_all<H: Shelf>(
+    library: &mut Library,
+    doc: &Doc,
+    name: &[u8],
+    shelf: &mut H,
+    symbols: &mut Symbols,
+) -> Result<(), OpenRefusal>
+    requires proper { IsProper symbols.old doc.now.root }
+    requires found { AreProper symbols.old library.old }
+    ensures kept { H.holds shelf.new ≡ H.holds shelf.old }
+    ensures causes { HasOpeningCauses (H.faults shelf.old) (H.faults shelf.new) 0 0 result }
+    ensures found { AreProper symbols.new library.new }
+    ensures extends { Extends symbols.old symbols.new }
+{
+    match library.gather(doc, name, shelf, symbols) {
+        Ok(()) => Ok(()),
+        Err(refusal) => Err(ungathered(refusal)),
+    }
+}
+
+/// Grows a document with the files that were gathered.
+fn grow_all(
+    alloc: Global,
+    doc: Doc,
+    name: &[u8],
+    rate: Rate,
+    library: &Library,
+    symbols: &mut Symbols,
+) -> Result<(Patch, Report), OpenRefusal>
+    requires proper { IsProper symbols.old doc.root }
+    requires found { AreProper symbols.old library.now }
+    ensures causes { HasOpeningCauses 0 0 0 0 result }
+{
+    match Patch::grow(alloc, doc, name, rate, library, FIRST_ZERO, symbols) {
+        Ok(grown) => Ok(grown),
+        Err(refusal) => Err(ungrown(refusal)),
+    }
+}
+
+/// Gathers the files that a document asks for, grows it, and loads its boxes.
+fn open_document<H: Shelf, L: Sink>(
+    alloc: Global,
+    name: &[u8],
+    rate: Rate,
+    doc: Doc,
+    symbols: Symbols,
+    room: Room,
+    shelf: &mut H,
+    lines: &mut L,
+) -> Result<Engine, OpenRefusal>
+    requires { IsProper symbols doc.root }
+    ensures running { IfOk result (λ e. e.stopped ≡ false) }
+    ensures kept { H.holds shelf.new ≡ H.holds shelf.old }
+    ensures causes { HasOpeningCauses (H.faults shelf.old) (H.faults shelf.new) (L.faults lines.old) (L.faults lines.new) result }
+{
+    let mut symbols = symbols;
+    let mut library = Library::new(alloc)?;
+    let _names = symbols.len();
+    gather_all(&mut library, &doc, name, shelf, &mut symbols)?;
+    let _names = symbols.len();
+    proper_extended();
+    let (patch, report) = grow_all(alloc, doc, name, rate, &library, &mut symbols)?;
+    begin(patch, report, library, symbols, room, lines)
+}
+
+/// Prints the lines of growth and loads the boxes.
+fn begin<L: Sink>(
+    patch: Patch,
+    report: Report,
+    library: Library,
+    symbols: Symbols,
+    room: Room,
+    lines: &mut L,
+) -> Result<Engine, OpenRefusal>
+    ensures running { IfOk result (λ e. e.stopped ≡ false) }
+    ensures causes { HasOpeningCauses 0 0 (L.faults lines.old) (L.faults lines.new) result }
+{
+    let Room {
+        walker,
+        queue,
+        numbers,
+    } = room;
+    let mut engine = Engine {
+        patch,
+        library,
+        symbols,
+        walker,
+        queue,
+        held: Held::new(),
+        numbers,
+        time: Time::of_units(0),
+        block_end: Time::of_units(BLOCK),
+        fired: 0,
+        stopped: false,
+    };
+    match engine.load_whole(&report, lines) {
+        Ok(()) => Ok(engine),
+        Err(SinkFailed) => Err(OpenRefusal::WriteFault),
+    }
+}
+
+impl Engine {
+    /// Prints the lines of growth, and loads the load boxes.
+    fn load_whole<L: Sink>(&mut self, report: &Report, lines: &mut L) -> Result<(), SinkFailed>
+        ensures cause { HasCause (L.faults lines.old) (L.faults lines.new) result }
+        ensures stays { self.new.stopped ≡ self.old.stopped }
+    {
+        say_remarks(
+            &self.patch,
+            report.notices.as_slice(),
+            &mut self.numbers,
+            &self.symbols,
+            &mut self.held,
+            lines,
+        )?;
+        flush(&mut self.held, lines)?;
+        self.load(report.fresh.as_slice(), lines)
+    }
+}

@@ -1,0 +1,5 @@
+pub mod Listing
+pub mod Refusals
+pub mod Sounds
+pub mod Telling
+pub mod Walking

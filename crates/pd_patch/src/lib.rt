@@ -1,0 +1,18 @@
+//! The running patch: boxes and canvases under keys, their wires, names, signal orders and clocks.
+#![tactic(auto)]
+
+mod document;
+mod growing;
+mod listing;
+mod numbers;
+mod orders;
+mod patch;
+mod refusal;
+mod report;
+mod sounds;
+mod telling;
+mod walking;
+
+pub use patch::Patch;
+pub use refusal::GrowRefusal;
+pub use report::{Remark, Report};

@@ -1,0 +1,143 @@
+//! Lines of the walk. What they name is of the table; that is looked at here, since no clause says it yet.
+
+ghost use Rattle.std.specs.Prelude.{◌≡◌, ◌<◌, true, length};
+ghost use Rattle.pd_say.specs.Gathering.{HasCause};
+ghost use Rattle.pd_say.specs.Lines.{LineOf, notice_line};
+
+use crate::known::{are_known, is_known, is_name};
+use pd_atom::{Atom, Sym, Symbols};
+use pd_io::{Sink, SinkFailed};
+use pd_kind::{Message, Notice};
+use pd_say::{Held, Line, say, say_notice};
+
+/// Says that nobody hears at a name.
+pub(crate) fn print_nobody<L: Sink>(
+    name: Sym,
+    symbols: &Symbols,
+    held: &mut Held,
+    lines: &mut L,
+) -> Result<(), SinkFailed>
+    ensures cause { HasCause (L.faults lines.old) (L.faults lines.new) result }
+{
+    if !is_name(symbols, name) {
+        return Ok(());
+    }
+    let line = Line::NoObject {
+        name: Atom::Symbol(name),
+    };
+    say(&line, symbols, held, lines)
+}
+
+/// Whether what a notice names is of the table.
+fn is_known_notice(symbols: &Symbols, notice: &Notice) -> bool
+    ensures { result ≡ true → LineOf symbols.now (notice_line notice.now) }
+{
+    match notice {
+        Notice::NoMethod { selector, .. } => is_name(symbols, *selector),
+        Notice::NoReceiver { name } => is_known(symbols, name),
+        _ => true,
+    }
+}
+
+/// Says what a hearing noticed.
+fn print_notice<L: Sink>(
+    notice: &Notice,
+    symbols: &Symbols,
+    held: &mut Held,
+    lines: &mut L,
+) -> Result<(), SinkFailed>
+    ensures cause { HasCause (L.faults lines.old) (L.faults lines.new) result }
+{
+    if !is_known_notice(symbols, notice) {
+        return Ok(());
+    }
+    say_notice(*notice, symbols, held, lines)
+}
+
+/// Says all that a hearing noticed, in order.
+pub(crate) fn print_notices<L: Sink>(
+    notices: &[Notice],
+    symbols: &Symbols,
+    held: &mut Held,
+    lines: &mut L,
+) -> Result<(), SinkFailed>
+    ensures cause { HasCause (L.faults lines.old) (L.faults lines.new) result }
+{
+    for notice in notices {
+        print_notice(notice, symbols, held, lines)?;
+    }
+    Ok(())
+}
+
+/// Says the line of a print with these words.
+pub(crate) fn print_message<L: Sink>(
+    words: &[Atom],
+    selector: Sym,
+    atoms: &[Atom],
+    symbols: &Symbols,
+    held: &mut Held,
+    lines: &mut L,
+) -> Result<(), SinkFailed>
+    ensures cause { HasCause (L.faults lines.old) (L.faults lines.new) result }
+{
+    if !is_name(symbols, selector) || !are_known(symbols, atoms) || !are_known(symbols, words) {
+        return Ok(());
+    }
+    let line = Line::Print {
+        words,
+        message: Message { selector, atoms },
+    };
+    say(&line, symbols, held, lines)
+}
+
+/// Says that a delivery would go too deep.
+pub(crate) fn print_overflow<L: Sink>(
+    symbols: &Symbols,
+    held: &mut Held,
+    lines: &mut L,
+) -> Result<(), SinkFailed>
+    ensures cause { HasCause (L.faults lines.old) (L.faults lines.new) result }
+{
+    say(&Line::StackOverflow, symbols, held, lines)
+}
+
+/// Says that the event is cut.
+pub(crate) fn print_cut<L: Sink>(
+    symbols: &Symbols,
+    held: &mut Held,
+    lines: &mut L,
+) -> Result<(), SinkFailed>
+    ensures cause { HasCause (L.faults lines.old) (L.faults lines.new) result }
+{
+    say(&Line::EventCut, symbols, held, lines)
+}
+
+/// Says that no more edits can be asked for in the event.
+pub(crate) fn print_full<L: Sink>(
+    symbols: &Symbols,
+    held: &mut Held,
+    lines: &mut L,
+) -> Result<(), SinkFailed>
+    ensures cause { HasCause (L.faults lines.old) (L.faults lines.new) result }
+{
+    say(&Line::QueueFull, symbols, held, lines)
+}
+
+/// Says that a canvas has no method for a selector, or that its arguments are bad.
+pub(crate) fn print_canvas<L: Sink>(
+    selector: Sym,
+    is_verb: bool,
+    symbols: &Symbols,
+    held: &mut Held,
+    lines: &mut L,
+) -> Result<(), SinkFailed>
+    ensures cause { HasCause (L.faults lines.old) (L.faults lines.new) result }
+{
+    if !is_name(symbols, selector) {
+        return Ok(());
+    }
+    if is_verb {
+        return say(&Line::BadArguments { selector }, symbols, held, lines);
+    }
+    say(&Line::NoCanvasMethod { selector }, symbols, held, lines)
+}

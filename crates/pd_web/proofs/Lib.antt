@@ -1,0 +1,10 @@
+mod KindPorts
+mod JackLemmas
+mod SocketLemmas
+mod WireLemmas
+mod HopLemmas
+mod LineLemmas
+mod FanLemmas
+mod HomeLemmas
+mod NumberLemmas
+mod TreeFits

@@ -1,0 +1,6 @@
+use Rattle.std.proofs.Common.{◌≡◌, map}
+use Rattle.pd_web.specs.Jacks.{plain_jack, marks}
+use Rattle.pd_web.proofs.jacks.outlet_jacks.Given as goal
+
+abbrev pub invariant-loop-i : goal.invariant-loop-i
+invariant-loop-i l = l.jacks.items ≡ map plain_jack (marks l.list.signal_outlets l.i)
