@@ -1,6 +1,6 @@
 //! A case, and its answer.
 
-use crate::{hearing, naming, shown};
+use crate::{hearing, naming, playing, refusals, shown, trees};
 use anyhow::{Result, bail};
 use pd_atom::Symbols;
 use pd_clock::Rate;
@@ -15,6 +15,12 @@ enum Case<'a> {
     Size { rate: Rate, text: &'a str },
     /// What a text's box says of events, which stand behind bars.
     Hear { texts: &'a str },
+    /// What a run of words, files and a script leaves.
+    Play { parts: &'a str },
+    /// The tree of a patch among files.
+    Tree { parts: &'a str },
+    /// The texts of the refusals of growth.
+    Refusals,
 }
 
 /// The first word of a line, and the rest behind the blank after it.
@@ -33,6 +39,9 @@ fn case_of(line: &str) -> Option<Case<'_>> {
             Some(Case::Size { rate, text })
         }
         "hear" => Some(Case::Hear { texts: rest }),
+        "play" => Some(Case::Play { parts: rest }),
+        "tree" => Some(Case::Tree { parts: rest }),
+        "refusals" => Some(Case::Refusals),
         _ => None,
     }
 }
@@ -61,6 +70,9 @@ pub(crate) fn answer(alloc: Global, line: &str) -> Result<String> {
             rate,
         ),
         Some(Case::Hear { texts }) => said(alloc, texts, &mut symbols),
+        Some(Case::Play { parts }) => playing::played(alloc, parts),
+        Some(Case::Tree { parts }) => trees::tree(alloc, parts),
+        Some(Case::Refusals) => refusals::texts(alloc),
         None => bail!("no case: {line}"),
     }
 }

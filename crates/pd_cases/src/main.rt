@@ -1,15 +1,24 @@
 //! `pd_cases`: reads cases from standard input, one a line, and prints for each what the crates make of it.
 //!
 //! `name TEXT` asks what a text names, `size RATE TEXT` what it counts at a rate, and `hear TEXT | EVENT | EVENT ..` what
-//! its box says of each event: `INLET SELECTOR ATOMS`, `fire` or `load`. Words are separated by blanks, and an empty line
-//! is no case. A line that is no case ends the run with status 1, and so does want of memory.
+//! its box says of each event: `INLET SELECTOR ATOMS`, `fire` or `load`. `play WORDS | PART | PART ..` plays by the words of
+//! a command line; a part is `NAME TEXT`, a file of the folder, or `script TEXT`, `spaces COUNT` (so many blanks of the
+//! script), `pieces BYTES` (of the script, at a time), `fails WHAT CALL` (`shelf`, `script`, `lines` or `pcm`), or `times COUNT
+//! TEXT` (so often more of the last file). `tree PART | PART ..` grows the first file, as `main.pd`, and tells its tree; `refusals`
+//! tells the texts of the refusals of growth. Words are separated by blanks, and an empty line is no case. A line that is no
+//! case ends the run with status 1, and so does want of memory.
 #![tactic(auto)]
 
 mod case;
 mod hearing;
 mod naming;
+mod playing;
+mod refusals;
+mod runs;
 mod said;
 mod shown;
+mod stage;
+mod trees;
 
 use anyhow::Result;
 use std::io::{BufRead, BufReader};

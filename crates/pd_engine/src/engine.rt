@@ -10,13 +10,15 @@ ghost use Rattle.pd_engine.specs.Causes.{HasCauses};
 use crate::messages::{message_of, one_atom};
 use crate::refusals::{EditRefusal, EngineFault, Outcome};
 use crate::showing::show;
-use crate::time::{BLOCK, MOST_FIRED, SILENCE};
+use crate::time::{BLOCK, MOST_FIRED};
 use pd_atom::{Atom, Sym, Symbols};
+use pd_block::run_block;
 use pd_clock::Time;
 use pd_gather::Library;
 use pd_io::{Sink, SinkFailed, write_whole};
 use pd_kind::Message;
-use pd_num::Num;
+use pd_mix::{BYTES, write_samples};
+use pd_num::{Num, Sig};
 use pd_patch::Patch;
 use pd_queue::EditQueue;
 use pd_say::{Held, Line, Request, Why, flush, say};
@@ -186,7 +188,7 @@ impl Engine {
         ensures stays { self.new.stopped ≡ self.old.stopped }
     {
         let end = self.block_end.units();
-        if end < self.time.units().saturating_add(BLOCK) {
+        if end < BLOCK || end - BLOCK < self.time.units() {
             self.run_block(end, lines, pcm)?;
             self.block_end = Time::of_units(end.saturating_add(BLOCK));
         }
@@ -203,12 +205,24 @@ impl Engine {
         ensures cause { HasCauses (L.faults lines.old) (L.faults lines.new) (P.faults pcm.old) (P.faults pcm.new) result }
         ensures stays { self.new.stopped ≡ self.old.stopped }
     {
-        let end = Time::of_units(end);
-        self.fire_below(end, lines)?;
-        write_whole(pcm, &SILENCE)?;
-        self.time = later(self.time, end);
+        self.fire_below(Time::of_units(end), lines)?;
+        self.write_block(end, pcm)?;
+        self.time = later(self.time, Time::of_units(end));
         self.fired = 0;
         Ok(())
+    }
+
+    /// Runs the boxes for the block that ends at a time, and writes its samples.
+    fn write_block<P: Sink>(&mut self, end: u128, pcm: &mut P) -> Result<(), SinkFailed>
+        ensures cause { HasCause (P.faults pcm.old) (P.faults pcm.new) result }
+        ensures stays { self.new.stopped ≡ self.old.stopped }
+    {
+        let start = Time::of_units(end.saturating_sub(BLOCK));
+        let mut block = [[Sig::default(); 64]; 2];
+        run_block(&mut self.patch, start, &mut block);
+        let mut samples = [0; BYTES];
+        write_samples(&block, &mut samples);
+        write_whole(pcm, &samples)
     }
 
     /// Fires the clocks below a time, at most 10,000 between two blocks.

@@ -5,6 +5,3 @@ pub(crate) const BLOCK: u128 = 64_000_000_000;
 
 /// So many clocks fire between two blocks at the most.
 pub(crate) const MOST_FIRED: u32 = 10_000;
-
-/// The samples of a silent block: two channels of 64 values of 16 bits.
-pub(crate) const SILENCE: [u8; 256] = [0; 256];

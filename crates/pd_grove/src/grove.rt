@@ -5,6 +5,7 @@ ghost use Rattle.slab.specs.Slab.{get, HasRoomFor, slab_len};
 ghost use Rattle.pd_tree.specs.Trees.{Trees, width, stands_of, stands_in};
 ghost use Rattle.pd_grove.specs.Standing.{GroveStands, IsEmpty};
 ghost use Rattle.pd_grove.specs.States.{AreSmall, NodesFresh, NodesSmall};
+ghost use Rattle.pd_grove.specs.Owning.{AreOwn};
 
 use crate::boards::{Board, open_root};
 use crate::nodes::Node;
@@ -41,6 +42,7 @@ impl Grove {
         ensures stands { (t : Trees) → stands_in rows.items ≡ stands_of t → width t ≡ count → IfOk result (λ g. GroveStands g sheet t) }
         ensures fresh { IfOk result (λ g. NodesFresh rate now (get g.nodes)) }
         ensures small { IfOk result (λ g. NodesSmall (get g.nodes)) }
+        ensures own { IfOk result (λ g. AreOwn (get g.nodes) (get g.boards)) }
     {
         let most = rows.len();
         let mut nodes = with_room(alloc, most)?;

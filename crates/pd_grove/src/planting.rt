@@ -9,6 +9,7 @@ ghost use Rattle.pd_kind.specs.Ports.{IsSmallKind};
 ghost use Rattle.pd_tree.specs.declared.rows.Sheet.{Sheet};
 ghost use Rattle.pd_clock.specs.declared.times.Rate.{Rate};
 ghost use Rattle.pd_grove.specs.States.{IsFresh, AreFresh, NodesFresh, SeedsSmall, NodesSmall};
+ghost use Rattle.pd_grove.specs.Owning.{board_in, AreOwn};
 
 use crate::boards::{Board, open_board, put_last};
 use crate::nodes::{Node, put_node, set_inner};
@@ -39,6 +40,7 @@ pub(crate) fn plant_boxes(
     ensures fresh { (rate : Rate) (now : ℕ) → AreFresh rate now (seeds_in seeds.old) → NodesFresh rate now (get nodes.old) →
         AreFresh rate now (seeds_in seeds.new) × NodesFresh rate now (get nodes.new) }
     ensures small { SeedsSmall (seeds_in seeds.old) → NodesSmall (get nodes.old) → SeedsSmall (seeds_in seeds.new) × NodesSmall (get nodes.new) }
+    ensures own { AreOwn (get nodes.old) (get boards.old) → AreOwn (get nodes.new) (get boards.new) }
     ensures fewer { length (seeds_in seeds.new) ≤ length (seeds_in seeds.old) }
     ensures plants { (t : Trees) (more : List Stand) → stands_ready (seeds_in seeds.old) ≡ stands_of t ++ more → width t ≡ count →
         Plants (get nodes.old) (get nodes.new) (get boards.old) (get boards.new) board depth t × (stands_ready (seeds_in seeds.new) ≡ more) }
@@ -70,6 +72,7 @@ fn plant_next(
     ensures fresh { (rate : Rate) (now : ℕ) → AreFresh rate now (seeds_in seeds.old) → NodesFresh rate now (get nodes.old) →
         AreFresh rate now (seeds_in seeds.new) × NodesFresh rate now (get nodes.new) }
     ensures small { SeedsSmall (seeds_in seeds.old) → NodesSmall (get nodes.old) → SeedsSmall (seeds_in seeds.new) × NodesSmall (get nodes.new) }
+    ensures own { AreOwn (get nodes.old) (get boards.old) → AreOwn (get nodes.new) (get boards.new) }
     ensures fewer { length (seeds_in seeds.new) ≤ length (seeds_in seeds.old) }
     ensures plants { (t : Trees) (more : List Stand) → stands_ready (seeds_in seeds.old) ≡ stands_of t ++ more → width t ≡ 1 →
         Plants (get nodes.old) (get nodes.new) (get boards.old) (get boards.new) board depth t × (stands_ready (seeds_in seeds.new) ≡ more) }
@@ -103,6 +106,7 @@ fn plant_box(
     ensures fresh { (rate : Rate) (now : ℕ) → IsFresh rate now seed → AreFresh rate now (seeds_in seeds.old) → NodesFresh rate now (get nodes.old) →
         AreFresh rate now (seeds_in seeds.new) × NodesFresh rate now (get nodes.new) }
     ensures small { IsSmallKind seed.row.kind → SeedsSmall (seeds_in seeds.old) → NodesSmall (get nodes.old) → SeedsSmall (seeds_in seeds.new) × NodesSmall (get nodes.new) }
+    ensures own { AreOwn (get nodes.old) (get boards.old) → AreOwn (get nodes.new) (get boards.new) }
     ensures fewer { length (seeds_in seeds.new) ≤ length (seeds_in seeds.old) }
     ensures plants { (t : Trees) (more : List Stand) → one (seed_stand seed) (stands_ready (seeds_in seeds.old)) ≡ stands_of t ++ more → width t ≡ 1 →
         Plants (get nodes.old) (get nodes.new) (get boards.old) (get boards.new) board depth t × (stands_ready (seeds_in seeds.new) ≡ more) }
@@ -156,11 +160,13 @@ fn plant_inside(
     requires roomy { AreRoomy (seeds_in seeds.old) }
     ensures nodes_stay { (k : ℕ) → k ≢ key → IsSome (get nodes.old k) → get nodes.new k ≡ get nodes.old k }
     ensures boards_stay { (k : ℕ) → IsSome (get boards.old k) → get boards.new k ≡ get boards.old k }
+    ensures lies { board_in (get nodes.new key) ≡ board_in (get nodes.old key) }
     ensures room { HaveRoom nodes.new boards.new (length (seeds_in seeds.new)) }
     ensures roomy { AreRoomy (seeds_in seeds.new) }
     ensures fresh { (rate : Rate) (now : ℕ) → AreFresh rate now (seeds_in seeds.old) → NodesFresh rate now (get nodes.old) →
         AreFresh rate now (seeds_in seeds.new) × NodesFresh rate now (get nodes.new) }
     ensures small { SeedsSmall (seeds_in seeds.old) → NodesSmall (get nodes.old) → SeedsSmall (seeds_in seeds.new) × NodesSmall (get nodes.new) }
+    ensures own { AreOwn (get nodes.old) (get boards.old) → AreOwn (get nodes.new) (get boards.new) }
     ensures fewer { length (seeds_in seeds.new) ≤ length (seeds_in seeds.old) }
     ensures plain { sheet ≡ None → (get nodes.new key ≡ get nodes.old key) × (seeds_in seeds.new ≡ seeds_in seeds.old) }
     ensures plants { (s : Sheet) (t : Trees) (more : List Stand) → sheet ≡ Some s → stands_ready (seeds_in seeds.old) ≡ stands_of t ++ more → width t ≡ boxes →

@@ -84,13 +84,13 @@ pub struct Bounded<T, const ROOM: usize> {
 }
 
 impl<T, const ROOM: usize> Model for Bounded<T, ROOM> {
-    ghost use Rattle.std.specs.Prelude.{List, ◌≤◌, vec_capacity};
+    ghost use Rattle.std.specs.Prelude.{List, ◌≤◌, length, vec_capacity};
 
     ghost Value = { List T };
 
     ghost view = { λ a. a.items.items };
 
-    ghost invariant = { λ a. ROOM ≤ vec_capacity a.items };
+    ghost invariant = { λ a. (ROOM ≤ vec_capacity a.items) × (length a.items.items ≤ ROOM) };
 }
 
 impl<T, const ROOM: usize> Bounded<T, ROOM> {
@@ -112,6 +112,13 @@ impl<T, const ROOM: usize> Bounded<T, ROOM> {
         ensures { result ≡ length self.now }
     {
         self.items.len()
+    }
+
+    /// It has at most `ROOM` items.
+    pub fn is_few(&self)
+        ensures { length self.now ≤ ROOM }
+    {
+        let _ = &self.items;
     }
 
     pub fn push(&mut self, item: T)

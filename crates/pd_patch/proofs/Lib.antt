@@ -1,2 +1,13 @@
+pub mod GrowingLemmas
+pub mod GrowthLemmas
 pub mod ListingLemmas
 pub mod SoundLemmas
+pub mod PathLemmas
+pub mod PushLemmas
+pub mod NumberLemmas
+pub mod OrderLemmas
+pub mod WayLemmas
+pub mod ValueLemmas
+pub mod WiredLemmas
+pub mod KindLemmas
+pub mod CanvasLemmas

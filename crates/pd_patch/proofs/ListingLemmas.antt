@@ -1,5 +1,5 @@
 -- Keys in a list, counted.
-use Rattle.std.proofs.Common.{arith, ◌≡◌, ℕ, zero, suc, ◌+◌, ◌<◌, ◌≤◌, ◌==◌, true, false, List, [], ◌∷◌, length, refl, sym, ap, ◌∙◌, subst}
+use Rattle.std.proofs.Common.{arith, ◌≡◌, ℕ, zero, suc, ◌+◌, ◌<◌, ◌≤◌, ◌==◌, true, false, List, [], ◌∷◌, length, sym, ap, ◌∙◌, subst}
 use Rattle.std.specs.Prelude.{Some, slice_get}
 use mathlib.Core.Logic.{⊎_elim}
 use lib.ListN.{get_or}
@@ -7,7 +7,7 @@ use Rattle.std.proofs.lemmas.Bool.{cases_Bool, cases_eq}
 use Rattle.std.proofs.lemmas.Bool.Decides.{nat_tests}
 use Rattle.std.proofs.lemmas.Option.{same_Some}
 use Rattle.pd_order.specs.Graph.{tally}
-use Rattle.pd_patch.specs.Listing.{AreAt, IsThere}
+use Rattle.pd_patch.specs.Listing.{IsThere}
 
 -- what is counted stands at a place
 pub place_in : (x : ℕ) (xs : List ℕ) → 0 < tally x xs → IsThere xs x
@@ -25,45 +25,6 @@ counted_at x (y ∷ ys) zero h =
     let t : (y == x) ≡ true = grind (arith, nat_tests) in
     rw t (omega arith)
 counted_at x (y ∷ ys) (suc i) h = let rest = counted_at x ys i h in omega (arith, rest)
-
-pub counted : (x : ℕ) (xs : List ℕ) → IsThere xs x → 0 < tally x xs
-counted x xs p = counted_at x xs p.0 p.1
-
--- the keys of a list have their places in the table, counted from n
-abbrev pub From : ℕ → List ℕ → List ℕ → Type 0
-From n xs places = (i key : ℕ) → slice_get xs i ≡ Some key → slice_get places key ≡ Some (n + i)
-
-from_rest : (n y : ℕ) (ys places : List ℕ) → From n (y ∷ ys) places → From (n + 1) ys places
-from_rest n y ys places h = λ i key e. h (suc i) key e ∙ ap (λ m. Some m) (omega arith)
-
-none_again : (n y : ℕ) (ys places : List ℕ) → From n (y ∷ ys) places → tally y ys ≡ 0
-none_again n y ys places h = by_count (tally y ys) refl where
-  by_count : (m : ℕ) → m ≡ tally y ys → tally y ys ≡ 0
-  by_count zero e = sym e
-  by_count (suc m) e =
-      let p = place_in y ys (omega (arith, e)) in
-      let first = h 0 y refl in
-      let again = h (suc p.0) y p.1 in
-      let same : n + 0 ≡ n + suc p.0 = same_Some (n + 0) (n + suc p.0) (sym first ∙ again) in
-      absurd (omega (arith, same))
-
-once_from : (n : ℕ) (xs places : List ℕ) → From n xs places → (x : ℕ) → tally x xs ≤ 1
-once_from n [] places h x = omega arith
-once_from n (y ∷ ys) places h x = ⊎_elim
-    (λ (t : (y == x) ≡ true).
-    let e : y ≡ x = grind (arith, nat_tests) in
-    let none : tally x ys ≡ 0 = subst (λ z. tally z ys ≡ 0) e (none_again n y ys places h) in
-    rw t (omega (arith, none)))
-    (λ (f : (y == x) ≡ false). let rest = once_from (n + 1) ys places (from_rest n y ys places h) x in rw f (omega (arith, rest)))
-    (cases_Bool (y == x))
-
--- a key that stands at one place in the table stands once in the list
-pub once : (xs places : List ℕ) → AreAt xs places → (x : ℕ) → tally x xs ≤ 1
-once xs places h = once_from 0 xs places (λ i key e. h i key e ∙ ap (λ m. Some m) (omega arith))
-
--- some of a list's keys are counted in it
-pub among : (keys some : List ℕ) → ((i x : ℕ) → slice_get some i ≡ Some x → IsThere keys x) → (x : ℕ) → 0 < tally x some → 0 < tally x keys
-among keys some h x there = let p = place_in x some there in counted x keys (h p.0 x p.1)
 
 get_or_at : (xs : List ℕ) (i y : ℕ) → slice_get xs i ≡ Some y → get_or xs i 0 ≡ y
 get_or_at [] i y h = cc

@@ -1,5 +1,12 @@
+pub mod Grown
 pub mod Listing
 pub mod Refusals
 pub mod Sounds
 pub mod Telling
 pub mod Walking
+pub mod Paths
+pub mod Report
+pub mod Numbers
+pub mod Orders
+pub mod Values
+pub mod Wired

@@ -8,12 +8,25 @@ use Rattle.pd_grove.specs.declared.grove.Grove.{Grove}
 use Rattle.pd_grove.specs.Telling.{state_in, Keeps}
 use Rattle.pd_patch.specs.declared.patch.Patch.{Patch}
 
--- the wires, names, signal orders, numbers of boxes and the rate stay
+-- the wires, names, signal orders, numbers of boxes, blocks of outlets, the rate and the time of the event stay
 pub record RestStays (old new : Patch) : Type 0 where
   pub web : new.web ≡ old.web
   pub names : new.names ≡ old.names
   pub orders : new.orders ≡ old.orders
   pub numbers : new.numbers ≡ old.numbers
+  pub values : new.values ≡ old.values
+  pub rate : new.rate ≡ old.rate
+  pub present : new.present ≡ old.present
+
+-- all but the time of the event stays
+pub record AllButTime (old new : Patch) : Type 0 where
+  pub tree : new.grove ≡ old.grove
+  pub web : new.web ≡ old.web
+  pub names : new.names ≡ old.names
+  pub timers : new.timers ≡ old.timers
+  pub orders : new.orders ≡ old.orders
+  pub numbers : new.numbers ≡ old.numbers
+  pub values : new.values ≡ old.values
   pub rate : new.rate ≡ old.rate
 
 -- the box that owns the name of a table, the first in text order

@@ -1,11 +1,21 @@
 //! Growth, layer by layer.
 
-ghost use Rattle.std.specs.Prelude.{◌≡◌, ◌≤◌, IfOk};
+ghost use Rattle.std.specs.Prelude.{◌≡◌, ◌≤◌, length, IfOk, IfErr};
 ghost use Rattle.std.specs.List.{AllByRecursion};
 ghost use Rattle.pd_atom.specs.Names.{Extends};
 ghost use Rattle.pd_kind.specs.Ports.{IsSmallKind};
+ghost use Rattle.pd_canvas.specs.Pages.{elements_of};
 ghost use Rattle.pd_canvas.specs.Proper.{IsProper};
+ghost use Rattle.pd_library.specs.Files.{answer_in};
 ghost use Rattle.pd_gather.specs.Gather.{AreProper};
+ghost use Rattle.pd_growth.specs.Steps.{beginning};
+ghost use Rattle.pd_growth.specs.Growth.{grown};
+ghost use Rattle.pd_tree.specs.Trees.{Trees, width, stands_of, stands_in};
+ghost use Rattle.pd_grove.specs.Standing.{GroveStands};
+ghost use Rattle.pd_web.specs.Jacks.{KindsSmall};
+ghost use Rattle.pd_grove.specs.TextOrder.{keys_in_order};
+ghost use Rattle.pd_patch.specs.Report.{notices_in, loads_among};
+ghost use Rattle.pd_patch.specs.Grown.{AreLaid, IsFresh, IsTree, HasCause};
 
 use crate::numbers::numbers_of;
 use crate::orders::orders_of;
@@ -13,10 +23,12 @@ use crate::patch::Patch;
 use crate::refusal::GrowRefusal;
 use crate::report::{Report, report_of};
 use crate::sounds::is_too_much;
+use crate::values::values_of;
 use pd_atom::Symbols;
 use pd_bind::bind_names;
 use pd_canvas::Doc;
 use pd_clock::{Rate, Time};
+use pd_fit::has_too_many_wires;
 use pd_grove::Grove;
 use pd_growth::{Grown, grow};
 use pd_library::Files;
@@ -38,13 +50,32 @@ pub(crate) fn grow_whole(
     requires proper { IsProper symbols.old doc.now.root }
     requires found { AreProper symbols.old files.now }
     ensures extends { Extends symbols.old symbols.new }
+    ensures tree { IfOk result (λ r. IsTree r.0 symbols.new rate (grown (answer_in files.now) name.now doc.now.root (beginning symbols.old first_zero))) }
+    ensures fresh { IfOk result (λ r. IsFresh r.0 symbols.new name.now rate) }
+    ensures notices { IfOk result (λ r. r.1.notices.items ≡ notices_in r.0.grove r.0.web r.0.orders.items) }
+    ensures loads { IfOk result (λ r. r.1.fresh.items ≡ loads_among r.0.grove (keys_in_order r.0.grove)) }
+    ensures cause { IfErr result (λ e. HasCause e (grown (answer_in files.now) name.now doc.now.root (beginning symbols.old first_zero)) rate) }
 {
     let Grown { sheet, rows } = grow(alloc, &doc.root, name, files, first_zero, symbols)?;
+    if has_too_many_wires(alloc, &sheet, rows.as_slice())? {
+        return Err(GrowRefusal::TooManyWires);
+    }
     if is_too_much(rows.as_slice(), rate) {
         return Err(GrowRefusal::TooMuchSound);
     }
-    let count = u32::try_from(doc.root.box_count()).map_err(|_| AllocError)?;
-    plant_whole(alloc, sheet, rows, count, name, rate, symbols)
+    let count = count_in(doc)?;
+    let planted = plant_whole(alloc, sheet, rows, count, name, rate, symbols)?;
+    Ok(planted)
+}
+
+/// How many boxes the root canvas of a document has.
+fn count_in(doc: &Doc) -> Result<u32, AllocError>
+    ensures { IfOk result (λ count. count ≡ length (elements_of doc.now.root)) }
+{
+    match u32::try_from(doc.root.box_count()) {
+        Ok(count) => Ok(count),
+        Err(_) => Err(AllocError),
+    }
 }
 
 /// Gives grown boxes keys, wires, names, orders and clocks.
@@ -56,15 +87,20 @@ fn plant_whole(
     name: &[u8],
     rate: Rate,
     symbols: &mut Symbols,
-) -> Result<(Patch, Report), GrowRefusal>
+) -> Result<(Patch, Report), AllocError>
     requires small { AllByRecursion (λ r. IsSmallKind r.kind) rows.items }
-    ensures extends { Extends symbols.old symbols.new }
+    ensures table { symbols.new ≡ symbols.old }
+    ensures stands { (t : Trees) → stands_in rows.items ≡ stands_of t → width t ≡ count → IfOk result (λ r. GroveStands r.0.grove sheet t) }
+    ensures fresh { IfOk result (λ r. IsFresh r.0 symbols.old name.now rate) }
+    ensures notices { IfOk result (λ r. r.1.notices.items ≡ notices_in r.0.grove r.0.web r.0.orders.items) }
+    ensures loads { IfOk result (λ r. r.1.fresh.items ≡ loads_among r.0.grove (keys_in_order r.0.grove)) }
 {
     let grove = Grove::plant(alloc, sheet, rows, count, rate, Time::of_units(0))?;
-    let web = Web::lay(alloc, &grove)?;
+    let web = web_of(alloc, &grove)?;
     let names = bind_names(alloc, &grove, name, symbols)?;
     let orders = orders_of(alloc, &grove, &web)?;
     let numbers = numbers_of(alloc, &grove)?;
+    let values = values_of(alloc, &grove, &web)?;
     let timers = Timers::new(alloc, clock_owners(&grove)?)?;
     let patch = Patch {
         grove,
@@ -73,13 +109,31 @@ fn plant_whole(
         timers,
         orders,
         numbers,
+        values,
         rate,
+        present: Time::of_units(0),
     };
     let report = report_of(alloc, &patch)?;
     Ok((patch, report))
 }
 
+/// The ports and wires of a tree of which no more wires fit than may.
+fn web_of(alloc: Global, grove: &Grove) -> Result<Web, AllocError>
+    requires { KindsSmall grove.now }
+    ensures { IfOk result (λ web. AreLaid grove.now web) }
+{
+    match Web::lay(alloc, grove) {
+        Ok(web) => Ok(web),
+        Err(_) => Err(AllocError),
+    }
+}
+
 /// A number above the keys of all boxes.
-fn clock_owners(grove: &Grove) -> Result<u32, AllocError> {
-    u32::try_from(grove.nodes_end()).map_err(|_| AllocError)
+fn clock_owners(grove: &Grove) -> Result<u32, AllocError>
+    ensures { IfOk result (λ end. length grove.now.nodes.slots ≤ end) }
+{
+    match u32::try_from(grove.nodes_end()) {
+        Ok(end) => Ok(end),
+        Err(_) => Err(AllocError),
+    }
 }

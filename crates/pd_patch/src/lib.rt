@@ -3,6 +3,7 @@
 
 mod document;
 mod growing;
+mod laws;
 mod listing;
 mod numbers;
 mod orders;
@@ -11,8 +12,10 @@ mod refusal;
 mod report;
 mod sounds;
 mod telling;
+mod values;
 mod walking;
 
+pub use laws::paths_lead_back;
 pub use patch::Patch;
 pub use refusal::GrowRefusal;
 pub use report::{Remark, Report};

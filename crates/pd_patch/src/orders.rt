@@ -1,9 +1,14 @@
 //! The signal orders of all canvases.
 
-ghost use Rattle.std.specs.Prelude.{◌≡◌, ◌<◌, true, map, IfOk};
-ghost use Rattle.pd_patch.specs.Listing.{AreWithin};
+ghost use Rattle.std.specs.Prelude.{◌≡◌, ◌<◌, ◌≤◌, ◌+◌, ◌++◌, ◌∷◌, [], ℕ, true, length, slice_get, IfOk, OnOk};
+ghost use Rattle.slab.specs.Slab.{get};
+ghost use Rattle.pd_order.specs.Graph.{IsOrder};
+ghost use Rattle.pd_chain.specs.Wires.{graph_of, IsCanvas};
+ghost use Rattle.pd_grove.specs.Owning.{AreOwn};
+ghost use Rattle.pd_web.specs.Hops.{fan_hops};
+ghost use Rattle.pd_patch.specs.Grown.{AreLaid};
+ghost use Rattle.pd_patch.specs.Orders.{is_signal as is_signal_so, is_signal_node, signal_among, hop_wires, wires_by, wires_from, box_wires, signal_wires_among, IsChain, HasOrder, AreOrdered};
 
-use crate::listing::{is_among, is_once, places_of};
 use crate::numbers::canvas_end;
 use pd_chain::{SignalWire, order_of};
 use pd_grove::Grove;
@@ -20,10 +25,16 @@ pub(crate) fn orders_of(
     alloc: Global,
     grove: &Grove,
     web: &Web,
-) -> Result<Vec<Option<Order>>, AllocError> {
+) -> Result<Vec<Option<Order>>, AllocError>
+    requires own { AreOwn (get grove.now.nodes) (get grove.now.boards) }
+    requires laid { AreLaid grove.now web.now }
+    ensures { IfOk result (λ orders. AreOrdered grove.now web.now orders.items) }
+{
+    let end = canvas_end(grove)?;
     let mut orders = Vec::new(alloc);
-    for key in 0..canvas_end(grove)? {
-        orders.push(order_under(alloc, grove, web, key)?)?;
+    for key in 0..end {
+        let order = order_under(alloc, grove, web, key)?;
+        orders.push(order)?;
     }
     Ok(orders)
 }
@@ -34,71 +45,93 @@ fn order_under(
     grove: &Grove,
     web: &Web,
     key: u32,
-) -> Result<Option<Order>, AllocError> {
-    let Some(board) = grove.board(key) else {
-        return Ok(None);
-    };
-    let nodes = board.nodes.as_slice();
+) -> Result<Option<Order>, AllocError>
+    requires own { AreOwn (get grove.now.nodes) (get grove.now.boards) }
+    requires laid { AreLaid grove.now web.now }
+    ensures { IfOk result (λ o. HasOrder grove.now web.now (get grove.now.boards key) o) }
+{
+    match grove.board(key) {
+        Some(board) => order_in_board(alloc, grove, web, board.nodes.as_slice()),
+        None => Ok(None),
+    }
+}
+
+/// The signal order of a canvas whose boxes have these keys.
+fn order_in_board(
+    alloc: Global,
+    grove: &Grove,
+    web: &Web,
+    nodes: &[u32],
+) -> Result<Option<Order>, AllocError>
+    requires canvas { IsCanvas nodes.now (signal_among grove.now nodes.now) (signal_wires_among web.now (signal_among grove.now nodes.now)) }
+    requires few { (k outlet : ℕ) → length (fan_hops web.now k outlet) ≤ 65536 }
+    ensures { IfOk result (IsChain grove.now web.now nodes.now) }
+{
     let signal = signal_boxes(alloc, grove, nodes)?;
     let wires = signal_wires(alloc, web, signal.as_slice())?;
     let order = order_among(alloc, nodes, signal.as_slice(), wires.as_slice())?;
     Ok(Some(order))
 }
 
-/// The order of boxes by their wires. The boxes differ, and the wires join them: that is looked at here, since no clause of the
-/// layers below says it yet.
+/// The order of boxes by their wires, where there are no more of them than can be counted.
 fn order_among(
     alloc: Global,
     nodes: &[u32],
     signal: &[u32],
     wires: &[SignalWire],
-) -> Result<Order, AllocError> {
-    if !is_few(nodes.len()) || !is_few(wires.len()) {
-        return Err(AllocError);
+) -> Result<Order, AllocError>
+    requires { IsCanvas nodes.now signal.now wires.now }
+    ensures { IfOk result (λ made. IsOrder (graph_of nodes.now wires.now) signal.now made.chain made.stuck) }
+{
+    if is_few(nodes.len()) && is_few(wires.len()) {
+        return order_of(alloc, nodes, signal, wires);
     }
-    let places = places_of(alloc, nodes)?;
-    if !is_once(nodes, places.as_slice()) || !is_among(nodes, places.as_slice(), signal) {
-        return Err(AllocError);
-    }
-    let places = places_of(alloc, signal)?;
-    if !is_once(signal, places.as_slice()) {
-        return Err(AllocError);
-    }
-    if !is_within(alloc, signal, places.as_slice(), wires)? {
-        return Err(AllocError);
-    }
-    order_of(alloc, nodes, signal, wires)
+    Err(AllocError)
 }
 
 /// Whether the boxes of a kind stand in the signal order.
-fn is_signal(kind: &Kind) -> bool {
-    matches!(
-        kind,
-        Kind::Tone(_) | Kind::Signal(_) | Kind::Vline | Kind::Canvas
-    )
+fn is_signal(kind: &Kind) -> bool
+    ensures { result ≡ is_signal_so kind.now }
+{
+    matches!(kind, Kind::Tone(_) | Kind::Signal(_) | Kind::Vline)
 }
 
-/// Whether the box of a key stands in the signal order.
-fn is_signal_box(grove: &Grove, key: u32) -> bool {
+/// Whether the box of a key stands in the signal order: one that holds a canvas, or of such a kind.
+fn is_signal_box(grove: &Grove, key: u32) -> bool
+    ensures { result ≡ is_signal_node (get grove.now.nodes key) }
+{
     match grove.node(key) {
-        Some(node) => is_signal(&node.kind),
+        Some(node) => node.inner.is_some() || is_signal(&node.kind),
         None => false,
     }
 }
 
 /// Those of the boxes that stand in the signal order.
-fn signal_boxes(alloc: Global, grove: &Grove, nodes: &[u32]) -> Result<Vec<u32>, AllocError> {
+fn signal_boxes(alloc: Global, grove: &Grove, nodes: &[u32]) -> Result<Vec<u32>, AllocError>
+    ensures { IfOk result (λ signal. signal.items ≡ signal_among grove.now nodes.now) }
+{
     let mut signal = Vec::new(alloc);
     for key in nodes {
-        if is_signal_box(grove, *key) {
-            signal.push(*key)?;
-        }
+        push_signal_box(grove, *key, &mut signal)?;
     }
     Ok(signal)
 }
 
+/// Adds a box, where it stands in the signal order.
+fn push_signal_box(grove: &Grove, key: u32, signal: &mut Vec<u32>) -> Result<(), AllocError>
+    ensures { OnOk result (signal.new.items ≡ signal.old.items ++ signal_among grove.now (key ∷ [])) }
+{
+    if is_signal_box(grove, key) {
+        signal.push(key)?;
+    }
+    Ok(())
+}
+
 /// The signal wires that leave boxes.
-fn signal_wires(alloc: Global, web: &Web, signal: &[u32]) -> Result<Vec<SignalWire>, AllocError> {
+fn signal_wires(alloc: Global, web: &Web, signal: &[u32]) -> Result<Vec<SignalWire>, AllocError>
+    requires few { (k outlet : ℕ) → length (fan_hops web.now k outlet) ≤ 65536 }
+    ensures { IfOk result (λ wires. wires.items ≡ signal_wires_among web.now signal.now) }
+{
     let mut wires = Vec::new(alloc);
     for key in signal {
         push_box_wires(web, *key, &mut wires)?;
@@ -106,54 +139,82 @@ fn signal_wires(alloc: Global, web: &Web, signal: &[u32]) -> Result<Vec<SignalWi
     Ok(wires)
 }
 
-/// The signal wires that leave a box.
-fn push_box_wires(web: &Web, node: u32, wires: &mut Vec<SignalWire>) -> Result<(), AllocError> {
+/// Adds the signal wires that leave a box.
+fn push_box_wires(web: &Web, node: u32, wires: &mut Vec<SignalWire>) -> Result<(), AllocError>
+    requires few { (outlet : ℕ) → length (fan_hops web.now node outlet) ≤ 65536 }
+    ensures { OnOk result (wires.new.items ≡ wires.old.items ++ box_wires web.now node) }
+{
     for outlet in 0..web.outlets_at(node) {
-        if web.outlet_signal_at(node, outlet) {
-            push_outlet_wires(web, node, web.fan_first(node, outlet), wires)?;
-        }
+        push_signal_outlet(web, node, outlet, wires)?;
     }
     Ok(())
 }
 
-/// The signal wires among those of an outlet, from one on.
+/// Adds the signal wires of an outlet, where it carries signals.
+fn push_signal_outlet(
+    web: &Web,
+    node: u32,
+    outlet: u32,
+    wires: &mut Vec<SignalWire>,
+) -> Result<(), AllocError>
+    requires few { length (fan_hops web.now node outlet) ≤ 65536 }
+    ensures { OnOk result (wires.new.items ≡ wires.old.items ++ wires_from web.now node outlet) }
+{
+    if web.outlet_signal_at(node, outlet) {
+        return push_outlet_wires(web, node, outlet, wires);
+    }
+    Ok(())
+}
+
+/// Adds the signal wires among those of an outlet.
 fn push_outlet_wires(
     web: &Web,
     node: u32,
-    first: Option<Hop>,
+    outlet: u32,
     wires: &mut Vec<SignalWire>,
-) -> Result<(), AllocError> {
-    let mut next = first;
+) -> Result<(), AllocError>
+    requires few { length (fan_hops web.now node outlet) ≤ 65536 }
+    ensures { OnOk result (wires.new.items ≡ wires.old.items ++ wires_by web.now node (fan_hops web.now node outlet)) }
+{
+    let mut next = web.fan_first(node, outlet);
     for _ in 0..MOST_WIRES {
         if next.is_none() {
             return Ok(());
         }
-        next = push_hop(web, node, next, wires)?;
+        next = push_hop(web, node, outlet, next, wires)?;
     }
     Ok(())
 }
 
-/// The wire to a port, where that carries signals; and the next wire of the outlet.
+/// Adds the wire to a port, where that carries signals, and gives the next wire of the outlet.
 fn push_hop(
     web: &Web,
     source: u32,
+    outlet: u32,
     hop: Option<Hop>,
     wires: &mut Vec<SignalWire>,
-) -> Result<Option<Hop>, AllocError> {
-    let Some(hop) = hop else {
-        return Ok(None);
-    };
-    push_wire(web, source, hop, wires)?;
-    Ok(web.fan_next(hop))
+) -> Result<Option<Hop>, AllocError>
+    ensures wires { OnOk result (wires.new.items ≡ wires.old.items ++ hop_wires web.now source hop) }
+    ensures next { (i : ℕ) → hop ≡ slice_get (fan_hops web.now source outlet) i → IfOk result (λ next. next ≡ slice_get (fan_hops web.now source outlet) (i + 1)) }
+{
+    match hop {
+        Some(hop) => {
+            push_wire(web, source, hop, wires)?;
+            Ok(web.fan_next(hop))
+        }
+        None => Ok(None),
+    }
 }
 
-/// The wire to a port, where that carries signals.
+/// Adds the wire to a port, where that carries signals.
 fn push_wire(
     web: &Web,
     source: u32,
     hop: Hop,
     wires: &mut Vec<SignalWire>,
-) -> Result<(), AllocError> {
+) -> Result<(), AllocError>
+    ensures { OnOk result (wires.new.items ≡ wires.old.items ++ wires_by web.now source (hop ∷ [])) }
+{
     if web.inlet_signal_at(hop.node(), hop.port()) {
         wires.push(SignalWire {
             source,
@@ -163,45 +224,9 @@ fn push_wire(
     Ok(())
 }
 
-/// Whether both ends of each wire are among boxes.
-fn is_within(
-    alloc: Global,
-    signal: &[u32],
-    places: &[u32],
-    wires: &[SignalWire],
-) -> Result<bool, AllocError>
-    ensures { IfOk result (λ b. b ≡ true → AreWithin wires.now signal.now) }
-{
-    let sources = sources_of(alloc, wires)?;
-    let sinks = sinks_of(alloc, wires)?;
-    Ok(is_among(signal, places, sources.as_slice()) && is_among(signal, places, sinks.as_slice()))
-}
-
 /// Whether so many boxes or wires can be counted.
 fn is_few(count: usize) -> bool
     ensures { result ≡ true → count < 4294967295 }
 {
     count < 4_294_967_295
-}
-
-/// The boxes that wires leave.
-fn sources_of(alloc: Global, wires: &[SignalWire]) -> Result<Vec<u32>, AllocError>
-    ensures { IfOk result (λ keys. keys.items ≡ map (λ w. w.source) wires.now) }
-{
-    let mut keys = Vec::new(alloc);
-    for wire in wires {
-        keys.push(wire.source)?;
-    }
-    Ok(keys)
-}
-
-/// The boxes to which wires lead.
-fn sinks_of(alloc: Global, wires: &[SignalWire]) -> Result<Vec<u32>, AllocError>
-    ensures { IfOk result (λ keys. keys.items ≡ map (λ w. w.sink) wires.now) }
-{
-    let mut keys = Vec::new(alloc);
-    for wire in wires {
-        keys.push(wire.sink)?;
-    }
-    Ok(keys)
 }

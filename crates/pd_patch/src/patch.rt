@@ -1,13 +1,21 @@
 //! The running patch.
 
-ghost use Rattle.std.specs.Prelude.{◌≡◌, OnOk, OnErr};
+ghost use Rattle.std.specs.Prelude.{◌≡◌, OnOk, OnErr, IfOk, IfErr};
 ghost use Rattle.pd_atom.specs.Names.{Extends};
 ghost use Rattle.pd_canvas.specs.Proper.{IsProper};
+ghost use Rattle.pd_library.specs.Files.{answer_in};
 ghost use Rattle.pd_gather.specs.Gather.{AreProper};
+ghost use Rattle.pd_growth.specs.Steps.{beginning};
+ghost use Rattle.pd_growth.specs.Growth.{grown};
+ghost use Rattle.pd_grove.specs.TextOrder.{keys_in_order};
+ghost use Rattle.pd_patch.specs.Report.{notices_in, loads_among};
+ghost use Rattle.pd_patch.specs.Grown.{IsFresh, IsTree, HasCause};
+ghost use Rattle.pd_patch.specs.Walking.{AllButTime};
 
 use crate::growing::grow_whole;
 use crate::refusal::GrowRefusal;
 use crate::report::Report;
+use crate::values::Blocks;
 use pd_atom::Symbols;
 use pd_canvas::Doc;
 use pd_clock::{Rate, Time};
@@ -30,7 +38,11 @@ pub struct Patch {
     pub(crate) orders: Vec<Option<Order>>,
     /// By the key of the box: its number in its canvas.
     pub(crate) numbers: Vec<u32>,
+    /// By the key of the box: the blocks of its outlets.
+    pub(crate) values: Vec<Blocks>,
     pub(crate) rate: Rate,
+    /// The time of the present event.
+    pub(crate) present: Time,
 }
 
 impl Patch {
@@ -55,6 +67,11 @@ impl Patch {
         requires found { AreProper symbols.old library.now }
         ensures refused { OnErr result (symbols.new ≡ symbols.old) }
         ensures extends { OnOk result (Extends symbols.old symbols.new) }
+        ensures tree { IfOk result (λ r. IsTree r.0 symbols.new rate (grown (answer_in library.now) name.now doc.root (beginning symbols.old first_zero))) }
+        ensures fresh { IfOk result (λ r. IsFresh r.0 symbols.new name.now rate) }
+        ensures notices { IfOk result (λ r. r.1.notices.items ≡ notices_in r.0.grove r.0.web r.0.orders.items) }
+        ensures loads { IfOk result (λ r. r.1.fresh.items ≡ loads_among r.0.grove (keys_in_order r.0.grove)) }
+        ensures cause { IfErr result (λ e. HasCause e (grown (answer_in library.now) name.now doc.root (beginning symbols.old first_zero)) rate) }
     {
         let names = symbols.len();
         let files = library.files();
@@ -65,6 +82,14 @@ impl Patch {
                 Err(refusal)
             }
         }
+    }
+
+    /// Sets the time of the present event, which is 0 in a new patch. It takes no memory.
+    pub fn set_now(&mut self, now: Time)
+        ensures time { self.new.present ≡ now }
+        ensures rest { AllButTime self.old self.new }
+    {
+        self.present = now;
     }
 
     /// The rate of samples.

@@ -1,7 +1,6 @@
 //! Why a patch doesn't grow.
 
 use pd_growth::Stop;
-use pd_web::Unlaid;
 use std::alloc::{AllocError, AllocFailed};
 use thiserror::Error;
 
@@ -59,20 +58,6 @@ impl From<Stop> for GrowRefusal {
             Stop::SymbolsFull => GrowRefusal::SymbolsFull,
             Stop::TooManyBoxes => GrowRefusal::TooManyBoxes,
             Stop::Lacks(_) | Stop::NoMemory => GrowRefusal::NoMemory,
-        }
-    }
-}
-
-impl From<Unlaid> for GrowRefusal {
-    ghost use Rattle.std.specs.Prelude.{◌≡◌};
-    ghost use Rattle.pd_patch.specs.Refusals.{unlaid};
-
-    ghost from_gives = { λ error e. e ≡ unlaid error };
-
-    fn from(error: Unlaid) -> GrowRefusal {
-        match error {
-            Unlaid::TooManyWires => GrowRefusal::TooManyWires,
-            Unlaid::NoMemory => GrowRefusal::NoMemory,
         }
     }
 }

@@ -1,6 +1,6 @@
 //! What a patch tells of its tree.
 
-ghost use Rattle.std.specs.Prelude.{◌≡◌, ◌≤◌, ◌+◌, ◌∷◌, ℕ, Some, length, slice_get, IfOk};
+ghost use Rattle.std.specs.Prelude.{◌≡◌, ◌≤◌, ◌<◌, ◌+◌, ◌∷◌, ◌++◌, ℕ, Some, length, slice_get, IfOk};
 ghost use Rattle.std.specs.Option.{option_copied};
 ghost use Rattle.slab.specs.Slab.{get, ContainsKey};
 ghost use Rattle.pd_tree.specs.declared.rows.Sheet.{Sheet};
@@ -13,6 +13,7 @@ ghost use Rattle.pd_name.specs.Rows.{owners_of};
 ghost use Rattle.pd_bind.specs.Owning.{owner_in};
 ghost use Rattle.pd_web.specs.Hops.{ports_told, jack_told, signal_in, side_named, fan_hops, port_told};
 ghost use Rattle.pd_web.specs.Homes.{inner_in as inner_port};
+ghost use Rattle.pd_patch.specs.Paths.{path_told, number_of, out_of, around as around_of};
 ghost use Rattle.pd_patch.specs.Telling.{order_in, is_looped, fault_in, line_atom, number_in};
 
 use crate::patch::Patch;
@@ -185,10 +186,13 @@ impl Patch {
     }
 
     /// The path of box numbers that leads from the root to a canvas.
-    pub fn path_of(&self, canvas: u32) -> ArrayVec<u32, 256> {
+    #[tactic(auto, unfolding(crate::specs::Paths::path_told))]
+    pub fn path_of(&self, canvas: u32) -> ArrayVec<u32, 256>
+        ensures { result.items ≡ path_told (get self.now.grove.nodes) self.now.grove.boards self.now.numbers.items canvas }
+    {
         let mut path = ArrayVec::new();
         let mut here = self.around(canvas);
-        for _ in 0..MOST_LEVELS {
+        for _level in 0..MOST_LEVELS {
             here = self.step_out(here, &mut path);
         }
         path.as_mut_slice().reverse();
@@ -200,14 +204,20 @@ impl Patch {
         &self,
         here: Option<(u32, u32)>,
         path: &mut ArrayVec<u32, 256>,
-    ) -> Option<(u32, u32)> {
+    ) -> Option<(u32, u32)>
+        requires { length path.old.items < 256 }
+        ensures path { path.new.items ≡ path.old.items ++ number_of here }
+        ensures out { result ≡ out_of (get self.now.grove.nodes) self.now.grove.boards self.now.numbers.items here }
+    {
         let (outer, number) = here?;
         let _kept = path.try_push(number);
         self.around(outer)
     }
 
     /// The canvas in which a canvas lies, and the number of the box that holds it.
-    fn around(&self, canvas: u32) -> Option<(u32, u32)> {
+    fn around(&self, canvas: u32) -> Option<(u32, u32)>
+        ensures { result ≡ around_of (get self.now.grove.nodes) self.now.grove.boards self.now.numbers.items canvas }
+    {
         let holder = self.grove.board(canvas)?.holder?;
         let outer = self.grove.node(holder)?.board;
         Some((outer, self.number_at(holder)))

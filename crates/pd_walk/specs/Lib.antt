@@ -1,0 +1,10 @@
+pub mod Worlds
+pub mod Guards
+pub mod Hearing
+pub mod Deeds
+pub mod Tasks
+pub mod Outcome
+pub mod Pile
+pub mod Piles
+pub mod Turns
+pub mod Ways

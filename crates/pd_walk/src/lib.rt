@@ -1,11 +1,13 @@
 //! Delivery of messages: depth first, with fixed stacks.
 #![tactic(auto)]
 
+mod acting;
 mod canvases;
 mod deeds;
 mod hearing;
 mod known;
 mod printing;
+mod sending;
 mod small;
 mod stack;
 mod steps;

@@ -7,6 +7,7 @@ ghost use Rattle.pd_kind.specs.Ports.{IsSmallGlue};
 ghost use Rattle.pd_list.specs.Rows.{IsSmallState};
 ghost use Rattle.pd_plain.specs.Rows.{HasText};
 ghost use Rattle.pd_message.specs.Rows.{KeepsText as KeepsMessage};
+ghost use Rattle.pd_walk.specs.Guards as guard;
 ghost use Rattle.pd_glue.specs.Rows.{IsSmall, IsSmallBox, KeepsList, KeepsText};
 
 use crate::known::are_known;
@@ -17,8 +18,10 @@ use pd_kind::{Glue, Kind, State};
 const MOST: usize = 1024;
 
 /// Whether the lists of a box have at most 1,024 atoms, and its atoms are of the table.
+#[tactic(auto, unfolding(crate::specs::Guards::is_small))]
 pub(crate) fn is_small(kind: &Kind, state: &State, symbols: &Symbols) -> bool
-    ensures { result ≡ true → IsSmall symbols.now kind.now state.now }
+    ensures small { result ≡ true → IsSmall symbols.now kind.now state.now }
+    ensures value { result ≡ guard.is_small symbols.now kind.now state.now }
 {
     match kind {
         Kind::Glue(glue) => is_small_box(glue, state, symbols),
@@ -27,7 +30,8 @@ pub(crate) fn is_small(kind: &Kind, state: &State, symbols: &Symbols) -> bool
 }
 
 fn is_small_box(glue: &Glue, state: &State, symbols: &Symbols) -> bool
-    ensures { result ≡ true → IsSmallBox symbols.now glue.now state.now }
+    ensures small { result ≡ true → IsSmallBox symbols.now glue.now state.now }
+    ensures value { result ≡ guard.is_small_box symbols.now glue.now state.now }
 {
     is_small_glue(glue)
         && has_text(glue, symbols)
@@ -36,7 +40,8 @@ fn is_small_box(glue: &Glue, state: &State, symbols: &Symbols) -> bool
 }
 
 fn is_small_glue(glue: &Glue) -> bool
-    ensures { result ≡ true → IsSmallGlue glue.now }
+    ensures small { result ≡ true → IsSmallGlue glue.now }
+    ensures value { result ≡ guard.is_small_glue glue.now }
 {
     match glue {
         Glue::Message { text } | Glue::FloatBox { text } | Glue::SymbolBox { text } => {
@@ -55,7 +60,8 @@ fn is_small_glue(glue: &Glue) -> bool
 }
 
 fn has_text(glue: &Glue, symbols: &Symbols) -> bool
-    ensures { result ≡ true → HasText symbols.now glue.now }
+    ensures small { result ≡ true → HasText symbols.now glue.now }
+    ensures value { result ≡ guard.has_text symbols.now glue.now }
 {
     match glue {
         Glue::FloatBox { text } | Glue::SymbolBox { text } => are_known(symbols, text.as_slice()),
@@ -64,7 +70,8 @@ fn has_text(glue: &Glue, symbols: &Symbols) -> bool
 }
 
 fn keeps_list(glue: &Glue, state: &State) -> bool
-    ensures { result ≡ true → KeepsList glue.now state.now }
+    ensures small { result ≡ true → KeepsList glue.now state.now }
+    ensures value { result ≡ guard.keeps_list glue.now state.now }
 {
     match glue {
         Glue::Trigger { .. }
@@ -82,7 +89,8 @@ fn keeps_list(glue: &Glue, state: &State) -> bool
 }
 
 fn is_small_state(state: &State) -> bool
-    ensures { result ≡ true → IsSmallState state.now }
+    ensures small { result ≡ true → IsSmallState state.now }
+    ensures value { result ≡ guard.is_small_state state.now }
 {
     match state {
         State::Pack { slots } => slots.as_slice().len() <= MOST,
@@ -97,7 +105,8 @@ fn is_small_state(state: &State) -> bool
 }
 
 fn keeps_text(glue: &Glue, state: &State, symbols: &Symbols) -> bool
-    ensures { result ≡ true → KeepsText symbols.now glue.now state.now }
+    ensures small { result ≡ true → KeepsText symbols.now glue.now state.now }
+    ensures value { result ≡ guard.keeps_text symbols.now glue.now state.now }
 {
     match glue {
         Glue::Message { .. } => keeps_message(state, symbols),
@@ -106,7 +115,8 @@ fn keeps_text(glue: &Glue, state: &State, symbols: &Symbols) -> bool
 }
 
 fn keeps_message(state: &State, symbols: &Symbols) -> bool
-    ensures { result ≡ true → KeepsMessage symbols.now state.now }
+    ensures small { result ≡ true → KeepsMessage symbols.now state.now }
+    ensures value { result ≡ guard.keeps_message symbols.now state.now }
 {
     match state {
         State::Message { text } => {

@@ -1,31 +1,40 @@
 //! Sends that are yet to be delivered, with their messages.
 
-ghost use Rattle.std.specs.Prelude.{◌≡◌, ◌<◌, length, IfSome};
+ghost use Rattle.std.specs.Prelude.{◌≡◌, ◌+◌, ◌<◌, ◌≤◌, ◌^◌, ◌++◌, ◌∷◌, [], length, take, slice_range, vec_len, vec_capacity, IfSome, IfNone, IfOk};
 
 use pd_atom::{Atom, Sym};
 use pd_web::Hop;
 use std::alloc::{AllocError, Global};
+use std::marker::Model;
 
 /// A box that says as much as a hearing may say leaves 1,024 sends and itself, at each of 1,000 depths.
 const MOST_SENDS: usize = 1_025_000;
 
-/// Each of 1,000 hearings leaves at most 2,048 atoms; the message of the event stands below them.
+/// Each of 1,000 hearings leaves at most 2,048 atoms.
 const MOST_ATOMS: usize = 2_050_048;
 
 /// How far the delivery of a send is.
-#[derive(Clone, Copy, Debug, Drop)]
+#[derive(Clone, Copy, Drop)]
 pub(crate) enum Cursor {
     /// Along the wires of an outlet: the next one.
-    Wires { next: Option<Hop> },
+    Wires {
+        next: Option<Hop>,
+    },
     /// Along the owners of a name: the place of the next one. Where nobody hears, a loud send says so.
-    Owners { name: Sym, next: u32, is_loud: bool },
+    Owners {
+        name: Sym,
+        next: usize,
+        is_loud: bool,
+    },
     /// The box is resumed.
-    Again { node: u32 },
+    Again {
+        node: u32,
+    },
 }
 
 /// A send that has yet to be delivered, in whole or in part: the depth of its deliveries, its message, and how many atoms are left
 /// when it is done.
-#[derive(Clone, Copy, Debug, Drop)]
+#[derive(Clone, Copy, Drop)]
 pub(crate) struct Pending {
     pub(crate) depth: u32,
     pub(crate) cursor: Cursor,
@@ -35,21 +44,8 @@ pub(crate) struct Pending {
     pub(crate) floor: u32,
 }
 
-impl Pending {
-    /// All of it but how far it is.
-    pub(crate) fn frame(&self) -> Frame {
-        Frame {
-            depth: self.depth,
-            selector: self.selector,
-            first: self.first,
-            after: self.after,
-            floor: self.floor,
-        }
-    }
-}
-
 /// A send but for how far it is.
-#[derive(Clone, Copy, Debug, Drop)]
+#[derive(Clone, Copy, Drop)]
 pub(crate) struct Frame {
     pub(crate) depth: u32,
     pub(crate) selector: Sym,
@@ -65,8 +61,21 @@ pub(crate) struct Stack {
     atoms: Vec<Atom>,
 }
 
+impl Model for Stack {
+    ghost use Rattle.std.specs.Prelude.{◌≤◌, vec_capacity, reverse};
+    ghost use Rattle.pd_walk.specs.Pile.{Pile};
+
+    ghost Value = { Pile };
+
+    ghost view = { λ s. record { pendings = reverse s.pendings.items; atoms = s.atoms.items } };
+
+    ghost invariant = { λ s. (1025000 ≤ vec_capacity s.pendings) × (2050048 ≤ vec_capacity s.atoms) };
+}
+
 impl Stack {
-    pub(crate) fn new(alloc: Global) -> Result<Stack, AllocError> {
+    pub(crate) fn new(alloc: Global) -> Result<Stack, AllocError>
+        ensures { IfOk result (λ s. s ≡ record { pendings = []; atoms = [] }) }
+    {
         Ok(Stack {
             pendings: Vec::with_capacity(alloc, MOST_SENDS)?,
             atoms: Vec::with_capacity(alloc, MOST_ATOMS)?,
@@ -74,21 +83,30 @@ impl Stack {
     }
 
     /// Nothing is left to deliver.
-    pub(crate) fn clear(&mut self) {
+    pub(crate) fn clear(&mut self)
+        ensures { self.new ≡ record { pendings = []; atoms = [] } }
+    {
         self.pendings.clear();
         self.atoms.clear();
     }
 
     /// How many atoms there are.
-    pub(crate) fn atom_count(&self) -> u32 {
-        u32::try_from(self.atoms.len()).unwrap_or(u32::MAX)
+    pub(crate) fn atom_count(&self) -> u32
+        requires { length self.now.atoms < 2 ^ 32 }
+        ensures { result ≡ length self.now.atoms }
+    {
+        self.atoms.len() as u32
     }
 
     /// Puts a send on top.
-    pub(crate) fn push(&mut self, cursor: Cursor, frame: &Frame) {
-        if self.pendings.len() >= self.pendings.capacity() {
-            return;
-        }
+    #[tactic(auto, using(crate::proofs::StackLemmas::reverse_push))]
+    pub(crate) fn push(&mut self, cursor: Cursor, frame: &Frame)
+        requires { length self.old.pendings < 1025000 }
+        ensures { self.new ≡ record {
+          pendings = record { depth = frame.now.depth; cursor = cursor; selector = frame.now.selector; first = frame.now.first; after = frame.now.after; floor = frame.now.floor } ∷ self.old.pendings;
+          atoms = self.old.atoms;
+        } }
+    {
         self.pendings.push_reserved(Pending {
             depth: frame.depth,
             cursor,
@@ -100,45 +118,48 @@ impl Stack {
     }
 
     /// Takes the send on top.
+    #[tactic(auto, using(crate::proofs::StackLemmas::reverse_pop, crate::proofs::StackLemmas::reverse_none))]
     pub(crate) fn pop(&mut self) -> Option<Pending>
-        ensures { IfSome result (λ _. length self.new.pendings.items < length self.old.pendings.items) }
+        ensures some { IfSome result (λ p. self.old.pendings ≡ p ∷ self.new.pendings) }
+        ensures none { IfNone result (self.old.pendings ≡ []) }
+        ensures end { IfNone result (self.new.pendings ≡ []) }
+        ensures atoms { self.new.atoms ≡ self.old.atoms }
     {
         self.pendings.pop()
     }
 
     /// Puts atoms behind the others.
-    pub(crate) fn push_atoms(&mut self, atoms: &[Atom]) {
-        for atom in atoms {
-            self.push_atom(*atom);
-        }
-    }
-
-    fn push_atom(&mut self, atom: Atom) {
-        if self.atoms.len() < self.atoms.capacity() {
-            self.atoms.push_reserved(atom);
-        }
+    pub(crate) fn push_atoms(&mut self, atoms: &[Atom])
+        requires { length self.old.atoms + length atoms.now ≤ 2050048 }
+        ensures { self.new ≡ record { pendings = self.old.pendings; atoms = self.old.atoms ++ atoms.now } }
+    {
+        append(&mut self.atoms, atoms);
     }
 
     /// Leaves the first so many atoms.
     pub(crate) fn cut_atoms(&mut self, count: u32)
-        ensures { self.new.pendings ≡ self.old.pendings }
+        ensures { self.new ≡ record { pendings = self.old.pendings; atoms = take count self.old.atoms } }
     {
         self.atoms.truncate(count as usize);
     }
 
     /// The atoms of a message.
-    pub(crate) fn atoms(&self, first: u32, after: u32) -> &[Atom] {
-        span(self.atoms.as_slice(), first, after)
+    pub(crate) fn atoms(&self, first: u32, after: u32) -> &[Atom]
+        requires order { first ≤ after }
+        requires within { after ≤ length self.now.atoms }
+        ensures { result.now ≡ slice_range self.now.atoms first after }
+    {
+        &self.atoms[first as usize..after as usize]
     }
 }
 
-/// The atoms from one place up to another; none where there are no such places.
-fn span(atoms: &[Atom], first: u32, after: u32) -> &[Atom] {
-    let first = first as usize;
-    let after = after as usize;
-    if first <= after && after <= atoms.len() {
-        &atoms[first..after]
-    } else {
-        &[]
+/// Puts atoms last in a list with room for them.
+fn append(list: &mut Vec<Atom>, atoms: &[Atom])
+    requires { vec_len list.old + length atoms.now ≤ vec_capacity list.old }
+    ensures items { list.new.items ≡ list.old.items ++ atoms.now }
+    ensures capacity { vec_capacity list.new ≡ vec_capacity list.old }
+{
+    for atom in atoms {
+        list.push_reserved(*atom);
     }
 }

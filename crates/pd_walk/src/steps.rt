@@ -1,10 +1,16 @@
 //! What is delivered next.
 
-ghost use Rattle.std.specs.Prelude.{◌≡◌, ◌≤◌};
-ghost use Rattle.pd_say.specs.Gathering.{HasCause};
+ghost use Rattle.std.specs.Prelude.{◌≡◌, ◌≤◌, ◌<◌, ◌+◌, ◌*◌, ◌∷◌, ◌++◌, [], ℕ, List, length, slice_get, drop, Some, None, OnOk, OnErr, IfOk, IfSome, IfNone};
+ghost use Rattle.std.specs.Option.{option_to_list};
+ghost use Rattle.pd_atom.specs.declared.Atom.{Atom};
+ghost use Rattle.pd_say.specs.Gathering.{Says, Fails, HasCause};
+ghost use Rattle.pd_walk.specs.Worlds.{net_of, Net};
+ghost use Rattle.pd_walk.specs.Tasks.{Task as Doing, delivery, end_of, arrival, owner_told, nobody_text, unless_heard};
+ghost use Rattle.pd_walk.specs.Piles.{IsAlong, CursorTasks, GoesAlong, message_of, Fits, Lies, AllLie, IsPiled, LeftOn, owner_tasks, AreLeft};
+ghost use Rattle.pd_walk.specs.Turns.{doing, told, due_in, due_at, again_at, told_list, StartsWith, TurnTasks, TurnFits, AfterTurn, IsDue, turn_text, Yields, BreaksOff};
 
 use crate::printing::print_nobody;
-use crate::stack::{Cursor, Pending, Stack};
+use crate::stack::{Cursor, Frame, Pending, Stack};
 use pd_atom::{Sym, Symbols};
 use pd_bind::Owner;
 use pd_io::{Sink, SinkFailed};
@@ -13,43 +19,34 @@ use pd_patch::Patch;
 use pd_say::Held;
 use pd_web::Hop;
 
-/// What is done next. Each costs one of the event's deliveries.
-#[derive(Clone, Copy, Debug)]
-pub(crate) enum Task {
-    /// A message comes to an inlet of a box.
-    Deliver {
-        node: u32,
-        inlet: u32,
-        message: Arrival,
-    },
-    /// A message comes to a canvas by its name.
-    Ask {
-        canvas: u32,
-        message: Arrival,
-    },
-    /// A box is resumed.
-    Resume {
-        node: u32,
-        depth: u32,
-    },
+/// Where a message comes to.
+#[derive(Clone, Copy, Drop)]
+pub(crate) enum Place {
+    /// An inlet of a box.
+    Inlet { node: u32, inlet: u32 },
+    /// A canvas, by its name.
+    Canvas { canvas: u32 },
+    /// No message comes, but the box is resumed.
+    Again { node: u32 },
 }
 
-/// A message on the stack, and the depth of its delivery.
-#[derive(Clone, Copy, Debug)]
-pub(crate) struct Arrival {
+/// What is done next: a message of the stack comes somewhere, at a depth. It costs one of the event's deliveries.
+#[derive(Clone, Copy, Drop)]
+pub(crate) struct Task {
+    pub(crate) place: Place,
     pub(crate) depth: u32,
     pub(crate) selector: Sym,
     pub(crate) first: u32,
     pub(crate) after: u32,
 }
 
-/// What a send on top gives.
-#[derive(Clone, Copy, Debug, Drop)]
-enum Turn {
-    /// A task, and how far the send is after it.
-    Due { task: Task, rest: Cursor },
-    /// A task, with which the send is done.
-    Last { task: Task },
+/// What a send gives next.
+#[derive(Clone, Copy, Drop)]
+pub(crate) enum Turn {
+    /// Its message comes to a place, and after that the send is so far.
+    Due { place: Place, rest: Cursor },
+    /// A box is resumed, with which this is done.
+    Resumed { node: u32 },
     /// Nobody hears at this name.
     Unheard { name: Sym },
     /// The send is done.
@@ -64,23 +61,112 @@ pub(crate) fn next_task<L: Sink>(
     held: &mut Held,
     lines: &mut L,
 ) -> Result<Option<Task>, SinkFailed>
+    requires { IsPiled stack.old }
+    ensures ok { (tasks : List Doing) → LeftOn (net_of patch.now) stack.old tasks → IfOk result (λ next.
+        Yields (net_of patch.now) symbols.now (L.taken lines.old) held.old.items (L.taken lines.new) held.new.items stack.new (told_list stack.new next) tasks) }
+    ensures err { (tasks : List Doing) → LeftOn (net_of patch.now) stack.old tasks → OnErr result (BreaksOff symbols.now (L.taken lines.old) held.old.items (L.taken lines.new) tasks) }
+    ensures piled { OnOk result (IsPiled stack.new) }
+    ensures due { IfOk result (λ next. IfSome next (IsDue stack.new)) }
+    ensures none { IfOk result (λ next. IfNone next (stack.new.pendings ≡ [])) }
     ensures cause { HasCause (L.faults lines.old) (L.faults lines.new) result }
 {
     while let Some(top) = stack.pop() {
-        let turn = turn_of(patch, &top);
-        if let Turn::Due { task, rest } = turn {
-            let frame = top.frame();
-            stack.push(rest, &frame);
-            return Ok(Some(task));
-        }
-        if let Turn::Last { task } = turn {
-            stack.cut_atoms(top.floor);
-            return Ok(Some(task));
+        let turn = turn_of(patch, top.cursor);
+        match settle(stack, &turn, &top) {
+            Some(task) => return Ok(Some(task)),
+            None => {}
         }
         end_send(&turn, symbols, held, lines)?;
-        stack.cut_atoms(top.floor);
     }
     Ok(None)
+}
+
+/// Leaves on the stack what is left of the send that was on top, and gives its task.
+fn settle(stack: &mut Stack, turn: &Turn, top: &Pending) -> Option<Task>
+    requires below { AllLie top.now.floor stack.old.pendings }
+    requires lies { Lies (length stack.old.atoms) (length stack.old.pendings) top.now }
+    requires fits { TurnFits (length stack.old.atoms) (length stack.old.pendings) top.now.depth top.now.floor turn.now }
+    ensures piled { IsPiled stack.new }
+    ensures task { result ≡ due_in top.now turn.now }
+    ensures due { IfSome result (IsDue stack.new) }
+    ensures left { (net : Net) (here later : List Doing) → TurnTasks net top.now.depth top.now.selector (message_of stack.old.atoms top.now) turn.now here → AreLeft net stack.old.atoms stack.old.pendings later →
+        AfterTurn net stack.new top.now turn.now (here ++ later) }
+    ensures fewer { IfNone result (stack.new.pendings ≡ stack.old.pendings) }
+{
+    match turn {
+        Turn::Due { place, rest } => Some(keep(stack, *place, *rest, top)),
+        Turn::Resumed { node } => Some(drop_again(stack, *node, top)),
+        _ => {
+            drop_rest(stack, top);
+            None
+        }
+    }
+}
+
+/// The message of a send comes to a place, and the rest of the send stays on top.
+fn keep(stack: &mut Stack, place: Place, rest: Cursor, top: &Pending) -> Task
+    requires below { AllLie top.now.floor stack.old.pendings }
+    requires lies { Lies (length stack.old.atoms) (length stack.old.pendings) top.now }
+    requires fits { Fits (length stack.old.atoms) (length stack.old.pendings) top.now.depth rest top.now.floor }
+    requires count { length stack.old.atoms ≤ 2048 * top.now.depth }
+    requires room { length stack.old.pendings + 1 ≤ 1025 * top.now.depth }
+    requires depth { top.now.depth ≤ 1000 }
+    ensures piled { IsPiled stack.new }
+    ensures task { result ≡ due_at place top.now }
+    ensures due { IsDue stack.new result }
+    ensures left { (net : Net) (here later : List Doing) → StartsWith (CursorTasks net top.now.depth top.now.selector (message_of stack.old.atoms top.now) rest)
+        (doing place top.now.depth top.now.selector (message_of stack.old.atoms top.now)) here → AreLeft net stack.old.atoms stack.old.pendings later →
+        StartsWith (LeftOn net stack.new) (told stack.new.atoms (due_at place top.now)) (here ++ later) }
+{
+    let frame = Frame {
+        depth: top.depth,
+        selector: top.selector,
+        first: top.first,
+        after: top.after,
+        floor: top.floor,
+    };
+    stack.push(rest, &frame);
+    Task {
+        place,
+        depth: top.depth,
+        selector: top.selector,
+        first: top.first,
+        after: top.after,
+    }
+}
+
+/// A box is resumed.
+fn drop_again(stack: &mut Stack, node: u32, top: &Pending) -> Task
+    requires below { AllLie top.now.floor stack.old.pendings }
+    requires lies { Lies (length stack.old.atoms) (length stack.old.pendings) top.now }
+    requires count { top.now.floor ≤ 2048 * top.now.depth }
+    requires room { length stack.old.pendings ≤ 1025 * top.now.depth }
+    requires depth { top.now.depth < 1000 }
+    ensures piled { IsPiled stack.new }
+    ensures task { result ≡ again_at node top.now }
+    ensures due { IsDue stack.new result }
+    ensures left { (net : Net) (later : List Doing) → AreLeft net stack.old.atoms stack.old.pendings later → LeftOn net stack.new later }
+{
+    drop_rest(stack, top);
+    Task {
+        place: Place::Again { node },
+        depth: top.depth,
+        selector: top.selector,
+        first: 0,
+        after: 0,
+    }
+}
+
+/// A send is done: its atoms go.
+fn drop_rest(stack: &mut Stack, top: &Pending)
+    requires below { AllLie top.now.floor stack.old.pendings }
+    requires lies { Lies (length stack.old.atoms) (length stack.old.pendings) top.now }
+    ensures piled { IsPiled stack.new }
+    ensures pendings { stack.new.pendings ≡ stack.old.pendings }
+    ensures count { length stack.new.atoms ≡ top.now.floor }
+    ensures left { (net : Net) (later : List Doing) → AreLeft net stack.old.atoms stack.old.pendings later → LeftOn net stack.new later }
+{
+    stack.cut_atoms(top.floor);
 }
 
 /// Says that nobody hears, where that is so.
@@ -90,6 +176,8 @@ fn end_send<L: Sink>(
     held: &mut Held,
     lines: &mut L,
 ) -> Result<(), SinkFailed>
+    ensures ok { OnOk result (Says (L.taken lines.old) held.old.items (L.taken lines.new) held.new.items (turn_text symbols.now turn.now)) }
+    ensures err { OnErr result (Fails (L.taken lines.old) held.old.items (L.taken lines.new) (turn_text symbols.now turn.now)) }
     ensures cause { HasCause (L.faults lines.old) (L.faults lines.new) result }
 {
     match turn {
@@ -98,83 +186,88 @@ fn end_send<L: Sink>(
     }
 }
 
-fn turn_of(patch: &Patch, top: &Pending) -> Turn {
-    let message = Arrival {
-        depth: top.depth,
-        selector: top.selector,
-        first: top.first,
-        after: top.after,
-    };
-    match top.cursor {
-        Cursor::Wires { next } => wire_turn(patch, message, next),
+/// What a send gives next.
+fn turn_of(patch: &Patch, cursor: Cursor) -> Turn
+    ensures tasks { (depth selector : ℕ) (atoms : List Atom) (tasks : List Doing) → CursorTasks (net_of patch.now) depth selector atoms cursor tasks →
+        TurnTasks (net_of patch.now) depth selector atoms result tasks }
+    ensures fits { (count below depth floor : ℕ) → Fits count below depth cursor floor → TurnFits count below depth floor result }
+{
+    match cursor {
+        Cursor::Wires { next } => wire_turn(patch, next),
         Cursor::Owners {
             name,
             next,
             is_loud,
-        } => owner_turn(patch, message, name, next, is_loud),
-        Cursor::Again { node } => Turn::Last {
-            task: Task::Resume {
-                node,
-                depth: top.depth,
-            },
-        },
+        } => owner_turn(patch, name, next, is_loud),
+        Cursor::Again { node } => Turn::Resumed { node },
     }
 }
 
-fn wire_turn(patch: &Patch, message: Arrival, next: Option<Hop>) -> Turn {
+fn wire_turn(patch: &Patch, next: Option<Hop>) -> Turn
+    ensures tasks { (depth selector : ℕ) (atoms : List Atom) (tasks : List Doing) → GoesAlong (net_of patch.now) depth selector atoms next tasks →
+        TurnTasks (net_of patch.now) depth selector atoms result tasks }
+    ensures fits { (count below depth floor : ℕ) → (count ≤ 2048 * depth) × (below + 1 ≤ 1025 * depth) × (depth ≤ 1000) → TurnFits count below depth floor result }
+{
     match next {
-        Some(hop) => Turn::Due {
-            task: fed_by(patch, message, hop),
-            rest: Cursor::Wires {
-                next: patch.fan_next(hop),
-            },
-        },
+        Some(hop) => {
+            let place = fed_by(patch, hop);
+            let next = patch.fan_next(hop);
+            Turn::Due {
+                place,
+                rest: Cursor::Wires { next },
+            }
+        }
         None => Turn::Over,
     }
 }
 
-/// The delivery along a wire. One into a box that holds a canvas comes to the box of that port.
-fn fed_by(patch: &Patch, message: Arrival, hop: Hop) -> Task {
+/// Where a wire leads. One into a box that holds a canvas leads to the box of that port.
+fn fed_by(patch: &Patch, hop: Hop) -> Place
+    ensures { (depth selector : ℕ) (atoms : List Atom) → doing result depth selector atoms ≡ delivery depth selector atoms (end_of patch.now.web hop) }
+{
     match patch.port_box(hop.node(), hop.port(), false) {
-        Some(node) => Task::Deliver {
-            node,
-            inlet: 0,
-            message,
-        },
-        None => Task::Deliver {
+        Some(node) => Place::Inlet { node, inlet: 0 },
+        None => Place::Inlet {
             node: hop.node(),
             inlet: hop.port(),
-            message,
         },
     }
 }
 
-fn owner_turn(patch: &Patch, message: Arrival, name: Sym, next: u32, is_loud: bool) -> Turn {
-    match patch.owners(Class::Receiver, name).get(next as usize) {
-        Some(owner) => Turn::Due {
-            task: heard_by(patch, message, *owner),
-            rest: Cursor::Owners {
-                name,
-                next: next.saturating_add(1),
-                is_loud: false,
-            },
-        },
+fn owner_turn(patch: &Patch, name: Sym, next: usize, is_loud: bool) -> Turn
+    ensures tasks { (depth selector : ℕ) (atoms : List Atom) → TurnTasks (net_of patch.now) depth selector atoms result (owner_tasks (net_of patch.now) depth selector atoms name next is_loud) }
+    ensures fits { (count below depth floor : ℕ) → (count ≤ 2048 * depth) × (below + 1 ≤ 1025 * depth) × (depth ≤ 1000) → TurnFits count below depth floor result }
+{
+    match patch.owners(Class::Receiver, name).get(next) {
+        Some(owner) => {
+            let place = heard_by(patch, *owner);
+            Turn::Due {
+                place,
+                rest: Cursor::Owners {
+                    name,
+                    next: next + 1,
+                    is_loud: false,
+                },
+            }
+        }
         None => unheard(name, is_loud),
     }
 }
 
-fn heard_by(patch: &Patch, message: Arrival, owner: u32) -> Task {
+/// Where a message to an owner of a name comes to.
+fn heard_by(patch: &Patch, owner: u32) -> Place
+    ensures { (depth selector : ℕ) (atoms : List Atom) → doing result depth selector atoms ≡ arrival depth selector atoms (owner_told (net_of patch.now) owner) }
+{
     match patch.owner_at(owner) {
-        Owner::Node(node) => Task::Deliver {
-            node,
-            inlet: 0,
-            message,
-        },
-        Owner::Canvas(canvas) => Task::Ask { canvas, message },
+        Owner::Node(node) => Place::Inlet { node, inlet: 0 },
+        Owner::Canvas(canvas) => Place::Canvas { canvas },
     }
 }
 
-fn unheard(name: Sym, is_loud: bool) -> Turn {
+fn unheard(name: Sym, is_loud: bool) -> Turn
+    ensures tasks { (net : Net) (depth selector : ℕ) (atoms : List Atom) → TurnTasks net depth selector atoms result (unless_heard is_loud name []) }
+    ensures fits { (count below depth floor : ℕ) → TurnFits count below depth floor result }
+{
     if is_loud {
         Turn::Unheard { name }
     } else {

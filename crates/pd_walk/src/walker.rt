@@ -1,26 +1,35 @@
 //! The walk of an event's deliveries.
 
-ghost use Rattle.std.specs.Prelude.{◌≡◌, ◌≤◌};
-ghost use Rattle.pd_say.specs.Gathering.{HasCause};
+ghost use Rattle.std.specs.Prelude.{◌≡◌, ℕ, List, [], Option, false, OnOk, OnErr, IfOk};
+ghost use Rattle.pd_io.specs.Stream.{TookPart};
+ghost use Rattle.pd_say.specs.Gathering.{Says, Fails, IsSaid, HasCause};
+ghost use Rattle.pd_kind.specs.Said.{said_by};
+ghost use Rattle.pd_turns.specs.Turns.{World};
+ghost use Rattle.pd_walk.specs.Worlds.{Kept, net_of, kept_of, states_of};
+ghost use Rattle.pd_walk.specs.Hearing.{fired_at, loaded_at};
+ghost use Rattle.pd_walk.specs.Deeds.{done};
+ghost use Rattle.pd_walk.specs.Tasks.{Task as Doing, asked_for};
+ghost use Rattle.pd_walk.specs.Piles.{IsPiled, LeftOn};
+ghost use Rattle.pd_walk.specs.Ways.{IsUnderWay, IsDone};
+ghost use Rattle.pd_walk.specs.Outcome.{world, outcome, told_by, all_loaded, named_tasks, ran, IsLeft};
 
-use crate::canvases::ask_canvas;
+use crate::acting::{perform, push_sends};
 use crate::deeds::do_deed;
-use crate::hearing::{fire_at, hear_at, is_outlet, load_at, resume_at};
-use crate::printing::{print_cut, print_message, print_notices, print_overflow};
+use crate::hearing::{fire_at, load_at};
+use crate::printing::print_cut;
 use crate::stack::{Cursor, Frame, Stack};
-use crate::steps::{Arrival, Task, next_task};
+use crate::steps::next_task;
 use pd_atom::{Atom, Sym, Symbols};
 use pd_clock::Time;
 use pd_io::{Sink, SinkFailed};
-use pd_kind::{Deed, Glue, Kind, Message, SendRow, Sends, Target};
+use pd_kind::{Message, Sends};
 use pd_patch::Patch;
 use pd_queue::EditQueue;
 use pd_say::{Held, flush};
-use pd_web::Hop;
 use std::alloc::{AllocError, Global};
 
-/// A delivery at this depth sends nothing.
-const DEEPEST: u32 = 1000;
+/// The most atoms of a message.
+const MOST: usize = 1024;
 
 /// How many deliveries an event has left, and whether it was cut.
 #[derive(Clone, Copy, Debug, PartialEq, Eq)]
@@ -31,7 +40,9 @@ pub struct Budget {
 
 impl Budget {
     /// That of an event that begins.
-    pub fn new() -> Budget {
+    pub fn new() -> Budget
+        ensures { result ≡ record { left = 1000000; cut = false } }
+    {
         Budget {
             left: 1_000_000,
             cut: false,
@@ -88,39 +99,103 @@ impl Walker {
         queue: &mut EditQueue,
         lines: &mut L,
     ) -> Result<(), SinkFailed>
+        ensures ok { OnOk result (IsLeft (kept_of patch.new symbols.new queue.new) budget.new (L.taken lines.old) (L.taken lines.new)
+            (outcome (net_of patch.old) now (world (kept_of patch.old symbols.old queue.old) budget.old []) start.now)) }
+        ensures err { OnErr result (TookPart (L.taken lines.old) (L.taken lines.new)
+            (outcome (net_of patch.old) now (world (kept_of patch.old symbols.old queue.old) budget.old []) start.now).said) }
+        ensures net { net_of patch.new ≡ net_of patch.old }
         ensures cause { HasCause (L.faults lines.old) (L.faults lines.new) result }
     {
-        self.stack.clear();
         self.held.clear();
         let stack = &mut self.stack;
         let sends = &mut self.sends;
         let held = &mut self.held;
-        match start {
-            Start::Name { name, message } => {
-                begin_name(stack, *name, message.selector, message.atoms);
-                walk(
-                    patch, stack, sends, symbols, now, budget, queue, held, lines,
-                )?;
-            }
-            Start::Clock { owner } => {
-                fire_at(patch, *owner, sends);
-                begin_box(patch, *owner, stack, sends, symbols, now, held, lines)?;
-                walk(
-                    patch, stack, sends, symbols, now, budget, queue, held, lines,
-                )?;
-            }
-            Start::Loads { boxes } => walk_loads(
-                patch, boxes, stack, sends, symbols, now, budget, queue, held, lines,
-            )?,
-        }
+        begin(
+            patch, start, stack, sends, symbols, now, budget, queue, held, lines,
+        )?;
         flush(held, lines)
     }
 }
 
+/// Delivers what an event begins.
+#[tactic(auto, unfolding(crate::specs::Outcome::outcome))]
+fn begin<L: Sink>(
+    patch: &mut Patch,
+    start: &Start<'_>,
+    stack: &mut Stack,
+    sends: &mut Sends,
+    symbols: &mut Symbols,
+    now: Time,
+    budget: &mut Budget,
+    queue: &mut EditQueue,
+    held: &mut Held,
+    lines: &mut L,
+) -> Result<(), SinkFailed>
+    ensures ok { (before : Option (List ℕ)) (said : List ℕ) → IsSaid before (L.taken lines.old) held.old.items said → OnOk result (
+        IsDone (kept_of patch.new symbols.new queue.new) budget.new before (L.taken lines.new) held.new.items (outcome (net_of patch.old) now (world (kept_of patch.old symbols.old queue.old) budget.old said) start.now)) }
+    ensures err { (before : Option (List ℕ)) (said : List ℕ) → IsSaid before (L.taken lines.old) held.old.items said → OnErr result (
+        TookPart before (L.taken lines.new) (outcome (net_of patch.old) now (world (kept_of patch.old symbols.old queue.old) budget.old said) start.now).said) }
+    ensures net { net_of patch.new ≡ net_of patch.old }
+    ensures cause { HasCause (L.faults lines.old) (L.faults lines.new) result }
+{
+    match start {
+        Start::Name { name, message } => walk_name(
+            patch, *name, message, stack, sends, symbols, now, budget, queue, held, lines,
+        ),
+        Start::Clock { owner } => walk_clock(
+            patch, *owner, stack, sends, symbols, now, budget, queue, held, lines,
+        ),
+        Start::Loads { boxes } => walk_loads(
+            patch, boxes, stack, sends, symbols, now, budget, queue, held, lines,
+        ),
+    }
+}
+
+/// Delivers a message to the receivers of a name.
+fn walk_name<L: Sink>(
+    patch: &mut Patch,
+    name: Sym,
+    message: &Message<'_>,
+    stack: &mut Stack,
+    sends: &mut Sends,
+    symbols: &mut Symbols,
+    now: Time,
+    budget: &mut Budget,
+    queue: &mut EditQueue,
+    held: &mut Held,
+    lines: &mut L,
+) -> Result<(), SinkFailed>
+    ensures ok { (before : Option (List ℕ)) (said : List ℕ) → IsSaid before (L.taken lines.old) held.old.items said → OnOk result (
+        IsDone (kept_of patch.new symbols.new queue.new) budget.new before (L.taken lines.new) held.new.items (ran (net_of patch.old) now (world (kept_of patch.old symbols.old queue.old) budget.old said) (named_tasks (net_of patch.old) name message.now.selector message.now.atoms.now))) }
+    ensures err { (before : Option (List ℕ)) (said : List ℕ) → IsSaid before (L.taken lines.old) held.old.items said → OnErr result (
+        TookPart before (L.taken lines.new) (ran (net_of patch.old) now (world (kept_of patch.old symbols.old queue.old) budget.old said) (named_tasks (net_of patch.old) name message.now.selector message.now.atoms.now)).said) }
+    ensures net { net_of patch.new ≡ net_of patch.old }
+    ensures cause { HasCause (L.faults lines.old) (L.faults lines.new) result }
+{
+    stack.clear();
+    push_name(patch, stack, name, message.selector, message.atoms);
+    walk(
+        patch, stack, sends, symbols, now, budget, queue, held, lines,
+    )
+}
+
 /// Puts the message of an event on the stack, for the receivers of a name.
-fn begin_name(stack: &mut Stack, name: Sym, selector: Sym, atoms: &[Atom]) {
+fn push_name(patch: &Patch, stack: &mut Stack, name: Sym, selector: Sym, atoms: &[Atom])
+    requires pendings { stack.old.pendings ≡ [] }
+    requires atoms { stack.old.atoms ≡ [] }
+    ensures piled { IsPiled stack.new }
+    ensures left { LeftOn (net_of patch.now) stack.new (named_tasks (net_of patch.now) name selector atoms.now) }
+{
+    if atoms.len() > MOST {
+        return;
+    }
     stack.push_atoms(atoms);
     let after = stack.atom_count();
+    let cursor = Cursor::Owners {
+        name,
+        next: 0,
+        is_loud: true,
+    };
     let frame = Frame {
         depth: 1,
         selector,
@@ -128,24 +203,33 @@ fn begin_name(stack: &mut Stack, name: Sym, selector: Sym, atoms: &[Atom]) {
         after,
         floor: 0,
     };
-    stack.push(first_owner(name, true), &frame);
+    stack.push(cursor, &frame);
 }
 
-/// Does what a box asks for that an event begins with, and puts its sends on the stack.
-fn begin_box<L: Sink>(
+/// The clock of a box fires.
+fn walk_clock<L: Sink>(
     patch: &mut Patch,
-    node: u32,
+    owner: u32,
     stack: &mut Stack,
-    sends: &Sends,
-    symbols: &Symbols,
+    sends: &mut Sends,
+    symbols: &mut Symbols,
     now: Time,
+    budget: &mut Budget,
+    queue: &mut EditQueue,
     held: &mut Held,
     lines: &mut L,
 ) -> Result<(), SinkFailed>
+    ensures ok { (before : Option (List ℕ)) (said : List ℕ) → IsSaid before (L.taken lines.old) held.old.items said → OnOk result (
+        IsDone (kept_of patch.new symbols.new queue.new) budget.new before (L.taken lines.new) held.new.items (told_by (net_of patch.old) now owner (fired_at (net_of patch.old) (states_of patch.old) owner) (world (kept_of patch.old symbols.old queue.old) budget.old said))) }
+    ensures err { (before : Option (List ℕ)) (said : List ℕ) → IsSaid before (L.taken lines.old) held.old.items said → OnErr result (
+        TookPart before (L.taken lines.new) (told_by (net_of patch.old) now owner (fired_at (net_of patch.old) (states_of patch.old) owner) (world (kept_of patch.old symbols.old queue.old) budget.old said)).said) }
+    ensures net { net_of patch.new ≡ net_of patch.old }
     ensures cause { HasCause (L.faults lines.old) (L.faults lines.new) result }
 {
-    do_deed(patch, node, sends.deed, now);
-    push_sends(patch, node, 0, stack, sends, symbols, held, lines)
+    fire_at(patch, owner, sends);
+    walk_box(
+        patch, owner, stack, sends, symbols, now, budget, queue, held, lines,
+    )
 }
 
 /// Loads boxes, one after the other.
@@ -161,16 +245,48 @@ fn walk_loads<L: Sink>(
     held: &mut Held,
     lines: &mut L,
 ) -> Result<(), SinkFailed>
+    ensures ok { (before : Option (List ℕ)) (said : List ℕ) → IsSaid before (L.taken lines.old) held.old.items said → OnOk result (
+        IsDone (kept_of patch.new symbols.new queue.new) budget.new before (L.taken lines.new) held.new.items (all_loaded (net_of patch.old) now (world (kept_of patch.old symbols.old queue.old) budget.old said) boxes.now)) }
+    ensures err { (before : Option (List ℕ)) (said : List ℕ) → IsSaid before (L.taken lines.old) held.old.items said → OnErr result (
+        TookPart before (L.taken lines.new) (all_loaded (net_of patch.old) now (world (kept_of patch.old symbols.old queue.old) budget.old said) boxes.now).said) }
+    ensures net { net_of patch.new ≡ net_of patch.old }
     ensures cause { HasCause (L.faults lines.old) (L.faults lines.new) result }
 {
     for node in boxes {
         load_at(patch, *node, sends);
-        begin_box(patch, *node, stack, sends, symbols, now, held, lines)?;
-        walk(
-            patch, stack, sends, symbols, now, budget, queue, held, lines,
+        walk_box(
+            patch, *node, stack, sends, symbols, now, budget, queue, held, lines,
         )?;
     }
     Ok(())
+}
+
+/// Does what a box asks for that an event begins with, and delivers its sends.
+fn walk_box<L: Sink>(
+    patch: &mut Patch,
+    node: u32,
+    stack: &mut Stack,
+    sends: &mut Sends,
+    symbols: &mut Symbols,
+    now: Time,
+    budget: &mut Budget,
+    queue: &mut EditQueue,
+    held: &mut Held,
+    lines: &mut L,
+) -> Result<(), SinkFailed>
+    ensures ok { (before : Option (List ℕ)) (said : List ℕ) → IsSaid before (L.taken lines.old) held.old.items said → OnOk result (
+        IsDone (kept_of patch.new symbols.new queue.new) budget.new before (L.taken lines.new) held.new.items (told_by (net_of patch.old) now node (said_by sends.old) (world (kept_of patch.old symbols.old queue.old) budget.old said))) }
+    ensures err { (before : Option (List ℕ)) (said : List ℕ) → IsSaid before (L.taken lines.old) held.old.items said → OnErr result (
+        TookPart before (L.taken lines.new) (told_by (net_of patch.old) now node (said_by sends.old) (world (kept_of patch.old symbols.old queue.old) budget.old said)).said) }
+    ensures net { net_of patch.new ≡ net_of patch.old }
+    ensures cause { HasCause (L.faults lines.old) (L.faults lines.new) result }
+{
+    stack.clear();
+    do_deed(patch, node, sends.deed, now);
+    push_sends(patch, node, 0, stack, sends, symbols, held, lines)?;
+    walk(
+        patch, stack, sends, symbols, now, budget, queue, held, lines,
+    )
 }
 
 /// Delivers all that is on the stack and what it causes.
@@ -185,260 +301,24 @@ fn walk<L: Sink>(
     held: &mut Held,
     lines: &mut L,
 ) -> Result<(), SinkFailed>
+    requires piled { IsPiled stack.old }
+    ensures ok { (before : Option (List ℕ)) (final : World Kept) → IsUnderWay (net_of patch.old) now (kept_of patch.old symbols.old queue.old) budget.old stack.old [] before (L.taken lines.old) held.old.items final →
+        OnOk result (IsDone (kept_of patch.new symbols.new queue.new) budget.new before (L.taken lines.new) held.new.items final) }
+    ensures err { (before : Option (List ℕ)) (final : World Kept) → IsUnderWay (net_of patch.old) now (kept_of patch.old symbols.old queue.old) budget.old stack.old [] before (L.taken lines.old) held.old.items final →
+        OnErr result (TookPart before (L.taken lines.new) final.said) }
+    ensures net { net_of patch.new ≡ net_of patch.old }
     ensures cause { HasCause (L.faults lines.old) (L.faults lines.new) result }
 {
     if budget.cut {
-        stack.clear();
         return Ok(());
     }
     while let Some(task) = next_task(patch, stack, symbols, held, lines)? {
         if budget.left == 0 {
             budget.cut = true;
-            stack.clear();
             return print_cut(symbols, held, lines);
         }
         budget.left -= 1;
-        perform(patch, stack, sends, symbols, now, queue, held, lines, task)?;
+        perform(patch, stack, sends, symbols, now, queue, held, lines, &task)?;
     }
     Ok(())
-}
-
-/// Does one task.
-fn perform<L: Sink>(
-    patch: &mut Patch,
-    stack: &mut Stack,
-    sends: &mut Sends,
-    symbols: &mut Symbols,
-    now: Time,
-    queue: &mut EditQueue,
-    held: &mut Held,
-    lines: &mut L,
-    task: Task,
-) -> Result<(), SinkFailed>
-    ensures cause { HasCause (L.faults lines.old) (L.faults lines.new) result }
-{
-    match task {
-        Task::Deliver {
-            node,
-            inlet,
-            message,
-        } => deliver_at(
-            patch, stack, sends, symbols, now, held, lines, node, inlet, message,
-        ),
-        Task::Ask { canvas, message } => {
-            let atoms = stack.atoms(message.first, message.after);
-            ask_canvas(
-                patch,
-                canvas,
-                message.selector,
-                atoms,
-                queue,
-                symbols,
-                held,
-                lines,
-            )
-        }
-        Task::Resume { node, depth } => {
-            resume_at(patch, node, sends);
-            push_sends(patch, node, depth, stack, sends, symbols, held, lines)
-        }
-    }
-}
-
-/// A message comes to a box: the box changes, its notices and its line are said, what it asks for is done, and its sends go on the
-/// stack.
-fn deliver_at<L: Sink>(
-    patch: &mut Patch,
-    stack: &mut Stack,
-    sends: &mut Sends,
-    symbols: &mut Symbols,
-    now: Time,
-    held: &mut Held,
-    lines: &mut L,
-    node: u32,
-    inlet: u32,
-    message: Arrival,
-) -> Result<(), SinkFailed>
-    ensures cause { HasCause (L.faults lines.old) (L.faults lines.new) result }
-{
-    let atoms = stack.atoms(message.first, message.after);
-    hear_at(
-        patch,
-        node,
-        inlet,
-        message.selector,
-        atoms,
-        now,
-        symbols,
-        sends,
-    );
-    print_notices(sends.notices.as_slice(), symbols, held, lines)?;
-    print_at(
-        patch,
-        node,
-        sends.deed,
-        message.selector,
-        atoms,
-        symbols,
-        held,
-        lines,
-    )?;
-    do_deed(patch, node, sends.deed, now);
-    push_sends(
-        patch,
-        node,
-        message.depth,
-        stack,
-        sends,
-        symbols,
-        held,
-        lines,
-    )
-}
-
-/// Says the line of a print, where the box is one.
-fn print_at<L: Sink>(
-    patch: &Patch,
-    node: u32,
-    deed: Deed,
-    selector: Sym,
-    atoms: &[Atom],
-    symbols: &Symbols,
-    held: &mut Held,
-    lines: &mut L,
-) -> Result<(), SinkFailed>
-    ensures cause { HasCause (L.faults lines.old) (L.faults lines.new) result }
-{
-    if deed != Deed::Print {
-        return Ok(());
-    }
-    match print_words(patch, node) {
-        Some(words) => print_message(words, selector, atoms, symbols, held, lines),
-        None => Ok(()),
-    }
-}
-
-/// The arguments of a `print`.
-fn print_words(patch: &Patch, node: u32) -> Option<&[Atom]> {
-    match &patch.node(node)?.kind {
-        Kind::Glue(Glue::Print { words }) => Some(words.as_slice()),
-        _ => None,
-    }
-}
-
-/// Whether sends lead nowhere: those of an outlet of the root canvas.
-fn leads_out(patch: &Patch, node: u32) -> bool {
-    is_outlet(patch, node) && patch.port_of(node).is_none()
-}
-
-/// Puts the sends of a box on the stack, the first on top, and below them that it is resumed, where it asks for that. At the
-/// greatest depth it says so and puts nothing.
-fn push_sends<L: Sink>(
-    patch: &Patch,
-    node: u32,
-    depth: u32,
-    stack: &mut Stack,
-    sends: &Sends,
-    symbols: &Symbols,
-    held: &mut Held,
-    lines: &mut L,
-) -> Result<(), SinkFailed>
-    ensures cause { HasCause (L.faults lines.old) (L.faults lines.new) result }
-{
-    let is_again = sends.deed == Deed::Again;
-    let is_silent = sends.rows.as_slice().is_empty() || leads_out(patch, node);
-    if is_silent && !is_again {
-        return Ok(());
-    }
-    if depth >= DEEPEST {
-        return print_overflow(symbols, held, lines);
-    }
-    push_all(patch, node, depth, stack, sends, is_again);
-    Ok(())
-}
-
-fn push_all(
-    patch: &Patch,
-    node: u32,
-    depth: u32,
-    stack: &mut Stack,
-    sends: &Sends,
-    is_again: bool,
-) {
-    let base = stack.atom_count();
-    let mut floor = base;
-    stack.push_atoms(sends.atoms.as_slice());
-    let full = stack.atom_count();
-    if is_again {
-        push_again(node, depth, stack, base, floor);
-        floor = full;
-    }
-    for row in sends.rows.as_slice().iter().rev() {
-        push_row(patch, node, depth, stack, *row, base, floor);
-        floor = full;
-    }
-}
-
-/// That a box is resumed.
-fn again(node: u32) -> Cursor {
-    Cursor::Again { node }
-}
-
-/// The first owner of a name.
-fn first_owner(name: Sym, is_loud: bool) -> Cursor {
-    Cursor::Owners {
-        name,
-        next: 0,
-        is_loud,
-    }
-}
-
-/// Puts on the stack that a box is resumed.
-fn push_again(node: u32, depth: u32, stack: &mut Stack, base: u32, floor: u32) {
-    let frame = Frame {
-        depth,
-        selector: Sym::bang(),
-        first: base,
-        after: base,
-        floor,
-    };
-    stack.push(again(node), &frame);
-}
-
-/// Puts a send on the stack.
-fn push_row(
-    patch: &Patch,
-    node: u32,
-    depth: u32,
-    stack: &mut Stack,
-    row: SendRow,
-    base: u32,
-    floor: u32,
-) {
-    let frame = Frame {
-        depth: depth.saturating_add(1),
-        selector: row.selector,
-        first: base.saturating_add(row.first),
-        after: base.saturating_add(row.after),
-        floor,
-    };
-    stack.push(cursor_of(patch, node, row.target), &frame);
-}
-
-fn cursor_of(patch: &Patch, node: u32, target: Target) -> Cursor {
-    match target {
-        Target::Outlet(outlet) => Cursor::Wires {
-            next: first_wire(patch, node, outlet),
-        },
-        Target::Name { name, loud } => first_owner(name, loud),
-    }
-}
-
-/// The first wire of an outlet. That of a box that is an outlet of its canvas is the first of the box that holds the canvas.
-fn first_wire(patch: &Patch, node: u32, outlet: u32) -> Option<Hop> {
-    if !is_outlet(patch, node) {
-        return patch.fan_first(node, outlet);
-    }
-    let (holder, port) = patch.port_of(node)?;
-    patch.fan_first(holder, port)
 }

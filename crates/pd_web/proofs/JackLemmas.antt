@@ -6,7 +6,7 @@ use Rattle.pd_kind.specs.Ports.{ports_of}
 use Rattle.pd_tree.specs.Ports.{signals, sockets_of}
 use Rattle.pd_grove.specs.declared.ports.Side.TheVariants.{Inlets, Outlets}
 use Rattle.pd_web.specs.Jacks.{marks, on_side}
-use Rattle.pd_web.proofs.KindPorts.{ports_sound}
+use Rattle.pd_fit.proofs.KindPorts.{ports_sound}
 
 pub marks_more : (first n : ℕ) → marks first (n + 1) ≡ marks first n ++ nat_lt n first ∷ []
 marks_more first n = ap (marks first) (add-one n)

@@ -1,4 +1,3 @@
-mod KindPorts
 mod JackLemmas
 mod SocketLemmas
 mod WireLemmas
@@ -6,5 +5,5 @@ mod HopLemmas
 mod LineLemmas
 mod FanLemmas
 mod HomeLemmas
-mod NumberLemmas
-mod TreeFits
+pub mod NumberLemmas
+pub mod TreeFits

@@ -2,10 +2,13 @@ use Rattle.std.proofs.Common.{ℕ, List, [], ◌++◌, Some, None, sym, ap, ◌�
 use Rattle.std.specs.Prelude.{option_map}
 use Rattle.std.proofs.lemmas.List.{append-nil}
 use Rattle.std.proofs.lemmas.Option.{none-some}
+use Rattle.slab.specs.Slab.{get}
 use Rattle.pd_tree.specs.Trees.{stands_of}
 use Rattle.pd_grove.specs.Standing.{board_seen}
 use Rattle.pd_grove.specs.Planting.{seeds_in, with_keys}
+use Rattle.pd_grove.specs.Telling.{keys_in}
 use Rattle.pd_grove.proofs.Freshness.{as_many}
+use Rattle.pd_grove.proofs.OwnLemmas.{own_bare, own_open}
 use Rattle.pd_grove.proofs.grove.Grove.plant.Goals as goal
 
 pub plant_boxes-requires-clause-room : goal.plant_boxes-requires-clause-room
@@ -40,3 +43,12 @@ returns-clause-fresh c =
 pub returns-clause-small : goal.returns-clause-small
 returns-clause-small c =
     (c.plant_boxes.ensures.small c.in_ok-seeds.ensures.small (λ k n h. absurd (none-some n (sym (c.in_ok-nodes.ensures.empty k) ∙ h)))).1
+
+pub returns-clause-own : goal.returns-clause-own
+returns-clause-own c =
+    let nodes = get c.in_ok-nodes.nodes in
+    let b₀ = get c.in_ok-boards.boards in
+    let b₁ = get c.open_root-root.new.boards in
+    c.plant_boxes.ensures.own
+    (own_open nodes b₀ b₁ c.open_root-root.result (ap keys_in c.open_root-root.ensures.opened ∙ c.in_ok-room.ensures.items) c.open_root-root.ensures.others
+    (own_bare nodes b₀ (λ k. ap keys_in (c.in_ok-boards.ensures.empty k))))

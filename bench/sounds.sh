@@ -1,0 +1,60 @@
+#!/usr/bin/env bash
+# Measures the sound of whole runs: bench/sounds.sh
+#
+# A voice is `osc~` into `*~`, and all voices feed `dac~`. Printed are nanoseconds for a voice and a sample, of the whole run less those of a run
+# of one block, by the number of voices; beside them the same patch in Pd (`pd -nogui -batch`), where `pd` is installed. Build the
+# program first, by ./play.
+set -u
+top=$(cd "$(dirname "$0")/.." && pwd) || exit 2
+program=$top/crates/pdplay/out/pdplay
+[ -x "$program" ] || { echo "bench: build the program first: ./play examples/hello/main.pd" >&2; exit 2; }
+folder=$(mktemp -d)
+trap 'rm -rf "$folder"' EXIT
+cd "$folder" || exit 2
+
+# As many voices, whose boxes begin at number $2 behind a `dac~`.
+voices() {
+  local i
+  echo "#X obj 0 0 dac~;"
+  for ((i = 0; i < $1; i++)); do echo "#X obj 0 0 osc~ $((100 + i * 37 % 400)); #X obj 0 0 *~ 0.001;"; done
+  for ((i = 0; i < $1; i++)); do
+    echo "#X connect $(($2 + 1 + 2 * i)) 0 $(($2 + 2 + 2 * i)) 0; #X connect $(($2 + 2 + 2 * i)) 0 $2 0;"
+  done
+}
+
+# Seconds of the processor that a command takes, the least of three runs.
+seconds() {
+  local i best= now
+  for i in 1 2 3; do
+    now=$( { TIMEFORMAT='%U %S'; time "$@" >/dev/null 2>&1 </dev/stdin; } 2>&1 <"$folder/script" | awk '{ print $1 + $2 }')
+    best=$(awk -v a="$best" -v b="$now" 'BEGIN { print (a == "" || b < a) ? b : a }')
+  done
+  echo "$best"
+}
+
+# A run of Pd over so many milliseconds.
+pd_patch() {
+  echo "#N canvas 0 0 400 300 12; #X obj 0 0 loadbang; #X msg 0 0 \; pd dsp 1; #X obj 0 0 del $2; #X msg 0 0 \; pd quit;"
+  voices "$1" 4
+  echo "#X connect 0 0 1 0; #X connect 0 0 2 0; #X connect 2 0 3 0;"
+}
+
+printf '%-8s %14s %14s\n' voices pdplay pd
+for count in 10 100 1000; do
+  length=$((200000 / count))
+  { echo "#N canvas 0 0 400 300 12;"; voices "$count" 0; } >main.pd
+  echo "1 end;" >script
+  idle=$(seconds "$program" main.pd)
+  echo "$length end;" >script
+  ours=$(seconds "$program" main.pd)
+  theirs=-
+  samples=$(awk -v l="$length" -v c="$count" 'BEGIN { printf "%d", l * 44.1 * c }')
+  if command -v pd >/dev/null; then
+    pd_patch "$count" "$length" >sound.pd
+    pd_patch "$count" 1 >idle.pd
+    theirs=$(awk -v a="$(seconds pd -nogui -noprefs -batch -open sound.pd)" -v b="$(seconds pd -nogui -noprefs -batch -open idle.pd)" \
+      -v n="$samples" 'BEGIN { printf "%.1f ns", (a - b) * 1e9 / n }')
+  fi
+  awk -v c="$count" -v a="$ours" -v b="$idle" -v n="$samples" -v t="$theirs" \
+    'BEGIN { printf "%-8s %11.1f ns %14s\n", c, (a - b) * 1e9 / n, t }'
+done

@@ -1,0 +1,6 @@
+pub mod NetLemmas
+pub mod WalkLemmas
+pub mod BeginLemmas
+pub mod InletLemmas
+pub mod BoxLemmas
+pub mod PortLemmas

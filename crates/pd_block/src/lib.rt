@@ -1,0 +1,13 @@
+//! Blocks: every box of a patch's signal order gives 64 values an outlet, and the `dac~` boxes add to two channels.
+//!
+//! No call takes memory.
+#![tactic(auto)]
+
+mod beside;
+mod canvases;
+mod inlets;
+mod own;
+mod ports;
+mod room;
+
+pub use canvases::run_block;

@@ -1,0 +1,5 @@
+pub mod KindPorts
+pub mod MarkLemmas
+pub mod PlaceLemmas
+pub mod SeenLemmas
+pub mod StackLemmas

@@ -1,0 +1,11 @@
+//! The wires of a grown patch that fit, counted before it has keys.
+#![tactic(auto)]
+
+mod boxes;
+mod counting;
+mod ports;
+#[cfg(test)]
+mod tests;
+mod wires;
+
+pub use counting::{MOST_WIRES, has_too_many_wires};

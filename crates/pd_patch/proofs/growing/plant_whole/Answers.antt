@@ -1,0 +1,22 @@
+use Rattle.std.proofs.Common.{refl, subst}
+use Rattle.slab.specs.Slab.{get}
+use Rattle.pd_grove.specs.States.{NodesFresh}
+use Rattle.pd_patch.proofs.GrowingLemmas.{live_below}
+use Rattle.pd_patch.proofs.WiredLemmas.{own_canvas}
+use Rattle.pd_patch.proofs.growing.plant_whole.Goals as goal
+
+pub returns-clause-fresh : goal.returns-clause-fresh
+returns-clause-fresh c =
+    let nodes = c.in_ok-grove.grove.nodes in
+    record {
+      own = c.in_ok-grove.ensures.own;
+      wires = c.in_ok-web.ensures;
+      owners = λ class name. c.in_ok-names.ensures.owners class name;
+      apart = c.in_ok-names.ensures.apart;
+      orders = c.in_ok-orders.ensures;
+      numbers = λ k. c.in_ok-numbers.ensures k (own_canvas c.in_ok-grove.grove k c.in_ok-grove.ensures.own);
+      clocks = c.in_ok-timers.ensures.clocks;
+      room = λ k live. live_below nodes k c.in_ok-clock_owners.field-0 c.in_ok-timers.timers.end c.in_ok-clock_owners.ensures c.in_ok-timers.ensures.end live;
+      states = subst (λ n. NodesFresh c.args.rate n (get nodes)) c.of_units.ensures c.in_ok-grove.ensures.fresh;
+      same_rate = refl;
+    }

@@ -1,0 +1,50 @@
+-- The blocks that signal outlets give, and the signal orders of canvases.
+use Rattle.std.specs.Prelude.{◌≡◌, ℕ, ℤ, List, [], map, slice_get, slice_set, slice_index_or, Option, Some, None, option_and_then}
+use Rattle.pd_kind.specs.States.{silent_block}
+use Rattle.pd_order.specs.Listing.{Listing}
+use Rattle.pd_patch.specs.declared.patch.Patch.{Patch}
+use Rattle.pd_patch.specs.Telling.{order_in}
+
+-- the blocks of all boxes: a list for each key, with a block for each outlet
+abbrev pub Blocks : Type 0
+Blocks = List (List (List ℤ))
+
+abbrev pub blocks_told : Patch → Blocks
+blocks_told p = map (λ b. b.items) p.values.items
+
+-- the block of an outlet of the box of a key
+abbrev pub block_at : Blocks → ℕ → ℕ → Option (List ℤ)
+block_at blocks node outlet = option_and_then (λ own. slice_get own outlet) (slice_get blocks node)
+
+-- another block in its place; where there is none, nothing changes
+abbrev pub with_block : Blocks → ℕ → ℕ → List ℤ → Blocks
+with_block blocks node outlet block = slice_set blocks node (slice_set (slice_index_or blocks node []) outlet block)
+
+-- silence in place of each block of a box
+abbrev pub with_silence : Blocks → ℕ → Blocks
+with_silence blocks node = slice_set blocks node (map (λ _. silent_block) (slice_index_or blocks node []))
+
+abbrev pub chain_by : Option Listing → List ℕ
+chain_by None = []
+chain_by (Some o) = o.chain
+
+abbrev pub stuck_by : Option Listing → List ℕ
+stuck_by None = []
+stuck_by (Some o) = o.stuck
+
+-- the boxes of a canvas in the order in which they run, and those that are stuck
+abbrev pub chain_in : Patch → ℕ → List ℕ
+chain_in p canvas = chain_by (order_in p.orders.items canvas)
+
+abbrev pub stuck_in : Patch → ℕ → List ℕ
+stuck_in p canvas = stuck_by (order_in p.orders.items canvas)
+
+-- all but the tree and the blocks of outlets stays
+pub record SilentRest (old new : Patch) : Type 0 where
+  pub web : new.web ≡ old.web
+  pub names : new.names ≡ old.names
+  pub orders : new.orders ≡ old.orders
+  pub numbers : new.numbers ≡ old.numbers
+  pub rate : new.rate ≡ old.rate
+  pub timers : new.timers ≡ old.timers
+  pub present : new.present ≡ old.present
