@@ -17,6 +17,8 @@ program=$top/crates/pdplay/out/pdplay
 events=${1:-50}
 folder=$(mktemp -d)
 trap 'rm -rf "$folder"' EXIT
+# shellcheck source=bench/seconds.sh
+. "$top/bench/seconds.sh"
 cd "$folder" || exit 2
 
 # The loop of a patch whose boxes begin at number $1: its first box is `until`.
@@ -39,16 +41,6 @@ chain() {
   for ((i = 1; i < 999; i++)); do echo "#X obj 0 0 f;"; done
   for ((i = 0; i < 997; i++)); do echo "#X connect $(($1 + i)) 0 $(($1 + i + 1)) 0;"; done
   echo "#X connect $(($1 + 997)) 0 $(($1 + 998)) 1;"
-}
-
-# Seconds of the processor that a command takes, the least of three runs.
-seconds() {
-  local i best= now
-  for i in 1 2 3; do
-    now=$( { TIMEFORMAT='%U %S'; time "$@" >/dev/null 2>&1 </dev/stdin; } 2>&1 <"$folder/script" | awk '{ print $1 + $2 }')
-    best=$(awk -v a="$best" -v b="$now" 'BEGIN { print (a == "" || b < a) ? b : a }')
-  done
-  echo "$best"
 }
 
 printf '%-10s %12s %12s\n' loop pdplay pd

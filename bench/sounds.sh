@@ -10,6 +10,8 @@ program=$top/crates/pdplay/out/pdplay
 [ -x "$program" ] || { echo "bench: build the program first: ./play examples/hello/main.pd" >&2; exit 2; }
 folder=$(mktemp -d)
 trap 'rm -rf "$folder"' EXIT
+# shellcheck source=bench/seconds.sh
+. "$top/bench/seconds.sh"
 cd "$folder" || exit 2
 
 # As many voices, whose boxes begin at number $2 behind a `dac~`.
@@ -20,16 +22,6 @@ voices() {
   for ((i = 0; i < $1; i++)); do
     echo "#X connect $(($2 + 1 + 2 * i)) 0 $(($2 + 2 + 2 * i)) 0; #X connect $(($2 + 2 + 2 * i)) 0 $2 0;"
   done
-}
-
-# Seconds of the processor that a command takes, the least of three runs.
-seconds() {
-  local i best= now
-  for i in 1 2 3; do
-    now=$( { TIMEFORMAT='%U %S'; time "$@" >/dev/null 2>&1 </dev/stdin; } 2>&1 <"$folder/script" | awk '{ print $1 + $2 }')
-    best=$(awk -v a="$best" -v b="$now" 'BEGIN { print (a == "" || b < a) ? b : a }')
-  done
-  echo "$best"
 }
 
 # A run of Pd over so many milliseconds.
