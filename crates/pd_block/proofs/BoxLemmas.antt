@@ -104,15 +104,15 @@ kind_by_net p q node same = sym (kind_told q node) ∙ ap (λ (n : Net). kind_at
 
 -- a box has run beside another one, which keeps what it left of its values
 pub pair_done : (p0 p1 p2 : Patch) (node owner : ℕ) (st other o2 : State) (r : Ran) → state_in (get p0.grove.nodes owner) ≡ Some other
-    → Keeps p0.grove p1.grove owner None → RestStays p0 p1
+    → Keeps p0.grove p1.grove owner None → RestStays p0 p1 → p1.timers ≡ p0.timers
     → record { ran = r; other = o2 } ≡ pair_in p1.web (blocks_told p1) node (kind_in (get p1.grove.nodes node)) st other
     → Keeps p1.grove p2.grove owner (Some o2) → RestStays p1 p2
     → record { ran = r; sound = sound_of p2 } ≡ aside_owner p0.web (sound_of p0) node (kind_at (net_of p0) node) st owner (states_of p0 owner)
-pair_done p0 p1 p2 node owner st other o2 r is took rest run put rest2 =
+pair_done p0 p1 p2 node owner st other o2 r is took rest timers run put rest2 =
     let told = run
     ∙ ap (λ (w : Web). pair_in w (blocks_told p1) node (kind_in (get p1.grove.nodes node)) st other) rest.web
     ∙ ap (λ (b : Blocks). pair_in p0.web b node (kind_in (get p1.grove.nodes node)) st other) (blocks_same p0 p1 rest.values)
-    ∙ ap (λ (k : Option Kind). pair_in p0.web (blocks_told p0) node k st other) (kind_by_net p0 p1 node (keeps_net p0 p1 owner None took rest)) in
+    ∙ ap (λ (k : Option Kind). pair_in p0.web (blocks_told p0) node k st other) (kind_by_net p0 p1 node (keeps_net p0 p1 owner None took rest timers)) in
     ap (λ (z : Sound). record { ran = r; sound = z })
     (sound_is p2 (set_at (states_of p0) owner (Some o2)) (blocks_told p0) (states_twice p0 p1 p2 owner other (Some o2) is took put) (blocks_same p1 p2 rest2.values ∙ blocks_same p0 p1 rest.values))
     ∙ ap (λ (x : Pair). aside_pair (sound_of p0) owner x) told
@@ -120,14 +120,14 @@ pair_done p0 p1 p2 node owner st other o2 r is took rest run put rest2 =
 
 -- a box has run beside another one or none: its state is put back
 pub beside_done : (p0 p1 p2 p3 p4 : Patch) (node : ℕ) (s s2 : State) (outs : List (List ℤ)) (block : List ℤ) → state_in (get p0.grove.nodes node) ≡ Some s
-    → Keeps p0.grove p1.grove node None → RestStays p0 p1 → net_of p2 ≡ net_of p1
+    → Keeps p0.grove p1.grove node None → RestStays p0 p1 → p1.timers ≡ p0.timers → net_of p2 ≡ net_of p1
     → record { ran = ran s2 outs; sound = sound_of p2 } ≡ aside_by (net_of p1) (sound_of p1) node (kind_at (net_of p1) node) s
     → Keeps p2.grove p3.grove node (Some s2) → RestStays p2 p3
     → p4.grove ≡ p3.grove → blocks_told p4 ≡ with_block (blocks_told p3) node 0 block → block ≡ slice_index_or outs 0 silent_block
     → IsSome (get p2.grove.nodes node)
     → sound_of p4 ≡ beside_by (net_of p0) (sound_of p0) node (kind_at (net_of p0) node) (states_of p0 node)
-beside_done p0 p1 p2 p3 p4 node s s2 outs block is took rest same run put rest2 grove blocks out live =
-    let net1 : net_of p1 ≡ net_of p0 = keeps_net p0 p1 node None took rest in
+beside_done p0 p1 p2 p3 p4 node s s2 outs block is took rest timers same run put rest2 grove blocks out live =
+    let net1 : net_of p1 ≡ net_of p0 = keeps_net p0 p1 node None took rest timers in
     let sound1 : sound_of p1 ≡ with_none (sound_of p0) node = sound_is p1 (set_at (states_of p0) node None) (blocks_told p0) (states_taken p0 p1 node s is took) (blocks_same p0 p1 rest.values) in
     let told : record { ran = ran s2 outs; sound = sound_of p2 } ≡ aside_by (net_of p0) (with_none (sound_of p0) node) node (kind_at (net_of p0) node) s =
     run ∙ ap (λ (n : Net). aside_by n (sound_of p1) node (kind_at n node) s) net1 ∙ ap (λ (z : Sound). aside_by (net_of p0) z node (kind_at (net_of p0) node) s) sound1 in

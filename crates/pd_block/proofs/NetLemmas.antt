@@ -52,18 +52,20 @@ nodes_stay old new k s keeps =
     (λ same. subst (λ (i : ℕ). bare (get new.nodes i) ≡ bare (get old.nodes i)) (sym same) (ap bare keeps.node ∙ bare_with (get old.nodes k) s))
     (λ other. ap bare (keeps.others j other)))
 
-same_net : (old new : Patch) → bares new.grove ≡ bares old.grove → new.grove.root ≡ old.grove.root
-    → new.web ≡ old.web → new.names ≡ old.names → new.orders ≡ old.orders → net_of new ≡ net_of old
-same_net old new nodes root web names orders = rw (nodes, root, web, names, orders) refl
+same_net : (old new : Patch) → bares new.grove ≡ bares old.grove → new.grove.boards ≡ old.grove.boards → new.grove.root ≡ old.grove.root
+    → new.web ≡ old.web → new.names ≡ old.names → new.orders ≡ old.orders → new.numbers ≡ old.numbers → new.rate ≡ old.rate → new.timers ≡ old.timers
+    → net_of new ≡ net_of old
+same_net old new nodes boards root web names orders numbers rate timers = rw (nodes, boards, root, web, names, orders, numbers, rate, timers) refl
 
 -- the state of a box changed
-pub keeps_net : (old new : Patch) (k : ℕ) (s : Option State) → Keeps old.grove new.grove k s → RestStays old new → net_of new ≡ net_of old
-keeps_net old new k s keeps rest = same_net old new (nodes_stay old.grove new.grove k s keeps) keeps.root rest.web rest.names rest.orders
+pub keeps_net : (old new : Patch) (k : ℕ) (s : Option State) → Keeps old.grove new.grove k s → RestStays old new → new.timers ≡ old.timers → net_of new ≡ net_of old
+keeps_net old new k s keeps rest timers =
+    same_net old new (nodes_stay old.grove new.grove k s keeps) keeps.boards keeps.root rest.web rest.names rest.orders rest.numbers rest.rate timers
 
 -- a block changed
 pub blocks_net : (old new : Patch) → new.grove ≡ old.grove → SilentRest old new → net_of new ≡ net_of old
 blocks_net old new grove rest =
-    same_net old new (ap bares grove) (ap (λ (g : Grove). g.root) grove) rest.web rest.names rest.orders
+    same_net old new (ap bares grove) (ap (λ (g : Grove). g.boards) grove) (ap (λ (g : Grove). g.root) grove) rest.web rest.names rest.orders rest.numbers rest.rate rest.timers
 
 pub blocks_states : (old new : Patch) → new.grove ≡ old.grove → states_of new ≡ states_of old
 blocks_states old new grove = ap keeps_of grove
@@ -114,7 +116,7 @@ box_left p0 p1 p2 p3 node s s2 block r is took rest put rest2 grove blocks state
     (blocks ∙ ap (λ (b : Blocks). with_block b node 0 block) (blocks_same p1 p2 rest2.values ∙ blocks_same p0 p1 rest.values) ∙ ap (λ (x : List ℤ). with_block (blocks_told p0) node 0 x) out)
 
 pub net_left : (p0 p1 p2 p3 : Patch) (node : ℕ) (s t : Option State)
-    → Keeps p0.grove p1.grove node s → RestStays p0 p1 → Keeps p1.grove p2.grove node t → RestStays p1 p2 → p3.grove ≡ p2.grove → SilentRest p2 p3
-    → net_of p3 ≡ net_of p0
-net_left p0 p1 p2 p3 node s t took rest put rest2 grove rest3 =
-    blocks_net p2 p3 grove rest3 ∙ keeps_net p1 p2 node t put rest2 ∙ keeps_net p0 p1 node s took rest
+    → Keeps p0.grove p1.grove node s → RestStays p0 p1 → p1.timers ≡ p0.timers → Keeps p1.grove p2.grove node t → RestStays p1 p2 → p2.timers ≡ p1.timers
+    → p3.grove ≡ p2.grove → SilentRest p2 p3 → net_of p3 ≡ net_of p0
+net_left p0 p1 p2 p3 node s t took rest timers put rest2 timers2 grove rest3 =
+    blocks_net p2 p3 grove rest3 ∙ keeps_net p1 p2 node t put rest2 timers2 ∙ keeps_net p0 p1 node s took rest timers

@@ -3,24 +3,33 @@ use Rattle.std.specs.Prelude.{ℕ, ◌==◌, List, Option, None, option_map, if�
 use Rattle.std.specs.declared.vec.Vec.{Vec}
 use Rattle.std.specs.declared.alloc.Global.{Global}
 use Rattle.slab.specs.Slab.{get}
+use Rattle.slab.specs.Slab.{Slab}
+use Rattle.pd_clock.specs.declared.times.Rate.{Rate}
 use Rattle.pd_kind.specs.declared.kinds.Kind.{Kind}
 use Rattle.pd_kind.specs.declared.states.State.{State}
 use Rattle.pd_name.specs.Rows.{Row}
 use Rattle.pd_order.specs.Listing.{Listing}
 use Rattle.pd_grove.specs.declared.nodes.Node.{Node}
+use Rattle.pd_grove.specs.declared.boards.Board.{Board}
 use Rattle.pd_grove.specs.Telling.{kind_in, inner_in, state_in, with_state}
 use Rattle.pd_web.specs.declared.web.Web.{Web}
+use Rattle.pd_timers.specs.declared.timers.Timers.{Timers}
 use Rattle.pd_patch.specs.declared.patch.Patch.{Patch}
 use Rattle.pd_patch.specs.Telling.{order_in}
 use Rattle.pd_patch.specs.Values.{Blocks, blocks_told, chain_by, stuck_by}
 
--- What stays: the boxes by their keys, without what they keep; the root canvas; the wires; who owns the names; and the signal orders.
+-- What stays: the boxes by their keys, without what they keep; the canvases; the wires; who owns the names; the signal orders and the
+-- numbers of the boxes; the rate; and the clocks.
 pub record Net : Type 0 where
   pub nodes : ℕ → Option Node
+  pub boards : Slab Board
   pub root : ℕ
   pub web : Web
   pub owners : List Row
   pub orders : Vec (Option Listing) Global
+  pub numbers : Vec ℕ Global
+  pub rate : Rate
+  pub timers : Timers
 
 -- What changes: what the boxes keep, by their keys, and the blocks of their outlets.
 pub record Sound : Type 0 where
@@ -32,7 +41,17 @@ abbrev pub bare : Option Node → Option Node
 bare o = option_map (with_state None) o
 
 abbrev pub net_of : Patch → Net
-net_of p = record { nodes = λ k. bare (get p.grove.nodes k); root = p.grove.root; web = p.web; owners = p.names; orders = p.orders }
+net_of p = record {
+  nodes = λ k. bare (get p.grove.nodes k);
+  boards = p.grove.boards;
+  root = p.grove.root;
+  web = p.web;
+  owners = p.names;
+  orders = p.orders;
+  numbers = p.numbers;
+  rate = p.rate;
+  timers = p.timers;
+}
 
 abbrev pub states_of : Patch → ℕ → Option State
 states_of p k = state_in (get p.grove.nodes k)

@@ -16,9 +16,10 @@ use Rattle.pd_grove.specs.Telling.{state_in, with_state}
 use Rattle.pd_web.specs.declared.web.Web.{Web}
 use Rattle.pd_queue.specs.Queue.{Waiting}
 use Rattle.pd_patch.specs.declared.patch.Patch.{Patch}
+use Rattle.pd_patch.specs.Values.{Blocks, blocks_told}
 
 -- What stays: the boxes by their keys, without what they keep; the canvases; the wires; who owns the names; the signal orders and the
--- numbers of the boxes; the rate; and for how many boxes there is room for a clock.
+-- numbers of the boxes; the blocks of their outlets; the rate; and for how many boxes there is room for a clock.
 pub record Net : Type 0 where
   pub nodes : ℕ → Option Node
   pub boards : Slab Board
@@ -27,6 +28,7 @@ pub record Net : Type 0 where
   pub owners : List Row
   pub orders : Vec (Option Listing) Global
   pub numbers : Vec ℕ Global
+  pub blocks : Blocks
   pub rate : Rate
   pub end : ℕ
 
@@ -50,6 +52,7 @@ net_of p = record {
   owners = p.names;
   orders = p.orders;
   numbers = p.numbers;
+  blocks = blocks_told p;
   rate = p.rate;
   end = p.timers.end;
 }

@@ -6,8 +6,8 @@ use Rattle.pd_block.proofs.canvases.begin_box.Goals as goal
 
 pub returns-then-has_line-clause-net : goal.returns-then-has_line-clause-net
 returns-then-has_line-clause-net c =
-    keeps_net c.take_state-state.new.self c.put_state.new.self c.args.node (Some c.begin_block.new.self) c.put_state.ensures.keeps c.put_state.ensures.rest
-    ∙ keeps_net c.args.patch.now c.take_state-state.new.self c.args.node None c.take_state-state.ensures.keeps c.take_state-state.ensures.rest
+    keeps_net c.take_state-state.new.self c.put_state.new.self c.args.node (Some c.begin_block.new.self) c.put_state.ensures.keeps c.put_state.ensures.rest c.put_state.ensures.clocks
+    ∙ keeps_net c.args.patch.now c.take_state-state.new.self c.args.node None c.take_state-state.ensures.keeps c.take_state-state.ensures.rest c.take_state-state.ensures.clocks
 
 pub returns-then-has_line-clause-sound : goal.returns-then-has_line-clause-sound
 returns-then-has_line-clause-sound c =
