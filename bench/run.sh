@@ -11,6 +11,7 @@
 #   hear       messages heard by one box: a number at the left inlet of `+`, `trigger`, `route`, `pack` and a message box with `$1`
 #   tone       blocks of phasor~, osc~ and noise~, one after another
 #   signal     blocks of the other signal objects but vline~ and those of the canvas's ports, one after another
+#   growth     a patch with twice as many wires as boxes: its growth alone, and with reading and gathering
 #
 # Times are of the processor, so other work on the machine lengthens them little; each is the least of five runs. docs/BENCHMARKS.md has
 # targets and figures. With sizes of your own, once the program is built:
@@ -23,6 +24,7 @@
 #   crates/pd_bench/out/pd_bench hear MESSAGES
 #   crates/pd_bench/out/pd_bench tone BLOCKS
 #   crates/pd_bench/out/pd_bench signal BLOCKS
+#   crates/pd_bench/out/pd_bench growth BOXES [WIRES]
 #
 # The program is built first where it isn't built, or where a source has changed since; that proves the crates below it, which takes
 # minutes the first time.
@@ -52,6 +54,7 @@ sizes=(
   "hear 1000000"
   "tone 100000"
   "signal 100000"
+  "growth 100" "growth 1000" "growth 10000"
 )
 
 run() {

@@ -1,11 +1,14 @@
 //! The benchmarks by name.
 
-use crate::{clocks, document, fold, hearing, mend, signal, tone, wires};
+use crate::{clocks, document, fold, growth, hearing, mend, signal, tone, wires};
 use anyhow::Result;
 use std::time::CpuClock;
 
 pub(crate) const USAGE: &str =
-    "usage: pd_bench document BYTES | clocks OWNERS FIRINGS | wires COUNT | fold BOXES | mend BOXES | hear MESSAGES | tone BLOCKS | signal BLOCKS";
+    "usage: pd_bench document BYTES | clocks OWNERS FIRINGS | wires COUNT | fold BOXES | mend BOXES | hear MESSAGES | tone BLOCKS | signal BLOCKS | growth BOXES [WIRES]";
+
+/// How many wires a box has in a patch that grows, where the words don't tell.
+const WIRES_EACH: u32 = 2;
 
 /// What a benchmark uses of the runtime.
 pub(crate) trait Measures: AllocGlobal + CpuClock + Print {}
@@ -23,6 +26,7 @@ pub(crate) enum Benchmark {
     Hear { messages: u32 },
     Tone { blocks: u32 },
     Signal { blocks: u32 },
+    Growth { boxes: u32, wires: u32 },
 }
 
 /// A size that isn't 0.
@@ -58,6 +62,15 @@ impl Benchmark {
             [name, messages] if name.as_str() == "hear" => Some(Benchmark::Hear {
                 messages: size(messages.as_str())?,
             }),
+            [name, boxes] if name.as_str() == "growth" => {
+                let boxes = size(boxes.as_str())?;
+                let wires = boxes.saturating_mul(WIRES_EACH);
+                Some(Benchmark::Growth { boxes, wires })
+            }
+            [name, boxes, wires] if name.as_str() == "growth" => Some(Benchmark::Growth {
+                boxes: size(boxes.as_str())?,
+                wires: size(wires.as_str())?,
+            }),
             _ => None,
         }
     }
@@ -72,6 +85,7 @@ impl Benchmark {
             Benchmark::Hear { messages } => hearing::run(rt, messages),
             Benchmark::Tone { blocks } => tone::run(rt, blocks),
             Benchmark::Signal { blocks } => signal::run(rt, blocks),
+            Benchmark::Growth { boxes, wires } => growth::run(rt, boxes, wires),
         }
     }
 }
