@@ -25,6 +25,8 @@
 #   crates/pd_bench/out/pd_bench tone BLOCKS
 #   crates/pd_bench/out/pd_bench signal BLOCKS
 #   crates/pd_bench/out/pd_bench growth BOXES [WIRES]
+#   crates/pd_bench/out/pd_bench full messages BOXES
+#   crates/pd_bench/out/pd_bench full packs BOXES
 #
 # The program is built first where it isn't built, or where a source has changed since; that proves the crates below it, which takes
 # minutes the first time.

@@ -1,11 +1,12 @@
 //! The benchmarks by name.
 
+use crate::patches::Filling;
 use crate::{clocks, document, fold, growth, hearing, mend, signal, tone, wires};
 use anyhow::Result;
 use std::time::CpuClock;
 
 pub(crate) const USAGE: &str =
-    "usage: pd_bench document BYTES | clocks OWNERS FIRINGS | wires COUNT | fold BOXES | mend BOXES | hear MESSAGES | tone BLOCKS | signal BLOCKS | growth BOXES [WIRES]";
+    "usage: pd_bench document BYTES | clocks OWNERS FIRINGS | wires COUNT | fold BOXES | mend BOXES | hear MESSAGES | tone BLOCKS | signal BLOCKS | growth BOXES [WIRES] | full messages BOXES | full packs BOXES";
 
 /// How many wires a box has in a patch that grows, where the words don't tell.
 const WIRES_EACH: u32 = 2;
@@ -27,6 +28,7 @@ pub(crate) enum Benchmark {
     Tone { blocks: u32 },
     Signal { blocks: u32 },
     Growth { boxes: u32, wires: u32 },
+    Full { filling: Filling, boxes: u32 },
 }
 
 /// A size that isn't 0.
@@ -71,6 +73,10 @@ impl Benchmark {
                 boxes: size(boxes.as_str())?,
                 wires: size(wires.as_str())?,
             }),
+            [name, filling, boxes] if name.as_str() == "full" => Some(Benchmark::Full {
+                filling: Filling::of_word(filling.as_str())?,
+                boxes: size(boxes.as_str())?,
+            }),
             _ => None,
         }
     }
@@ -86,6 +92,7 @@ impl Benchmark {
             Benchmark::Tone { blocks } => tone::run(rt, blocks),
             Benchmark::Signal { blocks } => signal::run(rt, blocks),
             Benchmark::Growth { boxes, wires } => growth::run(rt, boxes, wires),
+            Benchmark::Full { filling, boxes } => growth::run_full(rt, filling, boxes),
         }
     }
 }

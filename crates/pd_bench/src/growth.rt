@@ -6,7 +6,7 @@ ghost use Rattle.pd_canvas.specs.Proper.{IsProper};
 ghost use Rattle.pd_gather.specs.Gather.{AreProper};
 
 use crate::benchmark::Measures;
-use crate::patches::{Size, groups};
+use crate::patches::{Filling, Size, full, groups};
 use crate::timing::{Nanos, RUNS, Stopwatch};
 use anyhow::{Result, ensure};
 use pd_atom::Symbols;
@@ -128,6 +128,19 @@ pub(crate) fn run<R: Measures>(rt: &R, boxes: u32, wires: u32) -> Result<()> {
     let whole = least.whole;
     println!(rt;
         "growth: {boxes} boxes, {wires} wires: {growth} growth, {whole} with reading and gathering"
+    )?;
+    Ok(())
+}
+
+/// Measures one growth of a patch of long texts, with four wires a box.
+pub(crate) fn run_full<R: Measures>(rt: &R, filling: Filling, boxes: u32) -> Result<()> {
+    let size = Size::nearest(boxes, boxes.saturating_mul(4));
+    let text = full(rt.alloc(), filling, size)?;
+    let Times { growth, whole } = measure(rt, text.as_str())?;
+    let Size { boxes, wires } = size;
+    let filling = filling.word();
+    println!(rt;
+        "full: {boxes} boxes, {wires} wires, {filling}: {growth} growth, {whole} with reading and gathering"
     )?;
     Ok(())
 }

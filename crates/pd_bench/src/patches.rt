@@ -7,6 +7,15 @@ use std::fmt::Write;
 
 const CANVAS: &str = "#N canvas 0 50 450 300 12;\n";
 
+/// How many boxes a patch may have.
+const MOST_BOXES: u32 = 16_384;
+
+/// How many wires it may have.
+const MOST_WIRES: u32 = 65_536;
+
+/// How many atoms a text may have.
+const ATOMS: u32 = 1_024;
+
 /// How many boxes a group has, those of its subpatch among them.
 const GROUP: u32 = 10;
 
@@ -65,10 +74,10 @@ impl Size {
     /// The nearest size that there is a patch of: a group at least, in which each subpatch has a wire, and no more than a
     /// document may have.
     pub(crate) fn nearest(boxes: u32, wires: u32) -> Size {
-        let boxes = boxes.clamp(GROUP, 16_384);
+        let boxes = boxes.clamp(GROUP, MOST_BOXES);
         Size {
             boxes,
-            wires: wires.clamp(boxes / GROUP, 65_536),
+            wires: wires.clamp(boxes / GROUP, MOST_WIRES),
         }
     }
 
@@ -121,6 +130,64 @@ pub(crate) fn groups(alloc: Global, size: Size) -> Result<String, AllocError> {
     let each = wires.div_ceil(groups).max(1);
     for wire in 0..wires {
         push_wire(&mut text, wire / each, wire % each, groups)?;
+    }
+    Ok(text)
+}
+
+/// What the boxes of a patch are whose texts are as long as they may be.
+#[derive(Clone, Copy)]
+pub(crate) enum Filling {
+    Messages,
+    /// Each argument of a `pack` is an inlet.
+    Packs,
+}
+
+impl Filling {
+    pub(crate) fn of_word(word: &str) -> Option<Filling> {
+        match word {
+            "messages" => Some(Filling::Messages),
+            "packs" => Some(Filling::Packs),
+            _ => None,
+        }
+    }
+
+    pub(crate) fn word(self) -> &'static str {
+        match self {
+            Filling::Messages => "messages",
+            Filling::Packs => "packs",
+        }
+    }
+
+    /// The record of a box up to the first atom of its text.
+    fn head(self) -> &'static str {
+        match self {
+            Filling::Messages => "#X msg 10 40 1",
+            Filling::Packs => "#X obj 10 40 pack",
+        }
+    }
+}
+
+fn push_filled(text: &mut String, filling: Filling) -> Result<(), AllocError> {
+    text.push_str(filling.head())?;
+    for _ in 1..ATOMS {
+        text.push_str(" 1")?;
+    }
+    text.push_str(";\n")
+}
+
+/// A patch of a table with all values that there may be, and of boxes whose texts are as long as they may be.
+pub(crate) fn full(alloc: Global, filling: Filling, size: Size) -> Result<String, AllocError> {
+    let filled = size.boxes.saturating_sub(1).max(1);
+    let each = size.wires.div_ceil(filled).max(1);
+    let mut text = String::from_str(alloc, CANVAS)?;
+    text.push_str("#X obj 10 10 table wave 16777216;\n")?;
+    for _ in 0..filled {
+        push_filled(&mut text, filling)?;
+    }
+    for wire in 0..size.wires {
+        let source = wire / each;
+        let sink = source.wrapping_add(wire % each) % filled + 1;
+        writeln!(text, "#X connect {} 0 {sink} 0;", source.wrapping_add(1))?;
     }
     Ok(text)
 }
