@@ -1,6 +1,6 @@
 //! A patch is opened: fetched, read, grown and loaded.
 
-ghost use Rattle.std.specs.Prelude.{◌≡◌, ◌≤◌, false, IfOk};
+ghost use Rattle.std.specs.Prelude.{◌≡◌, ◌≤◌, false, IfOk, vec_capacity};
 ghost use Rattle.pd_say.specs.Gathering.{HasCause};
 ghost use Rattle.pd_engine.specs.Causes.{HasOpeningCauses};
 ghost use Rattle.pd_atom.specs.Names.{Extends};
@@ -10,7 +10,8 @@ ghost use Rattle.pd_gather.specs.Gather.{AreProper};
 use crate::engine::Engine;
 use crate::refusals::{BadCause, OpenRefusal, ungathered, ungrown, unread};
 use crate::remarks::say_remarks;
-use crate::time::BLOCK;
+use crate::showing::MOST_BOXES;
+use crate::times::BLOCK;
 use pd_atom::Symbols;
 use pd_clock::{Rate, Time};
 use pd_doc::{Doc, proper_extended, read};
@@ -19,14 +20,11 @@ use pd_io::{Fetched, Shelf, ShelfError, Sink, SinkFailed};
 use pd_patch::{Patch, Report};
 use pd_queue::EditQueue;
 use pd_say::{Held, flush};
-use pd_walk::Walker;
+use pd_walk::{Start, Walker};
 use std::alloc::{AllocError, Global};
 
 /// The `$0` of the patch.
 const FIRST_ZERO: u32 = 1001;
-
-/// The most boxes whose numbers a line tells.
-const MOST_BOXES: usize = 16_384;
 
 /// The room of events.
 #[derive(Drop)]
@@ -34,6 +32,7 @@ struct Room {
     walker: Walker,
     queue: EditQueue,
     numbers: Vec<u32>,
+    ghost has_room: { 16384 ≤ vec_capacity numbers },
 }
 
 impl Room {
@@ -251,6 +250,7 @@ impl Engine {
             lines,
         )?;
         flush(&mut self.held, lines)?;
-        self.load(report.fresh.as_slice(), lines)
+        let boxes = report.fresh.as_slice();
+        self.run_event(&Start::Loads { boxes }, lines)
     }
 }
