@@ -1,6 +1,6 @@
 -- Clocks and blocks in time.
 use Rattle.std.specs.Prelude.{ℕ, zero, suc, ◌+◌, ◌-◌, ◌==◌, min, max, nat_lt, nat_le, not, List, [], ◌∷◌, ◌++◌, Option, Some, None, if◌then◌else◌}
-use Rattle.pd_clock.specs.Queue.{Clock, without}
+use Rattle.pd_clock.specs.Queue.{Clock}
 use Rattle.pd_mix.specs.Samples.{block_bytes}
 use Rattle.pd_walk.specs.Worlds.{Net}
 use Rattle.pd_block.specs.Nets as block
@@ -26,6 +26,15 @@ abbrev pub first_clock : List Clock → Option Clock
 first_clock [] = None
 first_clock (c ∷ cs) = Some (earlier c (first_clock cs))
 
+-- the clocks without it
+abbrev pub off_or_on : Clock → Option Clock → List Clock → List Clock → List Clock
+off_or_on c None off on = off
+off_or_on c (Some d) off on = if nat_lt d.time c.time then on else off
+
+abbrev pub taken_off : List Clock → List Clock
+taken_off [] = []
+taken_off (c ∷ cs) = off_or_on c (first_clock cs) cs (c ∷ taken_off cs)
+
 -- it, where its time is below a limit
 abbrev pub if_below : ℕ → Option Clock → Option Clock
 if_below limit None = None
@@ -34,12 +43,12 @@ if_below limit (Some c) = if nat_lt c.time limit then Some c else None
 abbrev pub next_clock : ℕ → List Clock → Option Clock
 next_clock limit cs = if_below limit (first_clock cs)
 
--- a clock was taken off
-abbrev pub with_taken : Stage → Clock → Stage
-with_taken s c = record {
+-- with other clocks
+abbrev pub with_taken : Stage → List Clock → Stage
+with_taken s clocks = record {
   net = s.net;
   states = s.states;
-  clocks = without c.owner s.clocks;
+  clocks = clocks;
   names = s.names;
   time = s.time;
   block_end = s.block_end;
@@ -63,7 +72,7 @@ abbrev pub fires_at : Stage → ℕ → ℕ → Passage
 fires_at s time owner = event (with_fired s time) (Firing owner)
 
 abbrev pub fires : Stage → Clock → Passage
-fires s c = fires_at (with_taken s c) c.time c.owner
+fires s c = fires_at (with_taken s (taken_off s.clocks)) c.time c.owner
 
 abbrev pub fires_or_not : Stage → (Stage → Passage) → Option Clock → Passage
 fires_or_not s rest None = still s
