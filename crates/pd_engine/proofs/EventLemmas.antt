@@ -13,7 +13,7 @@ use Rattle.pd_walk.specs.declared.walker.Budget.{Budget}
 use Rattle.pd_walk.specs.declared.walker.Start.{Start}
 use Rattle.pd_walk.specs.declared.walker.Start.TheVariants as start
 use Rattle.pd_walk.specs.Worlds.{Net, Kept}
-use Rattle.pd_walk.specs.Outcome.{outcome, IsLeft}
+use Rattle.pd_walk.specs.Outcome.{outcome, world, IsLeft}
 use Rattle.pd_engine.specs.Stages.{Stage, Passage, still, joined, followed_by, Says}
 use Rattle.pd_engine.specs.Events.{Beginning, beginning_of, deliveries, delivered, begun, repeated, refused_edit, refusals, with_kept, event}
 use Rattle.pd_engine.specs.Times.{fires_below, clocks_fire, blocks_run, block_runs, block_sounds}
@@ -25,40 +25,64 @@ outcome_is net now w (start.Name name message) = refl
 outcome_is net now w (start.Clock owner) = refl
 outcome_is net now w (start.Loads boxes) = refl
 
+-- what an event begins with, where no edit waits and the budget is whole
+abbrev from : Stage → Waiting → Budget → World Kept
+from s q b = world (record { states = s.states; clocks = s.clocks; names = s.names; queue = q }) b []
+
+from_is : (s : Stage) (q : Waiting) (b : Budget) → q ≡ [] → b ≡ record { left = 1000000; cut = false } → from s q b ≡ begun s
+from_is s q b none whole = rw (none, whole) refl
+
+final_is : (s : Stage) (st : Start) (q : Waiting) (b : Budget) → q ≡ [] → b ≡ record { left = 1000000; cut = false }
+    → outcome s.net s.time (from s q b) st ≡ delivered s (beginning_of st)
+final_is s st q b none whole =
+    ap (λ (w : World Kept). outcome s.net s.time w st) (from_is s q b none whole) ∙ outcome_is s.net s.time (begun s) st
+
 -- deliveries are done, and the edits that were asked for are refused
-pub event_says : (s s' : Stage) (st : Start) (queue : Waiting) (budget : Budget) (t₁ t₂ t₃ : Option (List ℕ))
-    → IsLeft (record { states = s'.states; clocks = s'.clocks; names = s'.names; queue = queue }) budget t₁ t₂ (outcome s.net s.time (begun s) st)
-    → s' ≡ with_kept s (record { states = s'.states; clocks = s'.clocks; names = s'.names; queue = queue })
+pub event_says : (s s' : Stage) (st : Start) (q queue : Waiting) (b budget : Budget) (t₁ t₂ t₃ : Option (List ℕ))
+    → q ≡ [] → b ≡ record { left = 1000000; cut = false }
+    → IsLeft (record { states = s'.states; clocks = s'.clocks; names = s'.names; queue = queue }) budget t₁ t₂ (outcome s.net s.time (from s q b) st)
+    → s'.net ≡ s.net → s'.time ≡ s.time → s'.block_end ≡ s.block_end → s'.fired ≡ s.fired
     → t₃ ≡ grown t₂ (refusals queue) → Says (event s (beginning_of st)) s' t₁ t₃
 unfolding event
-event_says s s' st queue budget t₁ t₂ t₃ left same more =
-    let is = outcome_is s.net s.time (begun s) st in
-    let kept = left.kept_is ∙ ap (λ (w : World Kept). w.kept) is in
+event_says s s' st q queue b budget t₁ t₂ t₃ none whole left net time block_end fired more =
+    let is = final_is s st q b none whole in
+    let kept : record { states = s'.states; clocks = s'.clocks; names = s'.names; queue = queue } ≡ (delivered s (beginning_of st)).kept =
+        left.kept_is ∙ ap (λ (w : World Kept). w.kept) is in
     let asked : queue ≡ (delivered s (beginning_of st)).kept.queue = ap (λ (k : Kept). k.queue) kept in
     record {
-      stage_is = same ∙ ap (with_kept s) kept;
-      lines_are = more ∙ ap (λ (q : Waiting). grown t₂ (refusals q)) asked ∙ ap (λ (o : Option (List ℕ)). grown o (refusals (delivered s (beginning_of st)).kept.queue)) left.said
-          ∙ grown-grown t₁ (outcome s.net s.time (begun s) st).said (refusals (delivered s (beginning_of st)).kept.queue)
+      stage_is = stays s s' queue net time block_end fired ∙ ap (with_kept s) kept;
+      lines_are = more ∙ ap (λ (x : Waiting). grown t₂ (refusals x)) asked
+          ∙ ap (λ (o : Option (List ℕ)). grown o (refusals (delivered s (beginning_of st)).kept.queue)) left.said
+          ∙ grown-grown t₁ (outcome s.net s.time (from s q b) st).said (refusals (delivered s (beginning_of st)).kept.queue)
           ∙ ap (λ (w : World Kept). grown t₁ (w.said ++ refusals (delivered s (beginning_of st)).kept.queue)) is;
     }
+  where
+    stays : (s s' : Stage) (q : Waiting) → s'.net ≡ s.net → s'.time ≡ s.time → s'.block_end ≡ s.block_end → s'.fired ≡ s.fired
+        → s' ≡ with_kept s (record { states = s'.states; clocks = s'.clocks; names = s'.names; queue = q })
+    stays s s' q net time block_end fired =
+        ap (λ (n : Net). record { net = n; states = s'.states; clocks = s'.clocks; names = s'.names; time = s'.time; block_end = s'.block_end; fired = s'.fired }) net
+        ∙ ap (λ (t : ℕ). record { net = s.net; states = s'.states; clocks = s'.clocks; names = s'.names; time = t; block_end = s'.block_end; fired = s'.fired }) time
+        ∙ ap (λ (t : ℕ). record { net = s.net; states = s'.states; clocks = s'.clocks; names = s'.names; time = s.time; block_end = t; fired = s'.fired }) block_end
+        ∙ ap (λ (t : ℕ). record { net = s.net; states = s'.states; clocks = s'.clocks; names = s'.names; time = s.time; block_end = s.block_end; fired = t }) fired
 
 -- the lines of the deliveries were taken in part, or those of the refused edits
-pub event_breaks : (s : Stage) (st : Start) (t₁ t₂ : Option (List ℕ)) → TookPart t₁ t₂ (outcome s.net s.time (begun s) st).said
-    → TookPart t₁ t₂ (event s (beginning_of st)).lines
+pub event_breaks : (s : Stage) (st : Start) (q : Waiting) (b : Budget) (t₁ t₂ : Option (List ℕ)) → q ≡ [] → b ≡ record { left = 1000000; cut = false }
+    → TookPart t₁ t₂ (outcome s.net s.time (from s q b) st).said → TookPart t₁ t₂ (event s (beginning_of st)).lines
 unfolding event
-event_breaks s st t₁ t₂ took =
+event_breaks s st q b t₁ t₂ none whole took =
     took_more t₁ t₂ (delivered s (beginning_of st)).said (refusals (delivered s (beginning_of st)).kept.queue)
-    (subst (λ (w : World Kept). TookPart t₁ t₂ w.said) (outcome_is s.net s.time (begun s) st) took)
+    (subst (λ (w : World Kept). TookPart t₁ t₂ w.said) (final_is s st q b none whole) took)
 
-pub event_breaks_late : (s : Stage) (st : Start) (k : Kept) (budget : Budget) (t₁ t₂ t₃ : Option (List ℕ)) → IsLeft k budget t₁ t₂ (outcome s.net s.time (begun s) st)
+pub event_breaks_late : (s : Stage) (st : Start) (q : Waiting) (b : Budget) (k : Kept) (budget : Budget) (t₁ t₂ t₃ : Option (List ℕ)) → q ≡ [] → b ≡ record { left = 1000000; cut = false }
+    → IsLeft k budget t₁ t₂ (outcome s.net s.time (from s q b) st)
     → TookPart t₂ t₃ (refusals k.queue) → TookPart t₁ t₃ (event s (beginning_of st)).lines
 unfolding event
-event_breaks_late s st k budget t₁ t₂ t₃ left took =
-    let is = outcome_is s.net s.time (begun s) st in
-    let kept = left.kept_is ∙ ap (λ (w : World Kept). w.kept) is in
+event_breaks_late s st q b k budget t₁ t₂ t₃ none whole left took =
+    let is = final_is s st q b none whole in
+    let kept : k ≡ (delivered s (beginning_of st)).kept = left.kept_is ∙ ap (λ (w : World Kept). w.kept) is in
     took_after t₁ t₂ t₃ (delivered s (beginning_of st)).said (refusals (delivered s (beginning_of st)).kept.queue)
     (left.said ∙ ap (λ (w : World Kept). grown t₁ w.said) is)
-    (subst (λ (q : Waiting). TookPart t₂ t₃ (refusals q)) (ap (λ (x : Kept). x.queue) kept) took)
+    (subst (λ (x : Waiting). TookPart t₂ t₃ (refusals x)) (ap (λ (x : Kept). x.queue) kept) took)
 
 -- a text once more
 pub repeated_more : (n : ℕ) (text : List ℕ) → repeated n text ++ text ≡ repeated (suc n) text

@@ -1,3 +1,5 @@
+pub mod BlockLemmas
 pub mod ClockLemmas
 pub mod EventLemmas
 pub mod PassageLemmas
+pub mod ShowLemmas

@@ -19,7 +19,8 @@ use Rattle.pd_engine.specs.declared.refusals.Outcome.{Outcome}
 use Rattle.pd_engine.specs.declared.refusals.Outcome.TheVariants.{Done, Refused, Nothing}
 use Rattle.pd_engine.specs.declared.refusals.EditRefusal.TheVariants.{NoDocument}
 use Rattle.pd_engine.specs.Stages.{Stage, Passage, saying, joined}
-use Rattle.pd_engine.specs.Events.{event, Message, selector_of, arguments_of}
+use Rattle.pd_engine.specs.Events.{event, Message}
+use Rattle.pd_engine.specs.Messages.{message_in}
 
 -- the canvas to which a path of box numbers leads from a canvas
 abbrev pub step_to : Net → ℕ → ℕ → Option ℕ
@@ -57,7 +58,7 @@ cut_text atoms = cut_line (nat_lt 1024 (length atoms))
 
 abbrev pub sent : ℕ → List Atom → Stage → Passage
 sent name atoms s =
-    joined (saying s (cut_text (arguments_of atoms))) (event s (Message name (selector_of atoms) (cut_atoms (arguments_of atoms))))
+    joined (saying s (cut_text (message_in atoms).atoms)) (event s (Message name (message_in atoms).selector (cut_atoms (message_in atoms).atoms)))
 
 -- Editing isn't there yet: an edit and a save are refused, and there is nothing to undo or redo.
 unfoldable pub commanded : Command → Stage → Passage

@@ -1,8 +1,6 @@
 -- What an event leads to: its deliveries, and then the edits that were asked for, each of which is refused.
-use Rattle.std.specs.Prelude.{ℕ, zero, suc, false, List, [], ◌∷◌, ◌++◌, length, nat_lt, if◌then◌else◌}
+use Rattle.std.specs.Prelude.{ℕ, zero, suc, false, List, [], ◌∷◌, ◌++◌, length}
 use Rattle.pd_atom.specs.declared.Atom.{Atom}
-use Rattle.pd_kind.specs.declared.messages.Target.TheVariants.{Outlet}
-use Rattle.pd_kind.specs.Forming.{message_send, cut_atoms}
 use Rattle.pd_say.specs.Lines.{refusal_text}
 use Rattle.pd_say.specs.declared.refusals.Request.TheVariants as request
 use Rattle.pd_say.specs.declared.refusals.Why.TheVariants as why
@@ -68,10 +66,3 @@ after_deliveries s w = record { stage = with_kept s w.kept; lines = w.said ++ re
 
 unfoldable pub event : Stage → Beginning → Passage
 event s b = after_deliveries s (delivered s b)
-
--- the message that atoms make, before it is cut
-abbrev pub selector_of : List Atom → ℕ
-selector_of atoms = (message_send (Outlet 0) atoms).selector
-
-abbrev pub arguments_of : List Atom → List Atom
-arguments_of atoms = (message_send (Outlet 0) atoms).atoms
