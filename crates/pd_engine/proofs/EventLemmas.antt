@@ -47,7 +47,7 @@ unfolding event
 event_says s s' st q queue b budget t₁ t₂ t₃ none whole left net time block_end fired more =
     let is = final_is s st q b none whole in
     let kept : record { states = s'.states; clocks = s'.clocks; names = s'.names; queue = queue } ≡ (delivered s (beginning_of st)).kept =
-        left.kept_is ∙ ap (λ (w : World Kept). w.kept) is in
+    left.kept_is ∙ ap (λ (w : World Kept). w.kept) is in
     let asked : queue ≡ (delivered s (beginning_of st)).kept.queue = ap (λ (k : Kept). k.queue) kept in
     record {
       stage_is = stays s s' queue net time block_end fired ∙ ap (with_kept s) kept;

@@ -1,6 +1,6 @@
 //! The engine: one event after another.
 
-ghost use Rattle.std.specs.Prelude.{◌≡◌, ◌≤◌, ◌^◌, ◌⊎◌, true, false, IsTrue, IsErrOf, OnOk, OnErr, IfOk, IfSome, IfNone, option_map, length, vec_capacity};
+ghost use Rattle.std.specs.Prelude.{◌≡◌, ◌≤◌, ◌^◌, ◌⊎◌, true, false, IsTrue, IsErrOf, OnOk, OnErr, IfOk, IfSome, IfNone, option_map, length};
 ghost use Rattle.pd_io.specs.Faults.{Rose};
 ghost use Rattle.pd_io.specs.Stream.{TookPart};
 ghost use Rattle.pd_lex.specs.Reading.{is_body};
@@ -14,6 +14,7 @@ ghost use Rattle.pd_engine.specs.Times.{advanced, finished};
 ghost use Rattle.pd_engine.specs.Commands.{commanded, answered};
 
 use crate::refusals::{EngineFault, Outcome};
+use crate::room::BoxNumbers;
 use pd_atom::Symbols;
 use pd_clock::Time;
 use pd_gather::Library;
@@ -34,15 +35,14 @@ pub struct Engine {
     pub(crate) walker: Walker,
     pub(crate) queue: EditQueue,
     pub(crate) held: Held,
-    /// The numbers of a line, with room for those of 16,384 boxes.
-    pub(crate) numbers: Vec<u32>,
+    /// The numbers of a line.
+    pub(crate) numbers: BoxNumbers,
     pub(crate) time: Time,
     /// The end of the block that comes next.
     pub(crate) block_end: Time,
     /// How many clocks fired since the last block.
     pub(crate) fired: u32,
     pub(crate) stopped: bool,
-    ghost has_room: { 16384 ≤ vec_capacity numbers },
 }
 
 impl Engine {

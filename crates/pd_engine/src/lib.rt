@@ -9,6 +9,7 @@ mod opening;
 mod printing;
 mod refusals;
 mod remarks;
+mod room;
 mod showing;
 mod times;
 

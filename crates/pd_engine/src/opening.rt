@@ -1,6 +1,6 @@
 //! A patch is opened: fetched, read, grown and loaded.
 
-ghost use Rattle.std.specs.Prelude.{◌≡◌, ◌≤◌, false, IfOk, vec_capacity};
+ghost use Rattle.std.specs.Prelude.{◌≡◌, ◌≤◌, false, IfOk};
 ghost use Rattle.pd_say.specs.Gathering.{HasCause};
 ghost use Rattle.pd_engine.specs.Causes.{HasOpeningCauses};
 ghost use Rattle.pd_atom.specs.Names.{Extends};
@@ -10,7 +10,7 @@ ghost use Rattle.pd_gather.specs.Gather.{AreProper};
 use crate::engine::Engine;
 use crate::refusals::{BadCause, OpenRefusal, ungathered, ungrown, unread};
 use crate::remarks::say_remarks;
-use crate::showing::MOST_BOXES;
+use crate::room::BoxNumbers;
 use crate::times::BLOCK;
 use pd_atom::Symbols;
 use pd_clock::{Rate, Time};
@@ -31,8 +31,7 @@ const FIRST_ZERO: u32 = 1001;
 struct Room {
     walker: Walker,
     queue: EditQueue,
-    numbers: Vec<u32>,
-    ghost has_room: { 16384 ≤ vec_capacity numbers },
+    numbers: BoxNumbers,
 }
 
 impl Room {
@@ -40,7 +39,7 @@ impl Room {
         Ok(Room {
             walker: Walker::new(alloc)?,
             queue: EditQueue::new(alloc)?,
-            numbers: Vec::with_capacity(alloc, MOST_BOXES)?,
+            numbers: BoxNumbers::new(alloc)?,
         })
     }
 }

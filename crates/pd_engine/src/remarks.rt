@@ -3,6 +3,7 @@
 ghost use Rattle.std.specs.Prelude.{◌≤◌};
 ghost use Rattle.pd_say.specs.Gathering.{HasCause};
 
+use crate::room::BoxNumbers;
 use crate::showing::fill_numbers;
 use pd_atom::{Atom, Symbols};
 use pd_canvas::Wire;
@@ -15,7 +16,7 @@ use pd_tree::Fault;
 pub(crate) fn say_remarks<L: Sink>(
     patch: &Patch,
     remarks: &[Remark],
-    numbers: &mut Vec<u32>,
+    numbers: &mut BoxNumbers,
     symbols: &Symbols,
     held: &mut Held,
     lines: &mut L,
@@ -31,7 +32,7 @@ pub(crate) fn say_remarks<L: Sink>(
 fn say_remark<L: Sink>(
     patch: &Patch,
     remark: Remark,
-    numbers: &mut Vec<u32>,
+    numbers: &mut BoxNumbers,
     symbols: &Symbols,
     held: &mut Held,
     lines: &mut L,
@@ -112,7 +113,7 @@ fn say_unfit<L: Sink>(
 fn say_loop<L: Sink>(
     patch: &Patch,
     canvas: u32,
-    numbers: &mut Vec<u32>,
+    numbers: &mut BoxNumbers,
     symbols: &Symbols,
     held: &mut Held,
     lines: &mut L,
@@ -122,14 +123,14 @@ fn say_loop<L: Sink>(
     let path = patch.path_of(canvas);
     match patch.order_at(canvas) {
         Some(order) => fill_numbers(patch, order.stuck(), numbers),
-        None => numbers.clear(),
+        None => numbers.numbers.clear(),
     }
     let line = Line::SignalLoop {
         canvas: CanvasPath {
             document: None,
             path: path.as_slice(),
         },
-        boxes: numbers.as_slice(),
+        boxes: numbers.numbers.as_slice(),
     };
     say(&line, symbols, held, lines)
 }

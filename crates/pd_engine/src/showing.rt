@@ -9,17 +9,21 @@ ghost use Rattle.pd_walk.specs.Worlds.{net_of};
 ghost use Rattle.pd_engine.specs.Commands.{numbers_told, boxes_text, order_text, led_to, shown};
 
 use crate::printing::print;
+use crate::room::{BoxNumbers, MOST_BOXES};
 use pd_atom::Symbols;
 use pd_io::{Sink, SinkFailed};
 use pd_order::Order;
 use pd_patch::Patch;
 use pd_say::{CanvasPath, Held, Line};
 
-/// The most boxes whose numbers a line tells, which is the most boxes of a patch.
-pub(crate) const MOST_BOXES: usize = 16_384;
-
 /// Makes `numbers` the numbers of boxes.
-pub(crate) fn fill_numbers(patch: &Patch, boxes: &[u32], numbers: &mut Vec<u32>)
+pub(crate) fn fill_numbers(patch: &Patch, boxes: &[u32], numbers: &mut BoxNumbers)
+    ensures { numbers.new.numbers.items ≡ numbers_told (net_of patch.now) boxes.now }
+{
+    fill(patch, boxes, &mut numbers.numbers);
+}
+
+fn fill(patch: &Patch, boxes: &[u32], numbers: &mut Vec<u32>)
     requires { 16384 ≤ vec_capacity numbers.old }
     ensures numbers { numbers.new.items ≡ numbers_told (net_of patch.now) boxes.now }
     ensures room { 16384 ≤ vec_capacity numbers.new }
@@ -36,13 +40,11 @@ pub(crate) fn fill_numbers(patch: &Patch, boxes: &[u32], numbers: &mut Vec<u32>)
 pub(crate) fn show<L: Sink>(
     patch: &Patch,
     path: &[u32],
-    numbers: &mut Vec<u32>,
+    numbers: &mut BoxNumbers,
     symbols: &Symbols,
     held: &mut Held,
     lines: &mut L,
 ) -> Result<(), SinkFailed>
-    requires { 16384 ≤ vec_capacity numbers.old }
-    ensures room { 16384 ≤ vec_capacity numbers.new }
     ensures ok { OnOk result (L.taken lines.new ≡ grown (L.taken lines.old) (shown (net_of patch.now) path.now)) }
     ensures err { OnErr result (TookPart (L.taken lines.old) (L.taken lines.new) (shown (net_of patch.now) path.now)) }
     ensures cause { HasCause (L.faults lines.old) (L.faults lines.new) result }
@@ -63,21 +65,19 @@ fn show_order<L: Sink>(
     patch: &Patch,
     order: &Order,
     path: &[u32],
-    numbers: &mut Vec<u32>,
+    numbers: &mut BoxNumbers,
     symbols: &Symbols,
     held: &mut Held,
     lines: &mut L,
 ) -> Result<(), SinkFailed>
-    requires { 16384 ≤ vec_capacity numbers.old }
-    ensures room { 16384 ≤ vec_capacity numbers.new }
     ensures ok { OnOk result (L.taken lines.new ≡ grown (L.taken lines.old) (order_text (net_of patch.now) path.now (Some order.now))) }
     ensures err { OnErr result (TookPart (L.taken lines.old) (L.taken lines.new) (order_text (net_of patch.now) path.now (Some order.now))) }
     ensures cause { HasCause (L.faults lines.old) (L.faults lines.new) result }
 {
     fill_numbers(patch, order.chain(), numbers);
-    print_chain(path, numbers.as_slice(), symbols, held, lines)?;
+    print_chain(path, numbers.numbers.as_slice(), symbols, held, lines)?;
     fill_numbers(patch, order.stuck(), numbers);
-    print_stuck(path, numbers.as_slice(), symbols, held, lines)
+    print_stuck(path, numbers.numbers.as_slice(), symbols, held, lines)
 }
 
 #[tactic(auto, unfolding(pd_say::specs::Lines::text_of))]

@@ -2,7 +2,7 @@ use Rattle.std.proofs.Common.{refl}
 use Rattle.std.proofs.lemmas.Result.{err_from_is_err_and, on_ok_weaker, on_err_weaker}
 use Rattle.pd_engine.specs.Stages.{stage_of}
 use Rattle.pd_engine.proofs.EventLemmas.{event_says, event_breaks, event_breaks_late}
-use Rattle.pd_engine.proofs.events.Engine.run_event.Goals as goal
+use Rattle.pd_engine.proofs.engine.Engine.run_event.Goals as goal
 
 pub returns-in_err-deliver-clause-err : goal.returns-in_err-deliver-clause-err
 returns-in_err-deliver-clause-err g c =
