@@ -1,10 +1,21 @@
 -- The next clock, and the clocks that are left.
-use Rattle.std.proofs.Common.{◌≡◌, ◌<◌, ◌≤◌, ℕ, zero, suc, Bool, true, false, List, [], ◌∷◌, ◌++◌, refl, sym, ◌∙◌, ap, subst, cond, ltb, arith, Option, Some, None}
+use Rattle.std.proofs.Common.{◌≡◌, ◌<◌, ◌≤◌, ◌+◌, ◌-◌, ℕ, zero, suc, Bool, true, false, List, [], ◌∷◌, ◌++◌, refl, sym, ◌∙◌, ap, subst, cond, ltb, arith, Option, Some, None}
 use Rattle.std.proofs.lemmas.Bool.{le-ltb, lt-ltb}
 use Rattle.std.specs.List.{AllByRecursion}
 use Rattle.pd_clock.specs.Queue.{Clock, IsTaken}
-use Rattle.pd_engine.specs.Stages.{Stage, still, followed_by}
-use Rattle.pd_engine.specs.Times.{earlier, first_clock, taken_off, off_or_on, if_below, next_clock, fires, fires_below, fires_or_not}
+use Rattle.slab.specs.Slab.{get}
+use Rattle.pd_atom.specs.Names.{Names}
+use Rattle.pd_grove.specs.declared.grove.Grove.{Grove}
+use Rattle.pd_grove.specs.Telling.{state_in}
+use Rattle.pd_io.specs.Stream.{TookPart}
+use Rattle.pd_patch.specs.declared.patch.Patch.{Patch}
+use Rattle.pd_patch.specs.Walking.{RestStays}
+use Rattle.pd_walk.specs.Worlds.{Net, net_of, states_of}
+use Rattle.pd_walk.proofs.WorldLemmas.{clocks-net}
+use Rattle.pd_engine.specs.Stages.{Stage, Passage, still, followed_by, Says}
+use Rattle.pd_engine.specs.Events.{event}
+use Rattle.pd_engine.proofs.PassageLemmas.{IsOnTheWay, way_goes_on, way_breaks, way_ends, unsounded, lines_off}
+use Rattle.pd_engine.specs.Times.{earlier, first_clock, taken_off, off_or_on, if_below, next_clock, with_taken, fires_at, fires, fires_below, fires_or_not}
 
 -- no clock is earlier than a time
 abbrev NotBelow : ℕ → Option Clock → Type 0
@@ -76,3 +87,54 @@ fires_one n limit s c is = ap (fires_or_not s (fires_below n limit)) is
 pub fires_no_more : (n limit : ℕ) (s : Stage) → n ≡ 0 → fires_below n limit s ≡ still s
 unfolding fires_below
 fires_no_more n limit s is = rw is refl
+
+-- a clock was taken off the patch
+pub clocks_taken : (p p' : Patch) (names : Names) (time block_end fired : ℕ) (cs : List Clock) → p'.grove ≡ p.grove → RestStays p p' → p'.timers.end ≡ p.timers.end
+    → p'.timers.clocks.clocks ≡ cs
+    → ◌≡◌ {A = Stage} (record { net = net_of p'; states = states_of p'; clocks = p'.timers.clocks.clocks; names = names; time = time; block_end = block_end; fired = fired })
+    (record { net = net_of p; states = states_of p; clocks = cs; names = names; time = time; block_end = block_end; fired = fired })
+clocks_taken p p' names time block_end fired cs grove rest end is =
+    ap (λ (n : Net). record { net = n; states = states_of p'; clocks = p'.timers.clocks.clocks; names = names; time = time; block_end = block_end; fired = fired }) (clocks-net p p' grove rest end)
+    ∙ ap (λ (g : Grove). record { net = net_of p; states = λ k. state_in (get g.nodes k); clocks = p'.timers.clocks.clocks; names = names; time = time; block_end = block_end; fired = fired }) grove
+    ∙ ap (λ (c : List Clock). record { net = net_of p; states = states_of p; clocks = c; names = names; time = time; block_end = block_end; fired = fired }) is
+
+counted : (limit : ℕ) (s : Stage) (c : Clock) (n : ℕ) → 10000 - s.fired ≡ suc n → next_clock limit s.clocks ≡ Some c
+    → fires_below (10000 - s.fired) limit s ≡ followed_by (fires s c) (fires_below n limit)
+counted limit s c n is next = ap (λ (k : ℕ). fires_below k limit s) is ∙ fires_one n limit s c next
+
+one_less : (limit : ℕ) (s s' : Stage) (c : Clock) → s.fired < 10000 → next_clock limit s.clocks ≡ Some c → s'.fired ≡ s.fired + 1
+    → fires_below (10000 - s.fired) limit s ≡ followed_by (fires s c) (fires_below (10000 - s'.fired) limit)
+one_less limit s s' c few next more =
+    let is : 10000 - s.fired ≡ suc (10000 - s'.fired) = omega arith in
+    counted limit s c (10000 - s'.fired) is next
+
+pub fired_more : (s s1 s' : Stage) (c : Clock) → s1 ≡ with_taken s (taken_off s.clocks) → s' ≡ (fires_at s1 c.time c.owner).stage → s'.fired ≡ s.fired + 1
+unfolding event
+fired_more s s1 s' c taken is = ap (λ (x : Stage). x.fired) is ∙ ap (λ (x : Stage). x.fired + 1) taken
+
+-- a clock fires: one more of those that may
+pub clock_goes_on : (limit : ℕ) (whole : Passage) (s s1 s' : Stage) (c : Clock) (t₁ t₂ t₃ : Option (List ℕ)) → s.fired < 10000
+    → next_clock limit s.clocks ≡ Some c → s1 ≡ with_taken s (taken_off s.clocks)
+    → IsOnTheWay whole (fires_below (10000 - s.fired) limit) s t₁ t₂ None None → Says (fires_at s1 c.time c.owner) s' t₂ t₃
+    → IsOnTheWay whole (fires_below (10000 - s'.fired) limit) s' t₁ t₃ None None
+clock_goes_on limit whole s s1 s' c t₁ t₂ t₃ few next taken way says =
+    way_goes_on whole (fires_below (10000 - s.fired) limit) (fires_below (10000 - s'.fired) limit) (fires s c) s s' t₁ t₂ t₃ None None None way
+    (one_less limit s s' c few next (fired_more s s1 s' c taken says.stage_is))
+    (unsounded (fires s c) s' t₂ t₃ (subst (λ (x : Stage). Says (fires_at x c.time c.owner) s' t₂ t₃) taken says))
+
+pub clock_breaks : (limit : ℕ) (whole : Passage) (s s1 : Stage) (c : Clock) (t₁ t₂ t₃ : Option (List ℕ)) → s.fired < 10000
+    → next_clock limit s.clocks ≡ Some c → s1 ≡ with_taken s (taken_off s.clocks)
+    → IsOnTheWay whole (fires_below (10000 - s.fired) limit) s t₁ t₂ None None → TookPart t₂ t₃ (fires_at s1 c.time c.owner).lines → TookPart t₁ t₃ whole.lines
+clock_breaks limit whole s s1 c t₁ t₂ t₃ few next taken way took =
+    (way_breaks whole (fires_below (10000 - s.fired) limit) (fires_below (10000 - (s.fired + 1)) limit) (fires s c) s t₁ t₂ t₃ None None None way
+    (counted limit s c (10000 - (s.fired + 1)) (omega arith) next)
+    (lines_off (fires s c) t₂ t₃ (subst (λ (x : Stage). TookPart t₂ t₃ (fires_at x c.time c.owner).lines) taken took))).lines_took
+
+-- nothing more fires
+pub clocks_end : (limit n : ℕ) (whole : Passage) (s s' : Stage) (t₁ t₂ : Option (List ℕ)) → s' ≡ s → fires_below n limit s ≡ still s
+    → IsOnTheWay whole (fires_below n limit) s t₁ t₂ None None → Says whole s' t₁ t₂
+clocks_end limit n whole s s' t₁ t₂ same none way =
+    subst (λ (x : Stage). Says whole x t₁ t₂) (sym same) (way_ends whole (fires_below n limit) s t₁ t₂ None None way none).says
+
+pub fired_says : (s s1 s' : Stage) (c : Clock) (t t' : Option (List ℕ)) → s1 ≡ with_taken s (taken_off s.clocks) → Says (fires_at s1 c.time c.owner) s' t t' → s'.fired ≡ s.fired + 1
+fired_says s s1 s' c t t' taken says = fired_more s s1 s' c taken says.stage_is

@@ -1,5 +1,5 @@
 -- Events, blocks, and where the patch stands after them.
-use Rattle.std.proofs.Common.{◌≡◌, ◌≤◌, ◌<◌, ◌+◌, ◌-◌, ℕ, zero, suc, List, [], ◌++◌, length, refl, sym, ◌∙◌, ap, subst, append_assoc, Option, arith}
+use Rattle.std.proofs.Common.{false, ◌≡◌, ◌≤◌, ◌<◌, ◌+◌, ◌-◌, ℕ, zero, suc, List, [], ◌++◌, length, refl, sym, ◌∙◌, ap, subst, append_assoc, Option, arith}
 use Rattle.std.proofs.lemmas.List.{append-nil}
 use Rattle.std.proofs.lemmas.Bool.{le-leb, lt-leb}
 use Rattle.pd_io.specs.Stream.{grown, TookPart}
@@ -90,14 +90,16 @@ repeated_more zero text = sym (append-nil text)
 repeated_more (suc n) text = append_assoc text (repeated n text) text ∙ ap (λ (x : List ℕ). text ++ x) (repeated_more n text)
 
 pub repeated_parts : (i j n : ℕ) (text : List ℕ) → i + j ≡ n → repeated n text ≡ repeated i text ++ repeated j text
-repeated_parts zero j n text is = ap (λ (k : ℕ). repeated k text) (sym is)
+repeated_parts zero j n text is = let e : n ≡ j = omega arith in ap (λ (k : ℕ). repeated k text) e
 repeated_parts (suc i) j n text is =
-    ap (λ (k : ℕ). repeated k text) (sym is) ∙ ap (λ (x : List ℕ). text ++ x) (repeated_parts i j (i + j) text refl) ∙ sym (append_assoc text (repeated i text) (repeated j text))
+    let e : n ≡ suc (i + j) = omega arith in
+    ap (λ (k : ℕ). repeated k text) e ∙ ap (λ (x : List ℕ). text ++ x) (repeated_parts i j (i + j) text refl) ∙ sym (append_assoc text (repeated i text) (repeated j text))
 
 pub lines_more : (i : ℕ) (text : List ℕ) (t₁ t₂ t₃ : Option (List ℕ)) → t₂ ≡ grown t₁ (repeated i text) → t₃ ≡ grown t₂ text → t₃ ≡ grown t₁ (repeated (i + 1) text)
 lines_more i text t₁ t₂ t₃ is more =
+    let e : suc i ≡ i + 1 = omega arith in
     more ∙ ap (λ (o : Option (List ℕ)). grown o text) is ∙ grown-grown t₁ (repeated i text) text
-    ∙ ap (grown t₁) (repeated_more i text ∙ ap (λ (k : ℕ). repeated k text) (omega arith))
+    ∙ ap (grown t₁) (repeated_more i text ∙ ap (λ (k : ℕ). repeated k text) e)
 
 pub lines_break : (i n : ℕ) (text : List ℕ) (t₁ t₂ t₃ : Option (List ℕ)) → i < n → t₂ ≡ grown t₁ (repeated i text) → TookPart t₂ t₃ text → TookPart t₁ t₃ (repeated n text)
 lines_break i n text t₁ t₂ t₃ lt is took =

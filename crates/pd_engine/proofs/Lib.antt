@@ -3,3 +3,4 @@ pub mod ClockLemmas
 pub mod EventLemmas
 pub mod PassageLemmas
 pub mod ShowLemmas
+pub mod TimeLemmas

@@ -1,0 +1,16 @@
+use Rattle.std.proofs.Common.{◌≡◌, ◌≤◌, ◌+◌, ◌-◌}
+use Rattle.pd_engine.specs.Stages.{stage_of}
+use Rattle.pd_engine.specs.Times.{advanced}
+use Rattle.pd_engine.proofs.TimeLemmas.{HasBlocksLeft}
+use Rattle.pd_engine.proofs.engine.Engine.advance_to.Given as goal
+
+abbrev pub invariant-loop-self : goal.invariant-loop-self
+invariant-loop-self g l = record {
+  way : HasBlocksLeft l.to (advanced l.to (stage_of l.fn.self)) (stage_of l.self) (g.L.Sink.taken l.fn.lines) (g.L.Sink.taken l.lines) (g.P.Sink.taken l.fn.pcm) (g.P.Sink.taken l.pcm);
+  lines : g.L.Sink.faults l.fn.lines ≤ g.L.Sink.faults l.lines;
+  pcm : g.P.Sink.faults l.fn.pcm ≤ g.P.Sink.faults l.pcm;
+  stays : l.self.stopped ≡ l.fn.self.stopped;
+}
+
+abbrev pub decreases-loop-self : goal.decreases-loop-self
+decreases-loop-self g l = l.to + 1 - l.self.block_end
