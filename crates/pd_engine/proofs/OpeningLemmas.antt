@@ -1,12 +1,12 @@
 -- How files are read, documents refused, and patches opened.
-use Rattle.std.proofs.Common.{◌≡◌, ◌≤◌, ℕ, Bool, true, false, List, [], ◌∷◌, length, nat_le, refl, sym, ◌∙◌, ap, subst, Option, Some, None, Result, Ok, Err, IfSome, IfOk, IfErr, OnErr, inl, inr, if◌then◌else◌}
+use Rattle.std.proofs.Common.{◌≡◌, ℕ, Bool, true, false, List, [], length, nat_le, refl, sym, ◌∙◌, ap, subst, Option, Some, None, Result, Ok, Err, IfSome, IfOk, IfErr, OnErr, inr, if◌then◌else◌}
 use Rattle.pd_io.specs.Rows.{held_at, answer_of, handed_out}
 use Rattle.pd_io.specs.Stream.{TookPart, grown as lines_grown}
 use Rattle.pd_io.specs.declared.files.FileRow.{FileRow}
 use Rattle.pd_io.specs.declared.shelves.Fetched.{Fetched}
 use Rattle.pd_io.specs.declared.shelves.Fetched.TheVariants as fetched
 use Rattle.pd_io.specs.declared.shelves.TheConstants.{MAX_FILE}
-use Rattle.pd_atom.specs.Names.{Names, first_names}
+use Rattle.pd_atom.specs.Names.{Names}
 use Rattle.pd_canvas.specs.Pages.{Page}
 use Rattle.pd_canvas.specs.declared.tree.Doc.{Doc}
 use Rattle.pd_clock.specs.declared.times.Rate.{Rate}
@@ -16,13 +16,12 @@ use Rattle.pd_doc.specs.Reading.{document_of}
 use Rattle.pd_doc.specs.Results.{Refuses}
 use Rattle.pd_tree.specs.Trees.{Tree}
 use Rattle.pd_growth.specs.declared.growing.Stop.TheVariants as stop
-use Rattle.pd_growth.specs.Steps.{Step, ends}
-use Rattle.pd_gather.specs.declared.fetching.Fetch.{Fetch}
+use Rattle.pd_growth.specs.Steps.{Step}
 use Rattle.pd_gather.specs.declared.fetching.Fetch.TheVariants as fetch
 use Rattle.pd_gather.specs.declared.refusal.GatherRefusal.{GatherRefusal}
 use Rattle.pd_gather.specs.declared.refusal.GatherRefusal.TheVariants as gather
 use Rattle.pd_gather.specs.Fetching.{given}
-use Rattle.pd_gather.specs.Gather.{Known, Gathering, Gathered, Full, known, Gathers, AnswersAll, growth, asked_by}
+use Rattle.pd_gather.specs.Gather.{Known, Gathered, Full, known, Gathers, AnswersAll, growth, asked_by}
 use Rattle.pd_patch.specs.declared.patch.Patch.{Patch}
 use Rattle.pd_patch.specs.declared.report.Remark.{Remark}
 use Rattle.pd_patch.specs.declared.refusal.GrowRefusal.{GrowRefusal}
@@ -33,12 +32,11 @@ use Rattle.pd_grove.specs.TextOrder.{keys_in_order}
 use Rattle.pd_engine.specs.declared.engine.Engine.{Engine}
 use Rattle.pd_engine.specs.declared.refusals.OpenRefusal.{OpenRefusal}
 use Rattle.pd_engine.specs.declared.refusals.OpenRefusal.TheVariants.{Absent, Bad, ShelfFault, WriteFault, NoMemory}
-use Rattle.pd_engine.specs.declared.refusals.BadCause.TheVariants as cause
 use Rattle.pd_engine.specs.Refusals.{unread, ungathered, ungrown}
-use Rattle.pd_engine.specs.Stages.{Stage, stage_of, saying, followed_by, Says}
+use Rattle.pd_engine.specs.Stages.{Stage, stage_of, saying, Says}
 use Rattle.pd_engine.specs.Events.{event, Loading}
 use Rattle.pd_engine.specs.Remarks.{remarks_text}
-use Rattle.pd_engine.specs.Opening.{first_stage, loaded, opened, growth_of, Grows, Opens, BreaksOff, IsUngathered, IsUngrown, IsRefused, text_read, file_read, IsUnreadText, IsUnread, Reads, OpensFile, IsFileRefused}
+use Rattle.pd_engine.specs.Opening.{first_stage, loaded, opened, growth_of, Grows, Opens, IsUngathered, IsUngrown, IsRefused, text_read, IsUnreadText, IsUnread, Reads}
 use Rattle.pd_engine.proofs.PassageLemmas.{says_followed, says_lines, lines_broke, lines_broke_after}
 
 -- the shelf's answer to a fetch, and what it hands out

@@ -9,7 +9,6 @@ use Rattle.pd_canvas.specs.Pages.{Page}
 use Rattle.pd_clock.specs.declared.times.Rate.{Rate}
 use Rattle.pd_doc.specs.declared.refusal.DocRefusal.{DocRefusal}
 use Rattle.pd_doc.specs.Reading.{document_of}
-use Rattle.pd_library.specs.declared.answers.Answer.{Answer}
 use Rattle.pd_library.specs.Files.{answer_in}
 use Rattle.pd_tree.specs.Trees.{Tree}
 use Rattle.pd_growth.specs.declared.growing.Stop.TheVariants as stop
@@ -28,7 +27,7 @@ use Rattle.pd_engine.specs.declared.refusals.OpenRefusal.{OpenRefusal}
 use Rattle.pd_engine.specs.declared.refusals.OpenRefusal.TheVariants.{Absent, Bad, ShelfFault, WriteFault, NoMemory}
 use Rattle.pd_engine.specs.declared.refusals.BadCause.{BadCause}
 use Rattle.pd_engine.specs.declared.refusals.BadCause.TheVariants as cause
-use Rattle.pd_engine.specs.Stages.{Stage, Passage, stage_of, saying, joined, Says}
+use Rattle.pd_engine.specs.Stages.{Stage, Passage, saying, joined, Says}
 use Rattle.pd_engine.specs.Events.{event, Loading}
 use Rattle.pd_engine.specs.Refusals.{unread}
 use Rattle.pd_engine.specs.Remarks.{remarks_text}
