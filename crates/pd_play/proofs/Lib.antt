@@ -1,2 +1,4 @@
 pub mod ReportLemmas
 pub mod CauseLemmas
+pub mod AheadLemmas
+pub mod RunLemmas

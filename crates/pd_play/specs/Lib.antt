@@ -1,3 +1,5 @@
 pub mod Causes
 pub mod Ending
+pub mod Playing
+pub mod Runs
 pub mod Telling
