@@ -4,6 +4,7 @@ ghost use Rattle.std.specs.Prelude.{◌≡◌, ◌≢◌, ◌≤◌, [], true, f
 ghost use Rattle.std.specs.String.{string_bytes};
 ghost use Rattle.pd_words.specs.Grammar.{words_of};
 ghost use Rattle.pd_play.specs.Causes.{HasRunCauses, HasCauses};
+ghost use Rattle.pd_play.specs.Playing.{point_of, IsCounted, Ends};
 ghost use Rattle.pd_play.specs.Telling.{IsUnplayed, is_played, told, Answers};
 
 use crate::report::tell;
@@ -14,9 +15,6 @@ use pd_io::{Shelf, Sink, Source};
 use pd_say::Held;
 use pd_words::{Words, read_words};
 use std::alloc::{AllocError, Global};
-
-/// A script has fewer records.
-const MOST_RECORDS: u32 = 1_073_741_825;
 
 /// Plays a patch by a script: `words` are the words after the program's name, `shelf` is the folder of patches, printed lines go to
 /// `lines` and the samples to `pcm`, 16 bits little-endian, left then right.
@@ -127,16 +125,15 @@ fn play_script<S: Source, L: Sink, P: Sink>(
     lines: &mut L,
     pcm: &mut P,
 ) -> Status
-    requires { session.engine.stopped ≡ false }
+    requires running { session.engine.stopped ≡ false }
+    requires counted { IsCounted session.number session.feed }
+    ensures plays { Ends session.feed (point_of session) result (S.left script.old) (S.left script.new) (S.faults script.old) (S.faults script.new) (L.taken lines.old) (L.taken lines.new) (P.taken pcm.old) (P.taken pcm.new) }
     ensures causes { HasRunCauses (S.faults script.old) (S.faults script.new) (L.faults lines.old) (L.faults lines.new) (P.faults pcm.old) (P.faults pcm.new) (Some result) }
 {
     let mut session = session;
-    for _ in 0..MOST_RECORDS {
+    'records: loop {
         if let Some(status) = session.step(script, lines, pcm) {
             return status;
         }
-    }
-    Status::ScriptBad {
-        number: MOST_RECORDS,
     }
 }
