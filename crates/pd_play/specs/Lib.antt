@@ -1,5 +1,6 @@
 pub mod Causes
 pub mod Ending
+pub mod Patches
 pub mod Playing
 pub mod Runs
 pub mod Telling

@@ -1,6 +1,6 @@
 //! A patch that plays by a script.
-ghost use Rattle.std.specs.Prelude.{◌≡◌, ◌≤◌, false, [], IfOk};
-ghost use Rattle.pd_play.specs.Ending.{opened_as};
+ghost use Rattle.std.specs.Prelude.{◌≡◌, ◌≤◌, false, [], IfOk, IfErr};
+ghost use Rattle.pd_play.specs.Ending.{opened_as, IsRefusal};
 ghost use Rattle.pd_play.specs.Causes.{HasOpenCauses};
 
 use crate::status::Status;
@@ -36,6 +36,7 @@ impl Session {
     ) -> Result<Session, Status>
         ensures running { IfOk result (λ s. s.engine.stopped ≡ false) }
         ensures begins { IfOk result (λ s. (s.rate ≡ rate) × (s.number ≡ 0) × (s.time ≡ 0) × (s.feed ≡ record { passed = 0; blank = 0; bytes = []; last = [] })) }
+        ensures refused { IfErr result IsRefusal }
         ensures kept { H.holds shelf.new ≡ H.holds shelf.old }
         ensures causes { HasOpenCauses (H.faults shelf.old) (H.faults shelf.new) (L.faults lines.old) (L.faults lines.new) result }
     {
