@@ -1,5 +1,6 @@
 pub mod BlockLemmas
 pub mod ClockLemmas
+pub mod CommandLemmas
 pub mod EventLemmas
 pub mod PassageLemmas
 pub mod ShowLemmas

@@ -58,7 +58,10 @@ pub(crate) fn show<L: Sink>(
 fn order_along<'a>(patch: &'a Patch, path: &[u32]) -> Option<&'a Order>
     ensures { option_copied result ≡ option_and_then (λ c. order_in patch.now.orders.items c) (led_to (net_of patch.now) (Some patch.now.grove.root) path.now) }
 {
-    patch.order_at(patch.place_key(path)?)
+    match patch.place_key(path) {
+        Some(canvas) => patch.order_at(canvas),
+        None => None,
+    }
 }
 
 fn show_order<L: Sink>(
