@@ -1,7 +1,6 @@
 -- What a feed's answer says of the script ahead, whatever comes behind it.
-use Rattle.std.proofs.Common.{◌≡◌, ℕ, ◌+◌, List, [], ◌++◌, drop, Option, Some, None, true, false, refl, sym, ap, ◌∙◌}
-use Rattle.std.specs.Prelude.{IfSome, IsTrue, IsFalse}
-use Rattle.pd_io.specs.Stream.{with_front}
+use Rattle.std.proofs.Common.{◌≡◌, ℕ, ◌+◌, List, [], ◌++◌, drop, Option, Some, None, refl, ap, ◌∙◌}
+use Rattle.std.specs.Prelude.{IfSome, IsFalse}
 use Rattle.pd_lex.specs.Reading.{semicolon}
 use Rattle.pd_feed.specs.Script.{Script, fed_of, is_shown, record_text, with_first, ends_as, script_at, script_of}
 use Rattle.pd_feed.specs.Feed.{Feed, IsAtEnd, Feeds, Reads, Waits, script_ahead}

@@ -1,5 +1,5 @@
 -- Faults of a run, step by step.
-use Rattle.std.proofs.Common.{◌≡◌, ◌<◌, ◌≤◌, ◌⊎◌, ℕ, Option, inl, inr, arith}
+use Rattle.std.proofs.Common.{◌≤◌, ◌⊎◌, ℕ, Option, inl, inr, arith}
 use Rattle.pd_io.specs.Faults.{Rose}
 use Rattle.pd_play.specs.Causes.{HasRunCauses}
 use Rattle.pd_play.specs.declared.status.Status.{Status}

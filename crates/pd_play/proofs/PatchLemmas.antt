@@ -1,21 +1,19 @@
 -- A run and the line that tells of its status.
-use Rattle.std.proofs.Common.{◌≡◌, ◌≤◌, ◌⊎◌, inl, inr, ℕ, List, [], ◌∷◌, ◌++◌, Option, Some, None, Bool, true, refl, sym, ap, ◌∙◌, subst, append_assoc}
+use Rattle.std.proofs.Common.{◌≡◌, ◌≤◌, ◌⊎◌, inl, inr, ℕ, List, [], ◌∷◌, ◌++◌, Option, Some, None, refl, sym, ap, ◌∙◌, subst}
 use Rattle.std.specs.Prelude.{IfSome}
 use Rattle.std.proofs.lemmas.List.{append-nil}
-use Rattle.pd_io.specs.Faults.{Rose}
 use Rattle.pd_io.specs.Stream.{grown, with_front, TookPart}
 use Rattle.pd_feed.specs.Script.{script_of}
 use Rattle.pd_say.proofs.GatheringLemmas.{grown-grown, took_more, printed_nothing}
-use Rattle.pd_engine.specs.Stages.{Stage}
 use Rattle.pd_engine.proofs.PassageLemmas.{took_after, took_all}
 use Rattle.pd_engine.specs.declared.refusals.OpenRefusal.TheVariants as opening
 use Rattle.pd_words.specs.Grammar.{Asked}
-use Rattle.pd_play.specs.Ending.{status_line, opened_as}
+use Rattle.pd_play.specs.Ending.{status_line}
 use Rattle.pd_play.specs.Telling.{told, Answers}
 use Rattle.pd_play.specs.Runs.{Point, Run, Ending, Whole, Broken, run_of}
 use Rattle.pd_play.specs.Playing.{Played, Cut, Plays, EndsBy, Ends}
 use Rattle.pd_play.proofs.CauseLemmas.{rose_on}
-use Rattle.pd_play.specs.Patches.{unread, start, with_line, Tells, IsScript, PlaysScript, PlaysPatch, PlaysAsked, Runs}
+use Rattle.pd_play.specs.Patches.{unread, start, Tells, IsScript, PlaysScript, PlaysPatch, PlaysAsked, Runs}
 use Rattle.pd_play.specs.declared.status.Status.{Status}
 use Rattle.pd_play.specs.declared.status.Status.TheVariants.{WriteFault, NoMemory}
 

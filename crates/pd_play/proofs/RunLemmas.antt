@@ -1,12 +1,12 @@
 -- Parts of a run, and the run that begins with them.
-use Rattle.std.proofs.Common.{◌≡◌, ◌<◌, ◌≤◌, ◌⊎◌, inl, inr, ℕ, ◌+◌, ◌==◌, ℤ, Bool, true, false, List, [], ◌++◌, length, Option, Some, None, refl, sym, ap, ◌∙◌, subst, append_assoc}
+use Rattle.std.proofs.Common.{◌≡◌, ◌≤◌, ◌⊎◌, inl, inr, ℕ, ◌+◌, ◌==◌, ℤ, Bool, true, false, List, [], ◌++◌, length, Option, Some, None, refl, sym, ap, ◌∙◌, subst, append_assoc}
 use Rattle.std.proofs.lemmas.List.{append-nil}
 use Rattle.std.specs.Prelude.{if◌then◌else◌}
 use Rattle.pd_io.specs.Faults.{Rose}
-use Rattle.pd_io.specs.Stream.{grown, with_front, TookPart}
+use Rattle.pd_io.specs.Stream.{grown, with_front}
 use Rattle.pd_atom.specs.Names.{Names}
 use Rattle.pd_say.proofs.GatheringLemmas.{grown-grown, took_more, printed_nothing}
-use Rattle.pd_feed.specs.Script.{ends_as, is_shown, fed_of}
+use Rattle.pd_feed.specs.Script.{is_shown, fed_of}
 use Rattle.pd_feed.specs.Feed.{Feed, Feeds, Waits, script_ahead}
 use Rattle.pd_feed.specs.declared.feed.Fed.{Fed}
 use Rattle.pd_feed.specs.declared.feed.Fed.TheVariants as fed
@@ -15,14 +15,14 @@ use Rattle.pd_script.specs.Scripts.{command_of}
 use Rattle.pd_script.specs.declared.commands.Command.{Command}
 use Rattle.pd_script.specs.declared.commands.Command.TheVariants as command
 use Rattle.pd_script.specs.declared.commands.Script.{Script}
-use Rattle.pd_engine.specs.Stages.{Stage, Passage, with_names, still, joined, followed_by, Passes, BreaksOff}
+use Rattle.pd_engine.specs.Stages.{Stage, Passage, with_names, still, joined, Passes, BreaksOff}
 use Rattle.pd_engine.specs.Events.{event}
 use Rattle.pd_engine.specs.Commands.{commanded}
 use Rattle.pd_engine.proofs.PassageLemmas.{took_after, took_none}
 use Rattle.pd_play.specs.declared.status.Status.{Status}
 use Rattle.pd_play.specs.declared.status.Status.TheVariants.{ScriptBad, ReadFault, WriteFault, NoMemory}
 use Rattle.pd_play.specs.Runs.{Point, Run, Ending, Whole, Broken, at_stage, counted, ended, bad, done, behind, goes_on, read_run, timed_run, millionths, record_run, end_run, run_of}
-use Rattle.pd_play.specs.Playing.{Played, Cut, Plays, GoesOn, Leads, fed_run, ahead, Moves, EndsBy, Ends, Steps}
+use Rattle.pd_play.specs.Playing.{Plays, GoesOn, Leads, fed_run, ahead, Moves, EndsBy, Ends, Steps}
 use Rattle.pd_play.proofs.CauseLemmas.{rose_on}
 use Rattle.pd_play.proofs.AheadLemmas.{told, told_is, record_ahead, too_long_ahead, end_ahead, unfinished_ahead, waits_ahead}
 

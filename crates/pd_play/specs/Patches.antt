@@ -1,7 +1,7 @@
 -- A patch that was played by a script, and the line that tells how that ended.
-use Rattle.std.specs.Prelude.{◌≡◌, ◌⊎◌, ℕ, Bool, true, List, [], Option, IfSome}
+use Rattle.std.specs.Prelude.{◌≡◌, ◌⊎◌, ℕ, true, List, [], Option, IfSome}
 use Rattle.pd_io.specs.Faults.{Rose}
-use Rattle.pd_io.specs.Stream.{grown, with_front}
+use Rattle.pd_io.specs.Stream.{with_front}
 use Rattle.pd_feed.specs.Script.{script_of}
 use Rattle.pd_feed.specs.Feed.{Feed}
 use Rattle.pd_engine.specs.Stages.{Stage, saying, joined, BreaksOff}

@@ -1,5 +1,5 @@
 -- What a run was played as: its status, and what the sinks took of it.
-use Rattle.std.specs.Prelude.{◌≡◌, ◌<◌, ◌≤◌, ◌⊎◌, ℕ, List, [], ◌++◌, Option, Some, None, IfSome}
+use Rattle.std.specs.Prelude.{◌≡◌, ◌≤◌, ◌⊎◌, ℕ, List, [], ◌++◌, Option, Some, None, IfSome}
 use Rattle.pd_io.specs.Faults.{Rose}
 use Rattle.pd_io.specs.Stream.{grown, with_front}
 use Rattle.pd_clock.specs.Rates.{samples}

@@ -1,5 +1,5 @@
 -- The run of a script: its records, one after another, and how it ends.
-use Rattle.std.specs.Prelude.{◌≡◌, ℕ, ◌+◌, ◌*◌, ◌==◌, ℤ, pos, negsuc, List, [], ◌∷◌, length, nat_lt, Option, Some, None, if◌then◌else◌}
+use Rattle.std.specs.Prelude.{ℕ, ◌+◌, ◌*◌, ◌==◌, ℤ, pos, negsuc, List, [], ◌∷◌, length, nat_lt, Option, Some, None, if◌then◌else◌}
 use Rattle.pd_atom.specs.Names.{Names}
 use Rattle.pd_feed.specs.Script.{Script as Text}
 use Rattle.pd_feed.specs.declared.feed.Fed.{Fed}

@@ -1,4 +1,4 @@
-use Rattle.std.proofs.Common.{◌≡◌, ◌+◌, ◌==◌, List, ℕ, length, true, false, None, Some, sym, ap, ◌∙◌, subst}
+use Rattle.std.proofs.Common.{◌≡◌, ◌==◌, List, ℕ, length, true, false, sym, ap, ◌∙◌, subst}
 use Rattle.pd_script.specs.Scripts.{command_of}
 use Rattle.pd_script.specs.Tokens.{tokens_of}
 use Rattle.pd_play.specs.declared.status.Status.{Status}
