@@ -7,8 +7,8 @@ use Rattle.pd_engine.proofs.showing.fill.Goals as goal
 take_min : (m n : ℕ) (l : List ℕ) → m ≡ min (length l) n → take m l ≡ take n l
 take_min m n l is =
     elim (leb (length l) n) as (λ (b : Bool). leb (length l) n ≡ b → take m l ≡ take n l) [
-      true ↦ λ e. let h : length l ≤ n = leb-true (length l) n e in let k : length l ≤ m = omega arith in take_all m l k ∙ sym (take_all n l h)
-    | false ↦ λ e. let h : n < length l = leb-false (length l) n e in let k : m ≡ n = omega arith in ap (λ (j : ℕ). take j l) k
+      | true ↦ λ e. let h : length l ≤ n = leb-true (length l) n e in let k : length l ≤ m = omega arith in take_all m l k ∙ sym (take_all n l h)
+      | false ↦ λ e. let h : n < length l = leb-false (length l) n e in let k : m ≡ n = omega arith in ap (λ (j : ℕ). take j l) k
     ] refl
 
 take_few : (m : ℕ) (l : List ℕ) → m ≤ length l → m ≤ 16384 → length (take m l) ≤ 16384

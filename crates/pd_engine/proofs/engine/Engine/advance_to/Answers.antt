@@ -12,7 +12,7 @@ pub loop-self-smaller : goal.loop-self-smaller
 loop-self-smaller g c =
     let e = c.loop-self.self in
     let more : e.block_end < c.run_next_block.new.self.block_end =
-        later_passes c.args.to (stage_of e) (stage_of c.run_next_block.new.self) _ _ _ _ c.requires (omega arith) c.in_ok-run_next_block.ensures.ok in
+    later_passes c.args.to (stage_of e) (stage_of c.run_next_block.new.self) _ _ _ _ c.requires (omega arith) c.in_ok-run_next_block.ensures.ok in
     omega arith
 
 pub loop-self-preserved : goal.loop-self-preserved

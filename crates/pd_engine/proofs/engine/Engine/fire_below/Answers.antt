@@ -22,10 +22,10 @@ pub loop-self-smaller : goal.loop-self-smaller
 loop-self-smaller g c =
     let e = c.loop-self.self in
     let more : c.fire.new.self.fired ≡ e.fired + 1 =
-        fired_says (stage_of e) _ (stage_of c.fire.new.self) (record { time = _; owner = _ }) _ _
-        (clocks_taken e.patch c.next_clock.new.self e.symbols e.time e.block_end e.fired _ c.next_clock.ensures.tree c.next_clock.ensures.rest c.next_clock.ensures.end
-        (left_is e.patch.timers.clocks.clocks _ (record { time = _; owner = _ }) c.in-Some.ensures.some.1))
-        c.in_ok-fire.ensures.ok in
+    fired_says (stage_of e) _ (stage_of c.fire.new.self) (record { time = _; owner = _ }) _ _
+    (clocks_taken e.patch c.next_clock.new.self e.symbols e.time e.block_end e.fired _ c.next_clock.ensures.tree c.next_clock.ensures.rest c.next_clock.ensures.end
+    (left_is e.patch.timers.clocks.clocks _ (record { time = _; owner = _ }) c.in-Some.ensures.some.1))
+    c.in_ok-fire.ensures.ok in
     omega arith
 
 pub loop-self-preserved : goal.loop-self-preserved
