@@ -1,15 +1,22 @@
 -- A run and the line that tells of its status.
-use Rattle.std.proofs.Common.{◌≡◌, ◌≤◌, ◌⊎◌, inl, inr, ℕ, List, [], ◌∷◌, ◌++◌, Option, Some, None, refl, sym, ap, ◌∙◌, subst}
+use Rattle.std.proofs.Common.{◌≡◌, ◌≤◌, ◌⊎◌, inl, inr, ℕ, List, [], ◌∷◌, ◌++◌, Option, Some, None, true, refl, sym, ap, ◌∙◌, subst, arith}
 use Rattle.std.specs.Prelude.{IfSome}
 use Rattle.std.proofs.lemmas.List.{append-nil}
 use Rattle.pd_io.specs.Stream.{grown, with_front, TookPart}
 use Rattle.pd_feed.specs.Script.{script_of}
 use Rattle.pd_say.proofs.GatheringLemmas.{grown-grown, took_more, printed_nothing}
 use Rattle.pd_engine.proofs.PassageLemmas.{took_after, took_all}
+use Rattle.pd_io.specs.declared.files.FileRow.{FileRow}
+use Rattle.pd_clock.specs.declared.times.Rate.{Rate}
+use Rattle.pd_clock.specs.declared.times.Rate.TheVariants as hz
+use Rattle.pd_clock.specs.Rates.{samples}
 use Rattle.pd_engine.specs.declared.refusals.OpenRefusal.TheVariants as opening
+use Rattle.pd_words.specs.Shown.{asked}
+use Rattle.pd_words.specs.declared.reading.Words.{Words}
+use Rattle.pd_play.specs.Refusing.{IsRefusal}
 use Rattle.pd_words.specs.Grammar.{Asked}
 use Rattle.pd_play.specs.Ending.{status_line}
-use Rattle.pd_play.specs.Telling.{told, Answers}
+use Rattle.pd_play.specs.Telling.{told, Answers, is_unmade}
 use Rattle.pd_play.specs.Runs.{Point, Run, Ending, Whole, Broken, run_of}
 use Rattle.pd_play.specs.Playing.{Played, Cut, Plays, EndsBy, Ends}
 use Rattle.pd_play.proofs.CauseLemmas.{rose_on}
@@ -102,33 +109,61 @@ answers_on : (name : List ℕ) (how status : Status) (t t' : Option (List ℕ)) 
 answers_on name how status t t' x y z l (inl h) = inl h
 answers_on name how status t t' x y z l (inr h) = inr (h.0, rose_on x y z l h.1, h.2)
 
-plays_told : (name : List ℕ) (rate : ℕ) (status how : Status) (left left' : Option (List ℕ)) (read read' : ℕ) (t t' : Option (List ℕ)) (x y : ℕ)
-    (u u' : Option (List ℕ)) → Runs rate how left left' read read' t u u' → Answers (told name how) status t t' x y →
-    PlaysPatch name rate status left left' read read' t' x y u u'
-plays_told name rate status how left left' read read' t t' x y u u' (inl h) a =
-    inl (record {
-      refusal = h.refusal;
-      printed = t;
-      tells = subst (λ (s : Status). Answers (told name s) status t t' x y) h.status_is a;
-      unread = h.unread;
-      silent = h.silent;
-    })
-plays_told name rate status how left left' read read' t t' x y u u' (inr h) a =
+plays_told : (holds : Option (List FileRow)) (name : List ℕ) (rate : Rate) (status how : Status) (left left' : Option (List ℕ)) (read read' : ℕ)
+    (t₀ t t' : Option (List ℕ)) (x y : ℕ) (u u' : Option (List ℕ)) → Runs holds name rate how left left' read read' t₀ t u u' → Answers (told name how) status t t' x y →
+    PlaysPatch holds name rate status left left' read read' t₀ t' x y u u'
+plays_told holds name rate status how left left' read read' t₀ t t' x y u u' (inl h) a =
+    inl (record { why = how; printed = t; refused = h.refused; tells = a; unread = h.unread; silent = h.silent })
+plays_told holds name rate status how left left' read read' t₀ t t' x y u u' (inr h) a =
     inr (record {
       stage = h.stage;
       printed = h.printed;
-      plays = script_told name (start h.stage rate) status how left left' read read' h.printed t t' x y u u' h.ends a;
+      opens = h.opens;
+      plays = script_told name (start h.stage (samples rate)) status how left left' read read' h.printed t t' x y u u' h.ends a;
     })
 
-pub patch_told : (name : List ℕ) (rate : ℕ) (status how : Status) (left left' : Option (List ℕ)) (read read' : ℕ) (t t' : Option (List ℕ)) (x y z : ℕ)
-    (u u' : Option (List ℕ)) → x ≤ y → Runs rate how left left' read read' t u u' → Answers (told name how) status t t' y z →
-    PlaysPatch name rate status left left' read read' t' x z u u'
-patch_told name rate status how left left' read read' t t' x y z u u' l h a =
-    plays_told name rate status how left left' read read' t t' x z u u' h (answers_on name how status t t' x y z l a)
+pub patch_told : (holds : Option (List FileRow)) (name : List ℕ) (rate : Rate) (status how : Status) (left left' : Option (List ℕ)) (read read' : ℕ)
+    (t₀ t t' : Option (List ℕ)) (x y z : ℕ) (u u' : Option (List ℕ)) → x ≤ y → Runs holds name rate how left left' read read' t₀ t u u' →
+    Answers (told name how) status t t' y z → PlaysPatch holds name rate status left left' read read' t₀ t' x z u u'
+patch_told holds name rate status how left left' read read' t₀ t t' x y z u u' l h a =
+    plays_told holds name rate status how left left' read read' t₀ t t' x z u u' h (answers_on name how status t t' x y z l a)
+
+-- there is no memory to open the patch with
+pub no_memory : (holds : Option (List FileRow)) (name : List ℕ) (rate : Rate) (t : Option (List ℕ)) → IsRefusal holds name rate t t NoMemory
+no_memory holds name rate t = record { refusal = opening.NoMemory; status_is = refl; refused = inl tt; quiet = λ _. refl }
 
 -- there is no memory for the words
-pub words_told : (asked : Option Asked) (status : Status) (left : Option (List ℕ)) (read : ℕ) (t t' : Option (List ℕ)) (x y : ℕ) (u : Option (List ℕ)) →
-    Answers (told [] NoMemory) status t t' x y → PlaysAsked asked status left left read read t' x y u u
+pub words_told : (o : Option Asked) (holds : Option (List FileRow)) (status : Status) (left : Option (List ℕ)) (read : ℕ) (t t' : Option (List ℕ)) (x y : ℕ)
+    (u : Option (List ℕ)) → Answers (told [] NoMemory) status t t' x y → PlaysAsked o holds status left left read read t t' x y u u
 unfolding status_line
-words_told None status left read t t' x y u a = tt
-words_told (Some asked) status left read t t' x y u a = λ _. inl (record { refusal = opening.NoMemory; printed = t; tells = a; unread = refl; silent = refl })
+words_told None holds status left read t t' x y u a = tt
+words_told (Some a₀) holds status left read t t' x y u a = λ _ rate _.
+    inl (record { why = NoMemory; printed = t; refused = no_memory holds a₀.patch rate t; tells = a; unread = refl; silent = refl })
+
+-- no two rates have as many samples
+same_rate : (a b : Rate) → samples a ≡ samples b → a ≡ b
+same_rate hz.R44100 hz.R44100 e = refl
+same_rate hz.R44100 hz.R48000 e = absurd (omega (arith, e))
+same_rate hz.R44100 hz.R88200 e = absurd (omega (arith, e))
+same_rate hz.R44100 hz.R96000 e = absurd (omega (arith, e))
+same_rate hz.R48000 hz.R44100 e = absurd (omega (arith, e))
+same_rate hz.R48000 hz.R48000 e = refl
+same_rate hz.R48000 hz.R88200 e = absurd (omega (arith, e))
+same_rate hz.R48000 hz.R96000 e = absurd (omega (arith, e))
+same_rate hz.R88200 hz.R44100 e = absurd (omega (arith, e))
+same_rate hz.R88200 hz.R48000 e = absurd (omega (arith, e))
+same_rate hz.R88200 hz.R88200 e = refl
+same_rate hz.R88200 hz.R96000 e = absurd (omega (arith, e))
+same_rate hz.R96000 hz.R44100 e = absurd (omega (arith, e))
+same_rate hz.R96000 hz.R48000 e = absurd (omega (arith, e))
+same_rate hz.R96000 hz.R88200 e = absurd (omega (arith, e))
+same_rate hz.R96000 hz.R96000 e = refl
+
+-- the words ask for this
+pub asked_plays : (o : Option Asked) (w : Words) (holds : Option (List FileRow)) (status : Status) (left left' : Option (List ℕ)) (read read' : ℕ)
+    (t t' : Option (List ℕ)) (x y : ℕ) (u u' : Option (List ℕ)) → Some (asked w) ≡ o →
+    (is_unmade w.make ≡ true → PlaysPatch holds w.patch.now w.rate status left left' read read' t t' x y u u') →
+    PlaysAsked o holds status left left' read read' t t' x y u u'
+asked_plays o w holds status left left' read read' t t' x y u u' e h =
+    subst (λ (a : Option Asked). PlaysAsked a holds status left left' read read' t t' x y u u') e
+    (λ unmade rate is. subst (λ (r : Rate). PlaysPatch holds w.patch.now r status left left' read read' t t' x y u u') (same_rate w.rate rate (sym is)) (h unmade))

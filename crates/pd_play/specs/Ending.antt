@@ -1,5 +1,5 @@
 -- How a run ends: the exit code of each status, and the line that tells of it.
-use Rattle.std.specs.Prelude.{◌≡◌, ℕ, List, [], ◌++◌, codes, decimal}
+use Rattle.std.specs.Prelude.{ℕ, List, [], ◌++◌, codes, decimal}
 use Rattle.pd_play.specs.declared.status.Status.{Status}
 use Rattle.pd_play.specs.declared.status.Status.TheVariants.{Done, Usage, PatchAbsent, PatchBad, ScriptBad, ReadFault, WriteFault, ShelfFault, NoMemory}
 use Rattle.pd_engine.specs.declared.refusals.OpenRefusal.{OpenRefusal}
@@ -52,8 +52,3 @@ opened_as (opening.Bad number cause) = PatchBad number cause
 opened_as opening.ShelfFault = ShelfFault
 opened_as opening.WriteFault = WriteFault
 opened_as opening.NoMemory = NoMemory
-
--- the status is that of a patch that doesn't open
-pub record IsRefusal (status : Status) : Type 0 where
-  pub refusal : OpenRefusal
-  pub status_is : status ≡ opened_as refusal

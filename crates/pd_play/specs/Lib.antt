@@ -2,5 +2,6 @@ pub mod Causes
 pub mod Ending
 pub mod Patches
 pub mod Playing
+pub mod Refusing
 pub mod Runs
 pub mod Telling

@@ -2,12 +2,16 @@
 use Rattle.std.specs.Prelude.{◌≡◌, ◌⊎◌, ℕ, true, List, [], Option, IfSome}
 use Rattle.pd_io.specs.Faults.{Rose}
 use Rattle.pd_io.specs.Stream.{with_front}
+use Rattle.pd_io.specs.declared.files.FileRow.{FileRow}
+use Rattle.pd_clock.specs.declared.times.Rate.{Rate}
+use Rattle.pd_clock.specs.Rates.{samples}
 use Rattle.pd_feed.specs.Script.{script_of}
 use Rattle.pd_feed.specs.Feed.{Feed}
 use Rattle.pd_engine.specs.Stages.{Stage, saying, joined, BreaksOff}
-use Rattle.pd_engine.specs.declared.refusals.OpenRefusal.{OpenRefusal}
+use Rattle.pd_engine.specs.Opening.{OpensFile}
 use Rattle.pd_words.specs.Grammar.{Asked}
-use Rattle.pd_play.specs.Ending.{status_line, opened_as}
+use Rattle.pd_play.specs.Ending.{status_line}
+use Rattle.pd_play.specs.Refusing.{IsRefusal}
 use Rattle.pd_play.specs.Telling.{told, Answers, is_unmade}
 use Rattle.pd_play.specs.Runs.{Point, Run, Ending, Whole, Broken, run_of}
 use Rattle.pd_play.specs.Playing.{Played, Ends}
@@ -56,47 +60,54 @@ pub record PlaysScript (name : List ℕ) (begin : Point) (status : Status) (left
   pub is_script : IsScript ending bytes left left' read read'
   pub tells : Tells name (run_of ending (script_of 0 0 bytes) begin) status lines lines' faults faults' pcm pcm'
 
--- The patch opened: it then stood at this stage, and these lines had been taken. From there it is played.
-pub record PlaysOpened (name : List ℕ) (rate : ℕ) (status : Status) (left left' : Option (List ℕ)) (read read' : ℕ) (lines' : Option (List ℕ))
-    (faults faults' : ℕ) (pcm pcm' : Option (List ℕ)) : Type 0 where
+-- The patch of the name opens: it then stands at this stage, and its lines were taken. From there it is played.
+pub record PlaysOpened (holds : Option (List FileRow)) (name : List ℕ) (rate : Rate) (status : Status) (left left' : Option (List ℕ)) (read read' : ℕ)
+    (lines lines' : Option (List ℕ)) (faults faults' : ℕ) (pcm pcm' : Option (List ℕ)) : Type 0 where
   pub stage : Stage
   pub printed : Option (List ℕ)
-  pub plays : PlaysScript name (start stage rate) status left left' read read' printed lines' faults faults' pcm pcm'
+  pub opens : OpensFile holds name rate stage lines printed
+  pub plays : PlaysScript name (start stage (samples rate)) status left left' read read' printed lines' faults faults' pcm pcm'
 
--- The patch didn't open, and the line that tells of it follows the lines that were taken by then. No script is read, and no sample written.
-pub record Refuses (name : List ℕ) (status : Status) (left left' lines' : Option (List ℕ)) (faults faults' : ℕ) (pcm pcm' : Option (List ℕ)) : Type 0 where
-  pub refusal : OpenRefusal
+-- The patch of the name doesn't open, for this cause, and then the line that tells of it follows. No script is read, and no sample written.
+pub record Refuses (holds : Option (List FileRow)) (name : List ℕ) (rate : Rate) (status : Status) (left left' lines lines' : Option (List ℕ)) (faults faults' : ℕ)
+    (pcm pcm' : Option (List ℕ)) : Type 0 where
+  pub why : Status
   pub printed : Option (List ℕ)
-  pub tells : Answers (told name (opened_as refusal)) status printed lines' faults faults'
+  pub refused : IsRefusal holds name rate lines printed why
+  pub tells : Answers (told name why) status printed lines' faults faults'
   pub unread : left' ≡ left
   pub silent : pcm' ≡ pcm
 
-abbrev pub PlaysPatch : List ℕ → ℕ → Status → Option (List ℕ) → Option (List ℕ) → ℕ → ℕ → Option (List ℕ) → ℕ → ℕ → Option (List ℕ) → Option (List ℕ) →
-    Type 0
-PlaysPatch name rate status left left' read read' lines' faults faults' pcm pcm' =
-    Refuses name status left left' lines' faults faults' pcm pcm' ⊎ PlaysOpened name rate status left left' read read' lines' faults faults' pcm pcm'
+abbrev pub PlaysPatch : Option (List FileRow) → List ℕ → Rate → Status → Option (List ℕ) → Option (List ℕ) → ℕ → ℕ → Option (List ℕ) → Option (List ℕ) →
+    ℕ → ℕ → Option (List ℕ) → Option (List ℕ) → Type 0
+PlaysPatch holds name rate status left left' read read' lines lines' faults faults' pcm pcm' =
+    Refuses holds name rate status left left' lines lines' faults faults' pcm pcm'
+    ⊎ PlaysOpened holds name rate status left left' read read' lines lines' faults faults' pcm pcm'
 
--- the patch that the words ask for is played, where they ask for one that is there
-abbrev pub PlaysAsked : Option Asked → Status → Option (List ℕ) → Option (List ℕ) → ℕ → ℕ → Option (List ℕ) → ℕ → ℕ → Option (List ℕ) → Option (List ℕ) →
-    Type 0
-PlaysAsked asked status left left' read read' lines' faults faults' pcm pcm' =
-    IfSome asked (λ a. is_unmade a.make ≡ true → PlaysPatch a.patch a.rate status left left' read read' lines' faults faults' pcm pcm')
+-- The patch that the words ask for is played at their rate, where they ask for one that is there.
+abbrev pub PlaysAsked : Option Asked → Option (List FileRow) → Status → Option (List ℕ) → Option (List ℕ) → ℕ → ℕ → Option (List ℕ) → Option (List ℕ) →
+    ℕ → ℕ → Option (List ℕ) → Option (List ℕ) → Type 0
+PlaysAsked asked holds status left left' read read' lines lines' faults faults' pcm pcm' =
+    IfSome asked (λ a. is_unmade a.make ≡ true →
+    (rate : Rate) → samples rate ≡ a.rate → PlaysPatch holds a.patch rate status left left' read read' lines lines' faults faults' pcm pcm')
 
 -- ---- before the line
 
 -- the patch didn't open
-pub record NotOpened (status : Status) (left left' pcm pcm' : Option (List ℕ)) : Type 0 where
-  pub refusal : OpenRefusal
-  pub status_is : status ≡ opened_as refusal
+pub record NotOpened (holds : Option (List FileRow)) (name : List ℕ) (rate : Rate) (status : Status) (left left' lines lines' pcm pcm' : Option (List ℕ)) : Type 0 where
+  pub refused : IsRefusal holds name rate lines lines' status
   pub unread : left' ≡ left
   pub silent : pcm' ≡ pcm
 
 -- it opened, and the script was run
-pub record Opened (rate : ℕ) (status : Status) (left left' : Option (List ℕ)) (read read' : ℕ) (lines' pcm pcm' : Option (List ℕ)) : Type 0 where
+pub record Opened (holds : Option (List FileRow)) (name : List ℕ) (rate : Rate) (status : Status) (left left' : Option (List ℕ)) (read read' : ℕ)
+    (lines lines' pcm pcm' : Option (List ℕ)) : Type 0 where
   pub stage : Stage
   pub printed : Option (List ℕ)
-  pub ends : Ends unread (start stage rate) status left left' read read' printed lines' pcm pcm'
+  pub opens : OpensFile holds name rate stage lines printed
+  pub ends : Ends unread (start stage (samples rate)) status left left' read read' printed lines' pcm pcm'
 
-abbrev pub Runs : ℕ → Status → Option (List ℕ) → Option (List ℕ) → ℕ → ℕ → Option (List ℕ) → Option (List ℕ) → Option (List ℕ) → Type 0
-Runs rate status left left' read read' lines' pcm pcm' =
-    NotOpened status left left' pcm pcm' ⊎ Opened rate status left left' read read' lines' pcm pcm'
+abbrev pub Runs : Option (List FileRow) → List ℕ → Rate → Status → Option (List ℕ) → Option (List ℕ) → ℕ → ℕ → Option (List ℕ) → Option (List ℕ) →
+    Option (List ℕ) → Option (List ℕ) → Type 0
+Runs holds name rate status left left' read read' lines lines' pcm pcm' =
+    NotOpened holds name rate status left left' lines lines' pcm pcm' ⊎ Opened holds name rate status left left' read read' lines lines' pcm pcm'

@@ -4,7 +4,6 @@ ghost use Rattle.std.specs.Prelude.{◌≡◌, ◌≢◌, ◌≤◌, [], true, f
 ghost use Rattle.std.specs.String.{string_bytes};
 ghost use Rattle.pd_words.specs.Grammar.{words_of};
 ghost use Rattle.pd_play.specs.Causes.{HasRunCauses, HasCauses};
-ghost use Rattle.pd_clock.specs.Rates.{samples};
 ghost use Rattle.pd_play.specs.Playing.{point_of, IsCounted, Ends};
 ghost use Rattle.pd_play.specs.Patches.{Runs, PlaysPatch, PlaysAsked};
 ghost use Rattle.pd_play.specs.Telling.{IsUnplayed, is_played, is_unmade, told, Answers};
@@ -21,8 +20,8 @@ use std::alloc::{AllocError, Global};
 /// Plays a patch by a script: `words` are the words after the program's name, `shelf` is the folder of patches, printed lines go to
 /// `lines` and the samples to `pcm`, 16 bits little-endian, left then right.
 ///
-/// `plays` says what is printed and written once the patch is open: the lines and samples of the script's run, and then the line of
-/// the status. Edits and saves are refused yet, there is nothing to undo, and words with `--make` give the usage line.
+/// `plays` says what is printed and written: the lines of opening, the lines and samples of the script's run, and then the line of the
+/// status. Edits and saves are refused yet, there is nothing to undo, and words with `--make` give the usage line.
 pub fn play<H: Shelf, S: Source, L: Sink, P: Sink>(
     alloc: Global,
     words: &[String],
@@ -37,7 +36,7 @@ pub fn play<H: Shelf, S: Source, L: Sink, P: Sink>(
     ensures usage { result ≡ Status.Usage → is_played (words_of (map (λ w. string_bytes w) words.now)) ≡ false }
     ensures unplayed { is_played (words_of (map (λ w. string_bytes w) words.now)) ≡ false →
         IsUnplayed result (L.taken lines.old) (L.taken lines.new) (L.faults lines.old) (L.faults lines.new) }
-    ensures plays { PlaysAsked (words_of (map (λ w. string_bytes w) words.now)) result (S.left script.old) (S.left script.new) (S.faults script.old) (S.faults script.new) (L.taken lines.new) (L.faults lines.old) (L.faults lines.new) (P.taken pcm.old) (P.taken pcm.new) }
+    ensures plays { PlaysAsked (words_of (map (λ w. string_bytes w) words.now)) (H.holds shelf.old) result (S.left script.old) (S.left script.new) (S.faults script.old) (S.faults script.new) (L.taken lines.old) (L.taken lines.new) (L.faults lines.old) (L.faults lines.new) (P.taken pcm.old) (P.taken pcm.new) }
 {
     let mut held = Held::new();
     match read_words(alloc, words) {
@@ -63,7 +62,7 @@ fn play_asked<H: Shelf, S: Source, L: Sink, P: Sink>(
     ensures causes { HasCauses (H.faults shelf.old) (H.faults shelf.new) (S.faults script.old) (S.faults script.new) (L.faults lines.old) (L.faults lines.new) (P.faults pcm.old) (P.faults pcm.new) result }
     ensures usage { result ≡ Status.Usage → is_some asked.now.make ≡ true }
     ensures unplayed { is_some asked.now.make ≡ true → Answers (told [] Status.Usage) result (L.taken lines.old) (L.taken lines.new) (L.faults lines.old) (L.faults lines.new) }
-    ensures plays { is_unmade asked.now.make ≡ true → PlaysPatch asked.now.patch.now (samples asked.now.rate) result (S.left script.old) (S.left script.new) (S.faults script.old) (S.faults script.new) (L.taken lines.new) (L.faults lines.old) (L.faults lines.new) (P.taken pcm.old) (P.taken pcm.new) }
+    ensures plays { is_unmade asked.now.make ≡ true → PlaysPatch (H.holds shelf.old) asked.now.patch.now asked.now.rate result (S.left script.old) (S.left script.new) (S.faults script.old) (S.faults script.new) (L.taken lines.old) (L.taken lines.new) (L.faults lines.old) (L.faults lines.new) (P.taken pcm.old) (P.taken pcm.new) }
 {
     if asked.make.is_some() {
         return tell(b"", Status::Usage, held, lines);
@@ -95,7 +94,7 @@ fn run<H: Shelf, S: Source, L: Sink, P: Sink>(
     ensures folder_counted { H.faults shelf.old ≤ H.faults shelf.new }
     ensures causes { HasCauses (H.faults shelf.old) (H.faults shelf.new) (S.faults script.old) (S.faults script.new) (L.faults lines.old) (L.faults lines.new) (P.faults pcm.old) (P.faults pcm.new) result }
     ensures usage { result ≢ Status.Usage }
-    ensures plays { PlaysPatch patch.now (samples rate) result (S.left script.old) (S.left script.new) (S.faults script.old) (S.faults script.new) (L.taken lines.new) (L.faults lines.old) (L.faults lines.new) (P.taken pcm.old) (P.taken pcm.new) }
+    ensures plays { PlaysPatch (H.holds shelf.old) patch.now rate result (S.left script.old) (S.left script.new) (S.faults script.old) (S.faults script.new) (L.taken lines.old) (L.taken lines.new) (L.faults lines.old) (L.faults lines.new) (P.taken pcm.old) (P.taken pcm.new) }
 {
     let status = play_whole(alloc, patch, rate, shelf, script, lines, pcm);
     held.clear();
@@ -117,7 +116,7 @@ fn play_whole<H: Shelf, S: Source, L: Sink, P: Sink>(
     ensures lines_counted { L.faults lines.old ≤ L.faults lines.new }
     ensures causes { HasCauses (H.faults shelf.old) (H.faults shelf.new) (S.faults script.old) (S.faults script.new) (L.faults lines.old) (L.faults lines.new) (P.faults pcm.old) (P.faults pcm.new) result }
     ensures usage { result ≢ Status.Usage }
-    ensures runs { Runs (samples rate) result (S.left script.old) (S.left script.new) (S.faults script.old) (S.faults script.new) (L.taken lines.new) (P.taken pcm.old) (P.taken pcm.new) }
+    ensures runs { Runs (H.holds shelf.old) patch.now rate result (S.left script.old) (S.left script.new) (S.faults script.old) (S.faults script.new) (L.taken lines.old) (L.taken lines.new) (P.taken pcm.old) (P.taken pcm.new) }
 {
     match Session::open(alloc, patch, rate, shelf, lines) {
         Ok(session) => play_script(session, script, lines, pcm),
