@@ -1,5 +1,6 @@
-pub mod ReportLemmas
-pub mod CauseLemmas
 pub mod AheadLemmas
-pub mod RunLemmas
+pub mod CauseLemmas
+pub mod OpenedLemmas
 pub mod PatchLemmas
+pub mod ReportLemmas
+pub mod RunLemmas

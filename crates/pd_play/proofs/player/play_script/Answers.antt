@@ -1,4 +1,5 @@
 use Rattle.std.proofs.Common.{arith}
+use Rattle.pd_play.proofs.CauseLemmas.{whole_causes}
 use Rattle.pd_play.proofs.RunLemmas.{moves_nothing, moves_on, moves_end}
 use Rattle.pd_play.proofs.player.play_script.Goals as goal
 
@@ -27,3 +28,7 @@ records-preserved g c =
       lines = omega (arith, c.records.invariant.lines, causes.lines_counted);
       pcm = omega (arith, c.records.invariant.pcm, causes.pcm_counted);
     }
+
+pub returns-in-Some-clause-causes : goal.returns-in-Some-clause-causes
+returns-in-Some-clause-causes g c =
+    whole_causes _ _ _ _ _ _ _ _ _ _ c.records.invariant.script c.records.invariant.lines c.records.invariant.pcm c.in-Some.ensures.causes
