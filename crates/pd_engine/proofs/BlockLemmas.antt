@@ -1,5 +1,5 @@
 -- Where a patch stands after a block.
-use Rattle.std.proofs.Common.{◌≡◌, ◌+◌, ℕ, List, refl, sym, ◌∙◌, ap, min, max, Option}
+use Rattle.std.proofs.Common.{◌≡◌, ◌+◌, ℕ, List, ◌∙◌, ap, min, max, Option}
 use Rattle.pd_clock.specs.Queue.{Clock}
 use Rattle.pd_atom.specs.Names.{Names}
 use Rattle.pd_kind.specs.declared.states.State.{State}

@@ -1,5 +1,5 @@
 -- A message that is sent by a command.
-use Rattle.std.proofs.Common.{◌≡◌, ◌++◌, ℕ, Bool, List, length, nat_lt, refl, ◌∙◌, ap, subst, Option}
+use Rattle.std.proofs.Common.{◌≡◌, ℕ, Bool, List, length, nat_lt, refl, ◌∙◌, ap, subst, Option}
 use Rattle.pd_io.specs.Stream.{grown, TookPart}
 use Rattle.pd_atom.specs.declared.Atom.{Atom}
 use Rattle.pd_kind.specs.Forming.{cut_atoms}

@@ -1,11 +1,8 @@
 -- Events, blocks, and where the patch stands after them.
-use Rattle.std.proofs.Common.{false, ◌≡◌, ◌≤◌, ◌<◌, ◌+◌, ◌-◌, ℕ, zero, suc, List, [], ◌++◌, length, refl, sym, ◌∙◌, ap, subst, append_assoc, Option, arith}
+use Rattle.std.proofs.Common.{false, ◌≡◌, ◌≤◌, ◌<◌, ◌+◌, ◌-◌, ℕ, zero, suc, List, [], ◌++◌, refl, sym, ◌∙◌, ap, subst, append_assoc, Option, arith}
 use Rattle.std.proofs.lemmas.List.{append-nil}
 use Rattle.std.proofs.lemmas.Bool.{le-leb, lt-leb}
 use Rattle.pd_io.specs.Stream.{grown, TookPart}
-use Rattle.pd_clock.specs.Queue.{Clock}
-use Rattle.pd_atom.specs.Names.{Names}
-use Rattle.pd_kind.specs.declared.states.State.{State}
 use Rattle.pd_queue.specs.Queue.{Waiting}
 use Rattle.pd_say.proofs.GatheringLemmas.{grown-grown, took_more}
 use Rattle.pd_turns.specs.Turns.{World}
@@ -14,9 +11,9 @@ use Rattle.pd_walk.specs.declared.walker.Start.{Start}
 use Rattle.pd_walk.specs.declared.walker.Start.TheVariants as start
 use Rattle.pd_walk.specs.Worlds.{Net, Kept}
 use Rattle.pd_walk.specs.Outcome.{outcome, world, IsLeft}
-use Rattle.pd_engine.specs.Stages.{Stage, Passage, still, joined, followed_by, Says}
-use Rattle.pd_engine.specs.Events.{Beginning, beginning_of, deliveries, delivered, begun, repeated, refused_edit, refusals, with_kept, event}
-use Rattle.pd_engine.specs.Times.{fires_below, clocks_fire, blocks_run, block_runs, block_sounds}
+use Rattle.pd_engine.specs.Stages.{Stage, still, followed_by, Says}
+use Rattle.pd_engine.specs.Events.{Beginning, beginning_of, deliveries, delivered, begun, repeated, refusals, with_kept, event}
+use Rattle.pd_engine.specs.Times.{blocks_run, block_runs}
 use Rattle.pd_engine.proofs.PassageLemmas.{took_after}
 
 pub outcome_is : (net : Net) (now : ℕ) (w : World Kept) (st : Start) → outcome net now w st ≡ deliveries net now w (beginning_of st)

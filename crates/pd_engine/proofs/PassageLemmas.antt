@@ -1,7 +1,7 @@
 -- Parts of a run, one after another.
-use Rattle.std.proofs.Common.{◌≡◌, ℕ, List, [], ◌++◌, refl, sym, ◌∙◌, ap, subst, append_assoc, Option, Some, None}
+use Rattle.std.proofs.Common.{◌≡◌, ℕ, List, [], ◌++◌, refl, sym, ◌∙◌, ap, subst, append_assoc, Option, None}
 use Rattle.std.proofs.lemmas.List.{append-nil}
-use Rattle.pd_io.specs.Stream.{grown, IsPrefix, TookPart}
+use Rattle.pd_io.specs.Stream.{grown, TookPart}
 use Rattle.pd_say.proofs.GatheringLemmas.{grown-grown, took_more, printed_nothing}
 use Rattle.pd_engine.specs.Stages.{Stage, Passage, still, saying, joined, followed_by, Says, Passes, BreaksOff}
 

@@ -1,5 +1,5 @@
 -- Where a path leads, and the numbers of boxes.
-use Rattle.std.proofs.Common.{◌≡◌, ◌<◌, ◌+◌, ℕ, List, [], ◌∷◌, ◌++◌, length, take, refl, sym, ◌∙◌, ap, Option, Some, None}
+use Rattle.std.proofs.Common.{◌≡◌, ℕ, List, [], ◌∷◌, ◌++◌, refl, sym, ◌∙◌, ap, Option, Some, None}
 use Rattle.std.proofs.Common.{subst}
 use Rattle.std.specs.Prelude.{codes, slice_get, option_and_then}
 use Rattle.pd_io.specs.Stream.{grown, TookPart}

@@ -1,13 +1,13 @@
 -- Blocks one after another, up to a time.
-use Rattle.std.proofs.Common.{◌≡◌, ◌≤◌, ◌<◌, ◌+◌, ◌-◌, ◌^◌, ℕ, zero, suc, List, [], ◌++◌, refl, sym, ◌∙◌, ap, subst, min, Option, Some, None, arith}
+use Rattle.std.proofs.Common.{◌≡◌, ◌≤◌, ◌<◌, ◌+◌, ◌-◌, ◌^◌, ℕ, zero, suc, List, [], refl, ◌∙◌, ap, min, Option, Some, None, arith}
 use Rattle.std.proofs.lemmas.Bool.{le-leb, lt-leb, lt-ltb, le-ltb}
-use Rattle.pd_engine.specs.Stages.{Stage, Passage, still, joined, followed_by, Says, Passes, BreaksOff}
-use Rattle.pd_engine.specs.Events.{event, Beginning}
+use Rattle.pd_engine.specs.Stages.{Stage, Passage, still, followed_by, Says, Passes, BreaksOff}
+use Rattle.pd_engine.specs.Events.{event}
 use Rattle.pd_clock.specs.Queue.{Clock}
 use Rattle.pd_io.specs.Stream.{grown, TookPart}
 use Rattle.pd_say.proofs.GatheringLemmas.{printed_nothing}
 use Rattle.pd_engine.specs.Times.{fires, blocks_run, block_runs, block_sounds, clocks_fire, fires_below, fires_or_not, next_clock, comes_to, advanced, finished, with_time, time_is}
-use Rattle.pd_engine.proofs.PassageLemmas.{IsOnTheWay, joined_assoc, passes_still, passes_followed, broke_after, broke, way_goes_on, way_breaks, way_ends, soundless, soundless_off, took_none}
+use Rattle.pd_engine.proofs.PassageLemmas.{IsOnTheWay, joined_assoc, passes_still, way_goes_on, way_breaks, way_ends, soundless, soundless_off, took_none}
 
 blocks_none : (n to : ℕ) (s : Stage) → to < s.block_end → blocks_run n to s ≡ still s
 unfolding blocks_run

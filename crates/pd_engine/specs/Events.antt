@@ -1,5 +1,5 @@
 -- What an event leads to: its deliveries, and then the edits that were asked for, each of which is refused.
-use Rattle.std.specs.Prelude.{ℕ, zero, suc, false, List, [], ◌∷◌, ◌++◌, length}
+use Rattle.std.specs.Prelude.{ℕ, zero, suc, false, List, [], ◌++◌, length}
 use Rattle.pd_atom.specs.declared.Atom.{Atom}
 use Rattle.pd_say.specs.Lines.{refusal_text}
 use Rattle.pd_say.specs.declared.refusals.Request.TheVariants as request

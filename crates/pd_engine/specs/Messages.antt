@@ -1,5 +1,5 @@
 -- The message that the atoms of a command make.
-use Rattle.std.specs.Prelude.{◌≡◌, ℕ, Bool, pos, List, [], ◌∷◌, length, nat_lt, ◌==◌, if◌then◌else◌}
+use Rattle.std.specs.Prelude.{◌≡◌, ℕ, pos, List, ◌∷◌, length, nat_lt, ◌==◌, if◌then◌else◌}
 use Rattle.pd_atom.specs.declared.Atom.{Atom}
 use Rattle.pd_atom.specs.declared.Atom.TheVariants as atom
 use Rattle.pd_kind.specs.declared.messages.Target.TheVariants.{Outlet}

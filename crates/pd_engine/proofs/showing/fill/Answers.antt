@@ -1,7 +1,6 @@
 use Rattle.std.proofs.Common.{◌≡◌, ◌≤◌, ◌<◌, ℕ, Bool, true, false, List, length, take, leb, min, refl, sym, ◌∙◌, ap, arith}
 use Rattle.std.proofs.lemmas.List.{take_all, length-take-le}
 use Rattle.std.proofs.lemmas.Bool.{leb-true, leb-false}
-use Rattle.std.specs.Prelude.{vec_capacity}
 use Rattle.pd_engine.proofs.showing.fill.Goals as goal
 
 take_min : (m n : ℕ) (l : List ℕ) → m ≡ min (length l) n → take m l ≡ take n l

@@ -1,4 +1,3 @@
-use Rattle.std.proofs.Common.{sym, ◌∙◌}
 use Rattle.pd_engine.proofs.ShowLemmas.{order_some, order_none}
 use Rattle.pd_engine.proofs.showing.order_along.Goals as goal
 

@@ -1,4 +1,4 @@
-use Rattle.std.proofs.lemmas.Result.{err_from_is_err_and, on_ok_weaker}
+use Rattle.std.proofs.lemmas.Result.{err_from_is_err_and}
 use Rattle.pd_engine.specs.Stages.{stage_of}
 use Rattle.pd_engine.proofs.CommandLemmas.{sent_says, sent_breaks_first, sent_breaks}
 use Rattle.pd_engine.proofs.engine.Engine.send.Goals as goal
