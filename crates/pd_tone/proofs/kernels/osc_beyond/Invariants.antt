@@ -1,7 +1,7 @@
 use Rattle.std.proofs.Common.{◌≡◌, ◌*◌, ◌++◌, take, drop, map, length}
 use Rattle.pd_tone.specs.Cosine.{cosine}
 use Rattle.pd_tone.specs.Tones.{phases, phase_after}
-use Rattle.pd_tone.proofs.kernels.osc_at.Given as goal
+use Rattle.pd_tone.proofs.kernels.osc_beyond.Given as goal
 
 abbrev pub invariant-loop-i : goal.invariant-loop-i
 invariant-loop-i l = record {
