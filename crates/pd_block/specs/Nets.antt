@@ -5,6 +5,7 @@ use Rattle.std.specs.declared.alloc.Global.{Global}
 use Rattle.slab.specs.Slab.{get}
 use Rattle.slab.specs.Slab.{Slab}
 use Rattle.pd_clock.specs.declared.times.Rate.{Rate}
+use Rattle.pd_clock.specs.Queue.{Clock}
 use Rattle.pd_kind.specs.declared.kinds.Kind.{Kind}
 use Rattle.pd_kind.specs.declared.states.State.{State}
 use Rattle.pd_name.specs.Rows.{Row}
@@ -13,13 +14,12 @@ use Rattle.pd_grove.specs.declared.nodes.Node.{Node}
 use Rattle.pd_grove.specs.declared.boards.Board.{Board}
 use Rattle.pd_grove.specs.Telling.{kind_in, inner_in, state_in, with_state}
 use Rattle.pd_web.specs.declared.web.Web.{Web}
-use Rattle.pd_timers.specs.declared.timers.Timers.{Timers}
 use Rattle.pd_patch.specs.declared.patch.Patch.{Patch}
 use Rattle.pd_patch.specs.Telling.{order_in}
 use Rattle.pd_patch.specs.Values.{Blocks, blocks_told, chain_by, stuck_by}
 
 -- What stays: the boxes by their keys, without what they keep; the canvases; the wires; who owns the names; the signal orders and the
--- numbers of the boxes; the rate; and the clocks.
+-- numbers of the boxes; the rate; the clocks, and for how many boxes there is room for one.
 pub record Net : Type 0 where
   pub nodes : ℕ → Option Node
   pub boards : Slab Board
@@ -29,7 +29,8 @@ pub record Net : Type 0 where
   pub orders : Vec (Option Listing) Global
   pub numbers : Vec ℕ Global
   pub rate : Rate
-  pub timers : Timers
+  pub clocks : List Clock
+  pub end : ℕ
 
 -- What changes: what the boxes keep, by their keys, and the blocks of their outlets.
 pub record Sound : Type 0 where
@@ -50,7 +51,8 @@ net_of p = record {
   orders = p.orders;
   numbers = p.numbers;
   rate = p.rate;
-  timers = p.timers;
+  clocks = p.timers.clocks.clocks;
+  end = p.timers.end;
 }
 
 abbrev pub states_of : Patch → ℕ → Option State

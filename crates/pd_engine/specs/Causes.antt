@@ -1,5 +1,5 @@
 -- Why a call that writes lines and samples fails.
-use Rattle.std.specs.Prelude.{◌≡◌, ◌≤◌, ◌⊎◌, ℕ, Option, List, Result, OnErr, IsErrOf}
+use Rattle.std.specs.Prelude.{◌≤◌, ◌⊎◌, ℕ, Result, OnErr, IsErrOf}
 use Rattle.pd_io.specs.Faults.{Rose}
 use Rattle.pd_engine.specs.declared.refusals.OpenRefusal.{OpenRefusal}
 use Rattle.pd_engine.specs.declared.refusals.OpenRefusal.TheVariants.{ShelfFault, WriteFault}

@@ -1,2 +1,9 @@
 pub mod Causes
+pub mod Commands
+pub mod Events
+pub mod Messages
+pub mod Opening
 pub mod Refusals
+pub mod Remarks
+pub mod Stages
+pub mod Times

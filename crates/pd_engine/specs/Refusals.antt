@@ -1,5 +1,4 @@
 -- Why a patch doesn't open, by what a layer below refused.
-use Rattle.std.specs.Prelude.{ℕ}
 use Rattle.pd_doc.specs.declared.refusal.DocRefusal.{DocRefusal}
 use Rattle.pd_doc.specs.declared.refusal.DocRefusal.TheVariants as doc
 use Rattle.pd_gather.specs.declared.refusal.GatherRefusal.{GatherRefusal}

@@ -1,29 +1,30 @@
 //! The engine: one event after another.
 
-ghost use Rattle.std.specs.Prelude.{◌≡◌, ◌≤◌, ◌^◌, ◌⊎◌, true, false, IsTrue, IsErrOf, OnOk, OnErr, length};
+ghost use Rattle.std.specs.Prelude.{◌≡◌, ◌≤◌, ◌^◌, ◌⊎◌, true, false, IsTrue, IsErrOf, OnOk, OnErr, IfOk, IfSome, IfNone, option_map, length};
 ghost use Rattle.pd_io.specs.Faults.{Rose};
+ghost use Rattle.pd_io.specs.Stream.{TookPart};
 ghost use Rattle.pd_lex.specs.Reading.{is_body};
-ghost use Rattle.pd_script.specs.Room.{IsWhole};
-ghost use Rattle.pd_say.specs.Gathering.{HasCause};
-ghost use Rattle.pd_engine.specs.Causes.{HasCauses};
+ghost use Rattle.pd_script.specs.Room.{IsWhole, IsWholeAfter};
+ghost use Rattle.pd_script.specs.Options.{Gives};
+ghost use Rattle.pd_script.specs.Tokens.{tokens_of};
+ghost use Rattle.pd_script.specs.Tables.{ScriptOf};
+ghost use Rattle.pd_script.specs.Scripts.{command_of};
+ghost use Rattle.pd_engine.specs.Stages.{stage_of, with_names, Says, Passes, BreaksOff};
+ghost use Rattle.pd_engine.specs.Times.{advanced, finished};
+ghost use Rattle.pd_engine.specs.Commands.{commanded, answered};
 
-use crate::messages::{message_of, one_atom};
-use crate::refusals::{EditRefusal, EngineFault, Outcome};
-use crate::showing::show;
-use crate::time::{BLOCK, MOST_FIRED};
-use pd_atom::{Atom, Sym, Symbols};
-use pd_block::run_block;
+use crate::refusals::{EngineFault, Outcome};
+use crate::room::BoxNumbers;
+use pd_atom::Symbols;
 use pd_clock::Time;
 use pd_gather::Library;
-use pd_io::{Sink, SinkFailed, write_whole};
-use pd_kind::Message;
-use pd_mix::{BYTES, write_samples};
-use pd_num::{Num, Sig};
+use pd_io::{Sink, SinkFailed};
+use pd_num::Num;
 use pd_patch::Patch;
 use pd_queue::EditQueue;
-use pd_say::{Held, Line, Request, Why, flush, say};
+use pd_say::Held;
 use pd_script::{Command, CommandRoom, Script, read_command};
-use pd_walk::{Budget, Start, Walker};
+use pd_walk::Walker;
 
 /// A patch that plays: what it was opened from, its time, and the room of its events.
 #[derive(Drop)]
@@ -35,7 +36,7 @@ pub struct Engine {
     pub(crate) queue: EditQueue,
     pub(crate) held: Held,
     /// The numbers of a line.
-    pub(crate) numbers: Vec<u32>,
+    pub(crate) numbers: BoxNumbers,
     pub(crate) time: Time,
     /// The end of the block that comes next.
     pub(crate) block_end: Time,
@@ -64,6 +65,11 @@ impl Engine {
         requires whole { IsWhole room.old }
         requires body { IsTrue (is_body bytes.now) }
         requires short { length bytes.now ≤ 65536 }
+        ensures exact { Gives (λ r. (r.0, r.1, self.new.symbols)) result (command_of self.old.symbols (tokens_of bytes.now)) }
+        ensures of_table { IfSome result (λ r. ScriptOf self.new.symbols r.1) }
+        ensures refused { IfNone result (self.new.symbols ≡ self.old.symbols) }
+        ensures whole { IsWholeAfter (option_map (λ r. r.1) result) room.new }
+        ensures stage { stage_of self.new ≡ with_names (stage_of self.old) self.new.symbols }
         ensures stays { self.new.stopped ≡ self.old.stopped }
     {
         read_command(bytes, &mut self.symbols, room)
@@ -76,8 +82,12 @@ impl Engine {
     ///
     /// `WriteFault` where the lines weren't taken; after that every call answers `Stopped` and does nothing.
     pub fn command<L: Sink>(&mut self, cmd: &Command, lines: &mut L) -> Result<Outcome, EngineFault>
+        ensures said { OnOk result (Says (commanded cmd.now (stage_of self.old)) (stage_of self.new) (L.taken lines.old) (L.taken lines.new)) }
+        ensures answer { IfOk result (λ outcome. outcome ≡ answered cmd.now) }
+        ensures part { OnErr result (TookPart (L.taken lines.old) (L.taken lines.new) (commanded cmd.now (stage_of self.old)).lines) }
         ensures stopped { self.old.stopped ≡ true → IsErrOf result EngineFault.Stopped }
         ensures stopped_before { IsErrOf result EngineFault.Stopped → self.old.stopped ≡ true }
+        ensures nothing { self.old.stopped ≡ true → (self.new ≡ self.old) × (L.taken lines.new ≡ L.taken lines.old) }
         ensures after { OnErr result (self.new.stopped ≡ true) }
         ensures goes_on { OnOk result (self.new.stopped ≡ false) }
         ensures cause { IsErrOf result EngineFault.WriteFault → Rose (L.faults lines.old) (L.faults lines.new) }
@@ -104,8 +114,11 @@ impl Engine {
         pcm: &mut P,
     ) -> Result<(), EngineFault>
         requires { to ≤ 2 ^ 100 }
+        ensures passed { OnOk result (Passes (advanced to (stage_of self.old)) (stage_of self.new) (L.taken lines.old) (L.taken lines.new) (P.taken pcm.old) (P.taken pcm.new)) }
+        ensures part { OnErr result (BreaksOff (advanced to (stage_of self.old)) (L.taken lines.old) (L.taken lines.new) (P.taken pcm.old) (P.taken pcm.new)) }
         ensures stopped { self.old.stopped ≡ true → IsErrOf result EngineFault.Stopped }
         ensures stopped_before { IsErrOf result EngineFault.Stopped → self.old.stopped ≡ true }
+        ensures nothing { self.old.stopped ≡ true → (self.new ≡ self.old) × (L.taken lines.new ≡ L.taken lines.old) × (P.taken pcm.new ≡ P.taken pcm.old) }
         ensures after { OnErr result (self.new.stopped ≡ true) }
         ensures goes_on { OnOk result (self.new.stopped ≡ false) }
         ensures cause { IsErrOf result EngineFault.WriteFault → Rose (L.faults lines.old) (L.faults lines.new) ⊎ Rose (P.faults pcm.old) (P.faults pcm.new) }
@@ -131,8 +144,11 @@ impl Engine {
         lines: &mut L,
         pcm: &mut P,
     ) -> Result<(), EngineFault>
+        ensures passed { OnOk result (Passes (finished (stage_of self.old)) (stage_of self.new) (L.taken lines.old) (L.taken lines.new) (P.taken pcm.old) (P.taken pcm.new)) }
+        ensures part { OnErr result (BreaksOff (finished (stage_of self.old)) (L.taken lines.old) (L.taken lines.new) (P.taken pcm.old) (P.taken pcm.new)) }
         ensures stopped { self.old.stopped ≡ true → IsErrOf result EngineFault.Stopped }
         ensures stopped_before { IsErrOf result EngineFault.Stopped → self.old.stopped ≡ true }
+        ensures nothing { self.old.stopped ≡ true → (self.new ≡ self.old) × (L.taken lines.new ≡ L.taken lines.old) × (P.taken pcm.new ≡ P.taken pcm.old) }
         ensures after { OnErr result (self.new.stopped ≡ true) }
         ensures goes_on { OnOk result (self.new.stopped ≡ false) }
         ensures cause { IsErrOf result EngineFault.WriteFault → Rose (L.faults lines.old) (L.faults lines.new) ⊎ Rose (P.faults pcm.old) (P.faults pcm.new) }
@@ -156,247 +172,4 @@ impl Engine {
         self.stopped = true;
         EngineFault::WriteFault
     }
-
-    fn advance_to<L: Sink, P: Sink>(
-        &mut self,
-        to: Time,
-        lines: &mut L,
-        pcm: &mut P,
-    ) -> Result<(), SinkFailed>
-        requires { to ≤ 2 ^ 100 }
-        ensures cause { HasCauses (L.faults lines.old) (L.faults lines.new) (P.faults pcm.old) (P.faults pcm.new) result }
-        ensures stays { self.new.stopped ≡ self.old.stopped }
-    {
-        let to_units = to.units();
-        let mut end = self.block_end.units();
-        while end <= to_units {
-            self.run_block(end, lines, pcm)?;
-            end += BLOCK;
-        }
-        self.block_end = Time::of_units(end);
-        self.fire_below(to, lines)?;
-        self.time = later(self.time, to);
-        Ok(())
-    }
-
-    fn finish_block<L: Sink, P: Sink>(
-        &mut self,
-        lines: &mut L,
-        pcm: &mut P,
-    ) -> Result<(), SinkFailed>
-        ensures cause { HasCauses (L.faults lines.old) (L.faults lines.new) (P.faults pcm.old) (P.faults pcm.new) result }
-        ensures stays { self.new.stopped ≡ self.old.stopped }
-    {
-        let end = self.block_end.units();
-        if end < BLOCK || end - BLOCK < self.time.units() {
-            self.run_block(end, lines, pcm)?;
-            self.block_end = Time::of_units(end.saturating_add(BLOCK));
-        }
-        Ok(())
-    }
-
-    /// Fires the clocks below the end of the next block, and runs it.
-    fn run_block<L: Sink, P: Sink>(
-        &mut self,
-        end: u128,
-        lines: &mut L,
-        pcm: &mut P,
-    ) -> Result<(), SinkFailed>
-        ensures cause { HasCauses (L.faults lines.old) (L.faults lines.new) (P.faults pcm.old) (P.faults pcm.new) result }
-        ensures stays { self.new.stopped ≡ self.old.stopped }
-    {
-        self.fire_below(Time::of_units(end), lines)?;
-        self.write_block(end, pcm)?;
-        self.time = later(self.time, Time::of_units(end));
-        self.fired = 0;
-        Ok(())
-    }
-
-    /// Runs the boxes for the block that ends at a time, and writes its samples.
-    fn write_block<P: Sink>(&mut self, end: u128, pcm: &mut P) -> Result<(), SinkFailed>
-        ensures cause { HasCause (P.faults pcm.old) (P.faults pcm.new) result }
-        ensures stays { self.new.stopped ≡ self.old.stopped }
-    {
-        let start = Time::of_units(end.saturating_sub(BLOCK));
-        let mut block = [[Sig::default(); 64]; 2];
-        run_block(&mut self.patch, start, &mut block);
-        let mut samples = [0; BYTES];
-        write_samples(&block, &mut samples);
-        write_whole(pcm, &samples)
-    }
-
-    /// Fires the clocks below a time, at most 10,000 between two blocks.
-    fn fire_below<L: Sink>(&mut self, limit: Time, lines: &mut L) -> Result<(), SinkFailed>
-        ensures cause { HasCause (L.faults lines.old) (L.faults lines.new) result }
-        ensures stays { self.new.stopped ≡ self.old.stopped }
-    {
-        for _ in self.fired..MOST_FIRED {
-            let Some((time, owner)) = self.patch.next_clock(limit) else {
-                return Ok(());
-            };
-            self.fired = self.fired.saturating_add(1);
-            self.time = later(self.time, time);
-            self.fire(owner, lines)?;
-        }
-        Ok(())
-    }
-
-    /// The clock of a box fires.
-    fn fire<L: Sink>(&mut self, owner: u32, lines: &mut L) -> Result<(), SinkFailed>
-        ensures cause { HasCause (L.faults lines.old) (L.faults lines.new) result }
-        ensures stays { self.new.stopped ≡ self.old.stopped }
-    {
-        let mut budget = Budget::new();
-        self.queue.clear();
-        self.walker.deliver(
-            &mut self.patch,
-            &mut self.symbols,
-            &Start::Clock { owner },
-            self.time,
-            &mut budget,
-            &mut self.queue,
-            lines,
-        )?;
-        self.refuse_queued(lines)
-    }
-
-    /// Loads boxes, one after the other.
-    pub(crate) fn load<L: Sink>(&mut self, boxes: &[u32], lines: &mut L) -> Result<(), SinkFailed>
-        ensures cause { HasCause (L.faults lines.old) (L.faults lines.new) result }
-        ensures stays { self.new.stopped ≡ self.old.stopped }
-    {
-        let mut budget = Budget::new();
-        self.queue.clear();
-        self.walker.deliver(
-            &mut self.patch,
-            &mut self.symbols,
-            &Start::Loads { boxes },
-            self.time,
-            &mut budget,
-            &mut self.queue,
-            lines,
-        )?;
-        self.refuse_queued(lines)
-    }
-
-    fn carry_out<L: Sink>(&mut self, cmd: &Command, lines: &mut L) -> Result<Outcome, SinkFailed>
-        ensures cause { HasCause (L.faults lines.old) (L.faults lines.new) result }
-        ensures stays { self.new.stopped ≡ self.old.stopped }
-    {
-        match cmd {
-            Command::Send { name, atoms } => self.send(*name, atoms.as_slice(), lines),
-            Command::Show { path } => self.show_at(path.as_slice(), lines),
-            Command::Edit { .. } => self.refuse(Request::Edit, Why::NoDocument, lines),
-            Command::Save { .. } => self.refuse(Request::Save, Why::NoDocument, lines),
-            Command::Undo => self.refuse(Request::Undo, Why::NothingToUndo, lines),
-            Command::Redo => self.refuse(Request::Redo, Why::NothingToRedo, lines),
-        }
-    }
-
-    /// Sends the message of atoms to the receivers of a name.
-    fn send<L: Sink>(
-        &mut self,
-        name: Sym,
-        atoms: &[Atom],
-        lines: &mut L,
-    ) -> Result<Outcome, SinkFailed>
-        ensures cause { HasCause (L.faults lines.old) (L.faults lines.new) result }
-        ensures stays { self.new.stopped ≡ self.old.stopped }
-    {
-        let one = [one_atom(atoms)];
-        let formed = message_of(atoms, &one);
-        if formed.is_cut {
-            self.say_cut(lines)?;
-        }
-        let message = Message {
-            selector: formed.selector,
-            atoms: formed.atoms,
-        };
-        let mut budget = Budget::new();
-        self.queue.clear();
-        self.walker.deliver(
-            &mut self.patch,
-            &mut self.symbols,
-            &Start::Name { name, message },
-            self.time,
-            &mut budget,
-            &mut self.queue,
-            lines,
-        )?;
-        self.refuse_queued(lines)?;
-        Ok(Outcome::Done)
-    }
-
-    /// Prints the signal order of the canvas at a path.
-    fn show_at<L: Sink>(&mut self, path: &[u32], lines: &mut L) -> Result<Outcome, SinkFailed>
-        ensures cause { HasCause (L.faults lines.old) (L.faults lines.new) result }
-        ensures stays { self.new.stopped ≡ self.old.stopped }
-    {
-        self.held.clear();
-        show(
-            &self.patch,
-            path,
-            &mut self.numbers,
-            &self.symbols,
-            &mut self.held,
-            lines,
-        )?;
-        flush(&mut self.held, lines)?;
-        Ok(Outcome::Done)
-    }
-
-    /// Refuses the edits that the event asked for.
-    fn refuse_queued<L: Sink>(&mut self, lines: &mut L) -> Result<(), SinkFailed>
-        ensures cause { HasCause (L.faults lines.old) (L.faults lines.new) result }
-        ensures stays { self.new.stopped ≡ self.old.stopped }
-    {
-        for _ in 0..self.queue.len() {
-            let _refused = self.refuse(Request::Edit, Why::NoDocument, lines)?;
-        }
-        Ok(())
-    }
-
-    /// Prints that what was asked for isn't done.
-    fn refuse<L: Sink>(
-        &mut self,
-        request: Request,
-        why: Why,
-        lines: &mut L,
-    ) -> Result<Outcome, SinkFailed>
-        ensures cause { HasCause (L.faults lines.old) (L.faults lines.new) result }
-        ensures stays { self.new.stopped ≡ self.old.stopped }
-    {
-        self.held.clear();
-        say(
-            &Line::Refused { request, why },
-            &self.symbols,
-            &mut self.held,
-            lines,
-        )?;
-        flush(&mut self.held, lines)?;
-        Ok(outcome_of(why))
-    }
-
-    /// Prints that a message was cut.
-    fn say_cut<L: Sink>(&mut self, lines: &mut L) -> Result<(), SinkFailed>
-        ensures cause { HasCause (L.faults lines.old) (L.faults lines.new) result }
-        ensures stays { self.new.stopped ≡ self.old.stopped }
-    {
-        self.held.clear();
-        say(&Line::MessageCut, &self.symbols, &mut self.held, lines)?;
-        flush(&mut self.held, lines)
-    }
-}
-
-/// What a refused command answers.
-fn outcome_of(why: Why) -> Outcome {
-    match why {
-        Why::NothingToUndo | Why::NothingToRedo => Outcome::Nothing,
-        _ => Outcome::Refused(EditRefusal::NoDocument),
-    }
-}
-
-/// The later of two times.
-fn later(a: Time, b: Time) -> Time {
-    Time::of_units(a.units().max(b.units()))
 }

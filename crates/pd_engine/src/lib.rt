@@ -1,13 +1,17 @@
 //! Events in time: opening, commands, clocks and blocks.
 #![tactic(auto)]
 
+mod commands;
 mod engine;
+mod events;
 mod messages;
 mod opening;
+mod printing;
 mod refusals;
 mod remarks;
+mod room;
 mod showing;
-mod time;
+mod times;
 
 pub use engine::Engine;
 pub use refusals::{BadCause, EditRefusal, EngineFault, OpenRefusal, Outcome};

@@ -1,16 +1,26 @@
 //! A patch is opened: fetched, read, grown and loaded.
 
-ghost use Rattle.std.specs.Prelude.{◌≡◌, ◌≤◌, false, IfOk};
-ghost use Rattle.pd_say.specs.Gathering.{HasCause};
-ghost use Rattle.pd_engine.specs.Causes.{HasOpeningCauses};
+ghost use Rattle.std.specs.Prelude.{◌≡◌, ◌≢◌, ◌≤◌, false, Ok, [], IfOk, IfErr, OnOk, OnErr, length};
+ghost use Rattle.pd_io.specs.Stream.{TookPart};
+ghost use Rattle.pd_io.specs.declared.shelves.TheConstants.{MAX_FILE};
 ghost use Rattle.pd_atom.specs.Names.{Extends};
 ghost use Rattle.pd_canvas.specs.Proper.{IsProper};
-ghost use Rattle.pd_gather.specs.Gather.{AreProper};
+ghost use Rattle.pd_doc.specs.Reading.{document_of};
+ghost use Rattle.pd_grove.specs.TextOrder.{keys_in_order};
+ghost use Rattle.pd_gather.specs.Gather.{AreProper, AnswersAll, known};
+ghost use Rattle.pd_patch.specs.Grown.{IsFresh, IsTree};
+ghost use Rattle.pd_patch.specs.Report.{notices_in, loads_among};
+ghost use Rattle.pd_say.specs.Gathering.{HasCause};
+ghost use Rattle.pd_engine.specs.Causes.{HasOpeningCauses};
+ghost use Rattle.pd_engine.specs.Stages.{stage_of, Says};
+ghost use Rattle.pd_engine.specs.Opening.{first_stage, loaded, growth_of, GathersAll, Opens, IsUngathered, IsUngrown, IsRefused, Reads, IsUnread, IsUnreadText, OpensFile, IsFileRefused};
+ghost use Rattle.pd_engine.specs.Remarks.{remarks_text};
 
 use crate::engine::Engine;
 use crate::refusals::{BadCause, OpenRefusal, ungathered, ungrown, unread};
-use crate::remarks::say_remarks;
-use crate::time::BLOCK;
+use crate::remarks::print_remarks;
+use crate::room::BoxNumbers;
+use crate::times::BLOCK;
 use pd_atom::Symbols;
 use pd_clock::{Rate, Time};
 use pd_doc::{Doc, proper_extended, read};
@@ -18,22 +28,19 @@ use pd_gather::Library;
 use pd_io::{Fetched, Shelf, ShelfError, Sink, SinkFailed};
 use pd_patch::{Patch, Report};
 use pd_queue::EditQueue;
-use pd_say::{Held, flush};
-use pd_walk::Walker;
+use pd_say::Held;
+use pd_walk::{Start, Walker};
 use std::alloc::{AllocError, Global};
 
 /// The `$0` of the patch.
 const FIRST_ZERO: u32 = 1001;
-
-/// The most boxes whose numbers a line tells.
-const MOST_BOXES: usize = 16_384;
 
 /// The room of events.
 #[derive(Drop)]
 struct Room {
     walker: Walker,
     queue: EditQueue,
-    numbers: Vec<u32>,
+    numbers: BoxNumbers,
 }
 
 impl Room {
@@ -41,7 +48,7 @@ impl Room {
         Ok(Room {
             walker: Walker::new(alloc)?,
             queue: EditQueue::new(alloc)?,
-            numbers: Vec::with_capacity(alloc, MOST_BOXES)?,
+            numbers: BoxNumbers::new(alloc)?,
         })
     }
 }
@@ -61,6 +68,9 @@ impl Engine {
         lines: &mut L,
     ) -> Result<Engine, OpenRefusal>
         ensures running { IfOk result (λ e. e.stopped ≡ false) }
+        ensures opens { IfOk result (λ e. OpensFile (H.holds shelf.old) name.now rate (stage_of e) (L.taken lines.old) (L.taken lines.new)) }
+        ensures refused { IfErr result (IsFileRefused (H.holds shelf.old) name.now rate (L.taken lines.old) (L.taken lines.new)) }
+        ensures quiet { IfErr result (λ e. e ≢ OpenRefusal.WriteFault → L.taken lines.new ≡ L.taken lines.old) }
         ensures kept { H.holds shelf.new ≡ H.holds shelf.old }
         ensures causes { HasOpeningCauses (H.faults shelf.old) (H.faults shelf.new) (L.faults lines.old) (L.faults lines.new) result }
     {
@@ -86,6 +96,9 @@ impl Engine {
     ) -> Result<Engine, OpenRefusal>
         requires { IsProper symbols doc.root }
         ensures running { IfOk result (λ e. e.stopped ≡ false) }
+        ensures opens { IfOk result (λ e. Opens (H.holds shelf.old) name.now rate doc.root symbols (stage_of e) (L.taken lines.old) (L.taken lines.new)) }
+        ensures refused { IfErr result (IsRefused (H.holds shelf.old) name.now rate doc.root symbols (L.taken lines.old) (L.taken lines.new)) }
+        ensures quiet { IfErr result (λ e. e ≢ OpenRefusal.WriteFault → L.taken lines.new ≡ L.taken lines.old) }
         ensures kept { H.holds shelf.new ≡ H.holds shelf.old }
         ensures causes { HasOpeningCauses (H.faults shelf.old) (H.faults shelf.new) (L.faults lines.old) (L.faults lines.new) result }
     {
@@ -102,6 +115,8 @@ fn fetch_document<H: Shelf>(
     symbols: &mut Symbols,
 ) -> Result<Doc, OpenRefusal>
     ensures proper { IfOk result (λ doc. IsProper symbols.new doc.root) }
+    ensures reads { IfOk result (λ doc. Reads (H.holds shelf.old) name.now symbols.old (Ok (doc.root, symbols.new))) }
+    ensures refused { IfErr result (IsUnread (H.holds shelf.old) name.now symbols.old) }
     ensures kept { H.holds shelf.new ≡ H.holds shelf.old }
     ensures causes { HasOpeningCauses (H.faults shelf.old) (H.faults shelf.new) 0 0 result }
 {
@@ -118,16 +133,14 @@ fn fetch_document<H: Shelf>(
     }
 }
 
+/// Reads the document of a text.
 fn read_document(alloc: Global, text: &[u8], symbols: &mut Symbols) -> Result<Doc, OpenRefusal>
+    requires { length text.now ≤ MAX_FILE }
     ensures proper { IfOk result (λ doc. IsProper symbols.new doc.root) }
+    ensures reads { IfOk result (λ doc. document_of symbols.old text.now ≡ Ok (doc.root, symbols.new)) }
+    ensures refused { IfErr result (IsUnreadText (document_of symbols.old text.now)) }
     ensures causes { HasOpeningCauses 0 0 0 0 result }
 {
-    if text.len() > 16_777_216 {
-        return Err(OpenRefusal::Bad {
-            number: 0,
-            cause: BadCause::TooLong,
-        });
-    }
     match read(alloc, text, symbols) {
         Ok(doc) => Ok(doc),
         Err(refusal) => Err(unread(refusal)),
@@ -143,7 +156,10 @@ fn gather_all<H: Shelf>(
     symbols: &mut Symbols,
 ) -> Result<(), OpenRefusal>
     requires proper { IsProper symbols.old doc.now.root }
-    requires found { AreProper symbols.old library.old }
+    requires empty { library.old ≡ [] }
+    ensures gathers { OnOk result (GathersAll (H.holds shelf.old) name.now doc.now.root symbols.old (known library.new symbols.new)) }
+    ensures all { OnOk result (AnswersAll name.now doc.now.root (known library.new symbols.new)) }
+    ensures refused { IfErr result (IsUngathered (H.holds shelf.old) name.now doc.now.root symbols.old) }
     ensures kept { H.holds shelf.new ≡ H.holds shelf.old }
     ensures causes { HasOpeningCauses (H.faults shelf.old) (H.faults shelf.new) 0 0 result }
     ensures found { AreProper symbols.new library.new }
@@ -166,6 +182,12 @@ fn grow_all(
 ) -> Result<(Patch, Report), OpenRefusal>
     requires proper { IsProper symbols.old doc.root }
     requires found { AreProper symbols.old library.now }
+    requires all { AnswersAll name.now doc.root (known library.now symbols.old) }
+    ensures tree { IfOk result (λ r. IsTree r.0 symbols.new rate (growth_of name.now doc.root (known library.now symbols.old))) }
+    ensures fresh { IfOk result (λ r. IsFresh r.0 symbols.new name.now rate) }
+    ensures notices { IfOk result (λ r. r.1.notices.items ≡ notices_in r.0.grove r.0.web r.0.orders.items) }
+    ensures loads { IfOk result (λ r. r.1.fresh.items ≡ loads_among r.0.grove (keys_in_order r.0.grove)) }
+    ensures refused { IfErr result (IsUngrown (growth_of name.now doc.root (known library.now symbols.old)) rate) }
     ensures causes { HasOpeningCauses 0 0 0 0 result }
 {
     match Patch::grow(alloc, doc, name, rate, library, FIRST_ZERO, symbols) {
@@ -187,6 +209,9 @@ fn open_document<H: Shelf, L: Sink>(
 ) -> Result<Engine, OpenRefusal>
     requires { IsProper symbols doc.root }
     ensures running { IfOk result (λ e. e.stopped ≡ false) }
+    ensures opens { IfOk result (λ e. Opens (H.holds shelf.old) name.now rate doc.root symbols (stage_of e) (L.taken lines.old) (L.taken lines.new)) }
+    ensures refused { IfErr result (IsRefused (H.holds shelf.old) name.now rate doc.root symbols (L.taken lines.old) (L.taken lines.new)) }
+    ensures quiet { IfErr result (λ e. e ≢ OpenRefusal.WriteFault → L.taken lines.new ≡ L.taken lines.old) }
     ensures kept { H.holds shelf.new ≡ H.holds shelf.old }
     ensures causes { HasOpeningCauses (H.faults shelf.old) (H.faults shelf.new) (L.faults lines.old) (L.faults lines.new) result }
 {
@@ -210,6 +235,9 @@ fn begin<L: Sink>(
     lines: &mut L,
 ) -> Result<Engine, OpenRefusal>
     ensures running { IfOk result (λ e. e.stopped ≡ false) }
+    ensures ok { IfOk result (λ e. Says (loaded (first_stage patch symbols) (remarks_text symbols patch report.notices.items) report.fresh.items) (stage_of e) (L.taken lines.old) (L.taken lines.new)) }
+    ensures err { OnErr result (TookPart (L.taken lines.old) (L.taken lines.new) (loaded (first_stage patch symbols) (remarks_text symbols patch report.notices.items) report.fresh.items).lines) }
+    ensures fault { IfErr result (λ e. e ≡ OpenRefusal.WriteFault) }
     ensures causes { HasOpeningCauses 0 0 (L.faults lines.old) (L.faults lines.new) result }
 {
     let Room {
@@ -239,10 +267,12 @@ fn begin<L: Sink>(
 impl Engine {
     /// Prints the lines of growth, and loads the load boxes.
     fn load_whole<L: Sink>(&mut self, report: &Report, lines: &mut L) -> Result<(), SinkFailed>
+        ensures ok { OnOk result (Says (loaded (stage_of self.old) (remarks_text self.old.symbols self.old.patch report.now.notices.items) report.now.fresh.items) (stage_of self.new) (L.taken lines.old) (L.taken lines.new)) }
+        ensures err { OnErr result (TookPart (L.taken lines.old) (L.taken lines.new) (loaded (stage_of self.old) (remarks_text self.old.symbols self.old.patch report.now.notices.items) report.now.fresh.items).lines) }
         ensures cause { HasCause (L.faults lines.old) (L.faults lines.new) result }
         ensures stays { self.new.stopped ≡ self.old.stopped }
     {
-        say_remarks(
+        print_remarks(
             &self.patch,
             report.notices.as_slice(),
             &mut self.numbers,
@@ -250,7 +280,7 @@ impl Engine {
             &mut self.held,
             lines,
         )?;
-        flush(&mut self.held, lines)?;
-        self.load(report.fresh.as_slice(), lines)
+        let boxes = report.fresh.as_slice();
+        self.run_event(&Start::Loads { boxes }, lines)
     }
 }

@@ -1,47 +1,78 @@
 //! The lines of growth.
 
-ghost use Rattle.std.specs.Prelude.{◌≤◌};
-ghost use Rattle.pd_say.specs.Gathering.{HasCause};
+ghost use Rattle.std.specs.Prelude.{◌≡◌, ◌≤◌, OnOk, OnErr};
+ghost use Rattle.slab.specs.Slab.{get};
+ghost use Rattle.pd_io.specs.Stream.{grown, TookPart};
+ghost use Rattle.pd_say.specs.Gathering.{Says, Fails, HasCause};
+ghost use Rattle.pd_patch.specs.Telling.{fault_in};
+ghost use Rattle.pd_patch.specs.Values.{stuck_in};
+ghost use Rattle.pd_walk.specs.Worlds.{net_of};
+ghost use Rattle.pd_engine.specs.Commands.{numbers_told};
+ghost use Rattle.pd_engine.specs.Remarks.{path_in, told_fault, unmade_text, unfit_text, loop_text, remark_text, remarks_text};
 
+use crate::room::BoxNumbers;
 use crate::showing::fill_numbers;
 use pd_atom::{Atom, Symbols};
 use pd_canvas::Wire;
 use pd_io::{Sink, SinkFailed};
 use pd_patch::{Patch, Remark};
-use pd_say::{CanvasPath, Ends, Held, Line, say};
+use pd_say::{CanvasPath, Ends, Held, Line, flush, say};
 use pd_tree::Fault;
 
-/// Says the lines of growth, in order.
-pub(crate) fn say_remarks<L: Sink>(
+/// Prints the lines of growth, in order.
+pub(crate) fn print_remarks<L: Sink>(
     patch: &Patch,
     remarks: &[Remark],
-    numbers: &mut Vec<u32>,
+    numbers: &mut BoxNumbers,
     symbols: &Symbols,
     held: &mut Held,
     lines: &mut L,
 ) -> Result<(), SinkFailed>
+    ensures ok { OnOk result (L.taken lines.new ≡ grown (L.taken lines.old) (remarks_text symbols.now patch.now remarks.now)) }
+    ensures err { OnErr result (TookPart (L.taken lines.old) (L.taken lines.new) (remarks_text symbols.now patch.now remarks.now)) }
+    ensures cause { HasCause (L.faults lines.old) (L.faults lines.new) result }
+{
+    held.clear();
+    say_remarks(patch, remarks, numbers, symbols, held, lines)?;
+    flush(held, lines)
+}
+
+/// Says the lines of growth, in order.
+fn say_remarks<L: Sink>(
+    patch: &Patch,
+    remarks: &[Remark],
+    numbers: &mut BoxNumbers,
+    symbols: &Symbols,
+    held: &mut Held,
+    lines: &mut L,
+) -> Result<(), SinkFailed>
+    ensures ok { OnOk result (Says (L.taken lines.old) held.old.items (L.taken lines.new) held.new.items (remarks_text symbols.now patch.now remarks.now)) }
+    ensures err { OnErr result (Fails (L.taken lines.old) held.old.items (L.taken lines.new) (remarks_text symbols.now patch.now remarks.now)) }
     ensures cause { HasCause (L.faults lines.old) (L.faults lines.new) result }
 {
     for remark in remarks {
-        say_remark(patch, *remark, numbers, symbols, held, lines)?;
+        say_remark(patch, remark, numbers, symbols, held, lines)?;
     }
     Ok(())
 }
 
+#[tactic(auto, unfolding(crate::specs::Remarks::remark_text))]
 fn say_remark<L: Sink>(
     patch: &Patch,
-    remark: Remark,
-    numbers: &mut Vec<u32>,
+    remark: &Remark,
+    numbers: &mut BoxNumbers,
     symbols: &Symbols,
     held: &mut Held,
     lines: &mut L,
 ) -> Result<(), SinkFailed>
+    ensures ok { OnOk result (Says (L.taken lines.old) held.old.items (L.taken lines.new) held.new.items (remark_text symbols.now patch.now remark.now)) }
+    ensures err { OnErr result (Fails (L.taken lines.old) held.old.items (L.taken lines.new) (remark_text symbols.now patch.now remark.now)) }
     ensures cause { HasCause (L.faults lines.old) (L.faults lines.new) result }
 {
     match remark {
-        Remark::NotMade { node } => say_unmade(patch, node, symbols, held, lines),
-        Remark::Unfit { canvas, wire } => say_unfit(patch, canvas, wire, symbols, held, lines),
-        Remark::Loop { canvas } => say_loop(patch, canvas, numbers, symbols, held, lines),
+        Remark::NotMade { node } => say_unmade(patch, *node, symbols, held, lines),
+        Remark::Unfit { canvas, wire } => say_unfit(patch, *canvas, *wire, symbols, held, lines),
+        Remark::Loop { canvas } => say_loop(patch, *canvas, numbers, symbols, held, lines),
     }
 }
 
@@ -53,6 +84,8 @@ fn say_unmade<L: Sink>(
     held: &mut Held,
     lines: &mut L,
 ) -> Result<(), SinkFailed>
+    ensures ok { OnOk result (Says (L.taken lines.old) held.old.items (L.taken lines.new) held.new.items (unmade_text symbols.now (fault_in (get patch.now.grove.nodes node)))) }
+    ensures err { OnErr result (Fails (L.taken lines.old) held.old.items (L.taken lines.new) (unmade_text symbols.now (fault_in (get patch.now.grove.nodes node)))) }
     ensures cause { HasCause (L.faults lines.old) (L.faults lines.new) result }
 {
     match patch.fault_at(node) {
@@ -61,6 +94,8 @@ fn say_unmade<L: Sink>(
     }
 }
 
+/// Says why a box could not be made that its line names so. A name that isn't of the table has no line.
+#[tactic(auto, unfolding(pd_say::specs::Lines::text_of))]
 fn say_fault<L: Sink>(
     fault: Fault,
     name: Atom,
@@ -68,6 +103,8 @@ fn say_fault<L: Sink>(
     held: &mut Held,
     lines: &mut L,
 ) -> Result<(), SinkFailed>
+    ensures ok { OnOk result (Says (L.taken lines.old) held.old.items (L.taken lines.new) held.new.items (told_fault symbols.now fault name)) }
+    ensures err { OnErr result (Fails (L.taken lines.old) held.old.items (L.taken lines.new) (told_fault symbols.now fault name)) }
     ensures cause { HasCause (L.faults lines.old) (L.faults lines.new) result }
 {
     if !pd_walk::is_known(symbols, &name) {
@@ -82,6 +119,7 @@ fn say_fault<L: Sink>(
 }
 
 /// Says that a wire doesn't fit.
+#[tactic(auto, unfolding(pd_say::specs::Lines::text_of))]
 fn say_unfit<L: Sink>(
     patch: &Patch,
     canvas: u32,
@@ -90,6 +128,8 @@ fn say_unfit<L: Sink>(
     held: &mut Held,
     lines: &mut L,
 ) -> Result<(), SinkFailed>
+    ensures ok { OnOk result (Says (L.taken lines.old) held.old.items (L.taken lines.new) held.new.items (unfit_text (path_in patch.now canvas) wire)) }
+    ensures err { OnErr result (Fails (L.taken lines.old) held.old.items (L.taken lines.new) (unfit_text (path_in patch.now canvas) wire)) }
     ensures cause { HasCause (L.faults lines.old) (L.faults lines.new) result }
 {
     let path = patch.path_of(canvas);
@@ -108,28 +148,38 @@ fn say_unfit<L: Sink>(
     say(&line, symbols, held, lines)
 }
 
+/// Makes `numbers` the numbers of the boxes of a canvas that feed one another in a loop.
+fn fill_stuck(patch: &Patch, canvas: u32, numbers: &mut BoxNumbers)
+    ensures { numbers.new.numbers.items ≡ numbers_told (net_of patch.now) (stuck_in patch.now canvas) }
+{
+    match patch.order_at(canvas) {
+        Some(order) => fill_numbers(patch, order.stuck(), numbers),
+        None => numbers.numbers.clear(),
+    }
+}
+
 /// Says which boxes of a canvas feed one another in a loop.
+#[tactic(auto, unfolding(pd_say::specs::Lines::text_of))]
 fn say_loop<L: Sink>(
     patch: &Patch,
     canvas: u32,
-    numbers: &mut Vec<u32>,
+    numbers: &mut BoxNumbers,
     symbols: &Symbols,
     held: &mut Held,
     lines: &mut L,
 ) -> Result<(), SinkFailed>
+    ensures ok { OnOk result (Says (L.taken lines.old) held.old.items (L.taken lines.new) held.new.items (loop_text patch.now canvas)) }
+    ensures err { OnErr result (Fails (L.taken lines.old) held.old.items (L.taken lines.new) (loop_text patch.now canvas)) }
     ensures cause { HasCause (L.faults lines.old) (L.faults lines.new) result }
 {
+    fill_stuck(patch, canvas, numbers);
     let path = patch.path_of(canvas);
-    match patch.order_at(canvas) {
-        Some(order) => fill_numbers(patch, order.stuck(), numbers),
-        None => numbers.clear(),
-    }
     let line = Line::SignalLoop {
         canvas: CanvasPath {
             document: None,
             path: path.as_slice(),
         },
-        boxes: numbers.as_slice(),
+        boxes: numbers.numbers.as_slice(),
     };
     say(&line, symbols, held, lines)
 }

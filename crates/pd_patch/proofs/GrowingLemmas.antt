@@ -1,15 +1,12 @@
 -- From the answers of the layers to what growth gives.
-use Rattle.std.proofs.Common.{arith, ◌≡◌, ℕ, ◌<◌, ◌≤◌, Bool, true, false, nat_lt, List, length, Option, Some, None, IsSome, inl, inr, sym, ap, ◌∙◌, subst}
-use Rattle.slab.specs.Slab.{Slab, get}
-use Rattle.std.proofs.lemmas.Bool.{cases_lt}
+use Rattle.std.proofs.Common.{arith, ◌≡◌, ℕ, ◌<◌, ◌≤◌, Bool, true, false, nat_lt, List, length, Option, sym, ◌∙◌, subst}
 use Rattle.std.proofs.lemmas.Bool.Decides.{nat_tests}
-use Rattle.std.proofs.lemmas.List.{get_or_past}
 use Rattle.pd_atom.specs.Names.{Names}
 use Rattle.pd_clock.specs.declared.times.Rate.{Rate}
 use Rattle.pd_canvas.specs.Pages.{Page, elements_of}
 use Rattle.pd_library.specs.declared.answers.Answer.{Answer}
 use Rattle.pd_tree.specs.declared.rows.Sheet.{Sheet}
-use Rattle.pd_tree.specs.Trees.{Tree, Trees, width, stands_of, stands_in}
+use Rattle.pd_tree.specs.Trees.{Tree, width}
 use Rattle.pd_fit.specs.Fitting.{wires_fitting}
 use Rattle.pd_growth.specs.declared.growing.Stop.{Stop}
 use Rattle.pd_growth.specs.declared.growing.Stop.TheVariants as stop
@@ -17,11 +14,10 @@ use Rattle.pd_growth.specs.declared.documents.Grown.{Grown}
 use Rattle.pd_growth.specs.Steps.{Stock, Step}
 use Rattle.pd_growth.specs.Growth.{grown}
 use Rattle.pd_growth.specs.Growing.{GivesTree, EndsUnlessMemory}
-use Rattle.pd_grove.specs.declared.nodes.Node.{Node}
 use Rattle.pd_grove.specs.Standing.{GroveStands}
 use Rattle.pd_patch.specs.declared.patch.Patch.{Patch}
 use Rattle.pd_patch.specs.Refusals.{stopped}
-use Rattle.pd_patch.specs.Sounds.{sound_in, sound_of}
+use Rattle.pd_patch.specs.Sounds.{sound_in}
 use Rattle.pd_patch.specs.Grown.{IsFresh, IsTree, HasCause, HasManyWires, HasMuchSound}
 use Rattle.pd_patch.proofs.GrowthLemmas.{tree_fits, sound_grown}
 use Rattle.pd_patch.proofs.WiredLemmas.{wired}
@@ -84,14 +80,3 @@ tree_planted lib name page w g names table rate G p fresh t few l stands =
       few_wires = sheet_wires (λ n. n ≤ 65536) g names (grown lib name page w) G few;
       few_values = omega (arith, l, e);
     }
-
--- a live box has a key below the end of its slab
-pub live_below : (nodes : Slab Node) (k count end : ℕ) → length nodes.slots ≤ count → end ≡ count → IsSome (get nodes k) → k < end
-live_below nodes k count end l e live = elim (cases_lt k (length nodes.slots)) [
-  | inl h ↦ omega (arith, h, l, e)
-  | inr h ↦ absurd (none_live (get nodes k) (get_or_past nodes.slots k None h) live)
-]
-  where
-    none_live : (o : Option Node) → o ≡ None → IsSome o → ⊥
-    none_live None q s = absurd (cc)
-    none_live (Some n) q s = absurd (cc)

@@ -11,3 +11,4 @@ pub mod ValueLemmas
 pub mod WiredLemmas
 pub mod KindLemmas
 pub mod CanvasLemmas
+pub mod BlockLemmas

@@ -1,6 +1,6 @@
 -- From the wires that were laid to those of the tree.
-use Rattle.std.proofs.Common.{◌≡◌, ℕ, zero, suc, Bool, List, [], ◌∷◌, map, Option, Some, None, refl, sym, ap, ◌∙◌, subst}
-use Rattle.std.specs.Prelude.{slice_get, option_and_then}
+use Rattle.std.proofs.Common.{◌≡◌, ℕ, zero, suc, List, [], ◌∷◌, map, Option, Some, None, refl, sym, ap, ◌∙◌, subst}
+use Rattle.std.specs.Prelude.{option_and_then}
 use Rattle.std.proofs.lemmas.Option.{none-some, same_Some}
 use Rattle.slab.specs.Slab.{get}
 use Rattle.pd_canvas.specs.declared.wires.Wire.{Wire}
@@ -17,7 +17,7 @@ use Rattle.pd_web.specs.declared.jacks.Jack.{Jack}
 use Rattle.pd_web.specs.declared.web.Web.{Web}
 use Rattle.pd_web.specs.Canvases.{IsOwn, HoldersAreNoPorts, keys_at, sink_place, source_place, fan_into}
 use Rattle.pd_web.specs.Hops.{ports_told, boxes_told}
-use Rattle.pd_web.specs.Jacks.{jacks_at, made_in}
+use Rattle.pd_web.specs.Jacks.{jacks_at}
 use Rattle.pd_web.specs.Sockets.{made_at}
 use Rattle.pd_web.specs.Lines.{seen_by, seen_at, laid_at}
 use Rattle.pd_web.proofs.NumberLemmas.{fed_by_number, feeding_by_number}

@@ -30,6 +30,7 @@ use Rattle.pd_patch.specs.declared.refusal.GrowRefusal.TheVariants.{SymbolsFull,
 use Rattle.pd_patch.specs.Numbers.{AreUnder}
 use Rattle.pd_patch.specs.Orders.{AreOrdered}
 use Rattle.pd_patch.specs.Sounds.{sound_of}
+use Rattle.pd_patch.specs.Values.{AreSilent, blocks_told}
 use Rattle.pd_patch.specs.Wired.{IsWired}
 
 -- Each box has its ports, and the wires are those that fit: of each outlet and to each inlet, in the order of their canvas.
@@ -43,7 +44,8 @@ pub record AreLaid (g : Grove) (w : Web) : Type 0 where
   pub few : length (all_lines g) ≤ 65536
 
 -- What a patch has whose tree was just planted: boxes that lie in one canvas each; its wires; under each name its owners, in text order;
--- the signal order of each canvas; each box's number; no clock, and room for one of each box; and of each box the first state.
+-- the signal order of each canvas; each box's number; no clock, and room for one of each box; and of each box the first state and,
+-- where it has signal outlets, a silent block for each outlet.
 pub record IsFresh (p : Patch) (names : Names) (file : List ℕ) (rate : Rate) : Type 0 where
   pub own : AreOwn (get p.grove.nodes) (get p.grove.boards)
   pub wires : AreLaid p.grove p.web
@@ -54,6 +56,7 @@ pub record IsFresh (p : Patch) (names : Names) (file : List ℕ) (rate : Rate) :
   pub clocks : p.timers.clocks.clocks ≡ []
   pub room : (k : ℕ) → IsSome (get p.grove.nodes k) → k < p.timers.end
   pub states : NodesFresh rate 0 (get p.grove.nodes)
+  pub blocks : AreSilent p.grove p.web (blocks_told p)
   pub same_rate : p.rate ≡ rate
 
 -- growth gives a tree, with these names after it

@@ -1,7 +1,14 @@
 -- The blocks that signal outlets give, and the signal orders of canvases.
-use Rattle.std.specs.Prelude.{◌≡◌, ℕ, ℤ, List, [], map, slice_get, slice_set, slice_index_or, Option, Some, None, option_and_then}
+use Rattle.std.specs.Prelude.{◌≡◌, ℕ, ℤ, List, [], map, length, replicate, slice_get, slice_set, slice_index_or, if◌then◌else◌, Option, Some, None, IsSome, option_and_then}
+use Rattle.std.specs.List.{list_any}
+use Rattle.slab.specs.Slab.{get}
 use Rattle.pd_kind.specs.States.{silent_block}
 use Rattle.pd_order.specs.Listing.{Listing}
+use Rattle.pd_grove.specs.declared.grove.Grove.{Grove}
+use Rattle.pd_grove.specs.declared.ports.Side.TheVariants.{Outlets}
+use Rattle.pd_web.specs.declared.jacks.Jack.{Jack}
+use Rattle.pd_web.specs.declared.web.Web.{Web}
+use Rattle.pd_web.specs.Hops.{ports_told}
 use Rattle.pd_patch.specs.declared.patch.Patch.{Patch}
 use Rattle.pd_patch.specs.Telling.{order_in}
 
@@ -23,6 +30,18 @@ with_block blocks node outlet block = slice_set blocks node (slice_set (slice_in
 -- silence in place of each block of a box
 abbrev pub with_silence : Blocks → ℕ → Blocks
 with_silence blocks node = slice_set blocks node (map (λ _. silent_block) (slice_index_or blocks node []))
+
+-- how many blocks a box with these outlets has: one for each, where one of them carries signals
+abbrev pub block_count : List Jack → ℕ
+block_count outlets = if list_any (λ j. j.is_signal) outlets then length outlets else 0
+
+-- the blocks of a new box
+abbrev pub first_blocks : Web → ℕ → List (List ℤ)
+first_blocks w node = replicate (block_count (ports_told w Outlets node)) silent_block
+
+-- the boxes of a tree have their first blocks
+abbrev pub AreSilent : Grove → Web → Blocks → Type 0
+AreSilent g w blocks = (k : ℕ) → IsSome (get g.nodes k) → slice_get blocks k ≡ Some (first_blocks w k)
 
 abbrev pub chain_by : Option Listing → List ℕ
 chain_by None = []

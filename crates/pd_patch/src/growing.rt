@@ -1,6 +1,6 @@
 //! Growth, layer by layer.
 
-ghost use Rattle.std.specs.Prelude.{◌≡◌, ◌≤◌, length, IfOk, IfErr};
+ghost use Rattle.std.specs.Prelude.{◌≡◌, length, IfOk, IfErr};
 ghost use Rattle.std.specs.List.{AllByRecursion};
 ghost use Rattle.pd_atom.specs.Names.{Extends};
 ghost use Rattle.pd_kind.specs.Ports.{IsSmallKind};
@@ -17,7 +17,7 @@ ghost use Rattle.pd_grove.specs.TextOrder.{keys_in_order};
 ghost use Rattle.pd_patch.specs.Report.{notices_in, loads_among};
 ghost use Rattle.pd_patch.specs.Grown.{AreLaid, IsFresh, IsTree, HasCause};
 
-use crate::numbers::numbers_of;
+use crate::numbers::{box_end, numbers_of};
 use crate::orders::orders_of;
 use crate::patch::Patch;
 use crate::refusal::GrowRefusal;
@@ -101,7 +101,7 @@ fn plant_whole(
     let orders = orders_of(alloc, &grove, &web)?;
     let numbers = numbers_of(alloc, &grove)?;
     let values = values_of(alloc, &grove, &web)?;
-    let timers = Timers::new(alloc, clock_owners(&grove)?)?;
+    let timers = Timers::new(alloc, box_end(&grove)?)?;
     let patch = Patch {
         grove,
         web,
@@ -124,16 +124,6 @@ fn web_of(alloc: Global, grove: &Grove) -> Result<Web, AllocError>
 {
     match Web::lay(alloc, grove) {
         Ok(web) => Ok(web),
-        Err(_) => Err(AllocError),
-    }
-}
-
-/// A number above the keys of all boxes.
-fn clock_owners(grove: &Grove) -> Result<u32, AllocError>
-    ensures { IfOk result (λ end. length grove.now.nodes.slots ≤ end) }
-{
-    match u32::try_from(grove.nodes_end()) {
-        Ok(end) => Ok(end),
         Err(_) => Err(AllocError),
     }
 }

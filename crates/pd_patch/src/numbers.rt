@@ -8,6 +8,16 @@ use crate::listing::put_number;
 use pd_grove::Grove;
 use std::alloc::{AllocError, Global};
 
+/// A number above the keys of all boxes.
+pub(crate) fn box_end(grove: &Grove) -> Result<u32, AllocError>
+    ensures { IfOk result (λ end. length grove.now.nodes.slots ≤ end) }
+{
+    match u32::try_from(grove.nodes_end()) {
+        Ok(end) => Ok(end),
+        Err(_) => Err(AllocError),
+    }
+}
+
 /// A number above the keys of all canvases.
 pub(crate) fn canvas_end(grove: &Grove) -> Result<u32, AllocError>
     ensures { IfOk result (λ end. length grove.now.boards.slots ≤ end) }

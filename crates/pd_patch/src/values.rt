@@ -1,11 +1,13 @@
 //! The blocks that signal outlets give, and what a block of samples asks of a patch.
 
-ghost use Rattle.std.specs.Prelude.{◌≡◌, ◌+◌, ◌≤◌, ℕ, Some, length, slice_get, slice_set, map, is_some, IsTrue};
+ghost use Rattle.std.specs.Prelude.{◌≡◌, ◌+◌, ◌≤◌, ℕ, Some, length, slice_get, slice_set, map, replicate, is_some, IsTrue, IfOk};
 ghost use Rattle.std.specs.Option.{option_copied};
 ghost use Rattle.pd_kind.specs.States.{silent_block};
-ghost use Rattle.pd_web.specs.Hops.{feed_hops};
-ghost use Rattle.pd_patch.specs.Values.{blocks_told, block_at, with_block, with_silence, chain_in, stuck_in, SilentRest};
+ghost use Rattle.pd_grove.specs.declared.ports.Side.TheVariants.{Outlets};
+ghost use Rattle.pd_web.specs.Hops.{feed_hops, ports_told};
+ghost use Rattle.pd_patch.specs.Values.{blocks_told, block_at, block_count, with_block, with_silence, chain_in, stuck_in, AreSilent, SilentRest};
 
+use crate::numbers::box_end;
 use crate::patch::Patch;
 use pd_grove::Grove;
 use pd_num::Sig;
@@ -15,22 +17,23 @@ use std::alloc::{AllocError, Global};
 /// The blocks of the outlets of a box.
 pub(crate) type Blocks = Vec<[Sig; 64]>;
 
-/// The blocks of the outlets of each box, by its key; none for a box without signal outlets.
-pub(crate) fn values_of(
-    alloc: Global,
-    grove: &Grove,
-    web: &Web,
-) -> Result<Vec<Blocks>, AllocError> {
+/// The first blocks of each box, by its key. Under a key that isn't there stand any blocks.
+pub(crate) fn values_of(alloc: Global, grove: &Grove, web: &Web) -> Result<Vec<Blocks>, AllocError>
+    ensures { IfOk result (λ values. AreSilent grove.now web.now (map (λ b. b.items) values.items)) }
+{
+    let end = box_end(grove)?;
     let mut values = Vec::new(alloc);
-    let end = u32::try_from(grove.nodes_end()).map_err(|_| AllocError)?;
     for key in 0..end {
-        values.push(silent_blocks(alloc, blocks_at(web, key))?)?;
+        let blocks = silent_blocks(alloc, blocks_at(web, key))?;
+        values.push(blocks)?;
     }
     Ok(values)
 }
 
 /// How many blocks a box has: one for each outlet, where one of those carries signals.
-fn blocks_at(web: &Web, node: u32) -> u32 {
+fn blocks_at(web: &Web, node: u32) -> u32
+    ensures { result ≡ block_count (ports_told web.now Outlets node) }
+{
     for outlet in 0..web.outlets_at(node) {
         if web.outlet_signal_at(node, outlet) {
             return web.outlets_at(node);
@@ -39,7 +42,11 @@ fn blocks_at(web: &Web, node: u32) -> u32 {
     0
 }
 
-fn silent_blocks(alloc: Global, count: u32) -> Result<Blocks, AllocError> {
+/// So many blocks of 0.
+#[tactic(auto, unfolding(pd_kind::specs::States::silent_block))]
+fn silent_blocks(alloc: Global, count: u32) -> Result<Blocks, AllocError>
+    ensures { IfOk result (λ blocks. blocks.items ≡ replicate count silent_block) }
+{
     let mut blocks = Vec::new(alloc);
     for _ in 0..count {
         blocks.push([Sig::default(); 64])?;

@@ -1,10 +1,10 @@
 -- Faults of a run, step by step.
-use Rattle.std.proofs.Common.{◌≡◌, ◌<◌, ◌≤◌, ◌⊎◌, ℕ, Option, inl, inr, arith}
+use Rattle.std.proofs.Common.{◌≤◌, ◌⊎◌, ℕ, Option, inl, inr, arith}
 use Rattle.pd_io.specs.Faults.{Rose}
 use Rattle.pd_play.specs.Causes.{HasRunCauses}
 use Rattle.pd_play.specs.declared.status.Status.{Status}
 
-rose_on : (a b c : ℕ) → a ≤ b → Rose b c → Rose a c
+pub rose_on : (a b c : ℕ) → a ≤ b → Rose b c → Rose a c
 rose_on a b c l (inl h) = inl (omega (arith, l, h))
 rose_on a b c l (inr h) = inr h
 

@@ -1,2 +1,6 @@
-pub mod ReportLemmas
+pub mod AheadLemmas
 pub mod CauseLemmas
+pub mod OpenedLemmas
+pub mod PatchLemmas
+pub mod ReportLemmas
+pub mod RunLemmas

@@ -1,3 +1,7 @@
 pub mod Causes
 pub mod Ending
+pub mod Patches
+pub mod Playing
+pub mod Refusing
+pub mod Runs
 pub mod Telling

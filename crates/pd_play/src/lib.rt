@@ -5,6 +5,7 @@ mod player;
 mod report;
 mod session;
 mod status;
+mod steps;
 
 pub use pd_engine::BadCause;
 pub use player::play;

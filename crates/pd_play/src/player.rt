@@ -4,7 +4,9 @@ ghost use Rattle.std.specs.Prelude.{◌≡◌, ◌≢◌, ◌≤◌, [], true, f
 ghost use Rattle.std.specs.String.{string_bytes};
 ghost use Rattle.pd_words.specs.Grammar.{words_of};
 ghost use Rattle.pd_play.specs.Causes.{HasRunCauses, HasCauses};
-ghost use Rattle.pd_play.specs.Telling.{IsUnplayed, is_played, told, Answers};
+ghost use Rattle.pd_play.specs.Playing.{point_of, IsCounted, Ends};
+ghost use Rattle.pd_play.specs.Patches.{Runs, PlaysPatch, PlaysAsked};
+ghost use Rattle.pd_play.specs.Telling.{IsUnplayed, is_played, is_unmade, told, Answers};
 
 use crate::report::tell;
 use crate::session::Session;
@@ -15,13 +17,11 @@ use pd_say::Held;
 use pd_words::{Words, read_words};
 use std::alloc::{AllocError, Global};
 
-/// A script has fewer records.
-const MOST_RECORDS: u32 = 1_073_741_825;
-
 /// Plays a patch by a script: `words` are the words after the program's name, `shelf` is the folder of patches, printed lines go to
 /// `lines` and the samples to `pcm`, 16 bits little-endian, left then right.
 ///
-/// Blocks are silent yet, edits and saves are refused, and words with `--make` give the usage line.
+/// `plays` says what is printed and written: the lines of opening, the lines and samples of the script's run, and then the line of the
+/// status. Edits and saves are refused yet, there is nothing to undo, and words with `--make` give the usage line.
 pub fn play<H: Shelf, S: Source, L: Sink, P: Sink>(
     alloc: Global,
     words: &[String],
@@ -36,6 +36,7 @@ pub fn play<H: Shelf, S: Source, L: Sink, P: Sink>(
     ensures usage { result ≡ Status.Usage → is_played (words_of (map (λ w. string_bytes w) words.now)) ≡ false }
     ensures unplayed { is_played (words_of (map (λ w. string_bytes w) words.now)) ≡ false →
         IsUnplayed result (L.taken lines.old) (L.taken lines.new) (L.faults lines.old) (L.faults lines.new) }
+    ensures plays { PlaysAsked (words_of (map (λ w. string_bytes w) words.now)) (H.holds shelf.old) result (S.left script.old) (S.left script.new) (S.faults script.old) (S.faults script.new) (L.taken lines.old) (L.taken lines.new) (L.faults lines.old) (L.faults lines.new) (P.taken pcm.old) (P.taken pcm.new) }
 {
     let mut held = Held::new();
     match read_words(alloc, words) {
@@ -61,6 +62,7 @@ fn play_asked<H: Shelf, S: Source, L: Sink, P: Sink>(
     ensures causes { HasCauses (H.faults shelf.old) (H.faults shelf.new) (S.faults script.old) (S.faults script.new) (L.faults lines.old) (L.faults lines.new) (P.faults pcm.old) (P.faults pcm.new) result }
     ensures usage { result ≡ Status.Usage → is_some asked.now.make ≡ true }
     ensures unplayed { is_some asked.now.make ≡ true → Answers (told [] Status.Usage) result (L.taken lines.old) (L.taken lines.new) (L.faults lines.old) (L.faults lines.new) }
+    ensures plays { is_unmade asked.now.make ≡ true → PlaysPatch (H.holds shelf.old) asked.now.patch.now asked.now.rate result (S.left script.old) (S.left script.new) (S.faults script.old) (S.faults script.new) (L.taken lines.old) (L.taken lines.new) (L.faults lines.old) (L.faults lines.new) (P.taken pcm.old) (P.taken pcm.new) }
 {
     if asked.make.is_some() {
         return tell(b"", Status::Usage, held, lines);
@@ -92,6 +94,7 @@ fn run<H: Shelf, S: Source, L: Sink, P: Sink>(
     ensures folder_counted { H.faults shelf.old ≤ H.faults shelf.new }
     ensures causes { HasCauses (H.faults shelf.old) (H.faults shelf.new) (S.faults script.old) (S.faults script.new) (L.faults lines.old) (L.faults lines.new) (P.faults pcm.old) (P.faults pcm.new) result }
     ensures usage { result ≢ Status.Usage }
+    ensures plays { PlaysPatch (H.holds shelf.old) patch.now rate result (S.left script.old) (S.left script.new) (S.faults script.old) (S.faults script.new) (L.taken lines.old) (L.taken lines.new) (L.faults lines.old) (L.faults lines.new) (P.taken pcm.old) (P.taken pcm.new) }
 {
     let status = play_whole(alloc, patch, rate, shelf, script, lines, pcm);
     held.clear();
@@ -113,6 +116,7 @@ fn play_whole<H: Shelf, S: Source, L: Sink, P: Sink>(
     ensures lines_counted { L.faults lines.old ≤ L.faults lines.new }
     ensures causes { HasCauses (H.faults shelf.old) (H.faults shelf.new) (S.faults script.old) (S.faults script.new) (L.faults lines.old) (L.faults lines.new) (P.faults pcm.old) (P.faults pcm.new) result }
     ensures usage { result ≢ Status.Usage }
+    ensures runs { Runs (H.holds shelf.old) patch.now rate result (S.left script.old) (S.left script.new) (S.faults script.old) (S.faults script.new) (L.taken lines.old) (L.taken lines.new) (P.taken pcm.old) (P.taken pcm.new) }
 {
     match Session::open(alloc, patch, rate, shelf, lines) {
         Ok(session) => play_script(session, script, lines, pcm),
@@ -127,16 +131,15 @@ fn play_script<S: Source, L: Sink, P: Sink>(
     lines: &mut L,
     pcm: &mut P,
 ) -> Status
-    requires { session.engine.stopped ≡ false }
+    requires running { session.engine.stopped ≡ false }
+    requires counted { IsCounted session.number session.feed }
+    ensures plays { Ends session.feed (point_of session) result (S.left script.old) (S.left script.new) (S.faults script.old) (S.faults script.new) (L.taken lines.old) (L.taken lines.new) (P.taken pcm.old) (P.taken pcm.new) }
     ensures causes { HasRunCauses (S.faults script.old) (S.faults script.new) (L.faults lines.old) (L.faults lines.new) (P.faults pcm.old) (P.faults pcm.new) (Some result) }
 {
     let mut session = session;
-    for _ in 0..MOST_RECORDS {
+    'records: loop {
         if let Some(status) = session.step(script, lines, pcm) {
             return status;
         }
-    }
-    Status::ScriptBad {
-        number: MOST_RECORDS,
     }
 }

@@ -2,7 +2,7 @@
 use Rattle.std.proofs.Common.{◌≡◌, ℕ, suc, ℤ, pos, negsuc, ◌+◌, ◌-◌, ◌*◌, ◌/◌, ◌%◌, ◌+ℤ◌, ◌<◌, ◌≤◌, unsigned_abs, refl, ap, ◌∙◌, sym, arith}
 use Rattle.std.specs.Int.{int_rem_euclid}
 use Rattle.std.proofs.lemmas.Int.{ints, int_rem_euclid_is}
-use Rattle.std.proofs.Math.Nat.{add-mul-mod_self_right, mod-eq_of_lt, mod-eq-sub-mod, mod-add-div', le-mul_of_pos_right}
+use Rattle.std.proofs.Math.Nat.{add-mul-mod_self_right, mod-eq_of_lt, mod-eq-sub-mod, mod-add-div', le-mul_of_pos_right, div-lt_iff_lt-mul}
 use Rattle.pd_tone.specs.Tones.{moved}
 
 -- a sum that lies on the circle of n, next above it, and next below it
@@ -32,3 +32,15 @@ moved_is m p (negsuc a) h =
     let e : p % m + p / m * m ≡ p = mod-add-div' p m in
     let l : suc a ≤ suc a * m = le-mul_of_pos_right (suc a) h in
     ap unsigned_abs (turns m p a h ∙ ap pos (whole_turns (p + suc a * m - suc a) (p / m) (p % m + suc a * m - suc a) m (omega arith)) ∙ sym (turns m (p % m) a h))
+
+-- a phase that has moved lies on the circle, and in one of its parts
+pub moved_small : (m p : ℕ) (x : ℤ) → 0 < m → moved m p x < m
+unfolding moved
+moved_small m p x h = on_circle_small (pos p +ℤ x) m h
+  where
+    on_circle_small : (z : ℤ) (n : ℕ) → 0 < n → unsigned_abs (int_rem_euclid z (pos n)) < n
+    on_circle_small (pos a) n h = let l : a % n < n = omega arith in l
+    on_circle_small (negsuc a) n h = omega arith
+
+pub few_parts : (phase part : ℕ) → 0 < part → phase < part * 2048 → phase / part < 2048
+few_parts phase part g h = let l : phase < 2048 * part = omega arith in (div-lt_iff_lt-mul g).1 l

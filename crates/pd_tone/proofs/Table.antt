@@ -1,7 +1,7 @@
--- The table has the cosine's values at the parts of the first half of the circle.
+-- The table has the cosine's values at the parts of the circle.
 use Rattle.std.proofs.Common.{◌≡◌, ℕ, zero, suc, ℤ, pos, ◌+◌, ◌<◌, ◌≤◌, List, [], ◌∷◌, get_or, refl, ap, ◌∙◌, arith, max, unsigned_abs, subst}
 use Rattle.pd_tone.specs.Cosine.{point, quarter}
-use Rattle.pd_tone.specs.declared.cosine.TheConstants.{HALF}
+use Rattle.pd_tone.specs.declared.cosine.TheConstants.{CIRCLE}
 
 -- so many values of a function, from a place on
 abbrev values : (ℕ → ℤ) → ℕ → ℕ → List ℤ
@@ -13,12 +13,12 @@ value_at f j zero k i h e = absurd (omega arith)
 value_at f j (suc n) zero i h e = ap f (omega arith)
 value_at f j (suc n) (suc k) i h e = value_at f (j + 1) n k i (omega arith) (omega arith)
 
-the_table : HALF ≡ values point 0 1025
+the_table : CIRCLE ≡ values point 0 2049
 unfolding point quarter
 the_table = refl
 
-pub table_at : (k : ℕ) → k ≤ 1024 → get_or HALF k (pos 0) ≡ point k
-table_at k h = ap (λ t. get_or t k (pos 0)) the_table ∙ value_at point 0 1025 k k (omega arith) (omega arith)
+pub table_at : (k : ℕ) → k ≤ 2048 → get_or CIRCLE k (pos 0) ≡ point k
+table_at k h = ap (λ t. get_or t k (pos 0)) the_table ∙ value_at point 0 2049 k k (omega arith) (omega arith)
 
 -- the greatest of so many numbers, from a place on
 abbrev pub greatest : (ℕ → ℕ) → ℕ → ℕ → ℕ
@@ -33,13 +33,13 @@ not_above f j (suc n) (suc k) i h e = let later : f i ≤ greatest f (j + 1) n =
 unfoldable size : ℕ → ℕ
 size k = unsigned_abs (point k)
 
-greatest_size : greatest size 0 1025 ≡ 1000000000
+greatest_size : greatest size 0 2049 ≡ 1000000000
 unfolding size point quarter
 greatest_size = refl
 
-point_small : (k : ℕ) → k ≤ 1024 → unsigned_abs (point k) ≤ 1000000000
+point_small : (k : ℕ) → k ≤ 2048 → unsigned_abs (point k) ≤ 1000000000
 unfolding size
-point_small k h = subst (λ b. size k ≤ b) greatest_size (not_above size 0 1025 k k (omega arith) (omega arith))
+point_small k h = subst (λ b. size k ≤ b) greatest_size (not_above size 0 2049 k k (omega arith) (omega arith))
 
-pub table_small : (k : ℕ) → k ≤ 1024 → unsigned_abs (get_or HALF k (pos 0)) ≤ 1000000000
+pub table_small : (k : ℕ) → k ≤ 2048 → unsigned_abs (get_or CIRCLE k (pos 0)) ≤ 1000000000
 table_small k h = rw (table_at k h) (point_small k h)

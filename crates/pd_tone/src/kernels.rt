@@ -6,8 +6,8 @@ ghost use Rattle.pd_tone.specs.Cosine.{cosine as cosine_of};
 ghost use Rattle.pd_tone.specs.Tones.{circle as circle_of, phases, phase_after, share, next_seed as seed_after_this, seeds, seed_after, noise as noise_of};
 ghost use Rattle.pd_clock.specs.Rates.{samples as samples_of};
 
-use crate::cosine::cosine;
-use crate::phases::moved;
+use crate::cosine::{cosine, cosine_within};
+use crate::phases::{moved, moved_within};
 use pd_clock::Rate;
 use pd_num::Sig;
 
@@ -59,8 +59,37 @@ fn phasor_at(hertz: u64, phase: &mut u64, input: &[Sig; 64], output: &mut [Sig; 
     *phase = now;
 }
 
+/// The oscillator's sample at a phase within the circle.
+#[inline]
+#[tactic(auto, using(crate::proofs::Circle::few_parts))]
+fn osc_sample_within(part: u64, phase: u64) -> Sig
+    requires part { 0 < part }
+    requires small { part ≤ 46875000000 }
+    requires within { phase < part * 2048 }
+    ensures { result ≡ cosine_of (part * 2048) phase }
+{
+    signal(cosine_within(part, phase))
+}
+
 #[inline(always)]
-fn osc_at(part: u64, phase: &mut u64, input: &[Sig; 64], output: &mut [Sig; 64])
+fn osc_within(part: u64, phase: &mut u64, input: &[Sig; 64], output: &mut [Sig; 64])
+    requires part { 0 < part }
+    requires small { part ≤ 46875000000 }
+    requires within { phase.old < part * 2048 }
+    ensures phase { phase.new ≡ phase_after (part * 2048) phase.old input.now }
+    ensures samples { output.new ≡ map (cosine_of (part * 2048)) (phases (part * 2048) phase.old input.now) }
+{
+    let circle = part * 2048;
+    let mut now = *phase;
+    for i in 0..64 {
+        output[i] = osc_sample_within(part, now);
+        now = moved_within(circle, now, input[i].nanos());
+    }
+    *phase = now;
+}
+
+#[inline(always)]
+fn osc_beyond(part: u64, phase: &mut u64, input: &[Sig; 64], output: &mut [Sig; 64])
     requires part { 0 < part }
     requires small { part ≤ 46875000000 }
     ensures phase { phase.new ≡ phase_after (part * 2048) phase.old input.now }
@@ -73,6 +102,21 @@ fn osc_at(part: u64, phase: &mut u64, input: &[Sig; 64], output: &mut [Sig; 64])
         now = moved(circle, now, input[i].nanos());
     }
     *phase = now;
+}
+
+/// From a phase within the circle each sample's phase is within it, so that none has to be looked at.
+#[inline(always)]
+fn osc_at(part: u64, phase: &mut u64, input: &[Sig; 64], output: &mut [Sig; 64])
+    requires part { 0 < part }
+    requires small { part ≤ 46875000000 }
+    ensures phase { phase.new ≡ phase_after (part * 2048) phase.old input.now }
+    ensures samples { output.new ≡ map (cosine_of (part * 2048)) (phases (part * 2048) phase.old input.now) }
+{
+    if *phase < part * 2048 {
+        osc_within(part, phase, input, output);
+    } else {
+        osc_beyond(part, phase, input, output);
+    }
 }
 
 /// The samples of `phasor~`. The rate's own arm divides by a constant.

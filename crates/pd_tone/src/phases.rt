@@ -54,6 +54,20 @@ fn reduced(circle: u64, phase: u64) -> u64
     }
 }
 
+/// The phase after a step from a place on the circle.
+#[inline]
+#[tactic(auto, unfolding(crate::specs::Tones::moved), using(crate::proofs::Circle::moved_small))]
+pub(crate) fn moved_within(circle: u64, phase: u64, step: i64) -> u64
+    requires circle { 0 < circle }
+    requires small { circle ≤ 96000000000000 }
+    requires within { phase < circle }
+    requires step { IsInRange billionths step }
+    ensures value { result ≡ moved_phase circle phase step }
+    ensures small { result < circle }
+{
+    on_circle(circle, phase as i64 + step)
+}
+
 /// The phase after a step.
 #[inline]
 #[tactic(auto, using(crate::proofs::Circle::moved_is))]

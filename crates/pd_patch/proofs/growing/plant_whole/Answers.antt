@@ -1,7 +1,7 @@
 use Rattle.std.proofs.Common.{refl, subst}
 use Rattle.slab.specs.Slab.{get}
 use Rattle.pd_grove.specs.States.{NodesFresh}
-use Rattle.pd_patch.proofs.GrowingLemmas.{live_below}
+use Rattle.pd_patch.proofs.BlockLemmas.{live_below}
 use Rattle.pd_patch.proofs.WiredLemmas.{own_canvas}
 use Rattle.pd_patch.proofs.growing.plant_whole.Goals as goal
 
@@ -16,7 +16,8 @@ returns-clause-fresh c =
       orders = c.in_ok-orders.ensures;
       numbers = λ k. c.in_ok-numbers.ensures k (own_canvas c.in_ok-grove.grove k c.in_ok-grove.ensures.own);
       clocks = c.in_ok-timers.ensures.clocks;
-      room = λ k live. live_below nodes k c.in_ok-clock_owners.field-0 c.in_ok-timers.timers.end c.in_ok-clock_owners.ensures c.in_ok-timers.ensures.end live;
+      room = λ k live. live_below nodes k c.in_ok-box_end.field-0 c.in_ok-timers.timers.end c.in_ok-box_end.ensures c.in_ok-timers.ensures.end live;
       states = subst (λ n. NodesFresh c.args.rate n (get nodes)) c.of_units.ensures c.in_ok-grove.ensures.fresh;
+      blocks = c.in_ok-values.ensures;
       same_rate = refl;
     }

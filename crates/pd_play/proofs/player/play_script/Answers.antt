@@ -1,27 +1,34 @@
-use Rattle.std.proofs.Common.{rules, subst}
-use Rattle.pd_play.specs.Causes.{HasRunCauses}
+use Rattle.std.proofs.Common.{arith}
 use Rattle.pd_play.proofs.CauseLemmas.{whole_causes}
+use Rattle.pd_play.proofs.RunLemmas.{moves_nothing, moves_on, moves_end}
 use Rattle.pd_play.proofs.player.play_script.Goals as goal
 
-pub returns-in-Some : goal.returns-in-Some
-returns-in-Some g c = record {
-  causes =
-      let I = c.loop.invariant in
-      whole_causes _ _ _ _ _ _ _ _ _ _ I.script I.lines I.pcm
-      (subst (λ e. HasRunCauses (g.S.Source.faults c.loop.script) (g.S.Source.faults c.step.new.script) (g.L.Sink.faults c.loop.lines) (g.L.Sink.faults c.step.new.lines)
-      (g.P.Sink.faults c.loop.pcm) (g.P.Sink.faults c.step.new.pcm) e) c.in-Some.is c.step.ensures.causes);
+pub records-init : goal.records-init
+records-init g c = record {
+  running = c.requires.running;
+  counted = c.requires.counted;
+  moves = moves_nothing _ _ _ _ _;
+  script = omega arith;
+  lines = omega arith;
+  pcm = omega arith;
 }
 
-pub returns : goal.returns
-returns g c = record {
-  causes = record {
-    read = search rules;
-    write = search rules;
-    usage = search rules;
-    absent = search rules;
-    shelf = search rules;
-    script_counted = c.loop.invariant.script;
-    lines_counted = c.loop.invariant.lines;
-    pcm_counted = c.loop.invariant.pcm;
-  };
-}
+pub returns-in-Some-clause-plays : goal.returns-in-Some-clause-plays
+returns-in-Some-clause-plays g c =
+    moves_end _ _ _ _ _ _ _ _ _ _ _ _ _ _ _ _ _ c.records.invariant.script c.records.invariant.moves c.in-Some.ensures.steps
+
+pub records-preserved : goal.records-preserved
+records-preserved g c =
+    let causes = c.step.ensures.causes in
+    record {
+      running = c.step.ensures.running c.in_default.is;
+      counted = c.step.ensures.counted c.in_default.is;
+      moves = moves_on _ _ _ _ _ _ _ _ _ _ _ _ _ _ _ c.records.invariant.moves c.in_default.ensures.steps;
+      script = omega (arith, c.records.invariant.script, causes.script_counted);
+      lines = omega (arith, c.records.invariant.lines, causes.lines_counted);
+      pcm = omega (arith, c.records.invariant.pcm, causes.pcm_counted);
+    }
+
+pub returns-in-Some-clause-causes : goal.returns-in-Some-clause-causes
+returns-in-Some-clause-causes g c =
+    whole_causes _ _ _ _ _ _ _ _ _ _ c.records.invariant.script c.records.invariant.lines c.records.invariant.pcm c.in-Some.ensures.causes

@@ -1,10 +1,17 @@
-use Rattle.std.proofs.Common.{◌≡◌, ◌≤◌, false}
+use Rattle.std.proofs.Common.{◌≡◌, ◌≤◌, ◌-◌, false}
+use Rattle.pd_play.specs.Playing.{point_of, IsCounted, Moves}
 use Rattle.pd_play.proofs.player.play_script.Given as goal
 
-abbrev pub invariant-loop : goal.invariant-loop
-invariant-loop g l = record {
+abbrev pub invariant-records : goal.invariant-records
+invariant-records g l = record {
   running : l.session.engine.stopped ≡ false;
+  counted : IsCounted l.session.number l.session.feed;
+  moves : Moves l.initial.session.feed (point_of l.initial.session) l.session.feed (point_of l.session) (g.S.Source.left l.fn.script) (g.S.Source.left l.script)
+      (g.L.Sink.taken l.fn.lines) (g.L.Sink.taken l.lines) (g.P.Sink.taken l.fn.pcm) (g.P.Sink.taken l.pcm);
   script : g.S.Source.faults l.fn.script ≤ g.S.Source.faults l.script;
   lines : g.L.Sink.faults l.fn.lines ≤ g.L.Sink.faults l.lines;
   pcm : g.P.Sink.faults l.fn.pcm ≤ g.P.Sink.faults l.pcm;
 }
+
+abbrev pub decreases-records : goal.decreases-records
+decreases-records g l = 1073741825 - l.session.number

@@ -1,12 +1,16 @@
 use Rattle.std.proofs.Common.{◌≡◌, ◌≤◌, ◌+◌, ◌-◌}
+use Rattle.pd_engine.specs.Stages.{stage_of}
+use Rattle.pd_engine.specs.Times.{advanced}
+use Rattle.pd_engine.proofs.TimeLemmas.{HasBlocksLeft}
 use Rattle.pd_engine.proofs.engine.Engine.advance_to.Given as goal
 
-abbrev pub invariant-loop-end : goal.invariant-loop-end
-invariant-loop-end g l = record {
+abbrev pub invariant-loop-self : goal.invariant-loop-self
+invariant-loop-self g l = record {
+  way : HasBlocksLeft l.to (advanced l.to (stage_of l.fn.self)) (stage_of l.self) (g.L.Sink.taken l.fn.lines) (g.L.Sink.taken l.lines) (g.P.Sink.taken l.fn.pcm) (g.P.Sink.taken l.pcm);
   lines : g.L.Sink.faults l.fn.lines ≤ g.L.Sink.faults l.lines;
-  stays : l.self.stopped ≡ l.fn.self.stopped;
   pcm : g.P.Sink.faults l.fn.pcm ≤ g.P.Sink.faults l.pcm;
+  stays : l.self.stopped ≡ l.fn.self.stopped;
 }
 
-abbrev pub decreases-loop-end : goal.decreases-loop-end
-decreases-loop-end g l = l.to_units + 1 - l.end
+abbrev pub decreases-loop-self : goal.decreases-loop-self
+decreases-loop-self g l = l.to + 1 - l.self.block_end

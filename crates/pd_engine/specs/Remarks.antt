@@ -1,0 +1,60 @@
+-- The lines of growth.
+use Rattle.std.specs.Prelude.{ℕ, List, [], ◌∷◌, codes, decimal, Option, Some, None, if◌then◌else◌}
+use Rattle.std.specs.List.{flat_map, concat}
+use Rattle.slab.specs.Slab.{get}
+use Rattle.pd_atom.specs.Names.{Names}
+use Rattle.pd_atom.specs.declared.Atom.{Atom}
+use Rattle.pd_canvas.specs.declared.wires.Wire.{Wire}
+use Rattle.pd_tree.specs.declared.rows.Fault.{Fault}
+use Rattle.pd_tree.specs.declared.rows.Fault.TheVariants.{Unknown, InsideItself, BadFile, TooDeep}
+use Rattle.pd_patch.specs.declared.patch.Patch.{Patch}
+use Rattle.pd_patch.specs.declared.report.Remark.{Remark}
+use Rattle.pd_patch.specs.declared.report.Remark.TheVariants.{NotMade, Unfit, Loop}
+use Rattle.pd_patch.specs.Paths.{path_told}
+use Rattle.pd_patch.specs.Telling.{fault_in}
+use Rattle.pd_patch.specs.Values.{stuck_in}
+use Rattle.pd_say.specs.Lines.{named_error, file_error}
+use Rattle.pd_say.specs.Paths.{path_text}
+use Rattle.pd_walk.specs.Guards.{is_atom}
+use Rattle.pd_walk.specs.Worlds.{net_of}
+use Rattle.pd_engine.specs.Commands.{numbers_told, boxes_text}
+
+-- the path to a canvas
+abbrev pub path_in : Patch → ℕ → List ℕ
+path_in p canvas = path_told (get p.grove.nodes) p.grove.boards p.numbers.items canvas
+
+-- why a box could not be made that its line names so
+abbrev pub fault_text : Names → Atom → Fault → List ℕ
+fault_text names name Unknown = named_error names name (codes ": couldn't create\n")
+fault_text names name InsideItself = named_error names name (codes ": inside itself\n")
+fault_text names name (BadFile number) = file_error names name number
+fault_text names name TooDeep = named_error names name (codes ": too deep\n")
+
+-- a name that isn't of the table isn't told
+abbrev pub told_fault : Names → Fault → Atom → List ℕ
+told_fault names fault name = if is_atom names name then fault_text names name fault else []
+
+-- a box without text has no line
+abbrev pub unmade_text : Names → Option (Fault × Atom) → List ℕ
+unmade_text names None = []
+unmade_text names (Some f) = told_fault names f.0 f.1
+
+-- a wire of the canvas at a path doesn't fit
+abbrev pub unfit_text : List ℕ → Wire → List ℕ
+unfit_text path w =
+    concat (codes "error: wire " ∷ decimal w.source ∷ codes " " ∷ decimal w.outlet ∷ codes " " ∷ decimal w.sink ∷ codes " " ∷ decimal w.inlet ∷
+    codes " does not fit at " ∷ path_text path ∷ codes "\n" ∷ [])
+
+-- boxes of a canvas feed one another in a loop
+abbrev pub loop_text : Patch → ℕ → List ℕ
+loop_text p canvas = boxes_text (codes "error: signal loop at ") (path_in p canvas) (numbers_told (net_of p) (stuck_in p canvas))
+
+-- the line of a remark
+unfoldable pub remark_text : Names → Patch → Remark → List ℕ
+remark_text names p (NotMade node) = unmade_text names (fault_in (get p.grove.nodes node))
+remark_text names p (Unfit canvas wire) = unfit_text (path_in p canvas) wire
+remark_text names p (Loop canvas) = loop_text p canvas
+
+-- the lines of remarks, in order
+abbrev pub remarks_text : Names → Patch → List Remark → List ℕ
+remarks_text names p remarks = flat_map (remark_text names p) remarks

@@ -1,0 +1,135 @@
+//! Clocks and blocks in time.
+
+ghost use Rattle.std.specs.Prelude.{◌≡◌, ◌≤◌, ◌^◌, max, OnOk, OnErr};
+ghost use Rattle.pd_io.specs.Stream.{grown, TookPart};
+ghost use Rattle.pd_say.specs.Gathering.{HasCause};
+ghost use Rattle.pd_clock.specs.Queue.{Clock};
+ghost use Rattle.pd_engine.specs.Causes.{HasCauses};
+ghost use Rattle.pd_engine.specs.Stages.{stage_of, Says, Passes, BreaksOff};
+ghost use Rattle.pd_engine.specs.Times.{fires_at, clocks_fire, block_sounds, block_runs, with_time, advanced, finished};
+
+use crate::engine::Engine;
+use pd_block::run_block;
+use pd_clock::Time;
+use pd_io::{Sink, SinkFailed, write_whole};
+use pd_mix::{BYTES, write_samples};
+use pd_num::Sig;
+use pd_walk::Start;
+
+/// The length of a block of 64 samples, in units.
+pub(crate) const BLOCK: u128 = 64_000_000_000;
+
+/// So many clocks fire between two blocks at the most.
+const MOST_FIRED: u32 = 10_000;
+
+impl Engine {
+    /// Runs each block that ends by a time, fires the clocks below it, and raises the time to it.
+    pub(crate) fn advance_to<L: Sink, P: Sink>(
+        &mut self,
+        to: Time,
+        lines: &mut L,
+        pcm: &mut P,
+    ) -> Result<(), SinkFailed>
+        requires { to ≤ 2 ^ 100 }
+        ensures ok { OnOk result (Passes (advanced to (stage_of self.old)) (stage_of self.new) (L.taken lines.old) (L.taken lines.new) (P.taken pcm.old) (P.taken pcm.new)) }
+        ensures err { OnErr result (BreaksOff (advanced to (stage_of self.old)) (L.taken lines.old) (L.taken lines.new) (P.taken pcm.old) (P.taken pcm.new)) }
+        ensures cause { HasCauses (L.faults lines.old) (L.faults lines.new) (P.faults pcm.old) (P.faults pcm.new) result }
+        ensures stays { self.new.stopped ≡ self.old.stopped }
+    {
+        while self.block_end.units() <= to.units() {
+            self.run_next_block(lines, pcm)?;
+        }
+        self.fire_below(to, lines)?;
+        self.time = later(self.time, to);
+        Ok(())
+    }
+
+    /// Runs the block that began before the present time, where there is one.
+    pub(crate) fn finish_block<L: Sink, P: Sink>(
+        &mut self,
+        lines: &mut L,
+        pcm: &mut P,
+    ) -> Result<(), SinkFailed>
+        ensures ok { OnOk result (Passes (finished (stage_of self.old)) (stage_of self.new) (L.taken lines.old) (L.taken lines.new) (P.taken pcm.old) (P.taken pcm.new)) }
+        ensures err { OnErr result (BreaksOff (finished (stage_of self.old)) (L.taken lines.old) (L.taken lines.new) (P.taken pcm.old) (P.taken pcm.new)) }
+        ensures cause { HasCauses (L.faults lines.old) (L.faults lines.new) (P.faults pcm.old) (P.faults pcm.new) result }
+        ensures stays { self.new.stopped ≡ self.old.stopped }
+    {
+        let end = self.block_end.units();
+        if end < BLOCK || end - BLOCK < self.time.units() {
+            return self.run_next_block(lines, pcm);
+        }
+        Ok(())
+    }
+
+    /// Fires the clocks below the end of the next block, and runs it.
+    fn run_next_block<L: Sink, P: Sink>(
+        &mut self,
+        lines: &mut L,
+        pcm: &mut P,
+    ) -> Result<(), SinkFailed>
+        ensures ok { OnOk result (Passes (block_runs (stage_of self.old)) (stage_of self.new) (L.taken lines.old) (L.taken lines.new) (P.taken pcm.old) (P.taken pcm.new)) }
+        ensures err { OnErr result (BreaksOff (block_runs (stage_of self.old)) (L.taken lines.old) (L.taken lines.new) (P.taken pcm.old) (P.taken pcm.new)) }
+        ensures cause { HasCauses (L.faults lines.old) (L.faults lines.new) (P.faults pcm.old) (P.faults pcm.new) result }
+        ensures stays { self.new.stopped ≡ self.old.stopped }
+    {
+        self.fire_below(self.block_end, lines)?;
+        self.sound_block(pcm)
+    }
+
+    /// Runs the boxes for the next block, and writes its samples.
+    fn sound_block<P: Sink>(&mut self, pcm: &mut P) -> Result<(), SinkFailed>
+        ensures stage { stage_of self.new ≡ (block_sounds (stage_of self.old)).stage }
+        ensures ok { OnOk result (P.taken pcm.new ≡ grown (P.taken pcm.old) (block_sounds (stage_of self.old)).samples) }
+        ensures err { OnErr result (TookPart (P.taken pcm.old) (P.taken pcm.new) (block_sounds (stage_of self.old)).samples) }
+        ensures cause { HasCause (P.faults pcm.old) (P.faults pcm.new) result }
+        ensures stays { self.new.stopped ≡ self.old.stopped }
+    {
+        let end = self.block_end.units();
+        let start = Time::of_units(end.saturating_sub(BLOCK));
+        let mut block = [[Sig::default(); 64]; 2];
+        run_block(&mut self.patch, start, &mut block);
+        let mut samples = [0; BYTES];
+        write_samples(&block, &mut samples);
+        self.time = later(self.time, self.block_end);
+        self.block_end = Time::of_units(end.saturating_add(BLOCK));
+        self.fired = 0;
+        write_whole(pcm, &samples)
+    }
+
+    /// Fires the clocks below a time, at most 10,000 between two blocks.
+    fn fire_below<L: Sink>(&mut self, limit: Time, lines: &mut L) -> Result<(), SinkFailed>
+        ensures ok { OnOk result (Says (clocks_fire limit (stage_of self.old)) (stage_of self.new) (L.taken lines.old) (L.taken lines.new)) }
+        ensures err { OnErr result (TookPart (L.taken lines.old) (L.taken lines.new) (clocks_fire limit (stage_of self.old)).lines) }
+        ensures cause { HasCause (L.faults lines.old) (L.faults lines.new) result }
+        ensures stays { self.new.stopped ≡ self.old.stopped }
+    {
+        while self.fired < MOST_FIRED {
+            let Some((time, owner)) = self.patch.next_clock(limit) else {
+                return Ok(());
+            };
+            self.fire(time, owner, lines)?;
+        }
+        Ok(())
+    }
+
+    /// A clock that was taken off fires.
+    fn fire<L: Sink>(&mut self, time: Time, owner: u32, lines: &mut L) -> Result<(), SinkFailed>
+        requires { self.old.fired ≤ 10000 }
+        ensures ok { OnOk result (Says (fires_at (stage_of self.old) time owner) (stage_of self.new) (L.taken lines.old) (L.taken lines.new)) }
+        ensures err { OnErr result (TookPart (L.taken lines.old) (L.taken lines.new) (fires_at (stage_of self.old) time owner).lines) }
+        ensures cause { HasCause (L.faults lines.old) (L.faults lines.new) result }
+        ensures stays { self.new.stopped ≡ self.old.stopped }
+    {
+        self.fired += 1;
+        self.time = later(self.time, time);
+        self.run_event(&Start::Clock { owner }, lines)
+    }
+}
+
+/// The later of two times.
+fn later(a: Time, b: Time) -> Time
+    ensures { result ≡ max a b }
+{
+    Time::of_units(a.units().max(b.units()))
+}

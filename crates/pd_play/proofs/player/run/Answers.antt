@@ -1,0 +1,5 @@
+use Rattle.pd_play.proofs.PatchLemmas.{patch_told}
+use Rattle.pd_play.proofs.player.run.Goals as goal
+
+pub returns-clause-plays : goal.returns-clause-plays
+returns-clause-plays g c = patch_told _ _ _ _ _ _ _ _ _ _ _ _ _ _ _ _ _ c.play_whole-status.ensures.lines_counted c.play_whole-status.ensures.runs c.tell.ensures.answer
