@@ -5,7 +5,7 @@ use Rattle.pd_atom.specs.Names.{Names}
 use Rattle.pd_kind.specs.declared.states.State.{State}
 use Rattle.pd_patch.specs.declared.patch.Patch.{Patch}
 use Rattle.pd_patch.specs.Values.{Blocks, blocks_told}
-use Rattle.pd_walk.specs.Worlds.{Net, net_of}
+use Rattle.pd_hearing.specs.Worlds.{Net, net_of}
 use Rattle.pd_block.specs.Nets as block
 use Rattle.pd_block.specs.Blocks.{Played}
 use Rattle.pd_engine.specs.Stages.{Stage}

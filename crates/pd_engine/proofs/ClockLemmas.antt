@@ -10,8 +10,8 @@ use Rattle.pd_grove.specs.Telling.{state_in}
 use Rattle.pd_io.specs.Stream.{TookPart}
 use Rattle.pd_patch.specs.declared.patch.Patch.{Patch}
 use Rattle.pd_patch.specs.Walking.{RestStays}
-use Rattle.pd_walk.specs.Worlds.{Net, net_of, states_of}
-use Rattle.pd_walk.proofs.WorldLemmas.{clocks-net}
+use Rattle.pd_hearing.specs.Worlds.{Net, net_of, states_of}
+use Rattle.pd_hearing.proofs.WorldLemmas.{clocks-net}
 use Rattle.pd_engine.specs.Stages.{Stage, Passage, still, followed_by, Says}
 use Rattle.pd_engine.specs.Events.{event}
 use Rattle.pd_engine.proofs.PassageLemmas.{IsOnTheWay, way_goes_on, way_breaks, way_ends, unsounded, lines_off}

@@ -9,7 +9,7 @@ use Rattle.pd_turns.specs.Turns.{World}
 use Rattle.pd_walk.specs.declared.walker.Budget.{Budget}
 use Rattle.pd_walk.specs.declared.walker.Start.{Start}
 use Rattle.pd_walk.specs.declared.walker.Start.TheVariants as start
-use Rattle.pd_walk.specs.Worlds.{Net, Kept}
+use Rattle.pd_hearing.specs.Worlds.{Net, Kept}
 use Rattle.pd_walk.specs.Outcome.{outcome, world, IsLeft}
 use Rattle.pd_engine.specs.Stages.{Stage, still, followed_by, Says}
 use Rattle.pd_engine.specs.Events.{Beginning, beginning_of, deliveries, delivered, begun, repeated, refusals, with_kept, event}

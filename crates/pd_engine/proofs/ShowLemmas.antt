@@ -11,7 +11,7 @@ use Rattle.slab.specs.Slab.{get}
 use Rattle.pd_grove.specs.declared.nodes.Node.{Node}
 use Rattle.pd_grove.specs.Telling.{inner_in, keys_in, step_in, reached}
 use Rattle.pd_patch.specs.declared.patch.Patch.{Patch}
-use Rattle.pd_walk.specs.Worlds.{bare, net_of}
+use Rattle.pd_hearing.specs.Worlds.{bare, net_of}
 use Rattle.pd_engine.specs.Commands.{step_to, led_to, boxes_text}
 
 inner_bare : (o : Option Node) → inner_in (bare o) ≡ inner_in o

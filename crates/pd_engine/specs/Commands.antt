@@ -14,7 +14,7 @@ use Rattle.pd_say.specs.declared.refusals.Why.{Why}
 use Rattle.pd_say.specs.declared.refusals.Why.TheVariants as why
 use Rattle.pd_script.specs.declared.commands.Command.{Command}
 use Rattle.pd_script.specs.declared.commands.Command.TheVariants as command
-use Rattle.pd_walk.specs.Worlds.{Net}
+use Rattle.pd_hearing.specs.Worlds.{Net}
 use Rattle.pd_engine.specs.declared.refusals.Outcome.{Outcome}
 use Rattle.pd_engine.specs.declared.refusals.Outcome.TheVariants.{Done, Refused, Nothing}
 use Rattle.pd_engine.specs.declared.refusals.EditRefusal.TheVariants.{NoDocument}

@@ -5,10 +5,10 @@ use Rattle.pd_say.specs.Lines.{refusal_text}
 use Rattle.pd_say.specs.declared.refusals.Request.TheVariants as request
 use Rattle.pd_say.specs.declared.refusals.Why.TheVariants as why
 use Rattle.pd_turns.specs.Turns.{World}
-use Rattle.pd_walk.specs.Worlds.{Net, Kept}
+use Rattle.pd_hearing.specs.Worlds.{Net, Kept}
 use Rattle.pd_walk.specs.declared.walker.Start.{Start}
 use Rattle.pd_walk.specs.declared.walker.Start.TheVariants as start
-use Rattle.pd_walk.specs.Hearing.{fired_at}
+use Rattle.pd_hearing.specs.Hearing.{fired_at}
 use Rattle.pd_walk.specs.Outcome.{world, ran, told_by, all_loaded, named_tasks}
 use Rattle.pd_engine.specs.Stages.{Stage, Passage, kept_at}
 

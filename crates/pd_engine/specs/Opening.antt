@@ -22,7 +22,7 @@ use Rattle.pd_grove.specs.TextOrder.{keys_in_order}
 use Rattle.pd_patch.specs.declared.patch.Patch.{Patch}
 use Rattle.pd_patch.specs.Grown.{IsFresh, IsTree, Ends, HasManyWires, HasMuchSound}
 use Rattle.pd_patch.specs.Report.{notices_in, loads_among}
-use Rattle.pd_walk.specs.Worlds.{net_of, states_of}
+use Rattle.pd_hearing.specs.Worlds.{net_of, states_of}
 use Rattle.pd_engine.specs.declared.refusals.OpenRefusal.{OpenRefusal}
 use Rattle.pd_engine.specs.declared.refusals.OpenRefusal.TheVariants.{Absent, Bad, ShelfFault, WriteFault, NoMemory}
 use Rattle.pd_engine.specs.declared.refusals.BadCause.{BadCause}

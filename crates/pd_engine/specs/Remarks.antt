@@ -15,8 +15,8 @@ use Rattle.pd_patch.specs.Telling.{fault_in}
 use Rattle.pd_patch.specs.Values.{stuck_in}
 use Rattle.pd_say.specs.Lines.{named_error, file_error}
 use Rattle.pd_say.specs.Paths.{path_text}
-use Rattle.pd_walk.specs.Guards.{is_atom}
-use Rattle.pd_walk.specs.Worlds.{net_of}
+use Rattle.pd_hearing.specs.Guards.{is_atom}
+use Rattle.pd_hearing.specs.Worlds.{net_of}
 use Rattle.pd_engine.specs.Commands.{numbers_told, boxes_text}
 
 -- the path to a canvas

@@ -4,7 +4,7 @@ use Rattle.pd_io.specs.Stream.{grown, TookPart}
 use Rattle.pd_atom.specs.Names.{Names}
 use Rattle.pd_clock.specs.Queue.{Clock}
 use Rattle.pd_kind.specs.declared.states.State.{State}
-use Rattle.pd_walk.specs.Worlds.{Net, Kept, net_of, states_of}
+use Rattle.pd_hearing.specs.Worlds.{Net, Kept, net_of, states_of}
 use Rattle.pd_engine.specs.declared.engine.Engine.{Engine}
 
 -- A patch between events: what messages leave as it is; what the boxes keep, their clocks, and the table of names; the time; when the

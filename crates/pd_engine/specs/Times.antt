@@ -2,7 +2,7 @@
 use Rattle.std.specs.Prelude.{ℕ, zero, suc, ◌+◌, ◌-◌, min, max, nat_lt, nat_le, List, [], ◌∷◌, Option, Some, None, if◌then◌else◌}
 use Rattle.pd_clock.specs.Queue.{Clock}
 use Rattle.pd_mix.specs.Samples.{block_bytes}
-use Rattle.pd_walk.specs.Worlds.{Net}
+use Rattle.pd_hearing.specs.Worlds.{Net}
 use Rattle.pd_block.specs.Nets as block
 use Rattle.pd_block.specs.Blocks.{Played, block_of}
 use Rattle.pd_engine.specs.Stages.{Stage, Passage, still, followed_by}

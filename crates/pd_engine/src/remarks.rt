@@ -6,7 +6,7 @@ ghost use Rattle.pd_io.specs.Stream.{grown, TookPart};
 ghost use Rattle.pd_say.specs.Gathering.{Says, Fails, HasCause};
 ghost use Rattle.pd_patch.specs.Telling.{fault_in};
 ghost use Rattle.pd_patch.specs.Values.{stuck_in};
-ghost use Rattle.pd_walk.specs.Worlds.{net_of};
+ghost use Rattle.pd_hearing.specs.Worlds.{net_of};
 ghost use Rattle.pd_engine.specs.Commands.{numbers_told};
 ghost use Rattle.pd_engine.specs.Remarks.{path_in, told_fault, unmade_text, unfit_text, loop_text, remark_text, remarks_text};
 
@@ -107,7 +107,7 @@ fn say_fault<L: Sink>(
     ensures err { OnErr result (Fails (L.taken lines.old) held.old.items (L.taken lines.new) (told_fault symbols.now fault name)) }
     ensures cause { HasCause (L.faults lines.old) (L.faults lines.new) result }
 {
-    if !pd_walk::is_known(symbols, &name) {
+    if !pd_hearing::is_known(symbols, &name) {
         return Ok(());
     }
     match fault {

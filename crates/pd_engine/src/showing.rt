@@ -5,7 +5,7 @@ ghost use Rattle.std.specs.Option.{option_copied};
 ghost use Rattle.pd_io.specs.Stream.{grown, TookPart};
 ghost use Rattle.pd_say.specs.Gathering.{HasCause};
 ghost use Rattle.pd_patch.specs.Telling.{order_in};
-ghost use Rattle.pd_walk.specs.Worlds.{net_of};
+ghost use Rattle.pd_hearing.specs.Worlds.{net_of};
 ghost use Rattle.pd_engine.specs.Commands.{numbers_told, boxes_text, order_text, led_to, shown};
 
 use crate::printing::print;

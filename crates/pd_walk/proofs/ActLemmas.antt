@@ -11,12 +11,12 @@ use Rattle.pd_queue.specs.declared.asking.Verb.{Verb}
 use Rattle.pd_queue.specs.Asking as asking
 use Rattle.pd_queue.specs.Queue.{Waiting, answer_to, after_asking}
 use Rattle.std.specs.Prelude.{Some}
-use Rattle.pd_walk.specs.Guards.{is_few}
+use Rattle.pd_hearing.specs.Guards.{is_few}
 use Rattle.pd_patch.specs.declared.patch.Patch.{Patch}
 use Rattle.pd_walk.specs.Pile.{Pile}
-use Rattle.pd_walk.specs.Worlds.{Net, Kept, net_of, kept_of, states_of}
-use Rattle.pd_walk.specs.Hearing.{Reply, heard_at, resumed_at}
-use Rattle.pd_walk.specs.Deeds.{done, replied}
+use Rattle.pd_hearing.specs.Worlds.{Net, Kept, net_of, kept_of, states_of}
+use Rattle.pd_hearing.specs.Hearing.{Reply, heard_at, resumed_at}
+use Rattle.pd_hearing.specs.Deeds.{done, replied}
 use Rattle.pd_kind.specs.declared.sends.SendRow.{SendRow}
 use Rattle.pd_kind.specs.Rows.{Send, send_of}
 use Rattle.pd_walk.specs.declared.steps.Place.{Place}

@@ -1,10 +1,6 @@
-pub mod KnownLemmas
 pub mod StackLemmas
-pub mod ResultLemmas
 pub mod PileLemmas
 pub mod TurnLemmas
 pub mod SendLemmas
-pub mod WorldLemmas
 pub mod WayLemmas
 pub mod ActLemmas
-pub mod HearLemmas

@@ -9,7 +9,7 @@ use Rattle.pd_walk.specs.declared.stack.Cursor.{Cursor}
 use Rattle.pd_walk.specs.declared.stack.Cursor.TheVariants.{Wires, Owners, Again}
 use Rattle.pd_walk.specs.declared.stack.Pending.{Pending}
 use Rattle.pd_walk.specs.Pile.{Pile}
-use Rattle.pd_walk.specs.Worlds.{Net}
+use Rattle.pd_hearing.specs.Worlds.{Net}
 use Rattle.pd_walk.specs.Tasks.{Task}
 use Rattle.pd_walk.specs.Piles.{CursorTasks, PendingTasks, message_of, Joins, AreLeft, Lies, AllLie, IsPiled, LeftOn}
 

@@ -15,7 +15,7 @@ use Rattle.pd_walk.specs.declared.stack.Cursor.{Cursor}
 use Rattle.pd_walk.specs.declared.stack.Cursor.TheVariants.{Wires, Owners, Again}
 use Rattle.pd_walk.specs.declared.stack.Pending.{Pending}
 use Rattle.pd_walk.specs.Pile.{Pile}
-use Rattle.pd_walk.specs.Worlds.{Net}
+use Rattle.pd_hearing.specs.Worlds.{Net}
 use Rattle.pd_walk.specs.Tasks.{Task, Resume, sent, sent_to, again_after}
 use Rattle.pd_walk.specs.Piles.{IsAlong, CursorTasks, PendingTasks, message_of, Joins, AreLeft, Fits, Lies, AllLie, IsPiled, LeftOn, row_from, send_at}
 use Rattle.pd_walk.proofs.PileLemmas.{left-agree, cut-agree, more-agree}

@@ -18,7 +18,7 @@ use Rattle.pd_walk.specs.declared.steps.Task.{Task as Due}
 use Rattle.pd_walk.specs.declared.steps.Turn.{Turn}
 use Rattle.pd_walk.specs.declared.steps.Turn.TheVariants as turn
 use Rattle.pd_walk.specs.Pile.{Pile}
-use Rattle.pd_walk.specs.Worlds.{Net}
+use Rattle.pd_hearing.specs.Worlds.{Net}
 use Rattle.pd_walk.specs.Tasks.{Task, Nobody, Resume, along, delivery, end_of, to_owners, unless_heard, arrival, owner_told, nobody_text}
 use Rattle.pd_walk.specs.Piles.{IsAlong, GoesAlong, CursorTasks, PendingTasks, message_of, owner_tasks, Joins, AreLeft, Lies, AllLie, IsPiled, LeftOn}
 use Rattle.pd_walk.specs.Turns.{doing, told, told_list, due_in, StartsWith, TurnTasks, TurnFits, AfterTurn, IsDue, turn_text, nobodies, Yields, BreaksOff}

@@ -13,14 +13,14 @@ use Rattle.pd_walk.specs.declared.steps.Place.{Place}
 use Rattle.pd_walk.specs.declared.steps.Place.TheVariants as place
 use Rattle.pd_walk.specs.declared.steps.Task.{Task as Due}
 use Rattle.pd_walk.specs.Pile.{Pile}
-use Rattle.pd_walk.specs.Worlds.{Net, Kept}
+use Rattle.pd_hearing.specs.Worlds.{Net, Kept}
 use Rattle.pd_walk.specs.Tasks.{Task, Nobody, costs, rules, kept_after, said_at, caused, asked_for, nobody_text, cut_line}
 use Rattle.pd_walk.specs.Piles.{LeftOn, AreLeft}
 use Rattle.pd_walk.specs.Turns.{doing, told, told_list, nobodies, Yields, BreaksOff}
 use Rattle.pd_walk.specs.Ways.{IsUnderWay, IsDone}
 use Rattle.pd_kind.specs.Said.{Said}
-use Rattle.pd_walk.specs.Hearing.{loaded_at}
-use Rattle.pd_walk.specs.Deeds.{done}
+use Rattle.pd_hearing.specs.Hearing.{loaded_at}
+use Rattle.pd_hearing.specs.Deeds.{done}
 use Rattle.pd_walk.specs.Outcome.{world, ran, after_deed, told_by, all_loaded, IsLeft}
 use Rattle.pd_say.proofs.GatheringLemmas.{caught_up, took_held, printed_nothing}
 

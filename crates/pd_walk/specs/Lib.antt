@@ -1,7 +1,3 @@
-pub mod Worlds
-pub mod Guards
-pub mod Hearing
-pub mod Deeds
 pub mod Tasks
 pub mod Outcome
 pub mod Pile

@@ -7,10 +7,10 @@ use Rattle.pd_turns.specs.Turns.{World, all_finished}
 use Rattle.pd_walk.specs.declared.walker.Budget.{Budget}
 use Rattle.pd_walk.specs.declared.walker.Start.{Start}
 use Rattle.pd_walk.specs.declared.walker.Start.TheVariants as start
-use Rattle.pd_walk.specs.Worlds.{Net, Kept}
-use Rattle.pd_walk.specs.Guards.{is_few}
-use Rattle.pd_walk.specs.Hearing.{fired_at, loaded_at}
-use Rattle.pd_walk.specs.Deeds.{done}
+use Rattle.pd_hearing.specs.Worlds.{Net, Kept}
+use Rattle.pd_hearing.specs.Guards.{is_few}
+use Rattle.pd_hearing.specs.Hearing.{fired_at, loaded_at}
+use Rattle.pd_hearing.specs.Deeds.{done}
 use Rattle.pd_walk.specs.Tasks.{Task, rules, to_name, asked_for}
 
 -- a world with this budget

@@ -11,7 +11,7 @@ use Rattle.pd_walk.specs.declared.stack.Cursor.{Cursor}
 use Rattle.pd_walk.specs.declared.stack.Cursor.TheVariants.{Wires, Owners, Again}
 use Rattle.pd_walk.specs.declared.stack.Pending.{Pending}
 use Rattle.pd_walk.specs.Pile.{Pile}
-use Rattle.pd_walk.specs.Worlds.{Net}
+use Rattle.pd_hearing.specs.Worlds.{Net}
 use Rattle.pd_walk.specs.Tasks.{Task, Resume, along, to_owners, unless_heard}
 
 -- the wires from this one on along its outlet

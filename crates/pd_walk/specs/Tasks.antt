@@ -39,10 +39,10 @@ use Rattle.pd_web.specs.Hops.{fan_hops, jack_told, port_told}
 use Rattle.pd_web.specs.Homes.{inner_in as port_in}
 use Rattle.pd_patch.specs.Paths.{path_told}
 use Rattle.pd_turns.specs.Turns.{Rules}
-use Rattle.pd_walk.specs.Worlds.{Net, Kept}
-use Rattle.pd_walk.specs.Guards.{is_name, is_atom, are_atoms, is_few, is_known}
-use Rattle.pd_walk.specs.Hearing.{Reply, heard_at, resumed_at}
-use Rattle.pd_walk.specs.Deeds.{done, replied}
+use Rattle.pd_hearing.specs.Worlds.{Net, Kept}
+use Rattle.pd_hearing.specs.Guards.{is_name, is_atom, are_atoms, is_few, is_known}
+use Rattle.pd_hearing.specs.Hearing.{Reply, heard_at, resumed_at}
+use Rattle.pd_hearing.specs.Deeds.{done, replied}
 
 -- What is done next. A message comes to an inlet of a box, at a depth; a message comes to a canvas by its name; a box is resumed; or it is
 -- said that nobody hears at a name, which costs nothing.

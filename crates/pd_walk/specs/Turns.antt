@@ -12,7 +12,7 @@ use Rattle.pd_walk.specs.declared.steps.Task.{Task as Due}
 use Rattle.pd_walk.specs.declared.steps.Turn.{Turn}
 use Rattle.pd_walk.specs.declared.steps.Turn.TheVariants as turn
 use Rattle.pd_walk.specs.Pile.{Pile}
-use Rattle.pd_walk.specs.Worlds.{Net}
+use Rattle.pd_hearing.specs.Worlds.{Net}
 use Rattle.pd_walk.specs.Tasks.{Task, Deliver, Ask, Resume, Nobody, nobody_text}
 use Rattle.pd_walk.specs.Piles.{CursorTasks, Fits, LeftOn}
 

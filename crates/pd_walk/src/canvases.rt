@@ -2,13 +2,13 @@
 
 ghost use Rattle.std.specs.Prelude.{◌≡◌, ◌≤◌, ◌&&◌, true, length, Some, OnOk, OnErr};
 ghost use Rattle.pd_say.specs.Gathering.{Says, Fails, HasCause};
-ghost use Rattle.pd_walk.specs.Worlds.{net_of};
+ghost use Rattle.pd_hearing.specs.Worlds.{net_of};
 ghost use Rattle.pd_walk.specs.Tasks.{verb_in as verb_named_in, queue_with, asked_text, answer_text, is_near};
-ghost use Rattle.pd_walk.specs.Guards.{is_few};
+ghost use Rattle.pd_hearing.specs.Guards.{is_few};
 
-use crate::known::is_name;
 use crate::printing::{print_canvas, print_full};
 use pd_atom::{Atom, Sym, Symbols};
+use pd_hearing::is_name;
 use pd_io::{Sink, SinkFailed};
 use pd_patch::Patch;
 use pd_queue::{Asked, EditQueue, Verb, verb_of};

@@ -3,11 +3,11 @@
 ghost use Rattle.std.specs.Prelude.{◌≡◌, ◌<◌, true, length, Some, OnOk, OnErr};
 ghost use Rattle.pd_say.specs.Gathering.{Says, Fails, HasCause};
 ghost use Rattle.pd_say.specs.Lines.{LineOf, notice_line};
-ghost use Rattle.pd_walk.specs.Guards.{is_known as is_known_line};
+ghost use Rattle.pd_hearing.specs.Guards.{is_known as is_known_line};
 ghost use Rattle.pd_walk.specs.Tasks.{nobody_text, notice_text, notices_text, words_printed, overflow_text, cut_line, full_text, canvas_text};
 
-use crate::known::{are_known, is_known, is_name};
 use pd_atom::{Atom, Sym, Symbols};
+use pd_hearing::{are_known, is_known, is_name};
 use pd_io::{Sink, SinkFailed};
 use pd_kind::{Message, Notice};
 use pd_say::{Held, Line, say, say_notice};

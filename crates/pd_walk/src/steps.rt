@@ -4,7 +4,7 @@ ghost use Rattle.std.specs.Prelude.{◌≡◌, ◌≤◌, ◌<◌, ◌+◌, ◌*
 ghost use Rattle.std.specs.Option.{option_to_list};
 ghost use Rattle.pd_atom.specs.declared.Atom.{Atom};
 ghost use Rattle.pd_say.specs.Gathering.{Says, Fails, HasCause};
-ghost use Rattle.pd_walk.specs.Worlds.{net_of, Net};
+ghost use Rattle.pd_hearing.specs.Worlds.{net_of, Net};
 ghost use Rattle.pd_walk.specs.Tasks.{Task as Doing, delivery, end_of, arrival, owner_told, nobody_text, unless_heard};
 ghost use Rattle.pd_walk.specs.Piles.{IsAlong, CursorTasks, GoesAlong, message_of, Fits, Lies, AllLie, IsPiled, LeftOn, owner_tasks, AreLeft};
 ghost use Rattle.pd_walk.specs.Turns.{doing, told, due_in, due_at, again_at, told_list, StartsWith, TurnTasks, TurnFits, AfterTurn, IsDue, turn_text, Yields, BreaksOff};

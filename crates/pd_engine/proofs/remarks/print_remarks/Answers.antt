@@ -1,6 +1,6 @@
 use Rattle.std.proofs.lemmas.Result.{err_from_is_err_and}
 use Rattle.pd_say.proofs.GatheringLemmas.{taken_line, torn_line, broken_line}
-use Rattle.pd_walk.proofs.ResultLemmas.{on_ok_map, on_err_map}
+use Rattle.pd_hearing.proofs.ResultLemmas.{on_ok_map, on_err_map}
 use Rattle.pd_engine.specs.Remarks.{remarks_text}
 use Rattle.pd_engine.proofs.remarks.print_remarks.Goals as goal
 

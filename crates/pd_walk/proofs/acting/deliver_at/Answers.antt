@@ -3,11 +3,11 @@ use Rattle.std.proofs.lemmas.Result.{err_from_is_err_and}
 use Rattle.pd_atom.specs.declared.Atom.{Atom}
 use Rattle.pd_kind.specs.declared.messages.Notice.{Notice}
 use Rattle.pd_say.specs.Gathering.{Says, Fails}
-use Rattle.pd_walk.specs.Worlds.{Net, net_of, kept_of, states_of}
-use Rattle.pd_walk.specs.Hearing.{heard_at}
+use Rattle.pd_hearing.specs.Worlds.{Net, net_of, kept_of, states_of}
+use Rattle.pd_hearing.specs.Hearing.{heard_at}
 use Rattle.pd_walk.specs.Tasks.{kept_by, said_by_box, asked_for, notices_text}
 use Rattle.pd_walk.specs.Piles.{LeftOn}
-use Rattle.pd_walk.proofs.ResultLemmas.{on_ok_map, on_err_map}
+use Rattle.pd_hearing.proofs.ResultLemmas.{on_ok_map, on_err_map}
 use Rattle.pd_walk.proofs.ActLemmas.{box-says, box-fails, print-fails, notices-fail, asked-left, acts-kept}
 use Rattle.pd_walk.proofs.acting.deliver_at.Goals as goal
 

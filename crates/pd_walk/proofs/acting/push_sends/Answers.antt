@@ -4,11 +4,11 @@ use Rattle.pd_kind.specs.Rows.{send_of}
 use Rattle.pd_say.specs.Gathering.{Says, Fails}
 use Rattle.pd_say.proofs.GatheringLemmas.{says_nothing}
 use Rattle.pd_kind.specs.Said.{said_by}
-use Rattle.pd_walk.specs.Worlds.{net_of}
+use Rattle.pd_hearing.specs.Worlds.{net_of}
 use Rattle.pd_walk.specs.Tasks.{Task, leads_out, sent, again_after}
 use Rattle.pd_walk.specs.Piles.{LeftOn}
 use Rattle.std.specs.List.{flat_map}
-use Rattle.pd_walk.proofs.ResultLemmas.{on_ok_map}
+use Rattle.pd_hearing.proofs.ResultLemmas.{on_ok_map}
 use Rattle.pd_walk.proofs.ActLemmas.{rows-sends, quiet-text, quiet-asked, deep-text, deep-asked, some-text, some-left}
 use Rattle.pd_walk.proofs.acting.push_sends.Goals as goal
 

@@ -1,5 +1,5 @@
 use Rattle.std.proofs.Common.{arith, ◌≡◌, List, sym, ◌∙◌}
-use Rattle.pd_walk.proofs.ResultLemmas.{on_ok_map, on_err_map}
+use Rattle.pd_hearing.proofs.ResultLemmas.{on_ok_map, on_err_map}
 use Rattle.pd_walk.proofs.ActLemmas.{again-says, again-fails, asked-left, acts-kept}
 use Rattle.pd_walk.proofs.acting.resume.Goals as goal
 

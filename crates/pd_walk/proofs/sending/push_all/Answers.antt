@@ -1,6 +1,6 @@
 use Rattle.std.proofs.Common.{arith, ◌≡◌, ℕ, ◌+◌, length, sym, ap, subst, length-append, map, true}
 use Rattle.pd_kind.specs.Rows.{are_within}
-use Rattle.pd_walk.specs.Worlds.{net_of}
+use Rattle.pd_hearing.specs.Worlds.{net_of}
 use Rattle.pd_walk.specs.Piles.{AllLie, row_from}
 use Rattle.pd_walk.proofs.SendLemmas.{piled-group, within-behind}
 use Rattle.pd_walk.proofs.sending.push_all.Goals as goal

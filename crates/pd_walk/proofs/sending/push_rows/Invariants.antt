@@ -1,6 +1,6 @@
 use Rattle.std.proofs.Common.{◌≡◌, ◌≤◌, ◌+◌, ◌-◌, ◌*◌, ◌++◌, List, length, drop, map}
 use Rattle.std.specs.List.{flat_map}
-use Rattle.pd_walk.specs.Worlds.{net_of}
+use Rattle.pd_hearing.specs.Worlds.{net_of}
 use Rattle.pd_walk.specs.Tasks.{Task, sent}
 use Rattle.pd_walk.specs.Piles.{AllLie, AreLeft, send_at}
 use Rattle.pd_walk.proofs.sending.push_rows.Given as goal

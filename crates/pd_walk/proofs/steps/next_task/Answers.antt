@@ -1,6 +1,6 @@
 use Rattle.std.proofs.Common.{arith}
 use Rattle.std.proofs.lemmas.Result.{err_from_is_err_and}
-use Rattle.pd_walk.specs.Worlds.{net_of}
+use Rattle.pd_hearing.specs.Worlds.{net_of}
 use Rattle.pd_walk.proofs.TurnLemmas.{yields-start, yields-found, yields-passes, breaks}
 use Rattle.pd_walk.proofs.steps.next_task.Goals as goal
 

@@ -1,5 +1,5 @@
 use Rattle.std.proofs.Common.{◌≤◌, List, [], length}
-use Rattle.pd_walk.specs.Worlds.{net_of}
+use Rattle.pd_hearing.specs.Worlds.{net_of}
 use Rattle.pd_walk.specs.Tasks.{Task}
 use Rattle.pd_walk.specs.Piles.{IsPiled, LeftOn}
 use Rattle.pd_walk.specs.Turns.{Yields}

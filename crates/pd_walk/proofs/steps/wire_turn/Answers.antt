@@ -1,6 +1,6 @@
 use Rattle.std.proofs.Common.{Option, subst}
 use Rattle.pd_web.specs.declared.web.Hop.{Hop}
-use Rattle.pd_walk.specs.Worlds.{net_of}
+use Rattle.pd_hearing.specs.Worlds.{net_of}
 use Rattle.pd_walk.specs.Piles.{GoesAlong}
 use Rattle.pd_walk.proofs.TurnLemmas.{wire-goes, wire-ends}
 use Rattle.pd_walk.proofs.steps.wire_turn.Goals as goal

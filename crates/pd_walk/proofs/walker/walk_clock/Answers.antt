@@ -1,10 +1,10 @@
 use Rattle.std.proofs.Common.{subst}
 use Rattle.pd_io.specs.Stream.{TookPart}
-use Rattle.pd_walk.proofs.ResultLemmas.{on_ok_map, on_err_map}
-use Rattle.pd_walk.proofs.WorldLemmas.{kept-same}
+use Rattle.pd_hearing.proofs.ResultLemmas.{on_ok_map, on_err_map}
+use Rattle.pd_hearing.proofs.WorldLemmas.{kept-same}
 use Rattle.pd_walk.proofs.WayLemmas.{told-same}
 use Rattle.pd_walk.specs.Ways.{IsDone}
-use Rattle.pd_walk.specs.Worlds.{kept_of, Kept}
+use Rattle.pd_hearing.specs.Worlds.{kept_of, Kept}
 use Rattle.pd_turns.specs.Turns.{World}
 use Rattle.pd_walk.proofs.walker.walk_clock.Goals as goal
 

@@ -3,10 +3,10 @@ use Rattle.pd_say.proofs.RowLemmas.{get_or-any}
 use Rattle.std.proofs.lemmas.Result.{err_from_is_err_and}
 use Rattle.pd_io.specs.Stream.{TookPart}
 use Rattle.pd_turns.specs.Turns.{World}
-use Rattle.pd_walk.specs.Worlds.{Kept, net_of, kept_of}
+use Rattle.pd_hearing.specs.Worlds.{Kept, net_of, kept_of}
 use Rattle.pd_walk.specs.Outcome.{world, all_loaded}
 use Rattle.pd_walk.specs.Ways.{IsDone}
-use Rattle.pd_walk.proofs.KnownLemmas.{take_whole}
+use Rattle.pd_hearing.proofs.KnownLemmas.{take_whole}
 use Rattle.pd_walk.proofs.WayLemmas.{loads-one, loads-more, loads-part}
 use Rattle.pd_walk.proofs.walker.walk_loads.Goals as goal
 

@@ -1,6 +1,6 @@
 use Rattle.std.proofs.Common.{◌≡◌, ◌≤◌, ℕ, List, [], false, Option, take, drop}
 use Rattle.pd_say.specs.Gathering.{IsSaid}
-use Rattle.pd_walk.specs.Worlds.{net_of, kept_of}
+use Rattle.pd_hearing.specs.Worlds.{net_of, kept_of}
 use Rattle.pd_walk.specs.Outcome.{world, all_loaded}
 use Rattle.pd_walk.specs.Ways.{IsDone}
 use Rattle.pd_walk.proofs.walker.walk_loads.Given as goal

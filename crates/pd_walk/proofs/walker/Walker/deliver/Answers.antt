@@ -1,6 +1,6 @@
 use Rattle.std.proofs.Common.{[]}
 use Rattle.std.proofs.lemmas.Result.{err_from_is_err_and}
-use Rattle.pd_walk.proofs.ResultLemmas.{on_ok_map, on_err_map}
+use Rattle.pd_hearing.proofs.ResultLemmas.{on_ok_map, on_err_map}
 use Rattle.pd_walk.proofs.WayLemmas.{left-done, part-done, said-none}
 use Rattle.pd_walk.proofs.walker.Walker.deliver.Goals as goal
 

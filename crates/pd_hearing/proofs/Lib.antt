@@ -1,0 +1,4 @@
+pub mod KnownLemmas
+pub mod ResultLemmas
+pub mod WorldLemmas
+pub mod HearLemmas

@@ -1,0 +1,26 @@
+use Rattle.pd_hearing.proofs.HearLemmas.{not-message, some-message, arith-heard, panel-heard, line-heard, other-heard}
+use Rattle.pd_hearing.proofs.hearing.hear_kind.Goals as goal
+
+pub returns-then-not-is_message : goal.returns-then-not-is_message
+returns-then-not-is_message c =
+    not-message c.args.symbols.now c.args.kind.now c.args.state.now c.args.inlet c.args.selector c.args.atoms.now _ _ _ _ c.is_message.ensures.value c.if-not-is_message.true c.say_nothing.ensures
+
+pub returns-in-Arith : goal.returns-in-Arith
+returns-in-Arith c =
+    some-message c.args.symbols.now c.args.kind.now c.args.state.now c.args.inlet c.args.selector c.args.atoms.now _ _ _ _ c.is_message.ensures.value c.if-not-is_message.false
+    (arith-heard c.args.symbols.now c.args.kind.now c.args.state.now c.args.inlet c.args.selector c.args.atoms.now _ _ c.in-Arith.field-0 _ _ _ c.in-Arith.is c.hear.ensures.names c.hear.ensures.heard)
+
+pub returns-in-Panel : goal.returns-in-Panel
+returns-in-Panel c =
+    some-message c.args.symbols.now c.args.kind.now c.args.state.now c.args.inlet c.args.selector c.args.atoms.now _ _ _ _ c.is_message.ensures.value c.if-not-is_message.false
+    (panel-heard c.args.symbols.now c.args.kind.now c.args.state.now c.args.inlet c.args.selector c.args.atoms.now _ _ c.in-Panel.field-0 _ _ _ c.in-Panel.is c.hear-in-Panel.ensures.names c.hear-in-Panel.ensures.heard)
+
+pub returns-in-Vline : goal.returns-in-Vline
+returns-in-Vline c =
+    some-message c.args.symbols.now c.args.kind.now c.args.state.now c.args.inlet c.args.selector c.args.atoms.now _ _ _ _ c.is_message.ensures.value c.if-not-is_message.false
+    (line-heard c.args.symbols.now c.args.kind.now c.args.state.now c.args.inlet c.args.selector c.args.atoms.now _ _ _ c.in-Vline.is c.hear_vline.ensures)
+
+pub returns-in_default : goal.returns-in_default
+returns-in_default c =
+    some-message c.args.symbols.now c.args.kind.now c.args.state.now c.args.inlet c.args.selector c.args.atoms.now _ _ _ _ c.is_message.ensures.value c.if-not-is_message.false
+    (other-heard c.args.symbols.now c.args.kind.now c.args.state.now c.args.inlet c.args.selector c.args.atoms.now _ _ _ c.in_default.not-Arith c.in_default.not-Panel c.in_default.not-Vline c.hear_other.ensures)

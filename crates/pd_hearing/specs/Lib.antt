@@ -1,0 +1,4 @@
+pub mod Worlds
+pub mod Guards
+pub mod Hearing
+pub mod Deeds
