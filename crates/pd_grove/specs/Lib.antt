@@ -6,3 +6,4 @@ pub mod Telling
 pub mod Owning
 pub mod TextOrder
 pub mod Places
+pub mod Lending

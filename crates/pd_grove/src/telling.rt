@@ -1,7 +1,8 @@
 //! What a running tree tells by its keys.
 
 ghost use Rattle.std.specs.Prelude.{◌≡◌, ◌≤◌, length, Some, None, IsSome, slice_get, option_and_then};
-ghost use Rattle.std.specs.Option.{option_copied};
+ghost use Rattle.std.specs.Option.{option_copied, option_copied_mut};
+ghost use Rattle.std.specs.Borrow.{sem};
 ghost use Rattle.slab.specs.Slab.{get, ContainsKey};
 ghost use Rattle.pd_grove.specs.Telling.{kind_in, inner_in, state_in, keys_in, step_in, reached, Keeps};
 
@@ -11,11 +12,21 @@ use crate::nodes::Node;
 use pd_kind::{Kind, State};
 
 impl Grove {
+    ghost use Rattle.pd_grove.specs.Lending.{lends_node};
+
     /// A box; `None` exactly where none lives under the key.
     pub fn node(&self, key: u32) -> Option<&Node>
         ensures { option_copied result ≡ get self.now.nodes key }
     {
         self.nodes.get(key as usize)
+    }
+
+    /// A box, for writing; `None` exactly where none lives under the key.
+    pub fn node_mut(&mut self, key: u32) -> Option<&mut Node>
+        ensures* writes_back { sem 𝓛 (lends_node self.entry key result) }
+        ensures value { option_copied_mut result ≡ get self.old.nodes key }
+    {
+        self.nodes.get_mut(key as usize)
     }
 
     /// A canvas; `None` exactly where none lives under the key.

@@ -6,7 +6,8 @@ use Rattle.std.proofs.lemmas.Bool.Decides.{nat_tests}
 use Rattle.std.specs.Prelude.{◌==◌, ◌↔◌, IsSome, ℤ, Option, Some, None, option_map, option_and_then, slice_get}
 use Rattle.std.specs.Prelude.{reverse}
 use Rattle.slab.specs.Slab.{get}
-use Rattle.slab.specs.Slab.{Slab}
+use Rattle.slab.specs.Slab.{Slab, ContainsKey}
+use Rattle.slab.proofs.SlabLemmas.{Updates-with_value}
 use Rattle.pd_atom.specs.Names.{Names}
 use Rattle.pd_atom.specs.declared.Atom.{Atom}
 use Rattle.pd_clock.specs.Queue.{Clock, without}
@@ -23,6 +24,7 @@ use Rattle.pd_patch.specs.Paths.{path_told, outward, around, out_of, spot_of, nu
 use Rattle.pd_patch.specs.declared.patch.Patch.{Patch}
 use Rattle.pd_patch.specs.Walking.{RestStays, WritesAt}
 use Rattle.pd_patch.specs.Walking as walking
+use Rattle.pd_patch.specs.Lending.{with_box}
 use Rattle.pd_queue.specs.Queue.{Waiting}
 use Rattle.pd_hearing.specs.Worlds.{Net, Kept, bare, net_of, kept_of, states_of, set_at}
 use Rattle.pd_hearing.specs.Hearing.{Reply, reply, table_in, table_by, table_named, heard_in, heard_with, heard_at, mute, resumed_in, resumed_with, resumed_at, fired_with, fired_at, loaded_with, loaded_kind, loaded_at}
@@ -104,6 +106,29 @@ states-twice old mid new node s t is took put =
     states-set mid.grove new.grove node t put (state-twice (get old.grove.nodes node) (get mid.grove.nodes node) s None t is took.node)
     ∙ ap (λ (f : ℕ → Option State). set_at f node t) (states-set old.grove mid.grove node None took (state-some (get old.grove.nodes node) s None is))
     ∙ set-twice (states_of old) node None t
+
+-- a box was lent, and keeps another state now
+contains : (p : Patch) (k : ℕ) (n : Node) → get p.grove.nodes k ≡ Some n → ContainsKey p.grove.nodes k
+contains p k n is = rw is tt
+
+pub lent-keeps : (p : Patch) (k : ℕ) (n : Node) (s : Option State) → get p.grove.nodes k ≡ Some n → Keeps p.grove (with_box p k (with_state s n)).grove k s
+lent-keeps p k n s is =
+    let u = Updates-with_value p.grove.nodes k (with_state s n) (contains p k n is) in
+    record {
+      node = u.changed ∙ sym (ap (λ (o : Option Node). option_map (with_state s) o) is);
+      others = u.others;
+      boards = refl;
+      root = refl;
+    }
+
+pub lent-net : (p : Patch) (k : ℕ) (n : Node) (s : Option State) → get p.grove.nodes k ≡ Some n → net_of (with_box p k (with_state s n)) ≡ net_of p
+lent-net p k n s is =
+    keeps-net p (with_box p k (with_state s n)) k s (lent-keeps p k n s is)
+    (record { web = refl; names = refl; orders = refl; numbers = refl; values = refl; rate = refl; present = refl }) refl
+
+pub lent-states : (p : Patch) (k : ℕ) (n : Node) (s : Option State) → get p.grove.nodes k ≡ Some n → states_of (with_box p k (with_state s n)) ≡ set_at (states_of p) k s
+lent-states p k n s is =
+    states-set p.grove (with_box p k (with_state s n)).grove k s (lent-keeps p k n s is) (ap (λ (o : Option Node). state_in (option_map (with_state s) o)) is)
 
 pub heard-reply : (old mid new : Patch) (now node inlet selector : ℕ) (names names2 : Names) (s s2 : State) (atoms : List Atom) (said : Said)
     → state_in (get old.grove.nodes node) ≡ Some s → Keeps old.grove mid.grove node None → RestStays old mid

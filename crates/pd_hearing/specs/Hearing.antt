@@ -1,5 +1,5 @@
 -- What a box does with a message, when it is resumed, when its clock fires and when it is loaded.
-use Rattle.std.specs.Prelude.{◌≡◌, ℕ, ℤ, ◌&&◌, ◌^◌, nat_le, List, [], ◌∷◌, slice_get, Option, Some, None, option_and_then, if◌then◌else◌}
+use Rattle.std.specs.Prelude.{◌≡◌, ℕ, ℤ, ◌&&◌, ◌^◌, nat_le, List, [], ◌∷◌, slice_get, Option, Some, None, option_map, option_and_then, if◌then◌else◌}
 use Rattle.pd_atom.specs.Names.{Names}
 use Rattle.pd_atom.specs.declared.Atom.{Atom}
 use Rattle.pd_name.specs.Rows.{owners_of}
@@ -16,7 +16,8 @@ use Rattle.pd_panel.specs.Rows as panel
 use Rattle.pd_vline.specs.Rows as vline
 use Rattle.pd_glue.specs.Rows as control
 use Rattle.pd_glue.specs.Rows.{Hearing, with_names, quiet}
-use Rattle.pd_grove.specs.Telling.{kind_in}
+use Rattle.pd_grove.specs.declared.nodes.Node.{Node}
+use Rattle.pd_grove.specs.Telling.{kind_in, with_state}
 use Rattle.pd_patch.specs.declared.patch.Patch.{Patch}
 use Rattle.pd_patch.specs.Walking.{table_named as named_table}
 use Rattle.pd_hearing.specs.Worlds.{Net, set_at}
@@ -97,9 +98,27 @@ heard_with net now states names node inlet selector atoms (Some s) =
 unfoldable pub heard_at : Net → ℕ → (ℕ → Option State) → Names → ℕ → ℕ → ℕ → List Atom → Reply
 heard_at net now states names node inlet selector atoms = heard_with net now states names node inlet selector atoms (states node)
 
+-- a box, the names and what is said
+pub record BoxReply : Type 0 where
+  pub node : Node
+  pub names : Names
+  pub said : Said
+
+abbrev pub box_reply : Node → Names → Option Hearing → BoxReply
+box_reply n names None = record { node = n; names = names; said = silent }
+box_reply n names (Some h) = record { node = with_state (Some h.state) n; names = h.names; said = h.said }
+
+-- a box by itself hears a message beside no table
+abbrev pub box_heard : Names → Node → ℕ → ℕ → List Atom → ℕ → BoxReply
+box_heard names n inlet selector atoms now = box_reply n names (option_map (λ s. heard_kind names n.kind s inlet selector atoms now None) n.state)
+
 abbrev pub resumed_in : Names → Option Kind → State → Hearing
 resumed_in names None s = quiet names s
 resumed_in names (Some k) s = with_names names (control.resumed k s)
+
+-- a box by itself is resumed
+abbrev pub box_resumed : Names → Node → BoxReply
+box_resumed names n = box_reply n names (option_map (λ s. with_names names (control.resumed n.kind s)) n.state)
 
 abbrev pub resumed_with : Net → (ℕ → Option State) → Names → ℕ → Option State → Reply
 resumed_with net states names node None = mute states names

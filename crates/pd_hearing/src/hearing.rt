@@ -1,6 +1,6 @@
 //! What a box does with a message.
 
-ghost use Rattle.std.specs.Prelude.{◌≡◌, ◌<◌, ◌≤◌, ◌^◌, true, length, Some, IfSome};
+ghost use Rattle.std.specs.Prelude.{◌≡◌, ◌<◌, ◌≤◌, ◌^◌, true, false, length, Some, None, IfSome};
 ghost use Rattle.std.specs.List.{All};
 ghost use Rattle.std.specs.Option.{option_copied};
 ghost use Rattle.slab.specs.Slab.{get};
@@ -12,12 +12,13 @@ ghost use Rattle.pd_grove.specs.Telling.{kind_in, state_in};
 ghost use Rattle.pd_patch.specs.Walking.{RestStays};
 ghost use Rattle.pd_hearing.specs.Worlds.{net_of, states_of};
 ghost use Rattle.pd_hearing.specs.Guards as guard;
-ghost use Rattle.pd_hearing.specs.Hearing.{heard_at as reply_at, heard_in, heard_kind, heard_by, heard_line, heard_other, resumed_at, resumed_in, fired_at, fired_with, loaded_at, loaded_with, loaded_kind, panel_loaded, table_by, table_named, table_name as name_of_table};
+ghost use Rattle.pd_hearing.specs.Hearing.{heard_at as reply_at, box_heard, box_resumed, heard_in, heard_kind, heard_by, heard_line, heard_other, resumed_at, fired_at, fired_with, loaded_at, loaded_with, loaded_kind, panel_loaded, table_by, table_named, table_name as name_of_table};
 
 use crate::known::{are_known, is_name};
 use crate::small::is_small;
 use pd_atom::{Atom, Sym, Symbols};
 use pd_clock::Time;
+use pd_grove::Node;
 use pd_kind::{Around, Glue, Kind, Message, Sends, State};
 use pd_num::Num;
 use pd_patch::Patch;
@@ -27,6 +28,88 @@ const MOST: usize = 1024;
 
 /// A box hears a message at an inlet: its state changes, and in `out` is what it says. A box whose state is out hears nothing.
 pub fn hear_at(
+    patch: &mut Patch,
+    node: u32,
+    inlet: u32,
+    selector: Sym,
+    atoms: &[Atom],
+    now: Time,
+    symbols: &mut Symbols,
+    out: &mut Sends,
+)
+    ensures reply { record { states = states_of patch.new; names = symbols.new; said = said_by out.new } ≡ reply_at (net_of patch.old) now (states_of patch.old) symbols.old node inlet selector atoms.now }
+    ensures net { net_of patch.new ≡ net_of patch.old }
+    ensures clocks { patch.new.timers ≡ patch.old.timers }
+{
+    if looks_at_table(patch, node) {
+        hear_beside(patch, node, inlet, selector, atoms, now, symbols, out);
+    } else {
+        hear_alone(patch, node, inlet, selector, atoms, now, symbols, out);
+    }
+}
+
+/// Whether a box looks at a table.
+fn looks_at_table(patch: &Patch, node: u32) -> bool
+    ensures { result ≡ false → table_named (kind_in (get patch.now.grove.nodes node)) ≡ None }
+{
+    match patch.node(node) {
+        Some(found) => table_name(&found.kind).is_some(),
+        None => false,
+    }
+}
+
+/// A box that looks at no table hears a message. It stays in its place meanwhile.
+fn hear_alone(
+    patch: &mut Patch,
+    node: u32,
+    inlet: u32,
+    selector: Sym,
+    atoms: &[Atom],
+    now: Time,
+    symbols: &mut Symbols,
+    out: &mut Sends,
+)
+    requires { table_named (kind_in (get patch.old.grove.nodes node)) ≡ None }
+    ensures reply { record { states = states_of patch.new; names = symbols.new; said = said_by out.new } ≡ reply_at (net_of patch.old) now (states_of patch.old) symbols.old node inlet selector atoms.now }
+    ensures net { net_of patch.new ≡ net_of patch.old }
+    ensures clocks { patch.new.timers ≡ patch.old.timers }
+{
+    match patch.node_mut(node) {
+        Some(found) => hear_box(found, inlet, selector, atoms, now, symbols, out),
+        None => out.say_nothing(),
+    }
+}
+
+/// A box hears a message beside no table.
+fn hear_box(
+    found: &mut Node,
+    inlet: u32,
+    selector: Sym,
+    atoms: &[Atom],
+    now: Time,
+    symbols: &mut Symbols,
+    out: &mut Sends,
+)
+    ensures { record { node = found.new; names = symbols.new; said = said_by out.new } ≡ box_heard symbols.old found.old inlet selector atoms.now now }
+{
+    let around = Around { now, table: None };
+    match &mut found.state {
+        Some(state) => hear_kind(
+            &found.kind,
+            state,
+            inlet,
+            selector,
+            atoms,
+            &around,
+            symbols,
+            out,
+        ),
+        None => out.say_nothing(),
+    }
+}
+
+/// A box hears a message beside the table that it looks at. Its state is out meanwhile.
+fn hear_beside(
     patch: &mut Patch,
     node: u32,
     inlet: u32,
@@ -240,20 +323,17 @@ pub fn resume_at(patch: &mut Patch, node: u32, out: &mut Sends)
     ensures net { net_of patch.new ≡ net_of patch.old }
     ensures clocks { patch.new.timers ≡ patch.old.timers }
 {
-    if !patch.has_state(node) {
-        out.say_nothing();
-        return;
+    match patch.node_mut(node) {
+        Some(found) => resume_box(found, out),
+        None => out.say_nothing(),
     }
-    let mut state = patch.take_state(node);
-    resume_with(patch, node, &mut state, out);
-    patch.put_state(node, state);
 }
 
-fn resume_with(patch: &Patch, node: u32, state: &mut State, out: &mut Sends)
-    ensures { (names : Names) → record { state = state.new; names = names; said = said_by out.new } ≡ resumed_in names (kind_in (get patch.now.grove.nodes node)) state.old }
+fn resume_box(found: &mut Node, out: &mut Sends)
+    ensures { (names : Names) → record { node = found.new; names = names; said = said_by out.new } ≡ box_resumed names found.old }
 {
-    match patch.node(node) {
-        Some(found) => pd_glue::resume(&found.kind, state, out),
+    match &mut found.state {
+        Some(state) => pd_glue::resume(&found.kind, state, out),
         None => out.say_nothing(),
     }
 }

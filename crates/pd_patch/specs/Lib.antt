@@ -10,3 +10,4 @@ pub mod Numbers
 pub mod Orders
 pub mod Values
 pub mod Wired
+pub mod Lending

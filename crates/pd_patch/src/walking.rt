@@ -2,7 +2,8 @@
 
 ghost use Rattle.std.specs.Prelude.{◌≡◌, ◌↔◌, ◌<◌, ◌≤◌, ◌++◌, ◌∷◌, [], ℤ, true, false, length, slice_set, Some, None, IsSome, IfSome, IfNone, option_map};
 ghost use Rattle.std.specs.List.{AllByRecursion};
-ghost use Rattle.std.specs.Option.{option_copied};
+ghost use Rattle.std.specs.Option.{option_copied, option_copied_mut};
+ghost use Rattle.std.specs.Borrow.{sem};
 ghost use Rattle.slab.specs.Slab.{get, ContainsKey};
 ghost use Rattle.pd_clock.specs.Queue.{without, IsTaken};
 ghost use Rattle.pd_kind.specs.Tables.{table_of, with_value};
@@ -12,11 +13,22 @@ ghost use Rattle.pd_patch.specs.Walking.{RestStays, WritesAt, table_owner, table
 use crate::patch::Patch;
 use pd_atom::Sym;
 use pd_clock::Time;
+use pd_grove::Node;
 use pd_kind::State;
 use pd_name::Class;
 use pd_num::Num;
 
 impl Patch {
+    ghost use Rattle.pd_patch.specs.Lending.{lends_box};
+
+    /// A box, for writing; `None` exactly where none lives under the key.
+    pub fn node_mut(&mut self, key: u32) -> Option<&mut Node>
+        ensures* writes_back { sem 𝓛 (lends_box self.entry key result) }
+        ensures value { option_copied_mut result ≡ get self.old.grove.nodes key }
+    {
+        self.grove.node_mut(key)
+    }
+
     /// What a box keeps, where it is in.
     pub fn state_at(&self, node: u32) -> Option<&State>
         ensures { option_copied result ≡ state_in (get self.now.grove.nodes node) }
