@@ -27,7 +27,7 @@ use Rattle.pd_patch.specs.Walking as walking
 use Rattle.pd_patch.specs.Lending.{with_box}
 use Rattle.pd_queue.specs.Queue.{Waiting}
 use Rattle.pd_hearing.specs.Worlds.{Net, Kept, bare, net_of, kept_of, states_of, set_at}
-use Rattle.pd_hearing.specs.Hearing.{Reply, reply, table_in, table_by, table_named, heard_in, heard_with, heard_at, mute, resumed_in, resumed_with, resumed_at, fired_with, fired_at, loaded_with, loaded_kind, loaded_at}
+use Rattle.pd_hearing.specs.Hearing.{Reply, reply, BoxReply, box_reply, box_heard, box_resumed, heard_kind, table_name, table_in, table_by, table_named, heard_in, heard_with, heard_at, mute, resumed_in, resumed_with, resumed_at, fired_with, fired_at, loaded_with, loaded_kind, loaded_at}
 use Rattle.pd_hearing.specs.Deeds.{written, written_at, with_clock, with_clocks, with_states}
 
 -- two numbers are the same or not
@@ -109,7 +109,7 @@ states-twice old mid new node s t is took put =
 
 -- a box was lent, and keeps another state now
 contains : (p : Patch) (k : ℕ) (n : Node) → get p.grove.nodes k ≡ Some n → ContainsKey p.grove.nodes k
-contains p k n is = rw is tt
+contains p k n is = rw is refl
 
 pub lent-keeps : (p : Patch) (k : ℕ) (n : Node) (s : Option State) → get p.grove.nodes k ≡ Some n → Keeps p.grove (with_box p k (with_state s n)).grove k s
 lent-keeps p k n s is =
@@ -129,6 +129,67 @@ lent-net p k n s is =
 pub lent-states : (p : Patch) (k : ℕ) (n : Node) (s : Option State) → get p.grove.nodes k ≡ Some n → states_of (with_box p k (with_state s n)) ≡ set_at (states_of p) k s
 lent-states p k n s is =
     states-set p.grove (with_box p k (with_state s n)).grove k s (lent-keeps p k n s is) (ap (λ (o : Option Node). state_in (option_map (with_state s) o)) is)
+
+lent-same : (p : Patch) (k : ℕ) (n : Node) → get p.grove.nodes k ≡ Some n → states_of (with_box p k n) ≡ states_of p
+lent-same p k n is = lent-states p k n n.state is ∙ set-same (states_of p) k n.state (ap state_in is)
+
+-- the box that was lent has heard a message
+heard-lent-by : (p : Patch) (now node inlet selector : ℕ) (names names2 : Names) (n n2 : Node) (o : Option State) (atoms : List Atom) (said : Said)
+    → get p.grove.nodes node ≡ Some n → n.state ≡ o → table_named (kind_in (get p.grove.nodes node)) ≡ None
+    → record { node = n2; names = names2; said = said } ≡ box_reply n names (option_map (λ s. heard_kind names n.kind s inlet selector atoms now None) o)
+    → record { states = states_of (with_box p node n2); names = names2; said = said } ≡ heard_at (net_of p) now (states_of p) names node inlet selector atoms
+unfolding heard_at
+heard-lent-by p now node inlet selector names names2 n n2 None atoms said is e none heard =
+    ap (λ (r : BoxReply). record { states = states_of (with_box p node r.node); names = r.names; said = r.said }) heard
+    ∙ ap (λ (f : ℕ → Option State). mute f names) (lent-same p node n is)
+    ∙ sym (ap (λ (o : Option State). heard_with (net_of p) now (states_of p) names node inlet selector atoms o) (ap state_in is ∙ e))
+heard-lent-by p now node inlet selector names names2 n n2 (Some s) atoms said is e none heard =
+    let h = heard_kind names n.kind s inlet selector atoms now None in
+    let named : table_name n.kind ≡ None = sym (ap (λ (o : Option Node). table_named (kind_in o)) is) ∙ none in
+    let others = set_at (states_of p) node None in
+    ap (λ (r : BoxReply). record { states = states_of (with_box p node r.node); names = r.names; said = r.said }) heard
+    ∙ ap (λ (f : ℕ → Option State). record { states = f; names = h.names; said = h.said }) (lent-states p node n (Some h.state) is)
+    ∙ sym (ap (λ (t : Option ℕ). reply (states_of p) node (heard_kind names n.kind s inlet selector atoms now (table_in (net_of p) others t))) named)
+    ∙ sym (ap (λ (o : Option Node). reply (states_of p) node (heard_in names (kind_in (bare o)) s inlet selector atoms now (table_in (net_of p) others (table_named (kind_in (bare o)))))) is)
+    ∙ sym (ap (λ (o : Option State). heard_with (net_of p) now (states_of p) names node inlet selector atoms o) (ap state_in is ∙ e))
+
+pub heard-lent : (p : Patch) (now node inlet selector : ℕ) (names names2 : Names) (n n2 : Node) (atoms : List Atom) (said : Said)
+    → get p.grove.nodes node ≡ Some n → table_named (kind_in (get p.grove.nodes node)) ≡ None
+    → record { node = n2; names = names2; said = said } ≡ box_heard names n inlet selector atoms now
+    → record { states = states_of (with_box p node n2); names = names2; said = said } ≡ heard_at (net_of p) now (states_of p) names node inlet selector atoms
+heard-lent p now node inlet selector names names2 n n2 atoms said is none heard =
+    heard-lent-by p now node inlet selector names names2 n n2 n.state atoms said is refl none heard
+
+-- the box that was lent is resumed
+resumed-lent-by : (p : Patch) (node : ℕ) (names : Names) (n n2 : Node) (o : Option State) (said : Said)
+    → get p.grove.nodes node ≡ Some n → n.state ≡ o
+    → record { node = n2; names = names; said = said } ≡ box_reply n names (option_map (λ s. with_names names (control.resumed n.kind s)) o)
+    → record { states = states_of (with_box p node n2); names = names; said = said } ≡ resumed_at (net_of p) (states_of p) names node
+unfolding resumed_at
+resumed-lent-by p node names n n2 None said is e resumed =
+    ap (λ (r : BoxReply). record { states = states_of (with_box p node r.node); names = r.names; said = r.said }) resumed
+    ∙ ap (λ (f : ℕ → Option State). mute f names) (lent-same p node n is)
+    ∙ sym (ap (λ (o : Option State). resumed_with (net_of p) (states_of p) names node o) (ap state_in is ∙ e))
+resumed-lent-by p node names n n2 (Some s) said is e resumed =
+    let h = with_names names (control.resumed n.kind s) in
+    ap (λ (r : BoxReply). record { states = states_of (with_box p node r.node); names = r.names; said = r.said }) resumed
+    ∙ ap (λ (f : ℕ → Option State). record { states = f; names = h.names; said = h.said }) (lent-states p node n (Some h.state) is)
+    ∙ sym (ap (λ (o : Option Node). reply (states_of p) node (resumed_in names (kind_in (bare o)) s)) is)
+    ∙ sym (ap (λ (o : Option State). resumed_with (net_of p) (states_of p) names node o) (ap state_in is ∙ e))
+
+pub resumed-lent : (p : Patch) (node : ℕ) (names : Names) (n n2 : Node) (said : Said)
+    → get p.grove.nodes node ≡ Some n
+    → record { node = n2; names = names; said = said } ≡ box_resumed names n
+    → record { states = states_of (with_box p node n2); names = names; said = said } ≡ resumed_at (net_of p) (states_of p) names node
+resumed-lent p node names n n2 said is resumed = resumed-lent-by p node names n n2 n.state said is refl resumed
+
+-- what a lent box hears leaves the net
+pub replied-net : (p : Patch) (node : ℕ) (n n2 : Node) (names names2 : Names) (said : Said) (o : Option Hearing) → get p.grove.nodes node ≡ Some n
+    → record { node = n2; names = names2; said = said } ≡ box_reply n names o → net_of (with_box p node n2) ≡ net_of p
+replied-net p node n n2 names names2 said None is replied =
+    ap (λ (r : BoxReply). net_of (with_box p node r.node)) replied ∙ lent-net p node n n.state is
+replied-net p node n n2 names names2 said (Some h) is replied =
+    ap (λ (r : BoxReply). net_of (with_box p node r.node)) replied ∙ lent-net p node n (Some h.state) is
 
 pub heard-reply : (old mid new : Patch) (now node inlet selector : ℕ) (names names2 : Names) (s s2 : State) (atoms : List Atom) (said : Said)
     → state_in (get old.grove.nodes node) ≡ Some s → Keeps old.grove mid.grove node None → RestStays old mid

@@ -1,5 +1,5 @@
 use Rattle.pd_hearing.proofs.WorldLemmas.{heard-reply, net-twice, not-heard, not-some}
-use Rattle.pd_hearing.proofs.hearing.hear_at.Goals as goal
+use Rattle.pd_hearing.proofs.hearing.hear_beside.Goals as goal
 
 pub returns-then-not-has_state-clause-reply : goal.returns-then-not-has_state-clause-reply
 returns-then-not-has_state-clause-reply c =
