@@ -123,10 +123,10 @@ fn make_ports(alloc: Global, jacks: &[Jack]) -> Result<Vec<Port>, AllocError>
     ensures told { IfOk result (λ ports. ports.items ≡ loose_ports jacks.now) }
     ensures few { IfOk result (λ ports. length ports.items < 2 ^ 32) }
 {
-    let mut ports = Vec::with_capacity(alloc, jacks.len())?;
     if jacks.len() > 4_294_967_295 {
         return Err(AllocError);
     }
+    let mut ports = Vec::with_capacity(alloc, jacks.len())?;
     for jack in jacks {
         ports.push(Port {
             end: None,

@@ -3,7 +3,7 @@ use Rattle.std.proofs.lemmas.Result.{on_ok_weaker}
 use Rattle.pd_web.specs.declared.joints.Joint.{Joint}
 use Rattle.pd_web.specs.declared.sockets.Spot.{Spot}
 use Rattle.pd_web.specs.Sockets.{end_at}
-use Rattle.pd_web.specs.Lines.{line_from, line_to, IsJoint}
+use Rattle.pd_web.specs.Lines.{line_from, IsJoint}
 use Rattle.pd_web.proofs.SocketLemmas.{tied_still, keeps_more}
 use Rattle.pd_web.proofs.WireLemmas.{holds_grown}
 use Rattle.pd_web.proofs.LineLemmas.{laid_line}

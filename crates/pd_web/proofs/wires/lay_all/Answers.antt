@@ -1,7 +1,7 @@
 use Rattle.std.proofs.Common.{◌++◌, List, take, subst, arith}
 use Rattle.std.proofs.lemmas.Result.{err_from_is_err_and}
 use Rattle.pd_canvas.specs.declared.wires.Wire.{Wire}
-use Rattle.pd_web.specs.Lines.{Line, IsLaid, laid_boxes, laid_lines}
+use Rattle.pd_web.specs.Lines.{Line, IsLaid, laid_lines}
 use Rattle.pd_web.proofs.SocketLemmas.{keeps_more}
 use Rattle.pd_web.proofs.LineLemmas.{laid_more, more_counted, all_fewer}
 use Rattle.pd_web.proofs.wires.lay_all.Goals as goal
