@@ -1,16 +1,14 @@
 -- What the wires of the book lead to, by the lines that were laid.
 use Rattle.std.proofs.Common.{◌≡◌, ℕ, Bool, true, false, ◌&&◌, ◌==◌, cond, List, [], ◌∷◌, map, filter, slice_get, Option, Some, None, refl, sym, ap, ◌∙◌, eq-eqb, eqb-true, ne_eqb, inl, inr}
-use Rattle.std.specs.Prelude.{option_map}
 use Rattle.std.proofs.lemmas.Bool.{cases_eq, cases_Bool, and_parts, and_from}
 use Rattle.std.proofs.lemmas.Option.{none-some, same_Some}
 use Rattle.pd_wire.specs.Book.{Book, fan_of, feeds_of}
 use Rattle.pd_grove.specs.declared.ports.Side.{Side}
 use Rattle.pd_grove.specs.declared.ports.Side.TheVariants.{Inlets, Outlets}
 use Rattle.pd_web.specs.declared.joints.Joint.{Joint}
-use Rattle.pd_web.specs.declared.sockets.Port.{Port}
 use Rattle.pd_web.specs.declared.sockets.Sockets.{Sockets}
 use Rattle.pd_web.specs.declared.sockets.Spot.{Spot}
-use Rattle.pd_web.specs.Sockets.{ArePlaced, IsBare, port_at, end_under}
+use Rattle.pd_web.specs.Sockets.{ArePlaced, IsBare, end_under}
 use Rattle.pd_web.specs.Wiring.{source_at, sink_at, sinks_from, sources_to}
 use Rattle.pd_web.specs.Lines.{Line, AreJoints, IsLaid, fed_from, feeding}
 use Rattle.pd_web.specs.Hops.{hop_by, fan_under, feeds_under, places_of}
@@ -36,15 +34,9 @@ places spots at (k ∷ keys) =
     ap (λ p. p ∷ places_of (map (λ k. hop_by k (slice_get spots (at k))) keys)) (hop_place k (slice_get spots (at k)))
     ∙ ap (λ ps. place_in (slice_get spots (at k)) ∷ ps) (places spots at keys)
 
-end_of_port : (o : Option Port) (e : ℕ) → option_map (λ (p : Port). p.end) o ≡ Some e → (p : Port) × (o ≡ Some p) × (p.end ≡ e)
-end_of_port None e h = absurd (none-some e h)
-end_of_port (Some p) e h = (p, refl, same_Some p.end e h)
-
 -- an end is that of its port
 end_placed : (all : List Sockets) (spots : List Spot) (b : Book) (side : Side) (k i e : ℕ) → ArePlaced all spots b → end_under all side k i ≡ Some e → slice_get spots e ≡ Some (record { node = k; side = side; port = i })
-end_placed all spots b side k i e placed h =
-    let p = end_of_port (port_at all side k i) e h in
-    ap (slice_get spots) (sym p.2) ∙ (placed side k i p.0 p.1).told
+end_placed all spots b side k i e placed h = (placed (record { node = k; side = side; port = i }) e h).told
 
 -- ports with one end are one port
 record Same (k i l j : ℕ) : Type 0 where

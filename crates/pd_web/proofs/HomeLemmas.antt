@@ -1,11 +1,10 @@
 -- Which box is which port.
-use Rattle.std.proofs.Common.{◌≡◌, ◌≢◌, ◌⊎◌, ℕ, ℤ, zero, suc, ◌+◌, ◌-◌, ◌<◌, ◌≤◌, Bool, true, false, cond, int_lt, List, [], ◌∷◌, ◌++◌, map, length, get_or, slice_get, Option, Some, None, IsSome, is_some, refl, sym, ap, ◌∙◌, subst, inl, inr, true≢false, suc-add, zero-add, arith}
+use Rattle.std.proofs.Common.{◌≡◌, ◌≢◌, ◌⊎◌, ℕ, ℤ, zero, suc, ◌+◌, ◌<◌, ◌≤◌, Bool, true, false, cond, int_lt, List, [], ◌∷◌, ◌++◌, map, length, get_or, take, slice_get, Option, Some, None, IsSome, is_some, refl, sym, ap, ◌∙◌, subst, inl, inr, true≢false, arith}
 use Rattle.std.specs.Prelude.{option_map, option_and_then}
 use Rattle.std.proofs.lemmas.Bool.{cases_eq, cases_lt}
-use Rattle.std.proofs.lemmas.List.{get_or_past}
-use Rattle.std.proofs.lemmas.Option.{none-some, same_Some, slice_get-map, slice_get_within, slice_get-get_or, slice_get_past, some_pair_parts}
+use Rattle.std.proofs.lemmas.List.{get_or_past, take_more, length-take-le, length_push}
+use Rattle.std.proofs.lemmas.Option.{none-some, same_Some, slice_get-get_or, slice_get_past, some_pair_parts}
 use Rattle.slab.specs.Slab.{Slab, get}
-use Rattle.pd_wire.specs.Book.{Book}
 use Rattle.pd_kind.specs.declared.kinds.Kind.{Kind}
 use Rattle.pd_grove.specs.declared.nodes.Node.{Node}
 use Rattle.pd_grove.specs.declared.grove.Grove.{Grove}
@@ -19,166 +18,167 @@ use Rattle.pd_web.specs.declared.sockets.Port.{Port}
 use Rattle.pd_web.specs.declared.sockets.Sockets.{Sockets}
 use Rattle.pd_web.specs.declared.sockets.Spot.{Spot}
 use Rattle.pd_web.specs.Jacks.{plain_jack, spot_jack, jacks_by, jacks_in, jacks_at}
-use Rattle.pd_web.specs.Sockets.{ArePlaced, ports_at, ports_in, port_at, jacks_of}
-use Rattle.pd_web.specs.Homes.{inner_in, IsPortOf, home_at, IsAmong, IsHome, Settles, AreNear, AreTrue, AreKnown}
-use Rattle.pd_web.specs.Hops.{place_told}
-
-append_below : {X : Type 0} (xs ys : List X) (i : ℕ) → i < length xs → slice_get (xs ++ ys) i ≡ slice_get xs i
-append_below [] ys i h = absurd (omega arith)
-append_below (x ∷ xs) ys zero h = refl
-append_below (x ∷ xs) ys (suc i) h = append_below xs ys i (omega arith)
-
-append_after : {X : Type 0} (xs ys : List X) (i : ℕ) → slice_get (xs ++ ys) (length xs + i) ≡ slice_get ys i
-append_after [] ys i = ap (slice_get ys) (zero-add i)
-append_after (x ∷ xs) ys i = ap (slice_get (x ∷ (xs ++ ys))) (suc-add (length xs) i) ∙ append_after xs ys i
+use Rattle.pd_web.specs.Sockets.{side_ports, ports_at, ports_in, jacks_of}
+use Rattle.pd_web.specs.Homes.{inner_in, IsPortOf, home_at, inner_of, inner_at, IsPort, IsAmong, IsOf, Settles, AreNear, AreTrue, AreKnown}
+use Rattle.pd_web.specs.Hops.{place_of}
+use Rattle.pd_web.proofs.SocketLemmas.{push_below, push_at}
+use Rattle.pd_web.proofs.EndLemmas.{spot_same}
 
 is_from : {X : Type 0} (o : Option X) (x : X) → o ≡ Some x → IsSome o
 is_from o x h = ap is_some h
 
--- of no port nothing is written
-pub settles_none : (homes : List (Option ℕ)) → Settles homes homes []
-settles_none homes = record { told = λ j e h. inl h; found = λ i j p h n l. absurd (none-some p h); kept = λ j h. h; far = refl }
-
-among_left : (xs ys : List Port) (j e : ℕ) → IsAmong xs j e → IsAmong (xs ++ ys) j e
-among_left xs ys j e a = record { number = a.number; port = a.port; at = append_below xs ys a.number (slice_get_within xs a.number a.port a.at) ∙ a.at; is = a.is }
-
-among_right : (xs ys : List Port) (j e : ℕ) → IsAmong ys j e → IsAmong (xs ++ ys) j e
-among_right xs ys j e a = record { number = length xs + a.number; port = a.port; at = append_after xs ys a.number ∙ a.at; is = a.is }
-
-told_more : (a b c : List (Option ℕ)) (xs ys : List Port) → Settles a b xs → Settles b c ys → (j e : ℕ) → home_at c j ≡ Some e → (home_at a j ≡ Some e) ⊎ IsAmong (xs ++ ys) j e
-told_more a b c xs ys s t j e h = elim (t.told j e h) [
-  | inl u ↦ elim (s.told j e u) [
-    | inl v ↦ inl v
-    | inr w ↦ inr (among_left xs ys j e w)
-  ]
-  | inr v ↦ inr (among_right xs ys j e v)
-]
-
-found_more : (a b c : List (Option ℕ)) (xs ys : List Port) → Settles a b xs → Settles b c ys → (i j : ℕ) (p : Port) → slice_get (xs ++ ys) i ≡ Some p → p.jack.inner ≡ Some j → j < length a → IsSome (home_at c j)
-found_more a b c xs ys s t i j p h n l = elim (cases_lt i (length xs)) [
-  | inl u ↦ t.kept j (s.found i j p (sym (append_below xs ys i u) ∙ h) n l)
-  | inr v ↦
-      let e : i ≡ length xs + (i - length xs) = omega arith in
-      let f = s.far in
-      t.found (i - length xs) j p (sym (append_after xs ys (i - length xs)) ∙ ap (slice_get (xs ++ ys)) (sym e) ∙ h) n (omega (arith, f, l))
-]
+-- where there is no port nothing is written
+settles_none : (homes : List (Option Spot)) (Is : Spot → ℕ → Type 0) → ((s : Spot) (j : ℕ) → Is s j → ⊥) → Settles homes homes Is
+settles_none homes Is never = record { told = λ j s h. inl h; found = λ j s i l. absurd (never s j i); kept = λ j h. h; far = refl }
 
 -- some ports and then others
-pub settles_more : (a b c : List (Option ℕ)) (xs ys : List Port) → Settles a b xs → Settles b c ys → Settles a c (xs ++ ys)
-settles_more a b c xs ys s t = record { told = told_more a b c xs ys s t; found = found_more a b c xs ys s t; kept = λ j h. t.kept j (s.kept j h); far = t.far ∙ s.far }
+settles_more : (a b c : List (Option Spot)) (P Q R : Spot → ℕ → Type 0) → Settles a b P → Settles b c Q → ((s : Spot) (j : ℕ) → P s j → R s j) → ((s : Spot) (j : ℕ) → Q s j → R s j)
+    → ((s : Spot) (j : ℕ) → R s j → P s j ⊎ Q s j) → Settles a c R
+settles_more a b c P Q R first then left right parts = record {
+  told = λ j s h. elim (then.told j s h) [
+    | inl u ↦ elim (first.told j s u) [
+      | inl v ↦ inl v
+      | inr w ↦ inr (left s j w)
+    ]
+    | inr v ↦ inr (right s j v)
+  ];
+  found = λ j s i l. elim (parts s j i) [
+    | inl u ↦ then.kept j (first.found j s u l)
+    | inr v ↦ let f = first.far in then.found j s v (omega (arith, f, l))
+  ];
+  kept = λ j h. then.kept j (first.kept j h);
+  far = then.far ∙ first.far;
+}
 
 -- what writing one home does
-pub record Puts (homes homes' : List (Option ℕ)) (n e : ℕ) : Type 0 where
-  pub is : n < length homes → home_at homes' n ≡ Some e
+pub record Puts (homes homes' : List (Option Spot)) (n : ℕ) (spot : Spot) : Type 0 where
+  pub is : n < length homes → home_at homes' n ≡ Some spot
   pub others : (j : ℕ) → j ≢ n → home_at homes' j ≡ home_at homes j
   pub past : length homes ≤ n → homes' ≡ homes
   pub far : length homes' ≡ length homes
 
-put_told : (homes homes' : List (Option ℕ)) (p : Port) (n : ℕ) → p.jack.inner ≡ Some n → Puts homes homes' n p.end → (j e : ℕ) → home_at homes' j ≡ Some e → (home_at homes j ≡ Some e) ⊎ IsAmong (p ∷ []) j e
-put_told homes homes' p n at puts j e h = elim (cases_eq j n) [
+put_told : (homes homes' : List (Option Spot)) (spot : Spot) (inner : Option ℕ) (n : ℕ) → inner ≡ Some n → Puts homes homes' n spot
+    → (j : ℕ) (s : Spot) → home_at homes' j ≡ Some s → (home_at homes j ≡ Some s) ⊎ IsPort spot inner s j
+put_told homes homes' spot inner n at puts j s h = elim (cases_eq j n) [
   | inl same ↦ elim (cases_lt n (length homes)) [
-    | inl l ↦
-        inr
-        (record {
-          number = 0;
-          port = p;
-          at = refl;
-          is = record { inner = at ∙ ap (λ x. Some x) (sym same); end = same_Some p.end e (sym (puts.is l) ∙ ap (home_at homes') (sym same) ∙ h) };
-        })
-    | inr l ↦ inl (ap (λ (xs : List (Option ℕ)). home_at xs j) (sym (puts.past l)) ∙ h)
+    | inl l ↦ inr (record { same = sym (same_Some spot s (sym (puts.is l) ∙ ap (home_at homes') (sym same) ∙ h)); inner = at ∙ ap (λ x. Some x) (sym same) })
+    | inr l ↦ inl (ap (λ (xs : List (Option Spot)). home_at xs j) (sym (puts.past l)) ∙ h)
   ]
   | inr differ ↦ inl (sym (puts.others j differ) ∙ h)
 ]
 
-put_found : (homes homes' : List (Option ℕ)) (p : Port) (n : ℕ) → p.jack.inner ≡ Some n → Puts homes homes' n p.end
-    → (i j : ℕ) (q : Port) → slice_get (p ∷ []) i ≡ Some q → q.jack.inner ≡ Some j → j < length homes → IsSome (home_at homes' j)
-put_found homes homes' p n at puts zero j q h inner l =
-    let e : n ≡ j = same_Some n j (sym at ∙ ap (λ (x : Port). x.jack.inner) (same_Some p q h) ∙ inner) in
-    is_from (home_at homes' j) p.end (ap (home_at homes') (sym e) ∙ puts.is (omega (arith, e, l)))
-put_found homes homes' p n at puts (suc i) j q h inner l = absurd (none-some q h)
+put_found : (homes homes' : List (Option Spot)) (spot : Spot) (inner : Option ℕ) (n : ℕ) → inner ≡ Some n → Puts homes homes' n spot
+    → (j : ℕ) (s : Spot) → IsPort spot inner s j → j < length homes → IsSome (home_at homes' j)
+put_found homes homes' spot inner n at puts j s i l =
+    let e : n ≡ j = same_Some n j (sym at ∙ i.inner) in
+    is_from (home_at homes' j) spot (ap (home_at homes') (sym e) ∙ puts.is (omega (arith, e, l)))
 
-put_kept : (homes homes' : List (Option ℕ)) (n e : ℕ) → Puts homes homes' n e → (j : ℕ) → IsSome (home_at homes j) → IsSome (home_at homes' j)
-put_kept homes homes' n e puts j h = elim (cases_eq j n) [
+put_kept : (homes homes' : List (Option Spot)) (n : ℕ) (spot : Spot) → Puts homes homes' n spot → (j : ℕ) → IsSome (home_at homes j) → IsSome (home_at homes' j)
+put_kept homes homes' n spot puts j h = elim (cases_eq j n) [
   | inl same ↦ elim (cases_lt n (length homes)) [
-    | inl l ↦ is_from (home_at homes' j) e (ap (home_at homes') same ∙ puts.is l)
-    | inr l ↦ let P : List (Option ℕ) → Type 0 = λ xs. IsSome (home_at xs j) in subst P (sym (puts.past l)) h
+    | inl l ↦ is_from (home_at homes' j) spot (ap (home_at homes') same ∙ puts.is l)
+    | inr l ↦ let P : List (Option Spot) → Type 0 = λ xs. IsSome (home_at xs j) in subst P (sym (puts.past l)) h
   ]
-  | inr differ ↦ let P : Option ℕ → Type 0 = λ o. IsSome o in subst P (sym (puts.others j differ)) h
+  | inr differ ↦ let P : Option Spot → Type 0 = λ o. IsSome o in subst P (sym (puts.others j differ)) h
 ]
 
-pub settles_put : (homes homes' : List (Option ℕ)) (p : Port) (n : ℕ) → p.jack.inner ≡ Some n → Puts homes homes' n p.end → Settles homes homes' (p ∷ [])
-settles_put homes homes' p n at puts = record {
-  told = put_told homes homes' p n at puts;
-  found = put_found homes homes' p n at puts;
-  kept = put_kept homes homes' n p.end puts;
+pub settles_put : (homes homes' : List (Option Spot)) (spot : Spot) (inner : Option ℕ) (n : ℕ) → inner ≡ Some n → Puts homes homes' n spot → Settles homes homes' (IsPort spot inner)
+settles_put homes homes' spot inner n at puts = record {
+  told = put_told homes homes' spot inner n at puts;
+  found = put_found homes homes' spot inner n at puts;
+  kept = put_kept homes homes' n spot puts;
   far = puts.far;
 }
 
 -- a port that no box is
-pub settles_plain : (homes : List (Option ℕ)) (p : Port) → p.jack.inner ≡ None → Settles homes homes (p ∷ [])
-settles_plain homes p at = record { told = λ j e h. inl h; found = λ i j q h inner l. plain i j q h inner; kept = λ j h. h; far = refl }
-  where
-    plain : (i j : ℕ) (q : Port) → slice_get (p ∷ []) i ≡ Some q → q.jack.inner ≡ Some j → IsSome (home_at homes j)
-    plain zero j q h inner = absurd (none-some j (sym at ∙ ap (λ (x : Port). x.jack.inner) (same_Some p q h) ∙ inner))
-    plain (suc i) j q h inner = absurd (none-some q h)
+pub settles_plain : (homes : List (Option Spot)) (spot : Spot) (inner : Option ℕ) → inner ≡ None → Settles homes homes (IsPort spot inner)
+settles_plain homes spot inner at = settles_none homes (IsPort spot inner) (λ s j i. none-some j (sym at ∙ i.inner))
 
-side_of : (all : List Sockets) (own : Sockets) (k : ℕ) (side : Side) → slice_get all k ≡ Some own → ports_at all side k ≡ ports_in side (Some own)
-side_of all own k side h = ap (ports_in side) h
+pub settles_no_ports : (homes : List (Option Spot)) (side : Side) (k : ℕ) (ports : List Port) → ports ≡ [] → Settles homes homes (IsAmong side k ports)
+settles_no_ports homes side k ports h = settles_none homes (IsAmong side k ports) (λ s j i. none-some j (ap (λ (ps : List Port). inner_of ps s.port) (sym h) ∙ i.inner))
 
--- one of the ports of a box is an inlet or an outlet
-among_box : (all : List Sockets) (own : Sockets) (k j e : ℕ) → slice_get all k ≡ Some own → IsAmong (own.inlets.items ++ own.outlets.items) j e → IsHome all j e
-among_box all own k j e h a = elim (cases_lt a.number (length own.inlets.items)) [
-  | inl l ↦
-      record {
-        side = Inlets;
-        key = k;
-        among = record {
-          number = a.number;
-          port = a.port;
-          at = ap (λ (ps : List Port). slice_get ps a.number) (side_of all own k Inlets h) ∙ sym (append_below own.inlets.items own.outlets.items a.number l) ∙ a.at;
-          is = a.is;
-        };
-      }
-  | inr l ↦
-      let n = a.number - length own.inlets.items in
-      let f : a.number ≡ length own.inlets.items + n = omega arith in
-      record {
-        side = Outlets;
-        key = k;
-        among = record {
-          number = n;
-          port = a.port;
-          at = ap (λ (ps : List Port). slice_get ps n) (side_of all own k Outlets h) ∙ sym (append_after own.inlets.items own.outlets.items n)
-              ∙ ap (slice_get (own.inlets.items ++ own.outlets.items)) (sym f) ∙ a.at;
-          is = a.is;
-        };
-      }
+inner_within : (ports : List Port) (n j : ℕ) → inner_of ports n ≡ Some j → n < length ports
+inner_within ports n j h = elim (cases_lt n (length ports)) [
+  | inl l ↦ l
+  | inr l ↦ absurd (none-some j (sym (ap (option_and_then (λ (p : Port). p.jack.inner)) (slice_get_past ports n l)) ∙ h))
 ]
 
-pub true_more : (all : List Sockets) (own : Sockets) (k : ℕ) (homes homes' : List (Option ℕ)) → slice_get all k ≡ Some own → Settles homes homes' (own.inlets.items ++ own.outlets.items) → AreTrue all homes → AreTrue all homes'
-true_more all own k homes homes' h s t = λ j e g. elim (s.told j e g) [
-  | inl u ↦ t j e u
-  | inr v ↦ among_box all own k j e h v
-]
+inner_below : (ports : List Port) (p : Port) (n : ℕ) → n < length ports → inner_of (ports ++ p ∷ []) n ≡ inner_of ports n
+inner_below ports p n l = ap (option_and_then (λ (q : Port). q.jack.inner)) (push_below ports p n l)
 
-known_here : (all : List Sockets) (own : Sockets) (k : ℕ) (homes homes' : List (Option ℕ)) → slice_get all k ≡ Some own → Settles homes homes' (own.inlets.items ++ own.outlets.items) → AreNear all → length homes ≡ length all
-    → (side : Side) (i j : ℕ) (p : Port) → port_at all side k i ≡ Some p → p.jack.inner ≡ Some j → IsSome (home_at homes' j)
-known_here all own k homes homes' h s near far Inlets i j p at inner =
-    let l = near Inlets k i j p at inner in
-    let g = sym (ap (λ (ps : List Port). slice_get ps i) (side_of all own k Inlets h)) ∙ at in
-    s.found i j p (append_below own.inlets.items own.outlets.items i (slice_get_within own.inlets.items i p g) ∙ g) inner (omega (arith, far, l))
-known_here all own k homes homes' h s near far Outlets i j p at inner =
-    let l = near Outlets k i j p at inner in
-    let g = sym (ap (λ (ps : List Port). slice_get ps i) (side_of all own k Outlets h)) ∙ at in
-    s.found (length own.inlets.items + i) j p (append_after own.inlets.items own.outlets.items i ∙ g) inner (omega (arith, far, l))
+inner_last : (ports : List Port) (p : Port) (n : ℕ) → length ports ≡ n → inner_of (ports ++ p ∷ []) n ≡ p.jack.inner
+inner_last ports p n l = ap (option_and_then (λ (q : Port). q.jack.inner)) (push_at ports p n l)
 
-pub known_more : (all : List Sockets) (own : Sockets) (n : ℕ) (homes homes' : List (Option ℕ)) → slice_get all n ≡ Some own → Settles homes homes' (own.inlets.items ++ own.outlets.items) → AreNear all → length homes ≡ length all
-    → AreKnown all homes n → AreKnown all homes' (n + 1)
-known_more all own n homes homes' h s near far known = λ side k i j p l at inner. elim (cases_lt k n) [
-  | inl u ↦ s.kept j (known side k i j p u at inner)
+among_kept : (side : Side) (k : ℕ) (ports : List Port) (p : Port) (s : Spot) (j : ℕ) → IsAmong side k ports s j → IsAmong side k (ports ++ p ∷ []) s j
+among_kept side k ports p s j a = record { side = a.side; node = a.node; inner = inner_below ports p s.port (inner_within ports s.port j a.inner) ∙ a.inner }
+
+among_last : (side : Side) (k : ℕ) (ports : List Port) (p : Port) (n : ℕ) → length ports ≡ n → (s : Spot) (j : ℕ) → IsPort (record { node = k; side = side; port = n }) p.jack.inner s j → IsAmong side k (ports ++ p ∷ []) s j
+among_last side k ports p n l s j i = record {
+  side = ap (λ (x : Spot). x.side) i.same;
+  node = ap (λ (x : Spot). x.node) i.same;
+  inner = ap (λ (x : Spot). inner_of (ports ++ p ∷ []) x.port) i.same ∙ inner_last ports p n l ∙ i.inner;
+}
+
+among_parts : (side : Side) (k : ℕ) (ports : List Port) (p : Port) (n : ℕ) → length ports ≡ n → (s : Spot) (j : ℕ) → IsAmong side k (ports ++ p ∷ []) s j
+    → IsAmong side k ports s j ⊎ IsPort (record { node = k; side = side; port = n }) p.jack.inner s j
+among_parts side k ports p n l s j a = elim (cases_lt s.port n) [
+  | inl u ↦ inl (record { side = a.side; node = a.node; inner = sym (inner_below ports p s.port (omega (arith, l, u))) ∙ a.inner })
   | inr v ↦
-      let e : k ≡ n = omega arith in
-      known_here all own n homes homes' h s near far side i j p (ap (λ x. port_at all side x i) (sym e) ∙ at) inner
+      let w = inner_within (ports ++ p ∷ []) s.port j a.inner in
+      let m = length_push ports p in
+      let e : s.port ≡ n = omega (arith, l, v, w, m) in
+      inr (record {
+        same = spot_same s (record { node = k; side = side; port = n }) a.node a.side e;
+        inner = sym (inner_last ports p n l) ∙ ap (inner_of (ports ++ p ∷ [])) (sym e) ∙ a.inner;
+      })
+]
+
+-- a port more on a side
+pub settles_port : (a b c : List (Option Spot)) (side : Side) (k : ℕ) (ports : List Port) (i : ℕ) (d : Port) → i < length ports → Settles a b (IsAmong side k (take i ports))
+    → Settles b c (IsPort (record { node = k; side = side; port = i }) (get_or ports i d).jack.inner) → Settles a c (IsAmong side k (take (i + 1) ports))
+settles_port a b c side k ports i d l first then =
+    let P : List Port → Type 0 = λ ps. Settles a c (IsAmong side k ps) in
+    let n = length-take-le i ports (omega (arith, l)) in
+    let p = get_or ports i d in
+    subst P (sym (take_more ports i d l))
+    (settles_more a b c (IsAmong side k (take i ports)) (IsPort (record { node = k; side = side; port = i }) p.jack.inner) (IsAmong side k (take i ports ++ p ∷ [])) first then
+    (among_kept side k (take i ports) p) (among_last side k (take i ports) p i n) (among_parts side k (take i ports) p i n))
+
+side_cases : (s : Side) → (s ≡ Inlets) ⊎ (s ≡ Outlets)
+side_cases Inlets = inl refl
+side_cases Outlets = inr refl
+
+inner_on : (own : Sockets) (side s : Side) (n : ℕ) → s ≡ side → inner_of (side_ports s own) n ≡ inner_of (side_ports side own) n
+inner_on own side s n h = ap (λ x. inner_of (side_ports x own) n) h
+
+-- the ports of both sides of a box
+pub settles_both : (a b c : List (Option Spot)) (own : Sockets) (k : ℕ) → Settles a b (IsAmong Inlets k own.inlets.items) → Settles b c (IsAmong Outlets k own.outlets.items) → Settles a c (IsOf own k)
+settles_both a b c own k first then =
+    settles_more a b c (IsAmong Inlets k own.inlets.items) (IsAmong Outlets k own.outlets.items) (IsOf own k) first then
+    (λ s j i. record { node = i.node; inner = inner_on own Inlets s.side s.port i.side ∙ i.inner })
+    (λ s j i. record { node = i.node; inner = inner_on own Outlets s.side s.port i.side ∙ i.inner })
+    (λ s j i. elim (side_cases s.side) [
+      | inl u ↦ inl (record { side = u; node = i.node; inner = sym (inner_on own Inlets s.side s.port u) ∙ i.inner })
+      | inr v ↦ inr (record { side = v; node = i.node; inner = sym (inner_on own Outlets s.side s.port v) ∙ i.inner })
+    ])
+
+inner_box : (all : List Sockets) (own : Sockets) (k : ℕ) (s : Spot) → slice_get all k ≡ Some own → s.node ≡ k → inner_at all s ≡ inner_of (side_ports s.side own) s.port
+inner_box all own k s at h = ap (λ n. inner_of (ports_at all s.side n) s.port) h ∙ ap (λ o. inner_of (ports_in s.side o) s.port) at
+
+pub true_more : (all : List Sockets) (own : Sockets) (k : ℕ) (homes homes' : List (Option Spot)) → slice_get all k ≡ Some own → Settles homes homes' (IsOf own k) → AreTrue all homes → AreTrue all homes'
+true_more all own k homes homes' at settles told = λ j s h. elim (settles.told j s h) [
+  | inl u ↦ told j s u
+  | inr v ↦ inner_box all own k s at v.node ∙ v.inner
+]
+
+pub known_more : (all : List Sockets) (own : Sockets) (n : ℕ) (homes homes' : List (Option Spot)) → slice_get all n ≡ Some own → Settles homes homes' (IsOf own n) → AreNear all → length homes ≡ length all
+    → AreKnown all homes n → AreKnown all homes' (n + 1)
+known_more all own n homes homes' at settles near far known = λ s j l inner. elim (cases_lt s.node n) [
+  | inl u ↦ settles.kept j (known s j u inner)
+  | inr v ↦
+      let e : s.node ≡ n = omega (arith, l, v) in
+      let m = near s j inner in
+      settles.found j s (record { node = e; inner = sym (inner_box all own n s at e) ∙ inner }) (omega (arith, far, m))
 ]
 
 -- every box that is a port lives
@@ -240,72 +240,54 @@ live_near nodes j h = elim (cases_lt j (length nodes.slots)) [
   | inr l ↦ absurd (true≢false (sym h ∙ ap is_some (get_or_past nodes.slots j None l)))
 ]
 
+inner_jacks : (ports : List Port) (i : ℕ) → inner_in (slice_get (jacks_of ports) i) ≡ inner_of ports i
+inner_jacks [] i = refl
+inner_jacks (p ∷ ports) zero = refl
+inner_jacks (p ∷ ports) (suc i) = inner_jacks ports i
+
 -- a port of a laid box, as the patch has it
-jack_of_port : (all : List Sockets) (g : Grove) (side : Side) (k i : ℕ) (p : Port) → ((side : Side) (k : ℕ) → jacks_of (ports_at all side k) ≡ jacks_at side g k) → port_at all side k i ≡ Some p
-    → slice_get (jacks_at side g k) i ≡ Some p.jack
-jack_of_port all g side k i p told h =
-    ap (λ (js : List Jack). slice_get js i) (sym (told side k)) ∙ slice_get-map (λ (q : Port). q.jack) (ports_at all side k) i ∙ ap (option_map (λ (q : Port). q.jack)) h
+inner_told : (all : List Sockets) (g : Grove) (s : Spot) → ((side : Side) (k : ℕ) → jacks_of (ports_at all side k) ≡ jacks_at side g k) → inner_in (slice_get (jacks_at s.side g s.node) s.port) ≡ inner_at all s
+inner_told all g s told = ap (λ (js : List Jack). inner_in (slice_get js s.port)) (sym (told s.side s.node)) ∙ inner_jacks (ports_at all s.side s.node) s.port
 
 pub all_near : (all : List Sockets) (g : Grove) → ((side : Side) (k : ℕ) → jacks_of (ports_at all side k) ≡ jacks_at side g k) → length g.nodes.slots ≤ length all → AreNear all
-all_near all g told far = λ side k i j p at inner.
-    let l = live_near g.nodes j (inner_live side g (get g.nodes k) i j (ap inner_in (jack_of_port all g side k i p told at) ∙ inner)) in
+all_near all g told far = λ s j h.
+    let l = live_near g.nodes j (inner_live s.side g (get g.nodes s.node) s.port j (inner_told all g s told ∙ h)) in
     omega (arith, l, far)
 
--- what is told of a box that is a port
-record Told (all : List Sockets) (spots : List Spot) (j e : ℕ) : Type 0 where
-  home : IsHome all j e
-  spot : place_told spots (Some e) ≡ Some (home.key, home.among.number)
-
-told_at : (all : List Sockets) (spots : List Spot) (b : Book) (homes : List (Option ℕ)) (j e : ℕ) → ArePlaced all spots b → AreTrue all homes → home_at homes j ≡ Some e → Told all spots j e
-told_at all spots b homes j e placed true' h =
-    let home = true' j e h in
-    let a = home.among in
-    record {
-      home = home;
-      spot = ap (λ x. place_told spots (Some x)) (sym a.is.end) ∙ ap (option_map (λ (s : Spot). (s.node, s.port))) (placed home.side home.key a.number a.port a.at).told;
-    }
-
-pub homes_told : (all : List Sockets) (spots : List Spot) (b : Book) (homes : List (Option ℕ)) (g : Grove) → ((side : Side) (k : ℕ) → jacks_of (ports_at all side k) ≡ jacks_at side g k) → ArePlaced all spots b → AreTrue all homes
-    → (j k i : ℕ) → place_told spots (home_at homes j) ≡ Some (k, i) → IsPortOf g j k i
-homes_told all spots b homes g told placed true' j k i h = at_home (home_at homes j) refl h
+pub homes_told : (all : List Sockets) (homes : List (Option Spot)) (g : Grove) → ((side : Side) (k : ℕ) → jacks_of (ports_at all side k) ≡ jacks_at side g k) → AreTrue all homes
+    → (j k i : ℕ) → option_map place_of (home_at homes j) ≡ Some (k, i) → IsPortOf g j k i
+homes_told all homes g told true' j k i h = at_home (home_at homes j) refl h
   where
-    at_home : (o : Option ℕ) → home_at homes j ≡ o → place_told spots o ≡ Some (k, i) → IsPortOf g j k i
+    at_home : (o : Option Spot) → home_at homes j ≡ o → option_map place_of o ≡ Some (k, i) → IsPortOf g j k i
     at_home None e f = absurd (none-some (k, i) f)
-    at_home (Some x) e f =
-        let t = told_at all spots b homes j x placed true' e in
-        let a = t.home.among in
-        let same = some_pair_parts t.home.key k a.number i (sym t.spot ∙ f) in
+    at_home (Some s) e f =
+        let same = some_pair_parts s.node k s.port i f in
         let P : ℕ → Type 0 = λ n. IsPortOf g j n i in
-        let Q : ℕ → Type 0 = λ n. IsPortOf g j t.home.key n in
-        subst P same.0 (subst Q same.1 (record { side = t.home.side; told = ap inner_in (jack_of_port all g t.home.side t.home.key a.number a.port told a.at) ∙ a.is.inner }))
+        let Q : ℕ → Type 0 = λ n. IsPortOf g j s.node n in
+        subst P same.0 (subst Q same.1 (record { side = s.side; told = inner_told all g s told ∙ true' j s e }))
 
-port_with : (o : Option Port) (j : ℕ) → inner_in (option_map (λ (p : Port). p.jack) o) ≡ Some j → (p : Port) × (o ≡ Some p) × (p.jack.inner ≡ Some j)
-port_with None j h = absurd (none-some j h)
-port_with (Some p) j h = (p, refl, h)
+map_some : (o : Option Spot) → IsSome o → IsSome (option_map place_of o)
+map_some None h = h
+map_some (Some s) h = refl
 
-some_of : (o : Option ℕ) → IsSome o → (e : ℕ) × (o ≡ Some e)
-some_of None h = absurd (cc)
-some_of (Some e) h = (e, refl)
-
-key_within : (all : List Sockets) (side : Side) (k i : ℕ) (p : Port) → port_at all side k i ≡ Some p → k < length all
-key_within all side k i p h = elim (cases_lt k (length all)) [
+node_within : (all : List Sockets) (s : Spot) (j : ℕ) → inner_at all s ≡ Some j → s.node < length all
+node_within all s j h = elim (cases_lt s.node (length all)) [
   | inl l ↦ l
-  | inr l ↦ absurd (none-some p (sym (ap (λ o. slice_get (ports_in side o) i) (slice_get_past all k l)) ∙ h))
+  | inr l ↦ absurd (none-some j (sym (ap (λ o. inner_of (ports_in s.side o) s.port) (slice_get_past all s.node l)) ∙ h))
 ]
 
-pub homes_found : (all : List Sockets) (spots : List Spot) (b : Book) (homes : List (Option ℕ)) (g : Grove) → ((side : Side) (k : ℕ) → jacks_of (ports_at all side k) ≡ jacks_at side g k) → ArePlaced all spots b → AreTrue all homes
-    → AreKnown all homes (length all) → (j k i : ℕ) → IsPortOf g j k i → IsSome (place_told spots (home_at homes j))
-homes_found all spots b homes g told placed true' known j k i is =
-    let p = port_with (port_at all is.side k i) j (ap inner_in (sym (slice_get-map (λ (q : Port). q.jack) (ports_at all is.side k) i) ∙ ap (λ (js : List Jack). slice_get js i) (told is.side k)) ∙ is.told) in
-    let e = some_of (home_at homes j) (known is.side k i j p.0 (key_within all is.side k i p.0 p.1) p.1 p.2) in
-    let t = told_at all spots b homes j e.0 placed true' e.1 in
-    is_from (place_told spots (home_at homes j)) _ (ap (place_told spots) e.1 ∙ t.spot)
+pub homes_found : (all : List Sockets) (homes : List (Option Spot)) (g : Grove) → ((side : Side) (k : ℕ) → jacks_of (ports_at all side k) ≡ jacks_at side g k) → AreKnown all homes (length all)
+    → (j k i : ℕ) → IsPortOf g j k i → IsSome (option_map place_of (home_at homes j))
+homes_found all homes g told known j k i is =
+    let s : Spot = record { node = k; side = is.side; port = i } in
+    let inner : inner_at all s ≡ Some j = sym (inner_told all g s told) ∙ is.told in
+    map_some (home_at homes j) (known s j (node_within all s j inner) inner)
 
-pub none_true : (all : List Sockets) (homes : List (Option ℕ)) → ((j : ℕ) → home_at homes j ≡ None) → AreTrue all homes
-none_true all homes none = λ j e h. absurd (none-some e (sym (none j) ∙ h))
+pub none_true : (all : List Sockets) (homes : List (Option Spot)) → ((j : ℕ) → home_at homes j ≡ None) → AreTrue all homes
+none_true all homes none = λ j s h. absurd (none-some s (sym (none j) ∙ h))
 
-pub none_known : (all : List Sockets) (homes : List (Option ℕ)) → AreKnown all homes 0
-none_known all homes = λ side k i j p l at inner. absurd (omega arith)
+pub none_known : (all : List Sockets) (homes : List (Option Spot)) → AreKnown all homes 0
+none_known all homes = λ s j l inner. absurd (omega (arith, l))
 
 -- an element of a list, as a loop over it reads one
 pub item_at : {X : Type 0} (xs : List X) (i : ℕ) (x : X) → i < length xs → x ≡ get_or xs i x → slice_get xs i ≡ Some x

@@ -1,5 +1,6 @@
 mod JackLemmas
 mod SocketLemmas
+mod EndLemmas
 mod WireLemmas
 mod HopLemmas
 mod LineLemmas

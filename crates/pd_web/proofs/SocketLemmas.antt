@@ -1,6 +1,7 @@
--- Ports with their ends, as more come.
-use Rattle.std.proofs.Common.{◌≡◌, ◌⊎◌, ℕ, zero, suc, ◌+◌, ◌<◌, ◌≤◌, ◌^◌, List, [], ◌∷◌, ◌++◌, length, get_or, take, slice_get, Bool, Option, Some, None, refl, sym, ap, ◌∙◌, subst, inl, inr, lit<, arith}
-use Rattle.std.proofs.lemmas.List.{map_push, take_more, length-map, length-take-le, get_or_past, length_push}
+-- Ports and their ends, as more come.
+use Rattle.std.proofs.Common.{◌≡◌, ◌⊎◌, ℕ, zero, suc, ◌+◌, ◌<◌, ◌≤◌, ◌^◌, List, [], ◌∷◌, ◌++◌, length, slice_get, Bool, Option, Some, None, refl, sym, ap, ◌∙◌, subst, inl, inr, lit<, arith}
+use Rattle.std.specs.Prelude.{option_and_then}
+use Rattle.std.proofs.lemmas.List.{length-map, get_or_past}
 use Rattle.std.proofs.lemmas.Bool.{cases_lt}
 use Rattle.std.proofs.lemmas.Option.{same_Some, none-some, slice_get_past}
 use Rattle.slab.specs.Slab.{Slab, get}
@@ -8,14 +9,12 @@ use Rattle.pd_wire.specs.Book.{Book, empty_book}
 use Rattle.pd_grove.specs.declared.nodes.Node.{Node}
 use Rattle.pd_grove.specs.declared.grove.Grove.{Grove}
 use Rattle.pd_grove.specs.declared.ports.Side.{Side}
-use Rattle.pd_grove.specs.declared.ports.Side.TheVariants.{Inlets, Outlets}
 use Rattle.pd_web.specs.declared.jacks.Jack.{Jack}
 use Rattle.pd_web.specs.declared.sockets.Port.{Port}
 use Rattle.pd_web.specs.declared.sockets.Sockets.{Sockets}
 use Rattle.pd_web.specs.declared.sockets.Spot.{Spot}
-use Rattle.pd_web.specs.Sockets.{IsAt, AreAt, AreFew, ArePlaced, AreSpotted, IsBare, Grows, ports_at, ports_in, side_ports, jacks_of, made_at, made_of}
+use Rattle.pd_web.specs.Sockets.{AreFew, AreTied, IsBare, IsThere, Grows, Keeps, loose_ports, ports_at, ports_in, side_ports, jacks_of, made_at, made_of}
 use Rattle.pd_web.specs.Wiring.{SameEnds}
-use Rattle.pd_web.specs.Lines.{AreLive}
 use Rattle.pd_web.specs.Jacks.{jacks_at as jacks_of_box, jacks_in, made_in}
 
 -- an element of a list with one more at its end
@@ -29,46 +28,7 @@ push_cases (z ∷ zs) x y (suc i) h = elim (push_cases zs x y i h) [
 ]
 
 pub grows_none : (spots : List Spot) (book : Book) → Grows spots spots book book
-grows_none spots book = record { ends = λ e h. h; told = λ e s l h. h; spotted = λ h. h; bare = λ h. h }
-
-pub grows_more : (spots spots' spots'' : List Spot) (book book' book'' : Book) → Grows spots spots' book book' → Grows spots' spots'' book' book'' → Grows spots spots'' book book''
-grows_more spots spots' spots'' book book' book'' a b = record {
-  ends = λ e h. b.ends e (a.ends e h);
-  told = λ e s l h. b.told e s (a.ends e l) (a.told e s l h);
-  spotted = λ h. b.spotted (a.spotted h);
-  bare = λ h. b.bare (a.bare h);
-}
-
-pub at_kept : (spots spots' : List Spot) (book book' : Book) (e : ℕ) (s : Spot) → Grows spots spots' book book' → IsAt spots book e s → IsAt spots' book' e s
-at_kept spots spots' book book' e s g a = record { live = g.ends e a.live; told = g.told e s a.live a.told }
-
-pub are_kept : (spots spots' : List Spot) (book book' : Book) (k : ℕ) (side : Side) (ports : List Port)
-    → Grows spots spots' book book' → AreAt spots book k side ports → AreAt spots' book' k side ports
-are_kept spots spots' book book' k side ports g a = λ i p h. at_kept spots spots' book book' p.end _ g (a i p h)
-
--- a port more
-pub are_pushed : (spots : List Spot) (book : Book) (k : ℕ) (side : Side) (ports : List Port) (p : Port) (n : ℕ)
-    → AreAt spots book k side ports → n ≡ length ports → IsAt spots book p.end (record { node = k; side = side; port = n }) → AreAt spots book k side (ports ++ p ∷ [])
-are_pushed spots book k side ports p n a l h = λ i q e. elim (push_cases ports p q i e) [
-  | inl b ↦ a i q b
-  | inr b ↦
-      let P : ℕ → Type 0 = λ m. IsAt spots book q.end (record { node = k; side = side; port = m }) in
-      let Q : Port → Type 0 = λ r. IsAt spots book r.end (record { node = k; side = side; port = n }) in
-      subst P (l ∙ sym b.0) (subst Q b.1 h)
-]
-
-pub told_more : (ports ports' : List Port) (jacks : List Jack) (i e : ℕ) (d : Jack) → i < length jacks → ports' ≡ ports ++ record { end = e; jack = get_or jacks i d } ∷ []
-    → jacks_of ports ≡ take i jacks → jacks_of ports' ≡ take (i + 1) jacks
-told_more ports ports' jacks i e d l h t =
-    ap jacks_of h ∙ map_push (λ (p : Port). p.jack) ports (record { end = e; jack = get_or jacks i d }) ∙ ap (λ xs. xs ++ get_or jacks i d ∷ []) t ∙ sym (take_more jacks i d l)
-
-pub as_far : (ports : List Port) (jacks : List Jack) (i : ℕ) → i < length jacks → jacks_of ports ≡ take i jacks → i ≡ length ports
-as_far ports jacks i l t = let e = ap length t in let a = length-take-le i jacks (omega arith) in let b = length-map ports (λ (p : Port). p.jack) in omega (arith, e, a, b)
-
-pub sides_at : (spots : List Spot) (book : Book) (k : ℕ) (s : Sockets) → AreAt spots book k Inlets s.inlets.items → AreAt spots book k Outlets s.outlets.items
-    → (side : Side) → AreAt spots book k side (side_ports side s)
-sides_at spots book k s a b Inlets = a
-sides_at spots book k s a b Outlets = b
+grows_none spots book = record { ends = λ e h. h; told = λ e s l h. h; spotted = λ h. h; fans = λ e. refl; feeds = λ e. refl; wires = λ k. refl }
 
 pub push_below : {X : Type 0} (xs : List X) (x : X) (i : ℕ) → i < length xs → slice_get (xs ++ x ∷ []) i ≡ slice_get xs i
 push_below [] x i h = absurd (omega arith)
@@ -88,13 +48,13 @@ below_next P n below here k l = elim (cases_lt k n) [
   | inr b ↦ let e : n ≡ k = omega arith in subst P e here
 ]
 
-pub told_boxes : (all all' : List Sockets) (s : Sockets) (n : ℕ) (want : Side → ℕ → List Jack) → all' ≡ all ++ s ∷ [] → length all ≡ n
-    → ((side : Side) (k : ℕ) → k < n → jacks_of (ports_at all side k) ≡ want side k) → ((side : Side) → jacks_of (side_ports side s) ≡ want side n)
-    → (side : Side) (k : ℕ) → k < n + 1 → jacks_of (ports_at all' side k) ≡ want side k
+pub told_boxes : (all all' : List Sockets) (s : Sockets) (n : ℕ) (want : Side → ℕ → List Port) → all' ≡ all ++ s ∷ [] → length all ≡ n
+    → ((side : Side) (k : ℕ) → k < n → ports_at all side k ≡ want side k) → ((side : Side) → side_ports side s ≡ want side n)
+    → (side : Side) (k : ℕ) → k < n + 1 → ports_at all' side k ≡ want side k
 told_boxes all all' s n want h e below here side =
-    below_next (λ k. jacks_of (ports_at all' side k) ≡ want side k) n
-    (λ k l. ap (λ (xs : List Sockets). jacks_of (ports_at xs side k)) h ∙ ap (λ o. jacks_of (ports_in side o)) (push_below all s k (omega arith)) ∙ below side k l)
-    (ap (λ (xs : List Sockets). jacks_of (ports_at xs side n)) h ∙ ap (λ o. jacks_of (ports_in side o)) (push_at all s n e) ∙ here side)
+    below_next (λ k. ports_at all' side k ≡ want side k) n
+    (λ k l. ap (λ (xs : List Sockets). ports_at xs side k) h ∙ ap (ports_in side) (push_below all s k (omega arith)) ∙ below side k l)
+    (ap (λ (xs : List Sockets). ports_at xs side n) h ∙ ap (ports_in side) (push_at all s n e) ∙ here side)
 
 pub made_boxes : (all all' : List Sockets) (s : Sockets) (n : ℕ) (want : ℕ → Bool) → all' ≡ all ++ s ∷ [] → length all ≡ n
     → ((k : ℕ) → k < n → made_at all k ≡ want k) → s.is_made ≡ want n → (k : ℕ) → k < n + 1 → made_at all' k ≡ want k
@@ -123,31 +83,15 @@ no_boxes_few = λ side k. lit< tt
 pub ports_past : (all : List Sockets) (side : Side) (k : ℕ) → length all ≤ k → ports_at all side k ≡ []
 ports_past all side k h = ap (ports_in side) (slice_get_past all k h)
 
--- the boxes with one more, each at its key
-pub placed_boxes : (all all' : List Sockets) (s : Sockets) (n : ℕ) (spots spots' : List Spot) (book book' : Book) → all' ≡ all ++ s ∷ [] → length all ≡ n
-    → Grows spots spots' book book' → ArePlaced all spots book → ((side : Side) → AreAt spots' book' n side (side_ports side s)) → ArePlaced all' spots' book'
-placed_boxes all all' s n spots spots' book book' h e g below here side k =
-    let P : List Port → Type 0 = λ ports. AreAt spots' book' k side ports in
-    elim (cases_lt k n) [
-      | inl a ↦ subst P (sym (ap (λ (xs : List Sockets). ports_at xs side k) h ∙ ap (ports_in side) (push_below all s k (omega arith)))) (are_kept spots spots' book book' k side _ g (below side k))
-      | inr b ↦ elim (cases_lt n k) [
-        | inl c ↦ subst P (sym (ports_past all' side k (omega (arith, ap length h, length_push all s)))) (λ i p f. absurd (none-some p f))
-        | inr d ↦
-            let f : n ≡ k = omega arith in
-            let Q : ℕ → Type 0 = λ m. AreAt spots' book' m side (side_ports side s) in
-            subst P (sym (ap (λ (xs : List Sockets). ports_at xs side k) h ∙ ap (ports_in side) (push_at all s k (e ∙ f)))) (subst Q f (here side))
-      ]
-    ]
-
 no_node : (nodes : Slab Node) (k : ℕ) → length nodes.slots ≤ k → get nodes k ≡ None
 no_node nodes k h = get_or_past nodes.slots k None h
 
 -- no box has a key from the end on
 pub told_all : (all : List Sockets) (g : Grove) (n end : ℕ) → length all ≡ n → end ≤ n → length g.nodes.slots ≤ end
-    → ((side : Side) (k : ℕ) → k < n → jacks_of (ports_at all side k) ≡ jacks_of_box side g k) → (side : Side) (k : ℕ) → jacks_of (ports_at all side k) ≡ jacks_of_box side g k
+    → ((side : Side) (k : ℕ) → k < n → ports_at all side k ≡ loose_ports (jacks_of_box side g k)) → (side : Side) (k : ℕ) → ports_at all side k ≡ loose_ports (jacks_of_box side g k)
 told_all all g n end e l h t side k = elim (cases_lt k n) [
   | inl a ↦ t side k a
-  | inr b ↦ ap jacks_of (ports_past all side k (omega arith)) ∙ sym (ap (jacks_in side g) (no_node g.nodes k (omega arith)))
+  | inr b ↦ ports_past all side k (omega arith) ∙ sym (ap (λ o. loose_ports (jacks_in side g o)) (no_node g.nodes k (omega arith)))
 ]
 
 pub made_all : (all : List Sockets) (g : Grove) (n end : ℕ) → length all ≡ n → end ≤ n → length g.nodes.slots ≤ end
@@ -157,17 +101,48 @@ made_all all g n end e l h t k = elim (cases_lt k n) [
   | inr b ↦ ap made_of (slice_get_past all k (omega arith)) ∙ sym (ap made_in (no_node g.nodes k (omega arith)))
 ]
 
-pub placed_still : (all : List Sockets) (spots : List Spot) (b b' : Book) → SameEnds b b' → ArePlaced all spots b → ArePlaced all spots b'
-placed_still all spots b b' same placed = λ side k i p h. let a = placed side k i p h in record { live = same.stay p.end a.live; told = a.told }
+jacks_loose : (jacks : List Jack) → jacks_of (loose_ports jacks) ≡ jacks
+jacks_loose [] = refl
+jacks_loose (j ∷ jacks) = ap (λ xs. j ∷ xs) (jacks_loose jacks)
 
-pub spotted_still : (spots : List Spot) (b b' : Book) → SameEnds b b' → AreSpotted spots b → AreSpotted spots b'
-spotted_still spots b b' same spotted = λ e h. spotted e (same.no_more e h)
+-- the ports as they are laid, without ends
+pub jacks_laid : (all : List Sockets) (want : Side → ℕ → List Jack) → ((side : Side) (k : ℕ) → ports_at all side k ≡ loose_ports (want side k)) → (side : Side) (k : ℕ) → jacks_of (ports_at all side k) ≡ want side k
+jacks_laid all want told side k = ap jacks_of (told side k) ∙ jacks_loose (want side k)
 
-pub none_spotted : (spots : List Spot) → AreSpotted spots empty_book
-none_spotted spots = λ e h. absurd (cc h)
+end_loose : (jacks : List Jack) (i : ℕ) → option_and_then (λ (p : Port). p.end) (slice_get (loose_ports jacks) i) ≡ None
+end_loose [] i = refl
+end_loose (j ∷ jacks) zero = refl
+end_loose (j ∷ jacks) (suc i) = end_loose jacks i
+
+pub tied_laid : (all : List Sockets) (want : Side → ℕ → List Jack) (spots : List Spot) → ((side : Side) (k : ℕ) → ports_at all side k ≡ loose_ports (want side k)) → AreTied all spots empty_book
+tied_laid all want spots told = record {
+  placed = λ s e h.
+      absurd (none-some e (sym (ap (λ (ports : List Port). option_and_then (λ (p : Port). p.end) (slice_get ports s.port)) (told s.side s.node) ∙ end_loose (want s.side s.node) s.port) ∙ h));
+  spotted = λ e h. absurd (cc h);
+}
 
 pub none_bare : IsBare empty_book
 none_bare = λ e. (refl, refl)
 
-pub placed_live : (all : List Sockets) (spots : List Spot) (b : Book) → ArePlaced all spots b → AreLive all b
-placed_live all spots b placed = λ side k i p h. (placed side k i p h).live
+pub tied_still : (all : List Sockets) (spots : List Spot) (b b' : Book) → SameEnds b b' → AreTied all spots b → AreTied all spots b'
+tied_still all spots b b' same tied = record {
+  placed = λ s e h. let a = tied.placed s e h in record { live = same.stay e a.live; told = a.told };
+  spotted = λ e h. tied.spotted e (same.no_more e h);
+}
+
+-- ports that stay what they are
+pub keeps_none : (all : List Sockets) → Keeps all all
+keeps_none all = record { jacks = λ side k. refl; made = λ k. refl; ends = λ s e h. h }
+
+pub keeps_more : (a b c : List Sockets) → Keeps a b → Keeps b c → Keeps a c
+keeps_more a b c s t = record { jacks = λ side k. t.jacks side k ∙ s.jacks side k; made = λ k. t.made k ∙ s.made k; ends = λ x e h. t.ends x e (s.ends x e h) }
+
+pub count_kept : (all all' : List Sockets) (side : Side) (k : ℕ) → Keeps all all' → length (ports_at all' side k) ≡ length (ports_at all side k)
+count_kept all all' side k keeps =
+    sym (length-map (ports_at all' side k) (λ (p : Port). p.jack)) ∙ ap length (keeps.jacks side k) ∙ length-map (ports_at all side k) (λ (p : Port). p.jack)
+
+pub few_kept : (all all' : List Sockets) → Keeps all all' → AreFew all → AreFew all'
+few_kept all all' keeps few = λ side k. let e = count_kept all all' side k keeps in let h = few side k in omega (arith, e, h)
+
+pub there_kept : (all all' : List Sockets) (s : Spot) → Keeps all all' → IsThere all s → IsThere all' s
+there_kept all all' s keeps h = let e = count_kept all all' s.side s.node keeps in omega (arith, e, h)

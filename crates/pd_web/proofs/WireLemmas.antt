@@ -7,6 +7,8 @@ use Rattle.std.proofs.lemmas.Bool.{cases_eq}
 use Rattle.std.proofs.lemmas.Option.{none-some}
 use Rattle.pd_wire.specs.Book.{Book, wire_at, fan_of, feeds_of, IsLinked, Adds, with_room}
 use Rattle.pd_web.specs.declared.joints.Joint.{Joint}
+use Rattle.pd_web.specs.declared.sockets.Spot.{Spot}
+use Rattle.pd_web.specs.Sockets.{Grows}
 use Rattle.pd_web.specs.Wiring.{source_in, sink_in, source_at, sink_at, sinks_from, sources_to, Holds}
 
 map_same : (f g : ℕ → ℕ) (xs : List ℕ) (d : ℕ) → ((i : ℕ) → i < length xs → f (get_or xs i d) ≡ g (get_or xs i d)) → map f xs ≡ map g xs
@@ -86,3 +88,10 @@ holds_more b b' key j js linked adds holds = record { fans = more_sinks b b' key
 
 pub holds_with_room : (b : Book) (ends wires : ℕ) (js : List Joint) → Holds b js → Holds (with_room b ends wires) js
 holds_with_room b ends wires js h = record { fans = h.fans; feeds = h.feeds }
+
+-- with more ends the wires stay
+pub holds_grown : (spots spots' : List Spot) (b b' : Book) (js : List Joint) → Grows spots spots' b b' → Holds b js → Holds b' js
+holds_grown spots spots' b b' js grows h = record {
+  fans = λ e. ap (map (sink_at b')) (grows.fans e) ∙ map_same (sink_at b') (sink_at b) (fan_of b e) e (λ i l. ap sink_in (grows.wires (get_or (fan_of b e) i e))) ∙ h.fans e;
+  feeds = λ e. ap (map (source_at b')) (grows.feeds e) ∙ map_same (source_at b') (source_at b) (feeds_of b e) e (λ i l. ap source_in (grows.wires (get_or (feeds_of b e) i e))) ∙ h.feeds e;
+}

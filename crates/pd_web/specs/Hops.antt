@@ -73,10 +73,9 @@ feed_hops w node inlet = map (hop_from w) (feed_keys w node inlet)
 abbrev pub places_of : List Hop → List (ℕ × ℕ)
 places_of hops = map (λ h. (h.node, h.port)) hops
 
-abbrev pub place_told : List Spot → Option ℕ → Option (ℕ × ℕ)
-place_told spots None = None
-place_told spots (Some e) = option_map (λ s. (s.node, s.port)) (slice_get spots e)
+abbrev pub place_of : Spot → ℕ × ℕ
+place_of s = (s.node, s.port)
 
 -- the box of which the box of a key is a port, and the port's number
 abbrev pub port_told : Web → ℕ → Option (ℕ × ℕ)
-port_told w j = place_told w.spots.items (home_at w.homes.items j)
+port_told w j = option_map place_of (home_at w.homes.items j)

@@ -1,10 +1,10 @@
 -- The wires of a running patch that fit, by the keys of boxes.
-use Rattle.std.specs.Prelude.{◌≡◌, ℕ, zero, suc, Bool, false, not, ◌==◌, ◌&&◌, cond, List, [], ◌∷◌, ◌++◌, map, filter, slice_get, slice_index_or, length, Option, Some, None, option_and_then}
+use Rattle.std.specs.Prelude.{◌≡◌, ℕ, zero, suc, Bool, false, ◌==◌, ◌&&◌, cond, List, [], ◌∷◌, ◌++◌, map, filter, slice_get, slice_index_or, length, Option, Some, None, option_map, option_and_then}
 use Rattle.slab.specs.Slab.{get}
 use Rattle.pd_canvas.specs.declared.wires.Wire.{Wire}
 use Rattle.pd_tree.specs.Ports.{fits}
 use Rattle.pd_tree.specs.Ports.{Sockets as Seen}
-use Rattle.pd_wire.specs.Book.{Book, IsEnd}
+use Rattle.pd_wire.specs.Book.{Book}
 use Rattle.pd_grove.specs.declared.boards.Board.{Board}
 use Rattle.pd_grove.specs.declared.grove.Grove.{Grove}
 use Rattle.pd_grove.specs.declared.ports.Side.{Side}
@@ -14,16 +14,12 @@ use Rattle.pd_web.specs.declared.jacks.Jack.{Jack}
 use Rattle.pd_web.specs.declared.joints.Joint.{Joint}
 use Rattle.pd_web.specs.declared.sockets.Port.{Port}
 use Rattle.pd_web.specs.declared.sockets.Sockets.{Sockets}
-use Rattle.pd_web.specs.Sockets.{ports_at, port_at, end_under, made_at, jacks_of}
+use Rattle.pd_web.specs.declared.sockets.Spot.{Spot}
+use Rattle.pd_web.specs.Sockets.{IsThere, ports_at, port_at, end_at, made_at, jacks_of}
 use Rattle.pd_web.specs.Jacks.{jacks_at, made_in}
 use Rattle.pd_web.specs.Wiring.{Holds}
-
 -- a wire by the keys of its boxes
-pub record Line : Type 0 where
-  pub source : ℕ
-  pub outlet : ℕ
-  pub sink : ℕ
-  pub inlet : ℕ
+pub use Rattle.pd_web.specs.declared.lines.Line.{Line}
 
 -- a wire of a canvas whose boxes have these keys
 abbrev pub line_of : List ℕ → Wire → Line
@@ -92,21 +88,30 @@ abbrev pub made_under : List Sockets → Option ℕ → Bool
 made_under all None = false
 made_under all (Some k) = made_at all k
 
--- the ends that a wire between two ports joins, but where a signal outlet leads to a control inlet of a made box
-abbrev pub joint_by : Bool → Option Port → Option Port → Option Joint
-joint_by made None q = None
-joint_by made (Some p) None = None
-joint_by made (Some p) (Some q) = cond (p.jack.is_signal && (not q.jack.is_signal && made)) None (Some (record { source = p.end; sink = q.end }))
+-- whether a port that is there carries signals
+abbrev pub signal_of : Option Port → Option Bool
+signal_of o = option_map (λ p. p.jack.is_signal) o
 
--- the ends that a wire joins, where it fits
-abbrev pub joint_in : List Sockets → List ℕ → Wire → Option Joint
-joint_in all keys w =
-    joint_by (made_under all (slice_get keys w.sink)) (port_numbered all keys Outlets w.source w.outlet) (port_numbered all keys Inlets w.sink w.inlet)
+-- the line of a wire, where it fits
+abbrev pub line_in : List Sockets → List ℕ → Wire → Option Line
+line_in all keys w = cond (fits (laid_boxes all keys) w) (Some (line_of keys w)) None
+
+-- the two ports between which a line lies
+abbrev pub line_from : Line → Spot
+line_from l = record { node = l.source; side = Outlets; port = l.outlet }
+
+abbrev pub line_to : Line → Spot
+line_to l = record { node = l.sink; side = Inlets; port = l.inlet }
+
+-- both ports of a line are there
+pub record IsRoute (all : List Sockets) (l : Line) : Type 0 where
+  pub from : IsThere all (line_from l)
+  pub to : IsThere all (line_to l)
 
 -- a joint is at the ends of a line
 pub record IsJoint (all : List Sockets) (j : Joint) (l : Line) : Type 0 where
-  pub from : end_under all Outlets l.source l.outlet ≡ Some j.source
-  pub to : end_under all Inlets l.sink l.inlet ≡ Some j.sink
+  pub from : end_at all (line_from l) ≡ Some j.source
+  pub to : end_at all (line_to l) ≡ Some j.sink
 
 -- each of these joints is at the ends of its line
 abbrev pub AreJoints : List Sockets → List Joint → List Line → Type 0
@@ -120,7 +125,3 @@ pub record IsLaid (all : List Sockets) (b : Book) (ls : List Line) : Type 0 wher
   pub joints : List Joint
   pub held : Holds b joints
   pub lines : AreJoints all joints ls
-
--- the ends of all ports are live
-abbrev pub AreLive : List Sockets → Book → Type 0
-AreLive all b = (side : Side) (k i : ℕ) (p : Port) → port_at all side k i ≡ Some p → IsEnd b p.end

@@ -10,12 +10,11 @@ ghost use Rattle.pd_web.specs.Hops.{ports_told, jack_told, signal_in, side_named
 ghost use Rattle.pd_web.specs.Homes.{inner_in, home_at};
 
 use crate::jacks::Jack;
-use crate::sockets::{port_at, sockets_at};
+use crate::lines::fits;
+use crate::sockets::{Spot, port_at, sockets_at};
 use crate::web::Web;
-use crate::wires::joint_of;
 use pd_canvas::Wire;
 use pd_grove::{Grove, Side};
-use pd_wire::End;
 
 impl Web {
     /// How many inlets a box has.
@@ -62,12 +61,11 @@ impl Web {
     pub fn port_of(&self, node: u32) -> Option<(u32, u32)>
         ensures { result ≡ port_told self.now node }
     {
-        let end = self.home_of(node)?;
-        let spot = self.spots.as_slice().get(end.number())?;
+        let spot = self.home_of(node)?;
         Some((spot.node, spot.port))
     }
 
-    fn home_of(&self, node: u32) -> Option<End>
+    fn home_of(&self, node: u32) -> Option<Spot>
         ensures { result ≡ home_at self.now.homes.items node }
     {
         match self.homes.as_slice().get(node as usize) {
@@ -81,9 +79,7 @@ impl Web {
         ensures { result ≡ fits_in (boxes_told self.now (keys_in (get grove.now.boards canvas))) wire.now }
     {
         match grove.board(canvas) {
-            Some(board) => {
-                joint_of(self.sockets.as_slice(), board.nodes.as_slice(), wire).is_some()
-            }
+            Some(board) => fits(self.sockets.as_slice(), board.nodes.as_slice(), wire),
             None => false,
         }
     }

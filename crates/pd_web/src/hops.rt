@@ -3,10 +3,11 @@
 ghost use Rattle.std.specs.Prelude.{◌≡◌, ◌+◌, ℕ, Some, is_some, slice_get, option_map};
 ghost use Rattle.pd_wire.specs.Book.{IsWire, IsNext, wire_at, fan_of, feeds_of};
 ghost use Rattle.pd_grove.specs.declared.ports.Side.{Side};
-ghost use Rattle.pd_web.specs.Sockets.{end_under};
+ghost use Rattle.pd_web.specs.Sockets.{end_under as end_of_port};
 ghost use Rattle.pd_web.specs.Hops.{fan_hops, feed_hops, fan_keys, hop_to as hop_ahead, hop_from as hop_back};
 
-use crate::sockets::port_at;
+use crate::ends::end_at;
+use crate::sockets::Spot;
 use crate::web::{Hop, Web};
 use pd_grove::Side;
 use pd_wire::{End, WireKey};
@@ -17,7 +18,7 @@ impl Web {
         ensures { result ≡ slice_get (fan_hops self.now node outlet) 0 }
     {
         self.book.laws();
-        let end = self.end_at(Side::Outlets, node, outlet)?;
+        let end = self.end_under(Side::Outlets, node, outlet)?;
         let key = self.book.fan_first(end);
         self.ahead(key)
     }
@@ -40,7 +41,7 @@ impl Web {
         ensures { result ≡ slice_get (feed_hops self.now node inlet) 0 }
     {
         self.book.laws();
-        let end = self.end_at(Side::Inlets, node, inlet)?;
+        let end = self.end_under(Side::Inlets, node, inlet)?;
         let key = self.book.feed_first(end);
         self.back(key)
     }
@@ -91,11 +92,10 @@ impl Web {
         self.book.feed_next(hop.key())
     }
 
-    pub(crate) fn end_at(&self, side: Side, node: u32, port: u32) -> Option<End>
-        ensures { result ≡ end_under self.now.sockets.items side node port }
+    fn end_under(&self, side: Side, node: u32, port: u32) -> Option<End>
+        ensures { result ≡ end_of_port self.now.sockets.items side node port }
     {
-        let port = port_at(self.sockets.as_slice(), side, node, port)?;
-        Some(port.end)
+        end_at(self.sockets.as_slice(), Spot { node, side, port })
     }
 
     fn ahead(&self, key: Option<WireKey>) -> Option<Hop>

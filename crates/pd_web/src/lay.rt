@@ -57,11 +57,17 @@ impl Web {
         ensures few { OnOk result (length (all_lines grove.now) ≤ 65536) }
         ensures many { result ≡ Err TooManyWires → 65536 < length (all_lines grove.now) }
     {
+        let mut sockets = lay_sockets(alloc, grove)?;
+        let homes = lay_homes(alloc, sockets.as_slice())?;
         let mut spots = Vec::new(alloc);
         let mut book = WireBook::new(alloc)?;
-        let sockets = lay_sockets(alloc, grove, &mut spots, &mut book)?;
-        let homes = lay_homes(alloc, sockets.as_slice())?;
-        lay_wires(sockets.as_slice(), grove, &mut book, MOST_WIRES)?;
+        lay_wires(
+            sockets.as_mut_slice(),
+            &mut spots,
+            &mut book,
+            grove,
+            MOST_WIRES,
+        )?;
         Ok(Web {
             sockets,
             spots,

@@ -2,12 +2,14 @@
 #![tactic(auto)]
 
 mod calls;
+mod ends;
 mod homes;
 mod hops;
 mod jacks;
 mod joints;
 mod laws;
 mod lay;
+mod lines;
 mod sockets;
 #[cfg(test)]
 mod tests;

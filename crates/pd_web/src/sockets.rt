@@ -1,25 +1,25 @@
-//! The ports of boxes, each with an end of its own in the book of wires.
+//! The ports of boxes.
 
-ghost use Rattle.std.specs.Prelude.{◌≡◌, ◌≢◌, ◌<◌, ◌≤◌, ◌+◌, ◌^◌, ℕ, Some, slice_get, map, length, OnOk, IfOk, IsSome, vec_len};
+ghost use Rattle.std.specs.Prelude.{◌≡◌, ◌<◌, ◌≤◌, ◌^◌, ℕ, slice_get, length, OnOk, IfOk};
 ghost use Rattle.std.specs.Option.{option_copied};
 ghost use Rattle.slab.specs.Slab.{get};
 ghost use Rattle.pd_grove.specs.declared.ports.Side.{Side};
 ghost use Rattle.pd_web.specs.Jacks.{KindsSmall, jacks_at as jacks_of_box, made_in};
-ghost use Rattle.pd_web.specs.declared.sockets.Port.{Port};
-ghost use Rattle.pd_web.specs.declared.sockets.Spot.{Spot};
-ghost use Rattle.pd_web.specs.Sockets.{IsAt, AreAt, ArePlaced, AreFew, Grows, Writes, jacks_of, side_ports, ports_at, port_at as port_under, made_at};
+ghost use Rattle.pd_web.specs.Sockets.{AreFew, loose_ports, side_ports, ports_at, port_at as port_under, made_at};
 
 use crate::jacks::{Jack, is_made_at, jacks_at};
 use pd_grove::{Grove, Side};
-use pd_wire::{End, WireBook};
 use std::alloc::{AllocError, Global};
 
-/// A port with its end.
+/// A port, and the number of its end in the book of wires, where it has one.
 #[derive(Clone, Copy, Debug)]
 pub struct Port {
-    pub end: End,
+    pub end: Option<u32>,
     pub jack: Jack,
 }
+
+// There may be many ports, most of them without wires.
+const _: () = prove!(size_of::<Port>() == 20);
 
 /// The ports of a box, and whether the box is made.
 #[derive(Debug, Drop)]
@@ -63,24 +63,18 @@ pub(crate) fn port_at(sockets: &[Sockets], side: Side, node: u32, port: u32) -> 
 }
 
 /// The ports of every box, by key.
-pub(crate) fn lay_sockets(
-    alloc: Global,
-    grove: &Grove,
-    spots: &mut Vec<Spot>,
-    book: &mut WireBook,
-) -> Result<Vec<Sockets>, AllocError>
+pub(crate) fn lay_sockets(alloc: Global, grove: &Grove) -> Result<Vec<Sockets>, AllocError>
     requires { KindsSmall grove.now }
-    ensures told { IfOk result (λ all. (side : Side) (k : ℕ) → jacks_of (ports_at all.items side k) ≡ jacks_of_box side grove.now k) }
+    ensures told { IfOk result (λ all. (side : Side) (k : ℕ) → ports_at all.items side k ≡ loose_ports (jacks_of_box side grove.now k)) }
     ensures made { IfOk result (λ all. (k : ℕ) → made_at all.items k ≡ made_in (get grove.now.nodes k)) }
-    ensures placed { IfOk result (λ all. ArePlaced all.items spots.new.items book.new) }
     ensures few { IfOk result (λ all. AreFew all.items) }
     ensures len { IfOk result (λ all. length grove.now.nodes.slots ≤ length all.items) }
-    ensures grows { OnOk result (Grows spots.old.items spots.new.items book.old book.new) }
+    ensures near { IfOk result (λ all. length all.items ≤ 2 ^ 32) }
 {
     let mut sockets = Vec::new(alloc);
     let end = keys_end(grove.nodes_end())?;
     for key in 0..end {
-        let made = box_sockets(alloc, grove, key as u32, spots, book)?;
+        let made = box_sockets(alloc, grove, key as u32)?;
         sockets.push(made)?;
     }
     Ok(sockets)
@@ -98,23 +92,15 @@ pub(crate) fn keys_end(end: usize) -> Result<usize, AllocError>
 }
 
 /// The ports of a box.
-fn box_sockets(
-    alloc: Global,
-    grove: &Grove,
-    key: u32,
-    spots: &mut Vec<Spot>,
-    book: &mut WireBook,
-) -> Result<Sockets, AllocError>
+fn box_sockets(alloc: Global, grove: &Grove, key: u32) -> Result<Sockets, AllocError>
     requires { KindsSmall grove.now }
-    ensures told { IfOk result (λ s. (side : Side) → jacks_of (side_ports side s) ≡ jacks_of_box side grove.now key) }
+    ensures told { IfOk result (λ s. (side : Side) → side_ports side s ≡ loose_ports (jacks_of_box side grove.now key)) }
     ensures made { IfOk result (λ s. s.is_made ≡ made_in (get grove.now.nodes key)) }
-    ensures at { IfOk result (λ s. (side : Side) → AreAt spots.new.items book.new key side (side_ports side s)) }
     ensures few { IfOk result (λ s. (side : Side) → length (side_ports side s) < 2 ^ 32) }
-    ensures grows { OnOk result (Grows spots.old.items spots.new.items book.old book.new) }
 {
     let is_made = is_made_at(grove, key);
-    let inlets = side_sockets(alloc, grove, Side::Inlets, key, spots, book)?;
-    let outlets = side_sockets(alloc, grove, Side::Outlets, key, spots, book)?;
+    let inlets = side_sockets(alloc, grove, Side::Inlets, key)?;
+    let outlets = side_sockets(alloc, grove, Side::Outlets, key)?;
     Ok(Sockets {
         inlets,
         outlets,
@@ -123,72 +109,29 @@ fn box_sockets(
 }
 
 /// The ports of a box on a side.
-fn side_sockets(
-    alloc: Global,
-    grove: &Grove,
-    side: Side,
-    key: u32,
-    spots: &mut Vec<Spot>,
-    book: &mut WireBook,
-) -> Result<Vec<Port>, AllocError>
+fn side_sockets(alloc: Global, grove: &Grove, side: Side, key: u32) -> Result<Vec<Port>, AllocError>
     requires { KindsSmall grove.now }
-    ensures told { IfOk result (λ ports. jacks_of ports.items ≡ jacks_of_box side grove.now key) }
-    ensures at { IfOk result (λ ports. AreAt spots.new.items book.new key side ports.items) }
+    ensures told { IfOk result (λ ports. ports.items ≡ loose_ports (jacks_of_box side grove.now key)) }
     ensures few { IfOk result (λ ports. length ports.items < 2 ^ 32) }
-    ensures grows { OnOk result (Grows spots.old.items spots.new.items book.old book.new) }
 {
     let jacks = jacks_at(alloc, grove, side, key)?;
-    make_ports(alloc, key, side, jacks.as_slice(), spots, book)
+    make_ports(alloc, jacks.as_slice())
 }
 
-/// Gives each port of a side an end.
-fn make_ports(
-    alloc: Global,
-    node: u32,
-    side: Side,
-    jacks: &[Jack],
-    spots: &mut Vec<Spot>,
-    book: &mut WireBook,
-) -> Result<Vec<Port>, AllocError>
-    ensures told { IfOk result (λ ports. jacks_of ports.items ≡ jacks.now) }
-    ensures at { IfOk result (λ ports. AreAt spots.new.items book.new node side ports.items) }
+/// The ports of a side, none with an end.
+fn make_ports(alloc: Global, jacks: &[Jack]) -> Result<Vec<Port>, AllocError>
+    ensures told { IfOk result (λ ports. ports.items ≡ loose_ports jacks.now) }
     ensures few { IfOk result (λ ports. length ports.items < 2 ^ 32) }
-    ensures grows { OnOk result (Grows spots.old.items spots.new.items book.old book.new) }
 {
-    let mut ports = Vec::new(alloc);
     if jacks.len() > 4_294_967_295 {
         return Err(AllocError);
     }
-    for (i, jack) in jacks.iter().enumerate() {
-        let spot = Spot {
-            node,
-            side,
-            port: i as u32,
-        };
-        let end = make_end(spots, book, spot)?;
-        ports.push(Port { end, jack: *jack })?;
+    let mut ports = Vec::with_capacity(alloc, jacks.len())?;
+    for jack in jacks {
+        ports.push(Port {
+            end: None,
+            jack: *jack,
+        })?;
     }
     Ok(ports)
-}
-
-/// A new end, for a port.
-fn make_end(spots: &mut Vec<Spot>, book: &mut WireBook, spot: Spot) -> Result<End, AllocError>
-    ensures at { IfOk result (λ end. IsAt spots.new.items book.new end spot) }
-    ensures grows { OnOk result (Grows spots.old.items spots.new.items book.old book.new) }
-{
-    book.reserve(1, 0)?;
-    let end = book.make_end();
-    put_spot(spots, end.number(), spot)?;
-    Ok(end)
-}
-
-/// Writes which port an end is.
-fn put_spot(spots: &mut Vec<Spot>, number: usize, spot: Spot) -> Result<(), AllocError>
-    ensures { OnOk result (Writes spots.old.items spots.new.items number spot) }
-{
-    while spots.len() <= number {
-        spots.push(spot)?;
-    }
-    spots[number] = spot;
-    Ok(())
 }

@@ -1,21 +1,20 @@
 //! The ports and wires of a running patch.
 
 ghost use Rattle.std.specs.Prelude.{◌≡◌};
-ghost use Rattle.pd_web.specs.Sockets.{AreFew, ArePlaced, AreSpotted};
+ghost use Rattle.pd_web.specs.Sockets.{AreFew, AreTied};
 
 use crate::sockets::{Sockets, Spot};
-use pd_wire::{End, WireBook, WireKey};
+use pd_wire::{WireBook, WireKey};
 
 /// The ports of the boxes of a running patch and the wires between them, by the boxes' keys.
 #[derive(Drop)]
 pub struct Web {
     pub(crate) sockets: Vec<Sockets>,
     pub(crate) spots: Vec<Spot>,
-    pub(crate) homes: Vec<Option<End>>,
+    pub(crate) homes: Vec<Option<Spot>>,
     pub(crate) book: WireBook,
     ghost few: { AreFew sockets.items },
-    ghost placed: { ArePlaced sockets.items spots.items book },
-    ghost spotted: { AreSpotted spots.items book },
+    ghost tied: { AreTied sockets.items spots.items book },
 }
 
 /// A wire, by its key's number, and the box and the port at its other end.

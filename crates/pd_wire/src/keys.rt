@@ -29,6 +29,13 @@ impl End {
     {
         self.key
     }
+
+    /// The end with this number, whether it is one's or not.
+    pub fn of_number(number: usize) -> End
+        ensures { result ≡ number }
+    {
+        End { key: number }
+    }
 }
 
 /// A wire. Contracts see it as a number, which differs for different live wires of one book.

@@ -2,7 +2,8 @@ use Rattle.std.proofs.Common.{◌+◌, length, ap, ◌∙◌, arith}
 use Rattle.std.proofs.lemmas.List.{length_push}
 use Rattle.slab.specs.Slab.{get}
 use Rattle.pd_web.specs.Jacks.{jacks_at as jacks_of_box, made_in}
-use Rattle.pd_web.proofs.SocketLemmas.{told_boxes, made_boxes, few_boxes, placed_boxes, grows_more, told_all, made_all}
+use Rattle.pd_web.specs.Sockets.{loose_ports}
+use Rattle.pd_web.proofs.SocketLemmas.{told_boxes, made_boxes, few_boxes, told_all, made_all}
 use Rattle.pd_web.proofs.sockets.lay_sockets.Goals as goal
 
 pub loop-key-preserved : goal.loop-key-preserved
@@ -13,11 +14,9 @@ loop-key-preserved c =
     let items = c.in_ok-push.ensures.items in
     record {
       far = ap length items ∙ length_push all _ ∙ ap (λ n. n + 1) inv.far;
-      told = told_boxes all _ c.in_ok-made.made c.loop-key.key (λ side k. jacks_of_box side c.args.grove.now k) items inv.far inv.told step.told;
+      told = told_boxes all _ c.in_ok-made.made c.loop-key.key (λ side k. loose_ports (jacks_of_box side c.args.grove.now k)) items inv.far inv.told step.told;
       made = made_boxes all _ c.in_ok-made.made c.loop-key.key (λ k. made_in (get c.args.grove.now.nodes k)) items inv.far inv.made step.made;
       few = few_boxes all _ c.in_ok-made.made items inv.few step.few;
-      placed = placed_boxes all _ c.in_ok-made.made c.loop-key.key _ _ _ _ items inv.far step.grows inv.placed step.at;
-      grows = grows_more _ _ _ _ _ _ inv.grows step.grows;
     }
 
 pub returns-clause-told : goal.returns-clause-told

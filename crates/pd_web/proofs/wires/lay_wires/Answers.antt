@@ -1,11 +1,29 @@
-use Rattle.std.proofs.Common.{List, length, ap, subst, arith}
+use Rattle.std.proofs.Common.{List, length, sym, ap, subst, length-append, arith}
 use Rattle.std.proofs.lemmas.Result.{err_from_is_err_and}
-use Rattle.pd_web.specs.Lines.{Line, IsLaid}
-use Rattle.pd_web.proofs.LineLemmas.{below_end, below_fewer, live_kept}
+use Rattle.pd_web.specs.Lines.{Line, IsLaid, lines_at, lines_below}
+use Rattle.pd_web.proofs.SocketLemmas.{keeps_more}
+use Rattle.pd_web.proofs.LineLemmas.{below_end, below_fewer, below_more, seen_still}
 use Rattle.pd_web.proofs.wires.lay_wires.Goals as goal
 
-pub lay_board-requires-clause-live : goal.lay_board-requires-clause-live
-lay_board-requires-clause-live c = live_kept c.args.sockets.now _ _ c.loop-key.invariant.ends c.requires.live
+pub lay_board-requires-clause-told : goal.lay_board-requires-clause-told
+lay_board-requires-clause-told c = seen_still c.args.sockets.now c.loop-key.sockets c.args.grove.now c.loop-key.invariant.keeps c.requires.told
+
+pub loop-key-preserved : goal.loop-key-preserved
+loop-key-preserved c =
+    let g = c.args.grove.now in
+    let key = c.loop-key.key in
+    let inv = c.loop-key.invariant in
+    let step = c.in_ok-lay_board.ensures in
+    let more = ap length (below_more g key) in
+    let sum = length-append (lines_below g key) (lines_at g key) in
+    let left = step.left in
+    let had = inv.left in
+    record {
+      tied = step.tied;
+      keeps = keeps_more c.args.sockets.now c.loop-key.sockets c.lay_board.new.sockets inv.keeps step.keeps;
+      laid = λ h. let P : List Line → Type 0 = λ xs. IsLaid c.lay_board.new.sockets c.lay_board.new.book xs in subst P (sym (below_more g key)) (step.laid (lines_below g key) (inv.laid h));
+      left = omega (arith, more, sum, left, had);
+    }
 
 pub returns-in_err-lay_board-clause-many : goal.returns-in_err-lay_board-clause-many
 returns-in_err-lay_board-clause-many c =
@@ -22,7 +40,7 @@ returns-clause-laid c = λ h.
     let same = c.in_ok-end.ensures.same in
     let above = c.boards_end.ensures in
     let far = c.loop-key-test.false in
-    let P : List Line → Type 0 = λ xs. IsLaid c.args.sockets.now c.loop-key.book xs in
+    let P : List Line → Type 0 = λ xs. IsLaid c.loop-key.sockets c.loop-key.book xs in
     subst P (below_end c.args.grove.now c.loop-key.key (omega (arith, same, above, far))) (c.loop-key.invariant.laid h)
 
 pub returns-clause-few : goal.returns-clause-few

@@ -1,6 +1,6 @@
 use Rattle.std.proofs.Common.{◌≡◌, ◌≤◌, ◌+◌, ◌-◌, ℕ, Some, slice_get, length, vec_len}
 use Rattle.pd_web.specs.declared.sockets.Spot.{Spot}
-use Rattle.pd_web.proofs.sockets.put_spot.Given as goal
+use Rattle.pd_web.proofs.ends.put_spot.Given as goal
 
 abbrev pub invariant-loop-spots : goal.invariant-loop-spots
 invariant-loop-spots l = record {
