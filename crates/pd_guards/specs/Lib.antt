@@ -1,0 +1,3 @@
+pub mod Order
+pub mod Worlds
+pub mod Freely

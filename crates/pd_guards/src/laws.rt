@@ -1,0 +1,57 @@
+//! Laws of what boxes hear, and of whole deliveries.
+ghost use Rattle.std.specs.Prelude.{◌≡◌, ℕ, ℤ, true, List, Option, IfSome};
+ghost use Rattle.std.specs.List.{list_all};
+ghost use Rattle.pd_atom.specs.Names.{Names};
+ghost use Rattle.pd_atom.specs.declared.Atom.{Atom};
+ghost use Rattle.pd_kind.specs.declared.kinds.Kind.{Kind};
+ghost use Rattle.pd_kind.specs.declared.states.State.{State};
+ghost use Rattle.pd_kind.specs.Said.{Said};
+ghost use Rattle.pd_glue.specs.Rows.{resumed, fired};
+ghost use Rattle.pd_turns.specs.Turns.{World};
+ghost use Rattle.pd_walk.specs.declared.walker.Start.{Start};
+ghost use Rattle.pd_walk.specs.Worlds.{Net, Kept};
+ghost use Rattle.pd_walk.specs.Guards.{is_message, is_table, is_small, is_known};
+ghost use Rattle.pd_walk.specs.Hearing.{heard_kind, heard_at, resumed_at, fired_at, loaded_at};
+ghost use Rattle.pd_walk.specs.Outcome.{outcome};
+ghost use Rattle.pd_guards.specs.Order.{HasFirst, IsMessage, IsTable, IsKept, IsKind, IsSaid, IsHeard, IsHearing};
+ghost use Rattle.pd_guards.specs.Worlds.{AreKept, AreKinds, IsReply, IsInOrder, IsStart};
+ghost use Rattle.pd_guards.specs.Freely.{heard_by as heard_freely, outcome as free_outcome};
+
+/// A box in order that hears a message in order keeps and says what is in order again, in a table of names that goes on. Nothing is
+/// passed over: it does what its object's definition says, and whatever is looked at before is so.
+pub fn hearing_stays_in_order()
+    ensures stays { (names : Names) (k : Kind) (s : State) (inlet selector : ℕ) (atoms : List Atom) (now : ℕ) (table : Option (List ℤ)) →
+        HasFirst names → IsKind names k → IsKept names s → IsMessage names selector atoms → IfSome table IsTable →
+        IsHearing names (heard_kind names k s inlet selector atoms now table) }
+    ensures freely { (names : Names) (k : Kind) (s : State) (inlet selector : ℕ) (atoms : List Atom) (now : ℕ) (table : Option (List ℤ)) →
+        HasFirst names → IsKind names k → IsKept names s → IsMessage names selector atoms → IfSome table IsTable →
+        heard_kind names k s inlet selector atoms now table ≡ heard_freely names k s inlet selector atoms now table }
+    ensures message { (names : Names) (selector : ℕ) (atoms : List Atom) → IsMessage names selector atoms → is_message names selector atoms ≡ true }
+    ensures small { (names : Names) (k : Kind) (s : State) → IsKind names k → IsKept names s → is_small names k s ≡ true }
+    ensures table { (table : Option (List ℤ)) → IfSome table IsTable → is_table table ≡ true }
+    ensures notices { (names : Names) (said : Said) → IsSaid names said → list_all (is_known names) said.notices ≡ true }
+    ensures again { (names : Names) (k : Kind) (s : State) → HasFirst names → IsKept names s → IsHeard names (resumed k s) }
+    ensures clock { (names : Names) (k : Kind) (s : State) → HasFirst names → IsSaid names (fired k s) }
+{}
+
+/// The same of a box among the others of a patch: what all boxes keep after it acted, and what it says, is in order.
+pub fn boxes_stay_in_order()
+    ensures hearing { (net : Net) (now : ℕ) (names : Names) (states : ℕ → Option State) (node inlet selector : ℕ) (atoms : List Atom) →
+        HasFirst names → AreKinds net names → AreKept names states → IsMessage names selector atoms →
+        IsReply names (heard_at net now states names node inlet selector atoms) }
+    ensures again { (net : Net) (names : Names) (states : ℕ → Option State) (node : ℕ) →
+        HasFirst names → AreKinds net names → AreKept names states → IsReply names (resumed_at net states names node) }
+    ensures clock { (net : Net) (names : Names) (states : ℕ → Option State) (node : ℕ) →
+        HasFirst names → AreKinds net names → AreKept names states → IsSaid names (fired_at net states node) }
+    ensures load { (net : Net) (names : Names) (states : ℕ → Option State) (node : ℕ) →
+        HasFirst names → AreKinds net names → AreKept names states → IsSaid names (loaded_at net states node) }
+{}
+
+/// From a patch in order and a start in order a whole delivery is the depth-first recursion over the objects' own definitions, in which
+/// nothing is looked at and nothing passed over; and it leaves the patch in order.
+pub fn delivery_passes_nothing_over()
+    ensures freely { (net : Net) (now : ℕ) (w : World Kept) (s : Start) → IsInOrder net w.kept → IsStart w.kept.names s →
+        outcome net now w s ≡ free_outcome net now w s }
+    ensures order { (net : Net) (now : ℕ) (w : World Kept) (s : Start) → IsInOrder net w.kept → IsStart w.kept.names s →
+        IsInOrder net (outcome net now w s).kept }
+{}

@@ -1,0 +1,6 @@
+//! Laws of delivery: what boxes keep, hear and say is in order, so that nothing is ever passed over.
+#![tactic(auto)]
+
+mod laws;
+
+pub use laws::{boxes_stay_in_order, delivery_passes_nothing_over, hearing_stays_in_order};
