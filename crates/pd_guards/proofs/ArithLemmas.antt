@@ -1,10 +1,9 @@
 -- The arithmetic objects keep and say what is in order.
-use Rattle.std.proofs.Common.{◌≡◌, ℕ, ℤ, pos, negsuc, neg_ℤ, ◌*ℤ◌, ◌+ℤ◌, ◌-ℤ◌, zero, suc, ◌+◌, ◌-◌, ◌*◌, ◌/◌, ◌%◌, ◌^◌, ◌<◌, ◌≤◌, min, max, unsigned_abs, Bool, true, false, cond, ◌==◌, List, [], ◌∷◌, slice_index, refl, sym, ap, subst, ◌∙◌, arith, rules}
-use Rattle.std.proofs.lemmas.Int.{ints, unsigned_abs-mul}
+use Rattle.std.proofs.Common.{◌≡◌, ℕ, ℤ, pos, negsuc, neg_ℤ, ◌*ℤ◌, ◌+ℤ◌, ◌-ℤ◌, zero, suc, ◌+◌, ◌-◌, ◌*◌, ◌/◌, ◌%◌, ◌^◌, ◌<◌, ◌≤◌, max, unsigned_abs, Bool, cond, ◌==◌, List, [], ◌∷◌, slice_index, arith}
+use Rattle.std.proofs.lemmas.Int.{unsigned_abs-mul}
 use Rattle.std.proofs.Math.Nat.{mul-le-mul_left}
 use Rattle.pd_num.specs.Scale.{saturated}
-use Rattle.std.specs.Prelude.{int_div, int_rem, int_lt}
-use Rattle.std.specs.Int.{int_min, int_max, int_div_euclid, int_rem_euclid}
+use Rattle.std.specs.Prelude.{int_div, int_lt}
 use Rattle.pd_atom.specs.Names.{Names}
 use Rattle.pd_atom.specs.declared.Atom.{Atom}
 use Rattle.pd_kind.specs.declared.kinds.Arith.{Arith}
@@ -28,9 +27,9 @@ use Rattle.pd_kind.specs.declared.states.State.TheVariants as state
 use Rattle.pd_kind.specs.Messages.{sort_of}
 use Rattle.pd_kind.specs.Hearing.{first_sort, told, stored}
 use Rattle.pd_kind.specs.Said.{silent, sends_only, number_to, deaf}
-use Rattle.pd_arith.specs.Operations.{operation_of, truth, comparison_of, units_of, divisor_of, division_units, division_of}
+use Rattle.pd_arith.specs.Operations.{operation_of, truth, comparison_of, units_of, division_units, division_of}
 use Rattle.pd_arith.specs.Frequency.{top_notes, note_frequency, between, frequency_of}
-use Rattle.pd_arith.specs.Rows.{Pair, clipped, clip_hot, clip_cold, clip_heard, clip_row, function_of, function_heard, function_row, with_pair, arith_row, heard}
+use Rattle.pd_arith.specs.Rows.{Pair, clipped, clip_cold, clip_heard, clip_row, function_of, function_heard, function_row, with_pair, arith_row, heard}
 use Rattle.pd_guards.specs.Order.{IsNumber, HasFirst, IsName, IsMessage, IsKept, IsSaid, IsHeard}
 use Rattle.pd_guards.proofs.FactLemmas.{either}
 use Rattle.pd_guards.proofs.NumberLemmas.{near, far, near_pos, abs_neg, div_less, abs_div, saturated_in, magnitude_in}

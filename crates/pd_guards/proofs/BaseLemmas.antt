@@ -1,5 +1,5 @@
 -- Sorts of messages, sends and what is said, in order.
-use Rattle.std.proofs.Common.{◌≡◌, ℕ, ℤ, pos, zero, suc, ◌+◌, ◌<◌, ◌≤◌, Bool, true, false, cond, List, [], ◌∷◌, ◌++◌, length, take, slice_get, Option, Some, None, IfSome, refl, ap, arith, rules, nat_lt}
+use Rattle.std.proofs.Common.{ℕ, ℤ, pos, zero, suc, ◌≤◌, List, [], ◌∷◌, length, slice_get, Option, Some, None, IfSome, arith, rules, nat_lt}
 use Rattle.std.proofs.lemmas.List.{length-take}
 use Rattle.std.specs.List.{AllByRecursion}
 use Rattle.pd_atom.specs.Names.{Names}
@@ -13,12 +13,12 @@ use Rattle.pd_kind.specs.declared.messages.Target.TheVariants as target
 use Rattle.pd_kind.specs.declared.messages.Notice.TheVariants.{MessageCut}
 use Rattle.pd_kind.specs.declared.states.State.{State}
 use Rattle.pd_kind.specs.Messages.{float_sort, symbol_sort, sort_of}
-use Rattle.pd_kind.specs.Naming.{number_or, number_at}
-use Rattle.pd_kind.specs.Hearing.{Heard, sort_of_atom, first_sort, told, stored}
+use Rattle.pd_kind.specs.Naming.{number_or}
+use Rattle.pd_kind.specs.Hearing.{sort_of_atom, first_sort, told, stored}
 use Rattle.pd_kind.specs.Rows.{Send}
-use Rattle.pd_kind.specs.Said.{Said, silent, sends_only, send_to, bang_to, number_to, symbol_to, deaf}
+use Rattle.pd_kind.specs.Said.{silent, sends_only, send_to, bang_to, number_to, symbol_to, deaf}
 use Rattle.pd_kind.specs.Forming.{float_in, symbol_of, list_selector, list_send, normal_send, message_send, send_of_message, cut_atoms, cut_notices, atoms_with_selector}
-use Rattle.pd_guards.specs.Order.{IsNumber, HasFirst, IsName, IsAtom, AreAtoms, IsList, IsMessage, IsKept, IsTarget, IsSend, IsDeed, IsNotice, IsSaid, IsHeard}
+use Rattle.pd_guards.specs.Order.{IsNumber, HasFirst, IsName, IsAtom, AreAtoms, IsList, IsMessage, IsKept, IsTarget, IsSend, IsNotice, IsSaid, IsHeard}
 use Rattle.pd_guards.proofs.FactLemmas.{all-take, all-at, either}
 
 pub no_number : IsNumber (pos 0)

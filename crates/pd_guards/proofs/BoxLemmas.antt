@@ -1,9 +1,9 @@
 -- A message box keeps and says what is in order.
-use Rattle.std.proofs.Common.{◌≡◌, ℕ, zero, suc, ◌+◌, ◌-◌, ◌<◌, ◌≤◌, Bool, true, false, cond, nat_lt, ltb, List, [], ◌∷◌, ◌++◌, length, map, Option, Some, None, IfSome, Result, Ok, Err, IfOk, codes, refl, sym, ap, subst, ◌∙◌, arith, length-append}
+use Rattle.std.proofs.Common.{◌≡◌, ℕ, suc, ◌+◌, ◌≤◌, Bool, false, nat_lt, ltb, List, [], ◌∷◌, ◌++◌, length, Option, Some, None, Result, Ok, Err, IfOk, codes, arith, length-append}
 use Rattle.std.proofs.lemmas.List.{length-map}
 use Rattle.std.proofs.lemmas.Bool.Decides.{nat_tests}
 use Rattle.std.specs.List.{AllByRecursion, slice_split, onto_first}
-use Rattle.pd_atom.specs.Names.{Names, Extends, Outcome}
+use Rattle.pd_atom.specs.Names.{Names, Extends}
 use Rattle.pd_atom.specs.Atoms.{IsOf}
 use Rattle.pd_atom.specs.Tokens.{settled}
 use Rattle.pd_atom.specs.Expansion.{expanded}
@@ -12,7 +12,7 @@ use Rattle.pd_atom.specs.declared.Atom.TheVariants as atom
 use Rattle.pd_atom.specs.declared.Expanded.{Expanded}
 use Rattle.pd_atom.specs.declared.SymbolRefusal.{SymbolRefusal}
 use Rattle.pd_kind.specs.declared.messages.Notice.{Notice}
-use Rattle.pd_kind.specs.declared.messages.Notice.TheVariants.{NoReceiver, TableFull, TextFull}
+use Rattle.pd_kind.specs.declared.messages.Notice.TheVariants.{NoReceiver, TableFull}
 use Rattle.pd_kind.specs.declared.messages.Sort.{Sort}
 use Rattle.pd_kind.specs.declared.messages.Sort.TheVariants as sort
 use Rattle.pd_kind.specs.declared.messages.Target.TheVariants as target
@@ -26,10 +26,10 @@ use Rattle.pd_kind.specs.Said.{Said}
 use Rattle.pd_glue.specs.Rows.{boxed}
 use Rattle.pd_message.specs.declared.pieces.Receiver.{Receiver}
 use Rattle.pd_message.specs.declared.pieces.Receiver.TheVariants as receiver
-use Rattle.pd_message.specs.Rows.{Edited, is_called, grown, settled_atoms, edited, text_full, left_by_run, first_run, heard_as, message_row}
+use Rattle.pd_message.specs.Rows.{Edited, is_called, grown, settled_atoms, edited, left_by_run, first_run, heard_as, message_row}
 use Rattle.pd_message.specs.Texts.{Run, Filling, is_comma, is_semi, noted, with_send, missing_notices, with_atom, expanded_with, filled_with, delivered, ended, started, filled_run, piece_run, pieces_run, segment_run, receiver_at, received, named_run, named_runs, segments_run, text_run}
 use Rattle.pd_message.proofs.TextLemmas.{extends_onward}
-use Rattle.pd_guards.specs.Order.{HasFirst, IsName, IsAtom, AreAtoms, IsList, IsMessage, IsKept, IsTarget, IsSend, IsNotice, IsSaid, IsHearing}
+use Rattle.pd_guards.specs.Order.{HasFirst, IsAtom, AreAtoms, IsList, IsMessage, IsKept, IsTarget, IsSend, IsNotice, IsSaid, IsHearing}
 use Rattle.pd_guards.proofs.FactLemmas.{either, either_by, all-append, all-map, all-weaker}
 use Rattle.pd_guards.proofs.BaseLemmas.{silence, deafness, message_sent}
 use Rattle.pd_guards.proofs.MoreLemmas.{longer, first_more, of_more, atom_more, atoms_more, list_more, target_more, said_more}

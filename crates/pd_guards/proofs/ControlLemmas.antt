@@ -1,5 +1,5 @@
 -- The control objects and the signal objects keep and say what is in order.
-use Rattle.std.proofs.Common.{ℕ, ℤ, ◌<◌, ◌≤◌, List, Option, Some, None, IfSome}
+use Rattle.std.proofs.Common.{ℕ, ℤ, List, Option, IfSome}
 use Rattle.pd_atom.specs.Names.{Names}
 use Rattle.pd_atom.specs.declared.Atom.{Atom}
 use Rattle.pd_kind.specs.declared.kinds.Kind.{Kind}

@@ -1,5 +1,5 @@
 -- Of what is in order the guards are true.
-use Rattle.std.proofs.Common.{◌≡◌, ℕ, ℤ, ◌<◌, ◌≤◌, ◌^◌, Bool, true, false, ◌&&◌, nat_lt, nat_le, List, [], ◌∷◌, length, Option, Some, None, IfSome, refl, ap, arith}
+use Rattle.std.proofs.Common.{◌≡◌, ℕ, ℤ, ◌≤◌, ◌^◌, Bool, true, ◌&&◌, List, [], ◌∷◌, length, Option, Some, None, IfSome, refl}
 use Rattle.std.specs.List.{AllByRecursion, list_all}
 use Rattle.std.proofs.lemmas.Bool.{le-leb}
 use Rattle.pd_atom.specs.Names.{Names}
@@ -17,7 +17,7 @@ use Rattle.pd_kind.specs.declared.messages.Notice.{Notice}
 use Rattle.pd_kind.specs.declared.messages.Notice.TheVariants as notice
 use Rattle.pd_kind.specs.Ports.{IsSmallGlue}
 use Rattle.pd_walk.specs.Guards.{is_name, is_atom, are_atoms, is_few, is_message, is_table, is_small_glue, has_text, is_small_state, keeps_list, keeps_message, keeps_text, is_small_box, is_small, is_known}
-use Rattle.pd_guards.specs.Order.{IsName, IsAtom, AreAtoms, IsList, IsMessage, IsTable, IsKept, HasWords, IsGlue, IsKind, IsNotice}
+use Rattle.pd_guards.specs.Order.{IsName, IsAtom, AreAtoms, IsMessage, IsTable, IsKept, HasWords, IsGlue, IsKind, IsNotice}
 
 pub true_and : (a b : Bool) → a ≡ true → b ≡ true → (a && b) ≡ true
 true_and a b e f = rw (e, f) refl

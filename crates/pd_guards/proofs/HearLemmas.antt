@@ -1,5 +1,5 @@
 -- A box that hears, is resumed, fires or is loaded: what it keeps and says is in order, and nothing was passed over.
-use Rattle.std.proofs.Common.{◌≡◌, ℕ, ℤ, ◌<◌, ◌≤◌, ◌^◌, ◌==◌, Bool, true, ◌&&◌, nat_le, cond, List, [], ◌∷◌, Option, Some, None, IfSome, option_and_then, refl, sym, ap, subst, ◌∙◌}
+use Rattle.std.proofs.Common.{◌≡◌, ℕ, ℤ, ◌^◌, ◌==◌, Bool, ◌&&◌, nat_le, cond, List, Option, Some, None, IfSome, option_and_then, refl, sym, ap, subst, ◌∙◌}
 use Rattle.pd_atom.specs.Names.{Names, Extends}
 use Rattle.pd_atom.specs.declared.Atom.{Atom}
 use Rattle.pd_kind.specs.declared.kinds.Kind.{Kind}
@@ -13,8 +13,8 @@ use Rattle.pd_glue.specs.Rows as control
 use Rattle.pd_glue.specs.Rows.{Hearing, quiet}
 use Rattle.pd_grove.specs.Telling.{kind_in}
 use Rattle.pd_walk.specs.Worlds.{Net, set_at}
-use Rattle.pd_walk.specs.Guards.{is_message, is_table, is_small, is_open}
-use Rattle.pd_walk.specs.Hearing.{table_owner, table_in, table_named, heard_line, heard_other, heard_by, heard_kind, Reply, mute, reply, heard_in, heard_with, heard_at, resumed_in, resumed_with, resumed_at, fired_with, fired_at, glue_loaded, panel_loaded, loaded_kind, loaded_with, loaded_at}
+use Rattle.pd_walk.specs.Guards.{is_table, is_small, is_open}
+use Rattle.pd_walk.specs.Hearing.{table_owner, table_in, table_named, heard_other, heard_by, heard_kind, mute, reply, heard_in, heard_with, heard_at, resumed_in, resumed_with, resumed_at, fired_with, fired_at, glue_loaded, panel_loaded, loaded_kind, loaded_with, loaded_at}
 use Rattle.pd_guards.specs.Order.{HasFirst, IsMessage, IsTable, IsKept, IsKind, IsSaid, IsHearing}
 use Rattle.pd_guards.specs.Worlds.{AreKept, AreKinds, IsReply}
 use Rattle.pd_guards.specs.Freely.{heard_by as free_by, heard_in as free_in, heard_with as free_with, heard_at as free_at}

@@ -18,3 +18,5 @@ pub mod HearLemmas
 pub mod SameTurns
 pub mod WalkLemmas
 pub mod NamingLemmas
+pub mod GrownLemmas
+pub mod PatchLemmas

@@ -1,5 +1,5 @@
 -- A `vline~` says what is in order.
-use Rattle.std.proofs.Common.{ℕ, ℤ, pos, ◌<◌, ◌≤◌, ◌==◌, nat_lt, List, [], ◌∷◌, codes, bytes_eq, arith}
+use Rattle.std.proofs.Common.{ℕ, pos, ◌==◌, nat_lt, List, codes, bytes_eq, arith}
 use Rattle.pd_atom.specs.Names.{Names, name_of}
 use Rattle.pd_atom.specs.declared.Atom.{Atom}
 use Rattle.pd_kind.specs.declared.kinds.Kind.{Kind}
@@ -15,7 +15,7 @@ use Rattle.pd_kind.specs.declared.states.State.TheVariants as state
 use Rattle.pd_kind.specs.Books.{with_times}
 use Rattle.pd_kind.specs.Hearing.{first_sort}
 use Rattle.pd_kind.specs.Messages.{sort_of}
-use Rattle.pd_vline.specs.Rows.{Left, float_ramp, stop_ramp, staying, with_ramp, float_heard, other_heard, spread, hot, cold, vline_row, heard}
+use Rattle.pd_vline.specs.Rows.{Left, float_ramp, stop_ramp, staying, with_ramp, other_heard, spread, hot, cold, vline_row, heard}
 use Rattle.pd_vline.specs.Taken.{present}
 use Rattle.pd_guards.specs.Order.{HasFirst, IsName, IsMessage, IsKept, IsSaid, IsHeard}
 use Rattle.pd_guards.proofs.FactLemmas.{either}

@@ -1,5 +1,5 @@
 -- The objects that work with messages as a whole keep and say what is in order.
-use Rattle.std.proofs.Common.{◌≡◌, ℕ, ℤ, pos, zero, suc, ◌*◌, ◌+◌, ◌<◌, ◌≤◌, Bool, true, false, ◌==◌, nat_le, List, [], ◌∷◌, ◌++◌, length, take, drop, slice_get, slice_set, Option, Some, None, IfSome, arith, length-take, length-drop, length-append}
+use Rattle.std.proofs.Common.{ℕ, ℤ, pos, zero, suc, ◌*◌, ◌+◌, ◌≤◌, ◌==◌, nat_le, List, [], ◌∷◌, ◌++◌, length, take, drop, Option, Some, None, arith, length-take, length-drop}
 use Rattle.std.proofs.Math.ListN.{length-set}
 use Rattle.std.specs.List.{AllByRecursion}
 use Rattle.pd_atom.specs.Names.{Names}
@@ -21,16 +21,16 @@ use Rattle.pd_kind.specs.declared.states.State.TheVariants as state
 use Rattle.pd_kind.specs.Forming.{float_in, list_send, message_send, cut_atoms, atoms_with_selector}
 use Rattle.pd_kind.specs.Messages.{sort_of}
 use Rattle.pd_kind.specs.Rows.{Send}
-use Rattle.pd_kind.specs.Said.{Said, deaf, bang_to, number_to, symbol_to, send_to}
+use Rattle.pd_kind.specs.Said.{deaf, number_to, symbol_to, send_to}
 use Rattle.pd_kind.specs.States.{units_of}
-use Rattle.pd_list.specs.Outlets.{is_plain, symbol_for, outlet_sends, trigger_sends, trigger_row}
-use Rattle.pd_list.specs.Slots.{fits_at, stored_at, filled, packed, pack_refuses, pack_first, pack_hot, pack_other, pack_cold, pack_row, slot_sends, unpacked, unpack_row}
+use Rattle.pd_list.specs.Outlets.{is_plain, symbol_for, outlet_sends, trigger_sends}
+use Rattle.pd_list.specs.Slots.{fits_at, stored_at, filled, packed, pack_refuses, pack_first, pack_hot, pack_other, pack_cold, pack_row, slot_sends, unpacked}
 use Rattle.pd_list.specs.Choices.{Chosen, place_of, choice_cold, unchosen, selected, select_hot, routed_rest, route_by_number, route_numbers, routed_message, route_hot, route_row, select_row}
-use Rattle.pd_list.specs.Lists.{Stored, said_of_list, list_said, list_stored, append_row, prepend_row, split_sends, split_said, split_cold, split_row, trim_row, length_row}
+use Rattle.pd_list.specs.Lists.{Stored, said_of_list, list_said, list_stored, append_row, prepend_row, split_sends, split_cold, split_row, length_row}
 use Rattle.pd_list.specs.Rows.{list_row}
-use Rattle.pd_guards.specs.Order.{IsNumber, HasFirst, IsName, IsAtom, AreAtoms, IsList, IsMessage, IsKept, IsConstant, HasWords, IsSend, IsSaid, IsHeard}
+use Rattle.pd_guards.specs.Order.{HasFirst, IsName, IsAtom, AreAtoms, IsList, IsMessage, IsKept, IsConstant, HasWords, IsSend, IsSaid, IsHeard}
 use Rattle.pd_guards.proofs.FactLemmas.{either, all-append, all-take, all-drop, all-set}
-use Rattle.pd_guards.proofs.NumberLemmas.{near_pos, least_in}
+use Rattle.pd_guards.proofs.NumberLemmas.{near_pos}
 use Rattle.pd_guards.proofs.BaseLemmas.{IsSort, sort_in, list_tail, cut_in, passed_on, bang_sent, number_sent, symbol_sent, list_sent, message_sent, marked_sent, with_selector, float_of, silence, quietly, only, bang_said, number_said, passed_said, deafness, cut_said}
 
 -- arguments in order, and what is said

@@ -1,6 +1,5 @@
 -- Where a table goes on, what is in order stays in order.
-use Rattle.std.proofs.Common.{◌≡◌, ℕ, ℤ, ◌+◌, ◌<◌, ◌≤◌, List, [], ◌∷◌, ◌++◌, length, Option, Some, None, IfSome, ap, ◌∙◌, arith, length-append}
-use Rattle.std.specs.List.{AllByRecursion}
+use Rattle.std.proofs.Common.{◌≡◌, ℕ, ◌+◌, ◌≤◌, List, length, Option, IfSome, ap, ◌∙◌, arith, length-append}
 use Rattle.pd_atom.specs.Names.{Names, Extends}
 use Rattle.pd_atom.specs.Atoms.{IsOf}
 use Rattle.pd_atom.specs.declared.Atom.{Atom}
@@ -19,7 +18,7 @@ use Rattle.pd_kind.specs.declared.messages.Notice.{Notice}
 use Rattle.pd_kind.specs.declared.messages.Notice.TheVariants as notice
 use Rattle.pd_kind.specs.Rows.{Send}
 use Rattle.pd_kind.specs.Said.{Said}
-use Rattle.pd_guards.specs.Order.{HasFirst, IsName, IsAtom, AreAtoms, IsList, IsMessage, IsKept, HasWords, IsGlue, IsPanel, IsKind, IsTarget, IsSend, IsNotice, IsSaid}
+use Rattle.pd_guards.specs.Order.{HasFirst, IsName, IsAtom, AreAtoms, IsList, IsMessage, IsKept, HasWords, IsPanel, IsKind, IsTarget, IsSend, IsNotice, IsSaid}
 use Rattle.pd_guards.proofs.FactLemmas.{all-weaker, some-weaker}
 
 pub longer : (old new : Names) → Extends old new → length old ≤ length new

@@ -1,5 +1,5 @@
 -- Atoms that are expanded, and atoms that are settled.
-use Rattle.std.proofs.Common.{◌≡◌, ℕ, ℤ, pos, zero, suc, ◌+◌, ◌*◌, ◌<◌, ◌≤◌, Bool, true, false, cond, nat_lt, List, [], ◌∷◌, ◌++◌, length, slice_get, position, bytes_eq, Option, Some, None, IfSome, option_map, Result, Ok, Err, IfOk, refl, sym, ap, subst, ◌∙◌, arith, append-nil, length-append}
+use Rattle.std.proofs.Common.{◌≡◌, ℕ, pos, zero, suc, ◌*◌, nat_lt, List, [], ◌∷◌, ◌++◌, length, position, bytes_eq, Option, Some, None, IfSome, option_map, Result, Ok, Err, IfOk, refl, sym, ap, subst, ◌∙◌, arith, append-nil, length-append}
 use Rattle.pd_num.specs.Reading.{number_at}
 use Rattle.pd_atom.specs.Names.{Names, Extends, Outcome, longest, most, name_of, given, refused, placed, interned, answer_map}
 use Rattle.pd_atom.specs.Atoms.{IsOf, HoldsNumber, spelled}

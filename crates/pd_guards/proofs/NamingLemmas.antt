@@ -1,5 +1,5 @@
 -- The kind that a text names is in order, and so is what a box of it keeps at first.
-use Rattle.std.proofs.Common.{◌≡◌, ℕ, ℤ, pos, zero, suc, ◌+◌, ◌*◌, ◌/◌, ◌<◌, ◌≤◌, ◌^◌, max, Bool, true, false, cond, ◌==◌, List, [], ◌∷◌, length, map, replicate, slice_get, Option, Some, None, IfSome, option_map, codes, bytes_eq, refl, ap, subst, arith, rules}
+use Rattle.std.proofs.Common.{◌≡◌, ℕ, ℤ, pos, zero, suc, ◌<◌, ◌≤◌, ◌^◌, Bool, cond, ◌==◌, List, [], ◌∷◌, length, map, replicate, slice_get, Option, Some, None, IfSome, option_map, codes, bytes_eq, subst, arith, rules}
 use Rattle.std.proofs.lemmas.List.{length-replicate, length-map}
 use Rattle.pd_kind.specs.declared.kinds.Spelling.{Spelling}
 use Rattle.pd_kind.specs.declared.kinds.Spelling.TheVariants.{Whole, Short}
@@ -9,7 +9,6 @@ use Rattle.pd_atom.specs.Names.{Names, name_of}
 use Rattle.pd_atom.specs.declared.Atom.{Atom}
 use Rattle.pd_atom.specs.declared.Atom.TheVariants as atom
 use Rattle.pd_clock.specs.declared.times.Rate.{Rate}
-use Rattle.pd_num.specs.Scale.{whole_of}
 use Rattle.pd_kind.specs.declared.kinds.Kind.{Kind}
 use Rattle.pd_kind.specs.declared.kinds.Kind.TheVariants as kind
 use Rattle.pd_kind.specs.declared.kinds.Named.{Named}
@@ -19,7 +18,6 @@ use Rattle.pd_kind.specs.declared.kinds.Glue.{Glue}
 use Rattle.pd_kind.specs.declared.kinds.Glue.TheVariants as glue
 use Rattle.pd_kind.specs.declared.kinds.Slot.{Slot}
 use Rattle.pd_kind.specs.declared.kinds.Slot.TheVariants as slot
-use Rattle.pd_kind.specs.declared.kinds.Trigger.{Trigger}
 use Rattle.pd_kind.specs.declared.kinds.Trigger.TheVariants as trigger
 use Rattle.pd_kind.specs.declared.kinds.Tone.{Tone}
 use Rattle.pd_kind.specs.declared.kinds.Tone.TheVariants as tone
@@ -31,11 +29,12 @@ use Rattle.pd_kind.specs.declared.states.State.{State}
 use Rattle.pd_kind.specs.declared.states.State.TheVariants as state
 use Rattle.pd_kind.specs.Ports.{IsSmallGlue}
 use Rattle.pd_kind.specs.Tables.{started}
-use Rattle.pd_kind.specs.States.{units_of, table_size, slot_start, or_one, arith_start, glue_start, tone_start, signal_start, panel_start, start_of, glue_size, size_of}
-use Rattle.pd_kind.specs.Naming.{first_of, is_argument, arguments_of, number_at, name_at, symbol_in, operation_named, comparison_named, division_named, arith_named, plain_named, timed_named, or_symbol, addressed_named, trigger_letter, first_letter, trigger_of, slot_of, or_default, triggers_of, slots_of, choices_of, listed_named, tone_named, signal_named, unless_empty, panel_name, button_of, toggle_of, panel_named, glue_named, sounding_kind, control_kind, simple_kind, listed_kind, is_whole_text, word_kind, kind_or_abstraction, begins_foreign, list_of_word, list_of, list_named, object_named, named_by, channels_of}
-use Rattle.pd_guards.specs.Order.{IsNumber, HasFirst, IsName, IsAtom, AreAtoms, IsList, IsTable, IsKept, IsConstant, HasWords, IsGlue, IsPanel, IsKind}
+use Rattle.pd_kind.specs.States.{table_size, slot_start, or_one, arith_start, glue_start, tone_start, signal_start, panel_start, glue_size}
+use Rattle.pd_kind.specs.Naming.{first_of, is_argument, arguments_of, number_at, name_at, symbol_in, operation_named, comparison_named, division_named, arith_named, plain_named, timed_named, or_symbol, addressed_named, trigger_letter, first_letter, trigger_of, slot_of, or_default, triggers_of, slots_of, choices_of, listed_named, tone_named, signal_named, unless_empty, panel_name, panel_named, glue_named, sounding_kind, control_kind, simple_kind, listed_kind, is_whole_text, word_kind, kind_or_abstraction, begins_foreign, list_of_word, list_of, list_named, object_named, named_by, channels_of}
+use Rattle.pd_guards.specs.Order.{IsNumber, HasFirst, IsName, IsAtom, AreAtoms, IsList, IsTable, IsKept, IsConstant, HasWords, IsGlue, IsPanel}
+use Rattle.pd_guards.specs.Growing.{IsBorn}
 use Rattle.pd_guards.proofs.FactLemmas.{either, all-at, all-map}
-use Rattle.pd_guards.proofs.NumberLemmas.{near_pos, far, whole_in, least_in}
+use Rattle.pd_guards.proofs.NumberLemmas.{near_pos, whole_in, least_in}
 use Rattle.pd_guards.proofs.BaseLemmas.{no_number, stored_in, list_tail}
 
 -- what holds of a value, where there is one
@@ -70,11 +69,6 @@ IsArithBorn names a = IsKept names (arith_start a)
 record IsPanelBorn (names : Names) (p : Panel) : Type 0 where
   panel : IsPanel names p
   kept : IsKept names (panel_start p)
-
--- the same of any kind, where its table isn't too long
-pub record IsBorn (names : Names) (k : Kind) : Type 0 where
-  pub kind : IsKind names k
-  pub kept : (rate : Rate) → size_of k rate < 2 ^ 32 → IsKept names (start_of k rate)
 
 glue_born : (names : Names) (g : Glue) → IsGlueBorn names g → IsBorn names (kind.Glue g)
 glue_born names g h = record { kind = h.glue; kept = h.kept }
@@ -191,27 +185,27 @@ module _ (names : Names) (first : HasFirst names) where
     ariths : Holds (IsArithBorn names) (arith_named word args)
     unfolding IsArithBorn
     ariths = first_in (operation_named word args) (first_of (comparison_named word args) (division_named word args))
-      (pick word (codes "+") _ _ (no_number, num0)
-      (pick word (codes "-") _ _ (no_number, num0)
-      (pick word (codes "*") _ _ (no_number, num0)
-      (pick word (codes "/") _ _ (no_number, num0)
-      (pick word (codes "min") _ _ (no_number, num0)
-      (pick word (codes "max") _ _ (no_number, num0) none))))))
-      (first_in (comparison_named word args) (division_named word args)
-      (pick word (codes "==") _ _ (no_number, num0)
-      (pick word (codes "!=") _ _ (no_number, num0)
-      (pick word (codes ">") _ _ (no_number, num0)
-      (pick word (codes "<") _ _ (no_number, num0)
-      (pick word (codes ">=") _ _ (no_number, num0)
-      (pick word (codes "<=") _ _ (no_number, num0)
-      (pick word (codes "&&") _ _ (no_number, num0)
-      (pick word (codes "||") _ _ (no_number, num0) none))))))))
-      (pick word (codes "%") _ _ (no_number, num0)
-      (pick word (codes "mod") _ _ (no_number, num0)
-      (pick word (codes "div") _ _ (no_number, num0)
-      (pick word (codes "abs") _ _ tt
-      (pick word (codes "mtof") _ _ tt
-      (pick word (codes "clip") _ _ (num0, num 1 (pos 0) no_number) none)))))))
+        (pick word (codes "+") _ _ (no_number, num0)
+        (pick word (codes "-") _ _ (no_number, num0)
+        (pick word (codes "*") _ _ (no_number, num0)
+        (pick word (codes "/") _ _ (no_number, num0)
+        (pick word (codes "min") _ _ (no_number, num0)
+        (pick word (codes "max") _ _ (no_number, num0) none))))))
+        (first_in (comparison_named word args) (division_named word args)
+        (pick word (codes "==") _ _ (no_number, num0)
+        (pick word (codes "!=") _ _ (no_number, num0)
+        (pick word (codes ">") _ _ (no_number, num0)
+        (pick word (codes "<") _ _ (no_number, num0)
+        (pick word (codes ">=") _ _ (no_number, num0)
+        (pick word (codes "<=") _ _ (no_number, num0)
+        (pick word (codes "&&") _ _ (no_number, num0)
+        (pick word (codes "||") _ _ (no_number, num0) none))))))))
+        (pick word (codes "%") _ _ (no_number, num0)
+        (pick word (codes "mod") _ _ (no_number, num0)
+        (pick word (codes "div") _ _ (no_number, num0)
+        (pick word (codes "abs") _ _ tt
+        (pick word (codes "mtof") _ _ tt
+        (pick word (codes "clip") _ _ (num0, num 1 (pos 0) no_number) none)))))))
 
     -- the control objects
     plain_kept : (g : Glue) → IsSmallGlue g → HasWords names g → ((rate : Rate) → glue_size g < 2 ^ 32 → IsKept names (glue_start g rate)) → IsGlueBorn names g
@@ -219,42 +213,42 @@ module _ (names : Names) (first : HasFirst names) where
 
     plains : Holds (IsGlueBorn names) (plain_named word args)
     plains =
-      (pick word (codes "bang") _ _ (plain_kept _ tt tt (λ rate l. tt))
-      (pick word (codes "b") _ _ (plain_kept _ tt tt (λ rate l. tt))
-      (pick word (codes "float") _ _ (plain_kept _ tt tt (λ rate l. num0))
-      (pick word (codes "f") _ _ (plain_kept _ tt tt (λ rate l. num0))
-      (pick word (codes "int") _ _ (plain_kept _ tt tt (λ rate l. whole_in _ num0))
-      (pick word (codes "i") _ _ (plain_kept _ tt tt (λ rate l. whole_in _ num0))
-      (pick word (codes "moses") _ _ (plain_kept _ tt tt (λ rate l. tt))
-      (pick word (codes "spigot") _ _ (plain_kept _ tt tt (λ rate l. tt))
-      (pick word (codes "swap") _ _ (plain_kept _ tt tt (λ rate l. (no_number, num0)))
-      (pick word (codes "change") _ _ (plain_kept _ tt tt (λ rate l. num0)) none))))))))))
+        (pick word (codes "bang") _ _ (plain_kept _ tt tt (λ rate l. tt))
+        (pick word (codes "b") _ _ (plain_kept _ tt tt (λ rate l. tt))
+        (pick word (codes "float") _ _ (plain_kept _ tt tt (λ rate l. num0))
+        (pick word (codes "f") _ _ (plain_kept _ tt tt (λ rate l. num0))
+        (pick word (codes "int") _ _ (plain_kept _ tt tt (λ rate l. whole_in _ num0))
+        (pick word (codes "i") _ _ (plain_kept _ tt tt (λ rate l. whole_in _ num0))
+        (pick word (codes "moses") _ _ (plain_kept _ tt tt (λ rate l. tt))
+        (pick word (codes "spigot") _ _ (plain_kept _ tt tt (λ rate l. tt))
+        (pick word (codes "swap") _ _ (plain_kept _ tt tt (λ rate l. (no_number, num0)))
+        (pick word (codes "change") _ _ (plain_kept _ tt tt (λ rate l. num0)) none))))))))))
 
     timed : Holds (IsGlueBorn names) (timed_named word args)
     timed =
-      (pick word (codes "until") _ _ (plain_kept _ tt tt (λ rate l. tt))
-      (pick word (codes "loadbang") _ _ (plain_kept _ tt tt (λ rate l. tt))
-      (pick word (codes "metro") _ _ (plain_kept _ tt tt (λ rate l. tt))
-      (pick word (codes "delay") _ _ (plain_kept _ tt tt (λ rate l. tt))
-      (pick word (codes "del") _ _ (plain_kept _ tt tt (λ rate l. tt))
-      (pick word (codes "timer") _ _ (plain_kept _ tt tt (λ rate l. tt))
-      (pick word (codes "random") _ _ (plain_kept _ tt tt (λ rate l. (omega arith, least_in 1 _ (omega arith) (num 0 (pos 1000000) (near_pos 1000000 (omega arith))))))
-      (pick word (codes "inlet") _ _ (plain_kept _ tt tt (λ rate l. tt))
-      (pick word (codes "outlet") _ _ (plain_kept _ tt tt (λ rate l. tt)) none)))))))))
+        (pick word (codes "until") _ _ (plain_kept _ tt tt (λ rate l. tt))
+        (pick word (codes "loadbang") _ _ (plain_kept _ tt tt (λ rate l. tt))
+        (pick word (codes "metro") _ _ (plain_kept _ tt tt (λ rate l. tt))
+        (pick word (codes "delay") _ _ (plain_kept _ tt tt (λ rate l. tt))
+        (pick word (codes "del") _ _ (plain_kept _ tt tt (λ rate l. tt))
+        (pick word (codes "timer") _ _ (plain_kept _ tt tt (λ rate l. tt))
+        (pick word (codes "random") _ _ (plain_kept _ tt tt (λ rate l. (omega arith, least_in 1 _ (omega arith) (num 0 (pos 1000000) (near_pos 1000000 (omega arith))))))
+        (pick word (codes "inlet") _ _ (plain_kept _ tt tt (λ rate l. tt))
+        (pick word (codes "outlet") _ _ (plain_kept _ tt tt (λ rate l. tt)) none)))))))))
 
     table_born : (n : ℕ) → n < 2 ^ 32 → IsTable (replicate n (pos 0))
     table_born n l = record { few = omega (arith, length-replicate n (pos 0)); numbers = all_same n }
 
     addressed : Holds (IsGlueBorn names) (addressed_named word args)
     addressed =
-      (pick word (codes "symbol") _ _ (plain_kept _ tt tt (λ rate l. or_symbol-in (name_at args 0) (name_there 0)))
-      (pick word (codes "send") _ _ (plain_kept _ tt tt (λ rate l. name_there 0))
-      (pick word (codes "s") _ _ (plain_kept _ tt tt (λ rate l. name_there 0))
-      (pick word (codes "receive") _ _ (plain_kept _ tt tt (λ rate l. tt))
-      (pick word (codes "r") _ _ (plain_kept _ tt tt (λ rate l. tt))
-      (pick word (codes "table") _ _ (plain_kept _ tt tt (λ rate l. table_born (table_size (number_at args 1 (pos 100000000))) l))
-      (pick word (codes "tabread") _ _ (plain_kept _ tt tt (λ rate l. tt))
-      (pick word (codes "tabwrite") _ _ (plain_kept _ tt tt (λ rate l. tt)) none))))))))
+        (pick word (codes "symbol") _ _ (plain_kept _ tt tt (λ rate l. or_symbol-in (name_at args 0) (name_there 0)))
+        (pick word (codes "send") _ _ (plain_kept _ tt tt (λ rate l. name_there 0))
+        (pick word (codes "s") _ _ (plain_kept _ tt tt (λ rate l. name_there 0))
+        (pick word (codes "receive") _ _ (plain_kept _ tt tt (λ rate l. tt))
+        (pick word (codes "r") _ _ (plain_kept _ tt tt (λ rate l. tt))
+        (pick word (codes "table") _ _ (plain_kept _ tt tt (λ rate l. table_born (table_size (number_at args 1 (pos 100000000))) l))
+        (pick word (codes "tabread") _ _ (plain_kept _ tt tt (λ rate l. tt))
+        (pick word (codes "tabwrite") _ _ (plain_kept _ tt tt (λ rate l. tt)) none))))))))
 
     triggers_few : length (triggers_of names args) ≤ 1024
     triggers_few = let l : length args ≤ 1024 = given.few in default_few (trigger.Bang ∷ trigger.Bang ∷ []) (map (trigger_of names) args) (omega arith) (omega (arith, length-map args (trigger_of names)))
@@ -283,14 +277,14 @@ module _ (names : Names) (first : HasFirst names) where
 
     lists : Holds (IsGlueBorn names) (listed_named names word args)
     lists =
-      (pick word (codes "trigger") _ _ (trigger_born Whole)
-      (pick word (codes "t") _ _ (trigger_born Short)
-      (pick word (codes "pack") _ _ (plain_kept _ slots_few tt (λ rate l. slots_kept))
-      (pick word (codes "unpack") _ _ (plain_kept _ slots_few tt (λ rate l. tt))
-      (pick word (codes "route") _ _ (plain_kept _ choices_in.few tt (λ rate l. choices_in))
-      (pick word (codes "select") _ _ (select_born Whole)
-      (pick word (codes "sel") _ _ (select_born Short)
-      (pick word (codes "print") _ _ (plain_kept _ given.few given.all (λ rate l. tt)) none))))))))
+        (pick word (codes "trigger") _ _ (trigger_born Whole)
+        (pick word (codes "t") _ _ (trigger_born Short)
+        (pick word (codes "pack") _ _ (plain_kept _ slots_few tt (λ rate l. slots_kept))
+        (pick word (codes "unpack") _ _ (plain_kept _ slots_few tt (λ rate l. tt))
+        (pick word (codes "route") _ _ (plain_kept _ choices_in.few tt (λ rate l. choices_in))
+        (pick word (codes "select") _ _ (select_born Whole)
+        (pick word (codes "sel") _ _ (select_born Short)
+        (pick word (codes "print") _ _ (plain_kept _ given.few given.all (λ rate l. tt)) none))))))))
 
     -- `bng` and `tgl`
     unless_empty-in : (o : Option ℕ) → IfSome o (IsName names) → IfSome (unless_empty names o) (IsName names)
@@ -305,8 +299,8 @@ module _ (names : Names) (first : HasFirst names) where
 
     panels : (whole : Bool) → Holds (IsPanelBorn names) (panel_named names word args whole)
     panels whole =
-      (pick word (codes "bng") _ _ (record { panel = panel_there 4; kept = tt })
-      (pick word (codes "tgl") _ _ (record { panel = panel_there 2; kept = (num 12 (pos 0) no_number, or_one-in (number_at args 13 (pos 0)) (num 13 (pos 0) no_number)) }) none))
+        (pick word (codes "bng") _ _ (record { panel = panel_there 4; kept = tt })
+        (pick word (codes "tgl") _ _ (record { panel = panel_there 2; kept = (num 12 (pos 0) no_number, or_one-in (number_at args 13 (pos 0)) (num 13 (pos 0) no_number)) }) none))
 
     simple_in : Holds (IsBorn names) (simple_kind word args)
     unfolding simple_kind

@@ -1,14 +1,12 @@
 -- What the objects compute is in the range of numbers.
-use Rattle.std.proofs.Common.{◌≡◌, ℕ, ℤ, pos, negsuc, neg_ℤ, ◌*ℤ◌, zero, suc, ◌+◌, ◌-◌, ◌*◌, ◌/◌, ◌%◌, ◌^◌, ◌<◌, ◌≤◌, ◌≤ℤ◌, min, max, unsigned_abs, Bool, true, false, cond, List, [], ◌∷◌, length, slice_index, slice_index_or, Option, Some, None, IfSome, refl, sym, ap, subst, ◌∙◌, arith, rules}
+use Rattle.std.proofs.Common.{◌≡◌, ℕ, ℤ, pos, negsuc, neg_ℤ, zero, suc, ◌*◌, ◌/◌, ◌^◌, ◌<◌, ◌≤◌, ◌≤ℤ◌, min, max, unsigned_abs, List, [], ◌∷◌, slice_index_or, refl, arith, rules}
 use Rattle.std.proofs.lemmas.Int.{ints, unsigned_abs-mul}
 use Rattle.std.proofs.Math.Nat.{mul-le-mul_left}
-use Rattle.std.specs.Prelude.{int_div, int_rem, int_lt}
-use Rattle.std.specs.Int.{int_div_euclid, int_rem_euclid}
+use Rattle.std.specs.Prelude.{int_div}
 use Rattle.std.specs.List.{AllByRecursion}
-use Rattle.pd_num.specs.Scale.{millionths, billionths, IsInRange, saturated, whole_of, number_of}
+use Rattle.pd_num.specs.Scale.{billionths, IsInRange, saturated, whole_of, number_of}
 use Rattle.pd_kind.specs.States.{units_of, whole_at_least}
-use Rattle.pd_guards.specs.Order.{IsNumber, IsTable}
-use Rattle.pd_guards.proofs.FactLemmas.{either}
+use Rattle.pd_guards.specs.Order.{IsNumber}
 
 pub near : (z : ℤ) → unsigned_abs z ≤ 1000000000000000 → IsNumber z
 near (pos n) h = (search rules, search rules)

@@ -1,5 +1,5 @@
 -- `bng` and `tgl` keep and say what is in order.
-use Rattle.std.proofs.Common.{ℕ, ℤ, pos, ◌<◌, ◌≤◌, Bool, List, [], ◌∷◌, slice_get, Option, Some, None, IfSome, codes, arith}
+use Rattle.std.proofs.Common.{ℕ, ℤ, pos, Bool, List, [], ◌∷◌, slice_get, Option, Some, None, IfSome, codes, arith}
 use Rattle.std.specs.List.{AllByRecursion}
 use Rattle.pd_atom.specs.Names.{Names}
 use Rattle.pd_atom.specs.declared.Atom.{Atom}
@@ -16,7 +16,7 @@ use Rattle.pd_kind.specs.declared.states.State.TheVariants as state
 use Rattle.pd_kind.specs.Hearing.{first_sort}
 use Rattle.pd_kind.specs.Messages.{sort_of}
 use Rattle.pd_kind.specs.Said.{send_to}
-use Rattle.pd_panel.specs.Rows.{is_called, is_zero, to_name, shown, bang_shown, number_shown, flipped, toggle_set, toggle_nonzero, toggle_other, turned, toggle_hot, toggle_row, panel_row, heard, panel_loaded, loaded}
+use Rattle.pd_panel.specs.Rows.{is_called, is_zero, to_name, shown, bang_shown, number_shown, flipped, toggle_set, toggle_nonzero, toggle_other, turned, toggle_hot, panel_row, heard, panel_loaded, loaded}
 use Rattle.pd_guards.specs.Order.{IsNumber, HasFirst, IsName, IsAtom, IsMessage, IsKept, IsPanel, IsKind, IsSend, IsSaid, IsHeard}
 use Rattle.pd_guards.proofs.FactLemmas.{either, all-at}
 use Rattle.pd_guards.proofs.BaseLemmas.{no_number, IsSort, sort_in, first_in, one, nothing, passed_on, silence, quietly, only, deafness, deaf_told}

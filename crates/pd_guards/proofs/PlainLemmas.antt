@@ -1,5 +1,5 @@
 -- The plain control objects keep and say what is in order.
-use Rattle.std.proofs.Common.{ℕ, ℤ, ◌<◌, ◌≤◌, List, [], ◌∷◌, Option, Some, None, IfSome}
+use Rattle.std.proofs.Common.{ℕ, ℤ, List, [], Option, IfSome}
 use Rattle.pd_atom.specs.Names.{Names}
 use Rattle.pd_atom.specs.declared.Atom.{Atom}
 use Rattle.pd_kind.specs.declared.kinds.Glue.{Glue}
@@ -9,7 +9,7 @@ use Rattle.pd_kind.specs.declared.states.State.{State}
 use Rattle.pd_kind.specs.declared.states.State.TheVariants as state
 use Rattle.pd_plain.specs.Values.{box_send_name}
 use Rattle.pd_plain.specs.Rows.{value_row, gate_row, timed_row, table_row, plain_row, fired, resumed}
-use Rattle.pd_guards.specs.Order.{HasFirst, AreAtoms, HasWords, IsMessage, IsTable, IsKept, IsSaid, IsHeard}
+use Rattle.pd_guards.specs.Order.{HasFirst, HasWords, IsMessage, IsTable, IsKept, IsSaid, IsHeard}
 use Rattle.pd_guards.proofs.BaseLemmas.{silence, quietly, bang_said, passed_said}
 use Rattle.pd_guards.proofs.ValueLemmas.{float_in, int_in, symbol_in_row, moses_in, swap_in, spigot_in, change_in, send_in, float_box_in, symbol_box_in, box_name}
 use Rattle.pd_guards.proofs.TimedLemmas.{with_deed, until_in, resumed_in, metro_said, metro_in, delay_in, timer_in, random_in, tabread_in, tabwrite_in}

@@ -1,5 +1,5 @@
 -- Two ways to do tasks that agree on what is in order, where what is in order stays so, give the same.
-use Rattle.std.proofs.Common.{◌≡◌, ℕ, zero, suc, ◌-◌, Bool, true, false, cond, List, [], ◌∷◌, ◌++◌, refl, sym, ap, ◌∙◌}
+use Rattle.std.proofs.Common.{◌≡◌, ℕ, zero, suc, ◌-◌, Bool, true, cond, List, [], ◌∷◌, ◌++◌, refl, ap, ◌∙◌}
 use Rattle.std.specs.List.{AllByRecursion}
 use Rattle.pd_turns.specs.Turns.{Rules, World, causes, cost, acted, cut_off, by_budget, if_allowed, each, performed, finished, all_finished}
 use Rattle.pd_guards.proofs.FactLemmas.{either, all-weaker}

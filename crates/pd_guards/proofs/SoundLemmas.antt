@@ -1,5 +1,5 @@
 -- The signal objects keep and say what is in order.
-use Rattle.std.proofs.Common.{ℕ, ℤ, zero, suc, ◌<◌, ◌≤◌, ◌==◌, Bool, List, [], ◌∷◌, drop, codes, bytes_eq, arith}
+use Rattle.std.proofs.Common.{ℕ, ℤ, zero, suc, ◌==◌, List, [], ◌∷◌, drop, codes, bytes_eq, arith}
 use Rattle.pd_num.specs.Scale.{number_of}
 use Rattle.pd_atom.specs.Names.{Names, name_of}
 use Rattle.pd_atom.specs.declared.Atom.{Atom}

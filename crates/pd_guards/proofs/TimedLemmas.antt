@@ -1,5 +1,5 @@
 -- The objects of time and of chance, `until`, and those that read and write tables.
-use Rattle.std.proofs.Common.{◌≡◌, ℕ, ℤ, pos, zero, suc, min, unsigned_abs, ◌+◌, ◌-◌, ◌*◌, ◌/◌, ◌%◌, ◌^◌, ◌<◌, ◌≤◌, Bool, true, false, ◌==◌, List, [], ◌∷◌, Option, Some, None, IfSome, codes, arith}
+use Rattle.std.proofs.Common.{ℕ, ℤ, zero, suc, unsigned_abs, ◌^◌, ◌<◌, Bool, true, false, ◌==◌, List, [], ◌∷◌, Option, Some, None, IfSome, codes, arith}
 use Rattle.std.specs.List.{AllByRecursion}
 use Rattle.pd_num.specs.Scale.{whole_of}
 use Rattle.pd_atom.specs.Names.{Names}
@@ -13,7 +13,7 @@ use Rattle.pd_kind.specs.declared.messages.Target.TheVariants as target
 use Rattle.pd_kind.specs.declared.row_names.Row.TheVariants as row
 use Rattle.pd_kind.specs.Messages.{sort_of}
 use Rattle.pd_kind.specs.Rows.{Send}
-use Rattle.pd_kind.specs.Said.{silent, bang_to}
+use Rattle.pd_kind.specs.Said.{bang_to}
 use Rattle.pd_kind.specs.States.{whole_at_least}
 use Rattle.pd_kind.specs.Hearing.{first_sort, stored}
 use Rattle.pd_plain.specs.Values.{is_called}

@@ -1,5 +1,5 @@
 -- The objects that keep a value, and those that pass a message on.
-use Rattle.std.proofs.Common.{◌≡◌, ℕ, ℤ, pos, zero, suc, unsigned_abs, Bool, true, false, ◌==◌, ◌<◌, ◌≤◌, List, [], ◌∷◌, slice_get, Option, Some, None, IfSome, codes, bytes_eq, arith}
+use Rattle.std.proofs.Common.{ℕ, ℤ, unsigned_abs, ◌==◌, List, [], ◌∷◌, slice_get, Option, Some, None, IfSome, codes, bytes_eq, arith}
 use Rattle.std.specs.Ordering.{int_eq}
 use Rattle.std.specs.List.{AllByRecursion}
 use Rattle.pd_num.specs.Scale.{whole_of}
@@ -12,14 +12,13 @@ use Rattle.pd_kind.specs.declared.messages.Target.TheVariants as target
 use Rattle.pd_kind.specs.declared.row_names.Row.TheVariants as row
 use Rattle.pd_kind.specs.Messages.{sort_of}
 use Rattle.pd_kind.specs.Naming.{symbol_in, name_at}
-use Rattle.pd_kind.specs.Rows.{Send}
-use Rattle.pd_kind.specs.Said.{silent, sends_only, send_to, number_to}
-use Rattle.pd_kind.specs.Hearing.{first_sort, told, stored}
+use Rattle.pd_kind.specs.Said.{send_to, number_to}
+use Rattle.pd_kind.specs.Hearing.{first_sort, stored}
 use Rattle.pd_plain.specs.Values.{float_hot, float_cold, float_row, int_hot, int_cold, int_row, symbol_hot, symbol_cold, symbol_row, moses_outlet, moses_hot, moses_cold, moses_row, spigot_cold, spigot_row, swapped, swap_hot, swap_cold, swap_row, changed, change_set, change_other, change_hot, change_row, to_name, shown, unless_dash, box_send_name, float_box_set, float_box_other, float_box_hot, float_box_row, symbol_box_set, symbol_box_other, symbol_box_hot, symbol_box_row, send_cold, send_row, is_called}
-use Rattle.pd_guards.specs.Order.{IsNumber, HasFirst, IsName, IsAtom, AreAtoms, IsMessage, IsList, IsSend, IsSaid, IsHeard}
+use Rattle.pd_guards.specs.Order.{IsNumber, HasFirst, IsName, IsAtom, AreAtoms, IsMessage, IsSend, IsSaid, IsHeard}
 use Rattle.pd_guards.proofs.FactLemmas.{either, all-at}
 use Rattle.pd_guards.proofs.NumberLemmas.{whole_in}
-use Rattle.pd_guards.proofs.BaseLemmas.{IsSort, sort_in, first_in, stored_in, sent, passed_on, number_sent, silence, only, one, nothing, bang_said, number_said, symbol_said, passed_said, deafness, deaf_told}
+use Rattle.pd_guards.proofs.BaseLemmas.{IsSort, sort_in, first_in, stored_in, passed_on, number_sent, silence, only, one, number_said, symbol_said, passed_said, deafness, deaf_told}
 
 module _ (names : Names) (first : HasFirst names) where
   float_hot-in : (v : ℤ) (selector : ℕ) (s : Sort) → IsNumber v → IsName names selector → IsSort names first s → IsHeard names (float_hot v selector s)

@@ -1,5 +1,5 @@
 -- Over a whole delivery all stays in order, and nothing is passed over.
-use Rattle.std.proofs.Common.{◌≡◌, ℕ, ℤ, suc, ◌+◌, ◌^◌, ◌<◌, ◌≤◌, ◌==◌, Bool, true, false, cond, ◌&&◌, nat_le, List, [], ◌∷◌, ◌++◌, length, map, slice_set, Option, Some, None, IfSome, option_map, refl, sym, ap, subst, ◌∙◌, arith}
+use Rattle.std.proofs.Common.{◌≡◌, ℕ, ℤ, ◌+◌, ◌^◌, ◌<◌, Bool, true, false, cond, ◌&&◌, nat_le, List, [], ◌∷◌, ◌++◌, length, map, Option, Some, None, IfSome, option_map, refl, sym, ap, subst, ◌∙◌, arith}
 use Rattle.std.proofs.Math.ListN.{length-set}
 use Rattle.std.specs.List.{AllByRecursion, flat_map}
 use Rattle.pd_atom.specs.Names.{Names, Extends, name_of}
@@ -17,7 +17,6 @@ use Rattle.pd_kind.specs.declared.messages.Target.{Target}
 use Rattle.pd_kind.specs.declared.messages.Target.TheVariants as target
 use Rattle.pd_kind.specs.declared.states.State.{State}
 use Rattle.pd_kind.specs.declared.states.State.TheVariants as state
-use Rattle.pd_kind.specs.Rows.{Send}
 use Rattle.pd_kind.specs.Said.{Said}
 use Rattle.pd_kind.specs.Tables.{with_value}
 use Rattle.pd_bind.specs.declared.owners.Owner.{Owner}
@@ -32,21 +31,21 @@ use Rattle.pd_say.specs.Lines.{text_of, notice_line, print_line}
 use Rattle.pd_turns.specs.Turns.{World}
 use Rattle.pd_walk.specs.declared.walker.Start.{Start}
 use Rattle.pd_walk.specs.declared.walker.Start.TheVariants as start
-use Rattle.pd_walk.specs.Worlds.{Net, Kept, set_at}
-use Rattle.pd_walk.specs.Guards.{is_name, is_few, are_atoms, is_known}
+use Rattle.pd_walk.specs.Worlds.{Net, Kept}
+use Rattle.pd_walk.specs.Guards.{are_atoms}
 use Rattle.pd_walk.specs.Hearing.{Reply, heard_at, resumed_at, fired_at, loaded_at, table_owner, table_named}
-use Rattle.pd_walk.specs.Deeds.{later, with_clock, written_at, written, with_states, done, replied}
-use Rattle.pd_walk.specs.Tasks.{Task, Deliver, Ask, Resume, Nobody, delivery, end_of, along, owner_told, arrival, to_owners, unless_heard, to_name, wires_from, leads_out, sent_to, sent, sends_of, is_again, again_after, asked_for, notice_text, notices_text, words_printed, printed, glue_words, print_words, is_print, canvas_text, verb_in, is_near, path_in, queue_with, answer_text, asked_text, nobody_text, overflow_text, is_too_deep, kept_by, kept_after, said_by_box, said_at, caused, rules}
+use Rattle.pd_walk.specs.Deeds.{written_at, written, done, replied}
+use Rattle.pd_walk.specs.Tasks.{Task, Deliver, Ask, Resume, Nobody, delivery, end_of, owner_told, arrival, to_owners, unless_heard, to_name, wires_from, leads_out, sent_to, sent, sends_of, is_again, again_after, asked_for, notice_text, notices_text, words_printed, printed, glue_words, print_words, is_print, canvas_text, verb_in, is_near, path_in, queue_with, answer_text, asked_text, overflow_text, is_too_deep, kept_by, kept_after, said_by_box, said_at, caused, rules}
 use Rattle.pd_walk.specs.Outcome.{ran, after_deed, told_by, all_loaded, named_tasks, outcome}
-use Rattle.pd_guards.specs.Order.{IsNumber, HasFirst, IsName, AreAtoms, IsMessage, IsTable, IsKept, HasWords, IsKind, IsTarget, IsSend, IsDeed, IsNotice, IsSaid}
-use Rattle.pd_guards.specs.Worlds.{AreKept, AreKinds, IsInOrder, IsTask, IsReply, IsNamed, IsStart}
+use Rattle.pd_guards.specs.Order.{IsNumber, HasFirst, IsName, AreAtoms, IsMessage, IsKept, HasWords, IsKind, IsTarget, IsSend, IsDeed, IsNotice, IsSaid}
+use Rattle.pd_guards.specs.Worlds.{AreKept, AreKinds, IsInOrder, IsTask, IsReply, IsStart}
 use Rattle.pd_guards.specs.Freely as free
 use Rattle.pd_guards.specs.Freely.{kept_after as free_kept, said_at as free_said, caused as free_caused, heard_at as free_at, outcome as free_outcome}
 use Rattle.pd_guards.proofs.FactLemmas.{either, all-append, all-flat, all-set}
-use Rattle.pd_guards.proofs.MoreLemmas.{longer, first_more, name_more, message_more, kind_more, kept_more}
-use Rattle.pd_guards.proofs.GuardLemmas.{few_true, name_true, atoms_true, message_true, known_true}
+use Rattle.pd_guards.proofs.MoreLemmas.{longer, first_more, name_more, message_more, kind_more}
+use Rattle.pd_guards.proofs.GuardLemmas.{few_true, name_true, atoms_true, known_true}
 use Rattle.pd_guards.proofs.HearLemmas.{set_in, at_same, at_in, resumed_reply, clock_said, load_said}
-use Rattle.pd_guards.proofs.SameTurns.{Agree, After, Same, all_same}
+use Rattle.pd_guards.proofs.SameTurns.{Agree, Same, all_same}
 
 -- what a box asks for
 map_all : {A : Type 0} (names : Names) (f : A → Task) → ((x : A) → IsTask names (f x)) → (xs : List A) → AllByRecursion (IsTask names) (map f xs)
@@ -281,7 +280,14 @@ module _ (net : Net) (now : ℕ) where
 
   agreed : Agree (rules net now) (free.rules net now) (IsInOrder net) IsTaskAt
   agreed = record {
-    kept = kept_same; said = said_same; caused = caused_same; costs = costs_same; cut = refl; stays = stays_in; others = others_in; follow = follow_in;
+    kept = kept_same;
+    said = said_same;
+    caused = caused_same;
+    costs = costs_same;
+    cut = refl;
+    stays = stays_in;
+    others = others_in;
+    follow = follow_in;
   }
 
   -- runs of tasks

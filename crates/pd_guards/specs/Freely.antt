@@ -1,6 +1,6 @@
 -- The rules of messages where nothing is passed over: each box does with each message what its object's definition says. Only a `vline~`
 -- is still looked at, and how deep a canvas lies.
-use Rattle.std.specs.Prelude.{ℕ, ℤ, Bool, ◌+◌, List, [], ◌∷◌, ◌++◌, Option, Some, None, true, if◌then◌else◌}
+use Rattle.std.specs.Prelude.{ℕ, ℤ, Bool, List, [], ◌∷◌, ◌++◌, Option, Some, None, true, if◌then◌else◌}
 use Rattle.std.specs.List.{flat_map}
 use Rattle.pd_atom.specs.Names.{Names, name_of}
 use Rattle.pd_atom.specs.declared.Atom.{Atom}

@@ -1,3 +1,4 @@
 pub mod Order
 pub mod Worlds
 pub mod Freely
+pub mod Growing

@@ -1,6 +1,6 @@
 -- When messages, boxes and what boxes say are in order: names are of the table, lists have at most 1,024 atoms, and numbers are in their
 -- range.
-use Rattle.std.specs.Prelude.{ℕ, ℤ, ◌<◌, ◌≤◌, ◌^◌, List, [], length, Option, IfSome}
+use Rattle.std.specs.Prelude.{ℕ, ℤ, ◌<◌, ◌≤◌, ◌^◌, List, length, IfSome}
 use Rattle.std.specs.List.{AllByRecursion}
 use Rattle.pd_num.specs.Scale.{millionths, billionths, IsInRange}
 use Rattle.pd_atom.specs.Names.{Names, Extends}

@@ -1,6 +1,5 @@
 -- When what a patch keeps, tasks and what begins deliveries are in order.
 use Rattle.std.specs.Prelude.{ℕ, List, Option, IfSome}
-use Rattle.std.specs.List.{AllByRecursion}
 use Rattle.pd_atom.specs.Names.{Names, Extends}
 use Rattle.pd_atom.specs.declared.Atom.{Atom}
 use Rattle.pd_kind.specs.declared.states.State.{State}

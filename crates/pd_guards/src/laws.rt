@@ -7,14 +7,27 @@ ghost use Rattle.pd_kind.specs.declared.kinds.Kind.{Kind};
 ghost use Rattle.pd_kind.specs.declared.states.State.{State};
 ghost use Rattle.pd_kind.specs.Said.{Said};
 ghost use Rattle.pd_glue.specs.Rows.{resumed, fired};
+ghost use Rattle.pd_clock.specs.declared.times.Rate.{Rate};
+ghost use Rattle.pd_canvas.specs.Pages.{Page};
+ghost use Rattle.pd_canvas.specs.Proper.{IsSound, IsProper};
+ghost use Rattle.pd_library.specs.declared.answers.Answer.{Answer};
+ghost use Rattle.pd_library.specs.Files.{answer_in};
+ghost use Rattle.pd_gather.specs.Gather.{AreProper};
+ghost use Rattle.pd_tree.specs.Trees.{Tree};
+ghost use Rattle.pd_growth.specs.Steps.{Stock, beginning, gives};
+ghost use Rattle.pd_growth.specs.Growth.{grown};
+ghost use Rattle.pd_patch.specs.declared.patch.Patch.{Patch};
+ghost use Rattle.pd_patch.specs.Grown.{IsFresh, IsTree};
+ghost use Rattle.pd_queue.specs.Queue.{Waiting};
 ghost use Rattle.pd_turns.specs.Turns.{World};
 ghost use Rattle.pd_walk.specs.declared.walker.Start.{Start};
-ghost use Rattle.pd_walk.specs.Worlds.{Net, Kept};
+ghost use Rattle.pd_walk.specs.Worlds.{Net, Kept, net_of, kept_of};
 ghost use Rattle.pd_walk.specs.Guards.{is_message, is_table, is_small, is_known};
 ghost use Rattle.pd_walk.specs.Hearing.{heard_kind, heard_at, resumed_at, fired_at, loaded_at};
 ghost use Rattle.pd_walk.specs.Outcome.{outcome};
 ghost use Rattle.pd_guards.specs.Order.{HasFirst, IsMessage, IsTable, IsKept, IsKind, IsSaid, IsHeard, IsHearing};
 ghost use Rattle.pd_guards.specs.Worlds.{AreKept, AreKinds, IsReply, IsInOrder, IsStart};
+ghost use Rattle.pd_guards.specs.Growing.{AreBorn, BoxesIn, LibraryIn, StockIn, IsOfTree};
 ghost use Rattle.pd_guards.specs.Freely.{heard_by as heard_freely, outcome as free_outcome};
 
 /// A box in order that hears a message in order keeps and says what is in order again, in a table of names that goes on. Nothing is
@@ -54,4 +67,21 @@ pub fn delivery_passes_nothing_over()
         outcome net now w s ≡ free_outcome net now w s }
     ensures order { (net : Net) (now : ℕ) (w : World Kept) (s : Start) → IsInOrder net w.kept → IsStart w.kept.names s →
         IsInOrder net (outcome net now w s).kept }
+{}
+
+/// The boxes of a tree that grows from documents in order are of kinds in order, and keep at first what is in order.
+pub fn what_grows_is_in_order()
+    ensures page { (names : Names) (p : Page) → IsSound names p → BoxesIn names p.boxes }
+    ensures library { (names : Names) (files : List (ℕ × Answer)) → AreProper names files → LibraryIn names (answer_in files) }
+    ensures stock { (names : Names) (n : ℕ) → HasFirst names → StockIn (beginning names n) }
+    ensures tree { (lib : ℕ → Option Answer) (name : List ℕ) (p : Page) (w v : Stock) (t : Tree) →
+        LibraryIn w.names lib → BoxesIn w.names p.boxes → StockIn w → grown lib name p w ≡ gives t v → AreBorn v.names t.boxes }
+{}
+
+/// A patch that has just grown is in order, where each of its boxes is of its tree: so its deliveries begin in order.
+pub fn grown_patches_are_in_order()
+    ensures { (files : List (ℕ × Answer)) (name : List ℕ) (root : Page) (before names : Names) (n : ℕ) (rate : Rate) (p : Patch) (queue : Waiting) →
+        HasFirst before → IsProper before root → AreProper before files →
+        (tree : IsTree p names rate (grown (answer_in files) name root (beginning before n))) → IsFresh p names name rate →
+        IsOfTree p tree.tree.boxes → IsInOrder (net_of p) (kept_of p names queue) }
 {}

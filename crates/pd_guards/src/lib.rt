@@ -3,4 +3,7 @@
 
 mod laws;
 
-pub use laws::{boxes_stay_in_order, delivery_passes_nothing_over, hearing_stays_in_order};
+pub use laws::{
+    boxes_stay_in_order, delivery_passes_nothing_over, grown_patches_are_in_order,
+    hearing_stays_in_order, what_grows_is_in_order,
+};
