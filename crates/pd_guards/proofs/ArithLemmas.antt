@@ -141,7 +141,7 @@ record IsPair (names : Names) (p : Pair) : Type 0 where
   right : IsNumber p.right
   said : IsSaid names p.said
 
-module _ (names : Names) (first : HasFirst names) where
+module _ (names : Names) (first : HasFirst names) (limit : ℕ) where
   pair_hot-in : (f : ℤ → ℤ → ℤ) (r : Row) (left right : ℤ) (selector : ℕ) (s : Sort) → Computes f → IsNumber left → IsNumber right → IsName names selector → IsSort names first s → IsPair names (hot_by f r left right selector s)
   unfolding Computes
   pair_hot-in f r left right selector (sort.Float z) k a b n h = record { left = h; right = b; said = number_said names first 0 (f z right) (k z right h b) }
@@ -186,10 +186,10 @@ module _ (names : Names) (first : HasFirst names) where
       function_heard-in f selector (first_sort (sort_of selector atoms) atoms) m.known
       (first_in names first (sort_of selector atoms) atoms (sort_in names first selector atoms m.list.all) m.list.all)
 
-  paired : (make : ℤ → ℤ → State) (p : Pair) → ((l r : ℤ) → IsNumber l → IsNumber r → IsKept names (make l r)) → IsPair names p → IsHeard names (with_pair make p)
+  paired : (make : ℤ → ℤ → State) (p : Pair) → ((l r : ℤ) → IsNumber l → IsNumber r → IsKept names limit (make l r)) → IsPair names p → IsHeard names limit (with_pair make p)
   paired make p k h = record { kept = k p.left p.right h.left h.right; said = h.said }
 
-  row_in : (a : Arith) (s : State) (inlet selector : ℕ) (atoms : List Atom) → IsKept names s → IsMessage names selector atoms → IsHeard names (arith_row a s inlet selector atoms)
+  row_in : (a : Arith) (s : State) (inlet selector : ℕ) (atoms : List Atom) → IsKept names limit s → IsMessage names selector atoms → IsHeard names limit (arith_row a s inlet selector atoms)
   unfolding Computes
   row_in (arith_kind.Operation o z) (state.Operation left right) inlet selector atoms k m =
       paired state.Operation (row_by (operation_of o) row.Operation left right inlet selector atoms) (λ l r a b. (a, b)) (pair_in (operation_of o) row.Operation left right inlet selector atoms (operation_in o) k.0 k.1 m)
@@ -201,7 +201,7 @@ module _ (names : Names) (first : HasFirst names) where
   row_in (arith_kind.Function f) s inlet selector atoms k m = record { kept = k; said = function_row-in f selector atoms m }
   row_in a s inlet selector atoms k m = record { kept = k; said = silence names first }
 
-  pub arith_in : (k : Kind) (s : State) (inlet selector : ℕ) (atoms : List Atom) → IsKept names s → IsMessage names selector atoms → IsHeard names (heard k s inlet selector atoms)
+  pub arith_in : (k : Kind) (s : State) (inlet selector : ℕ) (atoms : List Atom) → IsKept names limit s → IsMessage names selector atoms → IsHeard names limit (heard k s inlet selector atoms)
   unfolding heard
   arith_in (kind.Arith a) s inlet selector atoms h m = row_in a s inlet selector atoms h m
   arith_in k s inlet selector atoms h m = record { kept = h; said = silence names first }

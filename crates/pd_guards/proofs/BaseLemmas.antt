@@ -125,8 +125,8 @@ module _ (names : Names) (first : HasFirst names) where
   pub deaf_told : (r : Row) (s : Sort) (selector : ℕ) → IsName names selector → IsSaid names (deaf r (told s selector))
   deaf_told r s selector h = deafness r (told s selector) (told_in s selector h)
 
-  pub quietly : (s : State) → IsKept names s → IsHeard names (record { state = s; said = silent })
-  quietly s h = record { kept = h; said = silence }
+  pub quietly : (limit : ℕ) (s : State) → IsKept names limit s → IsHeard names limit (record { state = s; said = silent })
+  quietly limit s h = record { kept = h; said = silence }
 
   -- messages in their normal form
   float_in-in : (atoms : List Atom) → AreAtoms names atoms → IsNumber (float_in atoms)

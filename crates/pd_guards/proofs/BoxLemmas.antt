@@ -270,14 +270,14 @@ module _ (names : Names) (first : HasFirst names) (args : List Atom) (given : Ar
   text_in : (run : Run) (text : List Atom) → IsRun names run → IsList names text → IsRun names (text_run args run text)
   text_in run text h k = segments_in run (slice_split is_semi text) h (parts_in names is_semi text k)
 
-module _ (names : Names) (first : HasFirst names) where
-  run_in : (text atoms : List Atom) → IsList names text → AreAtoms names atoms → IsHearing names (boxed (left_by_run text (text_run atoms (first_run names) text)))
+module _ (names : Names) (first : HasFirst names) (limit : ℕ) where
+  run_in : (text atoms : List Atom) → IsList names text → AreAtoms names atoms → IsHearing names limit (boxed (left_by_run text (text_run atoms (first_run names) text)))
   run_in text atoms k h =
       let r = text_run atoms (first_run names) text in
       let i : IsRun names r = text_in names first atoms h (first_run names) text (record { extends = same_table names; said = silence names first }) k in
       record { extends = i.extends; kept = list_more names r.names (longer names r.names i.extends) text k; said = i.said }
 
-  heard_in : (text : List Atom) (selector : ℕ) (atoms : List Atom) (s : Sort) → IsList names text → IsMessage names selector atoms → IsHearing names (boxed (heard_as names text selector atoms s))
+  heard_in : (text : List Atom) (selector : ℕ) (atoms : List Atom) (s : Sort) → IsList names text → IsMessage names selector atoms → IsHearing names limit (boxed (heard_as names text selector atoms s))
   heard_in text selector atoms sort.Other k m =
       let e = edited_in names first text selector atoms k m in record { extends = same_table names; kept = e.text; said = e.said }
   heard_in text selector atoms sort.Bang k m = run_in text atoms k m.list.all
@@ -285,7 +285,7 @@ module _ (names : Names) (first : HasFirst names) where
   heard_in text selector atoms (sort.Symbol s) k m = run_in text atoms k m.list.all
   heard_in text selector atoms sort.List k m = run_in text atoms k m.list.all
 
-  pub box_in : (s : State) (selector : ℕ) (atoms : List Atom) → IsKept names s → IsMessage names selector atoms → IsHearing names (boxed (message_row names s selector atoms))
+  pub box_in : (s : State) (selector : ℕ) (atoms : List Atom) → IsKept names limit s → IsMessage names selector atoms → IsHearing names limit (boxed (message_row names s selector atoms))
   unfolding message_row
   box_in (state.Message text) selector atoms k m = heard_in text selector atoms (sort_of selector atoms) k m
   box_in s selector atoms k m = record { extends = same_table names; kept = k; said = silence names first }

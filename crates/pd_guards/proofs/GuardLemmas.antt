@@ -16,7 +16,7 @@ use Rattle.pd_kind.specs.declared.states.State.TheVariants as state
 use Rattle.pd_kind.specs.declared.messages.Notice.{Notice}
 use Rattle.pd_kind.specs.declared.messages.Notice.TheVariants as notice
 use Rattle.pd_kind.specs.Ports.{IsSmallGlue}
-use Rattle.pd_walk.specs.Guards.{is_name, is_atom, are_atoms, is_few, is_message, is_table, is_small_glue, has_text, is_small_state, keeps_list, keeps_message, keeps_text, is_small_box, is_small, is_known}
+use Rattle.pd_walk.specs.Guards.{is_name, is_atom, are_atoms, is_few, is_message, is_table, is_small_glue, has_text, is_small_state, keeps_list, keeps_message, keeps_text, is_small_box, is_small, is_open, is_known}
 use Rattle.pd_guards.specs.Order.{IsName, IsAtom, AreAtoms, IsMessage, IsTable, IsKept, HasWords, IsGlue, IsKind, IsNotice}
 
 pub true_and : (a b : Bool) → a ≡ true → b ≡ true → (a && b) ≡ true
@@ -70,45 +70,45 @@ module _ (names : Names) where
   text_true (glue.SymbolBox text) h = atoms_true text h
   text_true g h = refl
 
-  state_true : (s : State) → IsKept names s → is_small_state s ≡ true
-  state_true (state.Pack slots) h = few_true slots h.few
-  state_true (state.Route args) h = few_true args h.few
-  state_true (state.Select args) h = few_true args h.few
-  state_true (state.ListAppend stored) h = few_true stored h.few
-  state_true (state.ListPrepend stored) h = few_true stored h.few
-  state_true s h = refl
+  state_true : (limit : ℕ) (s : State) → IsKept names limit s → is_small_state s ≡ true
+  state_true limit (state.Pack slots) h = few_true slots h.few
+  state_true limit (state.Route args) h = few_true args h.few
+  state_true limit (state.Select args) h = few_true args h.few
+  state_true limit (state.ListAppend stored) h = few_true stored h.few
+  state_true limit (state.ListPrepend stored) h = few_true stored h.few
+  state_true limit s h = refl
 
-  lists_true : (g : Glue) (s : State) → IsKept names s → keeps_list g s ≡ true
-  lists_true (glue.Trigger w outs) s h = state_true s h
-  lists_true (glue.Pack slots) s h = state_true s h
-  lists_true (glue.Unpack slots) s h = state_true s h
-  lists_true (glue.Route args) s h = state_true s h
-  lists_true (glue.Select w args) s h = state_true s h
-  lists_true (glue.ListAppend w a) s h = state_true s h
-  lists_true (glue.ListPrepend a) s h = state_true s h
-  lists_true (glue.ListSplit z) s h = state_true s h
-  lists_true glue.ListTrim s h = state_true s h
-  lists_true glue.ListLength s h = state_true s h
-  lists_true g s h = refl
+  lists_true : (limit : ℕ) (g : Glue) (s : State) → IsKept names limit s → keeps_list g s ≡ true
+  lists_true limit (glue.Trigger w outs) s h = state_true limit s h
+  lists_true limit (glue.Pack slots) s h = state_true limit s h
+  lists_true limit (glue.Unpack slots) s h = state_true limit s h
+  lists_true limit (glue.Route args) s h = state_true limit s h
+  lists_true limit (glue.Select w args) s h = state_true limit s h
+  lists_true limit (glue.ListAppend w a) s h = state_true limit s h
+  lists_true limit (glue.ListPrepend a) s h = state_true limit s h
+  lists_true limit (glue.ListSplit z) s h = state_true limit s h
+  lists_true limit glue.ListTrim s h = state_true limit s h
+  lists_true limit glue.ListLength s h = state_true limit s h
+  lists_true limit g s h = refl
 
-  box_true : (s : State) → IsKept names s → keeps_message names s ≡ true
-  box_true (state.Message text) h = true_and (is_few text) (are_atoms names text) (few_true text h.few) (atoms_true text h.all)
-  box_true s h = refl
+  box_true : (limit : ℕ) (s : State) → IsKept names limit s → keeps_message names s ≡ true
+  box_true limit (state.Message text) h = true_and (is_few text) (are_atoms names text) (few_true text h.few) (atoms_true text h.all)
+  box_true limit s h = refl
 
-  texts_true : (g : Glue) (s : State) → IsKept names s → keeps_text names g s ≡ true
-  texts_true (glue.Message text) s h = box_true s h
-  texts_true g s h = refl
+  texts_true : (limit : ℕ) (g : Glue) (s : State) → IsKept names limit s → keeps_text names g s ≡ true
+  texts_true limit (glue.Message text) s h = box_true limit s h
+  texts_true limit g s h = refl
 
-  small_box : (g : Glue) (s : State) → IsGlue names g → IsKept names s → is_small_box names g s ≡ true
-  small_box g s h k =
+  small_box : (limit : ℕ) (g : Glue) (s : State) → IsGlue names g → IsKept names limit s → is_small_box names g s ≡ true
+  small_box limit g s h k =
       true_and (is_small_glue g && has_text names g && keeps_list g s) (keeps_text names g s)
-      (true_and (is_small_glue g && has_text names g) (keeps_list g s) (true_and (is_small_glue g) (has_text names g) (glue_true g h.small) (text_true g h.words)) (lists_true g s k))
-      (texts_true g s k)
+      (true_and (is_small_glue g && has_text names g) (keeps_list g s) (true_and (is_small_glue g) (has_text names g) (glue_true g h.small) (text_true g h.words)) (lists_true limit g s k))
+      (texts_true limit g s k)
 
-  pub small_true : (k : Kind) (s : State) → IsKind names k → IsKept names s → is_small names k s ≡ true
+  pub small_true : (limit : ℕ) (k : Kind) (s : State) → IsKind names k → IsKept names limit s → is_small names k s ≡ true
   unfolding is_small
-  small_true (kind.Glue g) s h k = small_box g s h k
-  small_true x s h k = refl
+  small_true limit (kind.Glue g) s h k = small_box limit g s h k
+  small_true limit x s h k = refl
 
   pub known_true : (n : Notice) → IsNotice names n → is_known names n ≡ true
   known_true (notice.NoMethod row selector) h = name_true selector h
@@ -117,6 +117,11 @@ module _ (names : Names) where
 
   pub notices_true : (notices : List Notice) → AllByRecursion (IsNotice names) notices → list_all (is_known names) notices ≡ true
   notices_true notices h = all_true (IsNotice names) (is_known names) known_true notices h
+
+-- a `vline~` that ran no block beyond now
+pub open_true : (names : Names) (now : ℕ) (s : State) → IsKept names now s → is_open now s ≡ true
+open_true names now (state.Vline r) h = le-leb r.end now h
+open_true names now s h = refl
 
 pub table_true : (table : Option (List ℤ)) → IfSome table IsTable → is_table table ≡ true
 table_true None h = refl

@@ -42,7 +42,7 @@ record IsStored (names : Names) (s : Stored) : Type 0 where
   atoms : IsList names s.atoms
   said : IsSaid names s.said
 
-module _ (names : Names) (first : HasFirst names) where
+module _ (names : Names) (first : HasFirst names) (limit : ℕ) where
   -- `trigger`
   symbol_for-in : (atoms : List Atom) → AreAtoms names atoms → IsName names (symbol_for atoms)
   symbol_for-in [] h = omega (arith, first)
@@ -75,35 +75,35 @@ module _ (names : Names) (first : HasFirst names) where
   filled_in slots i [] kept h k = k
   filled_in slots i (a ∷ atoms) kept h k = filled_in slots (suc i) atoms (stored_at slots i a kept) h.1 (slot_in slots i a kept h.0 k)
 
-  packed_in : (kept : List Atom) → IsList names kept → IsHeard names (packed kept)
+  packed_in : (kept : List Atom) → IsList names kept → IsHeard names limit (packed kept)
   packed_in kept k = record { kept = k; said = only names first (list_send (target.Outlet 0) kept ∷ []) (list_sent names first (target.Outlet 0) kept tt k, tt) }
 
-  pack_refuses-in : (kept : List Atom) (selector : ℕ) → IsList names kept → IsName names selector → IsHeard names (pack_refuses kept selector)
+  pack_refuses-in : (kept : List Atom) (selector : ℕ) → IsList names kept → IsName names selector → IsHeard names limit (pack_refuses kept selector)
   pack_refuses-in kept selector k n = record { kept = k; said = deafness names first row.Pack selector n }
 
-  pack_first-in : (slots : List Slot) (kept : List Atom) (selector : ℕ) (a : Atom) → IsList names kept → IsName names selector → IsAtom names a → IsHeard names (pack_first slots kept selector a)
-  pack_first-in slots kept selector a k n h = either (IsHeard names) (fits_at slots 0 a) _ _ (packed_in (stored_at slots 0 a kept) (slot_in slots 0 a kept h k)) (pack_refuses-in kept selector k n)
+  pack_first-in : (slots : List Slot) (kept : List Atom) (selector : ℕ) (a : Atom) → IsList names kept → IsName names selector → IsAtom names a → IsHeard names limit (pack_first slots kept selector a)
+  pack_first-in slots kept selector a k n h = either (IsHeard names limit) (fits_at slots 0 a) _ _ (packed_in (stored_at slots 0 a kept) (slot_in slots 0 a kept h k)) (pack_refuses-in kept selector k n)
 
-  pack_hot-in : (slots : List Slot) (kept : List Atom) (selector : ℕ) (atoms : List Atom) (s : Sort) → IsList names kept → IsMessage names selector atoms → IsSort names first s → IsHeard names (pack_hot slots kept selector atoms s)
+  pack_hot-in : (slots : List Slot) (kept : List Atom) (selector : ℕ) (atoms : List Atom) (s : Sort) → IsList names kept → IsMessage names selector atoms → IsSort names first s → IsHeard names limit (pack_hot slots kept selector atoms s)
   pack_hot-in slots kept selector atoms sort.Bang k m h = packed_in kept k
   pack_hot-in slots kept selector atoms (sort.Float z) k m h = pack_first-in slots kept selector (atom.Number z) k m.known (tt, h)
   pack_hot-in slots kept selector atoms (sort.Symbol s) k m h = pack_first-in slots kept selector (atom.Symbol s) k m.known (h, tt)
   pack_hot-in slots kept selector atoms sort.List k m h = packed_in (filled slots 0 atoms kept) (filled_in slots 0 atoms kept m.list.all k)
   pack_hot-in slots kept selector atoms sort.Other k m h = pack_refuses-in kept selector k m.known
 
-  pack_other-in : (slots : List Slot) (kept : List Atom) (inlet selector : ℕ) (a : Atom) → IsList names kept → IsName names selector → IsAtom names a → IsHeard names (pack_other slots kept inlet selector a)
+  pack_other-in : (slots : List Slot) (kept : List Atom) (inlet selector : ℕ) (a : Atom) → IsList names kept → IsName names selector → IsAtom names a → IsHeard names limit (pack_other slots kept inlet selector a)
   pack_other-in slots kept inlet selector a k n h =
-      either (IsHeard names) (fits_at slots inlet a) _ _ (record { kept = slot_in slots inlet a kept h k; said = silence names first }) (pack_refuses-in kept selector k n)
+      either (IsHeard names limit) (fits_at slots inlet a) _ _ (record { kept = slot_in slots inlet a kept h k; said = silence names first }) (pack_refuses-in kept selector k n)
 
-  pack_cold-in : (slots : List Slot) (kept : List Atom) (inlet selector : ℕ) (s : Sort) → IsList names kept → IsName names selector → IsSort names first s → IsHeard names (pack_cold slots kept inlet selector s)
+  pack_cold-in : (slots : List Slot) (kept : List Atom) (inlet selector : ℕ) (s : Sort) → IsList names kept → IsName names selector → IsSort names first s → IsHeard names limit (pack_cold slots kept inlet selector s)
   pack_cold-in slots kept inlet selector (sort.Float z) k n h = pack_other-in slots kept inlet selector (atom.Number z) k n (tt, h)
   pack_cold-in slots kept inlet selector (sort.Symbol s) k n h = pack_other-in slots kept inlet selector (atom.Symbol s) k n (h, tt)
   pack_cold-in slots kept inlet selector s k n h = pack_refuses-in kept selector k n
 
-  pack_in : (slots : List Slot) (kept : List Atom) (inlet selector : ℕ) (atoms : List Atom) → IsList names kept → IsMessage names selector atoms → IsHeard names (pack_row slots kept inlet selector atoms)
+  pack_in : (slots : List Slot) (kept : List Atom) (inlet selector : ℕ) (atoms : List Atom) → IsList names kept → IsMessage names selector atoms → IsHeard names limit (pack_row slots kept inlet selector atoms)
   pack_in slots kept inlet selector atoms k m =
       let h : IsSort names first (sort_of selector atoms) = sort_in names first selector atoms m.list.all in
-      either (IsHeard names) (inlet == 0) _ _ (pack_hot-in slots kept selector atoms (sort_of selector atoms) k m h) (pack_cold-in slots kept inlet selector (sort_of selector atoms) k m.known h)
+      either (IsHeard names limit) (inlet == 0) _ _ (pack_hot-in slots kept selector atoms (sort_of selector atoms) k m h) (pack_cold-in slots kept inlet selector (sort_of selector atoms) k m.known h)
 
   slot_said : (i : ℕ) (s : Slot) (a : Atom) → IsAtom names a → AllByRecursion (IsSend names) (slot_sends i s a)
   slot_said i (slot.Number z) (atom.Number y) h = (number_sent names first (target.Outlet i) y tt h.1, tt)
@@ -202,14 +202,14 @@ module _ (names : Names) (first : HasFirst names) where
       (list_sent names first (target.Outlet 1) (drop n list) tt (drop_in n list k), (list_sent names first (target.Outlet 0) (take n list) tt (take_in n list k), tt))
       (list_sent names first (target.Outlet 2) list tt k, tt)
 
-  split_cold-in : (count : ℤ) (selector : ℕ) (s : Sort) → IsName names selector → IsHeard names (split_cold count selector s)
+  split_cold-in : (count : ℤ) (selector : ℕ) (s : Sort) → IsName names selector → IsHeard names limit (split_cold count selector s)
   split_cold-in count selector (sort.Float z) n = record { kept = tt; said = silence names first }
   split_cold-in count selector s n = record { kept = tt; said = deafness names first row.ListSplit selector n }
 
-  split_in : (count : ℤ) (inlet selector : ℕ) (atoms : List Atom) → IsMessage names selector atoms → IsHeard names (split_row count inlet selector atoms)
+  split_in : (count : ℤ) (inlet selector : ℕ) (atoms : List Atom) → IsMessage names selector atoms → IsHeard names limit (split_row count inlet selector atoms)
   split_in count inlet selector atoms m =
       let list = atoms_with_selector selector atoms in
-      either (IsHeard names) (inlet == 0) _ _
+      either (IsHeard names limit) (inlet == 0) _ _
       (record { kept = tt; said = of_list (split_sends (units_of count) (cut_atoms list)) list (split_sends-in (units_of count) (cut_atoms list) (cut_in names first list (with_selector names first selector atoms m))) })
       (split_cold-in count selector (sort_of selector atoms) m.known)
 
@@ -225,7 +225,7 @@ module _ (names : Names) (first : HasFirst names) where
       let l : length atoms ≤ 1024 = m.list.few in
       number_said names first 0 (pos (length (atoms_with_selector selector atoms) * 1000000)) (near_pos (length (atoms_with_selector selector atoms) * 1000000) (omega (arith, marked_length selector atoms)))
 
-  pub list_in : (g : Glue) (s : State) (inlet selector : ℕ) (atoms : List Atom) → HasWords names g → IsKept names s → IsMessage names selector atoms → IsHeard names (list_row g s inlet selector atoms)
+  pub list_in : (g : Glue) (s : State) (inlet selector : ℕ) (atoms : List Atom) → HasWords names g → IsKept names limit s → IsMessage names selector atoms → IsHeard names limit (list_row g s inlet selector atoms)
   unfolding list_row
   list_in (glue.Trigger w outlets) s inlet selector atoms c k m = record { kept = k; said = only names first (trigger_sends 0 outlets selector atoms) (triggers_in 0 outlets selector atoms c m) }
   list_in (glue.Pack slots) (state.Pack kept) inlet selector atoms c k m = pack_in slots kept inlet selector atoms k m
@@ -241,4 +241,4 @@ module _ (names : Names) (first : HasFirst names) where
   list_in glue.ListTrim s inlet selector atoms c k m =
       record { kept = k; said = only names first (message_send (target.Outlet 0) (atoms_with_selector selector atoms) ∷ []) (marked_sent names first (target.Outlet 0) selector atoms tt m, tt) }
   list_in glue.ListLength s inlet selector atoms c k m = record { kept = k; said = length_in selector atoms m }
-  list_in g s inlet selector atoms c k m = quietly names first s k
+  list_in g s inlet selector atoms c k m = quietly names first limit s k

@@ -54,17 +54,17 @@ module _ (old new : Names) (l : length old ≤ length new) where
   pub maybe_more : (o : Option ℕ) → IfSome o (IsName old) → IfSome o (IsName new)
   maybe_more o h = some-weaker (IsName old) (IsName new) name_more o h
 
-  pub kept_more : (s : State) → IsKept old s → IsKept new s
-  kept_more (state.Message text) h = list_more text h
-  kept_more (state.SymbolBox s) h = name_more s h
-  kept_more (state.Symbol s) h = name_more s h
-  kept_more (state.Pack slots) h = list_more slots h
-  kept_more (state.Route args) h = list_more args h
-  kept_more (state.Select args) h = list_more args h
-  kept_more (state.Send name) h = maybe_more name h
-  kept_more (state.ListAppend stored) h = list_more stored h
-  kept_more (state.ListPrepend stored) h = list_more stored h
-  kept_more s h = h
+  pub kept_more : (limit : ℕ) (s : State) → IsKept old limit s → IsKept new limit s
+  kept_more limit (state.Message text) h = list_more text h
+  kept_more limit (state.SymbolBox s) h = name_more s h
+  kept_more limit (state.Symbol s) h = name_more s h
+  kept_more limit (state.Pack slots) h = list_more slots h
+  kept_more limit (state.Route args) h = list_more args h
+  kept_more limit (state.Select args) h = list_more args h
+  kept_more limit (state.Send name) h = maybe_more name h
+  kept_more limit (state.ListAppend stored) h = list_more stored h
+  kept_more limit (state.ListPrepend stored) h = list_more stored h
+  kept_more limit s h = h
 
   pub words_more : (g : Glue) → HasWords old g → HasWords new g
   words_more (glue.FloatBox text) h = atoms_more text h

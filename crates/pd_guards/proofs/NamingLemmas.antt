@@ -14,6 +14,7 @@ use Rattle.pd_kind.specs.declared.kinds.Kind.TheVariants as kind
 use Rattle.pd_kind.specs.declared.kinds.Named.{Named}
 use Rattle.pd_kind.specs.declared.kinds.Named.TheVariants as named
 use Rattle.pd_kind.specs.declared.kinds.Arith.{Arith}
+use Rattle.pd_kind.specs.declared.kinds.Arith.TheVariants as arith
 use Rattle.pd_kind.specs.declared.kinds.Glue.{Glue}
 use Rattle.pd_kind.specs.declared.kinds.Glue.TheVariants as glue
 use Rattle.pd_kind.specs.declared.kinds.Slot.{Slot}
@@ -24,6 +25,7 @@ use Rattle.pd_kind.specs.declared.kinds.Tone.TheVariants as tone
 use Rattle.pd_kind.specs.declared.kinds.Signal.{Signal}
 use Rattle.pd_kind.specs.declared.kinds.Signal.TheVariants as signal
 use Rattle.pd_kind.specs.declared.kinds.Panel.{Panel}
+use Rattle.pd_kind.specs.declared.kinds.Panel.TheVariants as panel
 use Rattle.pd_kind.specs.declared.messages.Sort.TheVariants as sort
 use Rattle.pd_kind.specs.declared.states.State.{State}
 use Rattle.pd_kind.specs.declared.states.State.TheVariants as state
@@ -61,40 +63,52 @@ mapped f (Some x) k h = some (f x) (k x h.is)
 -- a control object's kind is in order, and what its box keeps at first too
 record IsGlueBorn (names : Names) (g : Glue) : Type 0 where
   glue : IsGlue names g
-  kept : (rate : Rate) → glue_size g < 2 ^ 32 → IsKept names (glue_start g rate)
+  kept : (now : ℕ) (rate : Rate) → glue_size g < 2 ^ 32 → IsKept names now (glue_start g rate)
 
 IsArithBorn : Names → Arith → Type 0
-IsArithBorn names a = IsKept names (arith_start a)
+IsArithBorn names a = IsKept names 0 (arith_start a)
 
 record IsPanelBorn (names : Names) (p : Panel) : Type 0 where
   panel : IsPanel names p
-  kept : IsKept names (panel_start p)
+  kept : IsKept names 0 (panel_start p)
+
+-- what these keep at first doesn't depend on the time
+any_arith : (names : Names) (now : ℕ) (a : Arith) → IsKept names 0 (arith_start a) → IsKept names now (arith_start a)
+any_arith names now (arith.Operation o z) h = h
+any_arith names now (arith.Comparison c z) h = h
+any_arith names now (arith.Division d z) h = h
+any_arith names now (arith.Function f) h = h
+any_arith names now (arith.Clip low high) h = h
+
+any_panel : (names : Names) (now : ℕ) (p : Panel) → IsKept names 0 (panel_start p) → IsKept names now (panel_start p)
+any_panel names now (panel.Bng button) h = h
+any_panel names now (panel.Tgl toggle) h = h
 
 glue_born : (names : Names) (g : Glue) → IsGlueBorn names g → IsBorn names (kind.Glue g)
 glue_born names g h = record { kind = h.glue; kept = h.kept }
 
 arith_born : (names : Names) (a : Arith) → IsArithBorn names a → IsBorn names (kind.Arith a)
 unfolding IsArithBorn
-arith_born names a h = record { kind = tt; kept = λ rate l. h }
+arith_born names a h = record { kind = tt; kept = λ now rate l. any_arith names now a h }
 
 panel_born : (names : Names) (p : Panel) → IsPanelBorn names p → IsBorn names (kind.Panel p)
-panel_born names p h = record { kind = h.panel; kept = λ rate l. h.kept }
+panel_born names p h = record { kind = h.panel; kept = λ now rate l. any_panel names now p h.kept }
 
-tone_kept : (names : Names) (t : Tone) (rate : Rate) → IsKept names (tone_start t rate)
-tone_kept names (tone.Phasor z) rate = tt
-tone_kept names (tone.Osc z) rate = tt
-tone_kept names tone.Noise rate = tt
+tone_kept : (names : Names) (now : ℕ) (t : Tone) (rate : Rate) → IsKept names now (tone_start t rate)
+tone_kept names now (tone.Phasor z) rate = tt
+tone_kept names now (tone.Osc z) rate = tt
+tone_kept names now tone.Noise rate = tt
 
-signal_kept : (names : Names) (s : Signal) (rate : Rate) → IsKept names (signal_start s rate)
-signal_kept names signal.Snapshot rate = (search rules, search rules)
-signal_kept names s rate = tt
+signal_kept : (names : Names) (now : ℕ) (s : Signal) (rate : Rate) → IsKept names now (signal_start s rate)
+signal_kept names now signal.Snapshot rate = (search rules, search rules)
+signal_kept names now s rate = tt
 
 all_tones : (names : Names) (o : Option Tone) → Holds (IsBorn names) (option_map (λ t. kind.Tone t) o)
 all_tones names None = none
-all_tones names (Some t) = some (kind.Tone t) (record { kind = tt; kept = λ rate l. tone_kept names t rate })
+all_tones names (Some t) = some (kind.Tone t) (record { kind = tt; kept = λ now rate l. tone_kept names now t rate })
 
 signal_born : (names : Names) (s : Signal) → IsBorn names (kind.Signal s)
-signal_born names s = record { kind = tt; kept = λ rate l. signal_kept names s rate }
+signal_born names s = record { kind = tt; kept = λ now rate l. signal_kept names now s rate }
 
 all_signals : (names : Names) (o : Option Signal) → Holds (IsBorn names) (option_map (λ s. kind.Signal s) o)
 all_signals names None = none
@@ -179,7 +193,7 @@ module _ (names : Names) (first : HasFirst names) where
     or_symbol-in (Some s) h = h
 
     -- the arithmetic objects
-    two : IsKept names (state.Operation (pos 0) (number_at args 0 (pos 0)))
+    two : IsKept names 0 (state.Operation (pos 0) (number_at args 0 (pos 0)))
     two = (no_number, num0)
 
     ariths : Holds (IsArithBorn names) (arith_named word args)
@@ -208,47 +222,47 @@ module _ (names : Names) (first : HasFirst names) where
         (pick word (codes "clip") _ _ (num0, num 1 (pos 0) no_number) none)))))))
 
     -- the control objects
-    plain_kept : (g : Glue) → IsSmallGlue g → HasWords names g → ((rate : Rate) → glue_size g < 2 ^ 32 → IsKept names (glue_start g rate)) → IsGlueBorn names g
+    plain_kept : (g : Glue) → IsSmallGlue g → HasWords names g → ((now : ℕ) (rate : Rate) → glue_size g < 2 ^ 32 → IsKept names now (glue_start g rate)) → IsGlueBorn names g
     plain_kept g s w k = record { glue = record { small = s; words = w }; kept = k }
 
     plains : Holds (IsGlueBorn names) (plain_named word args)
     plains =
-        (pick word (codes "bang") _ _ (plain_kept _ tt tt (λ rate l. tt))
-        (pick word (codes "b") _ _ (plain_kept _ tt tt (λ rate l. tt))
-        (pick word (codes "float") _ _ (plain_kept _ tt tt (λ rate l. num0))
-        (pick word (codes "f") _ _ (plain_kept _ tt tt (λ rate l. num0))
-        (pick word (codes "int") _ _ (plain_kept _ tt tt (λ rate l. whole_in _ num0))
-        (pick word (codes "i") _ _ (plain_kept _ tt tt (λ rate l. whole_in _ num0))
-        (pick word (codes "moses") _ _ (plain_kept _ tt tt (λ rate l. tt))
-        (pick word (codes "spigot") _ _ (plain_kept _ tt tt (λ rate l. tt))
-        (pick word (codes "swap") _ _ (plain_kept _ tt tt (λ rate l. (no_number, num0)))
-        (pick word (codes "change") _ _ (plain_kept _ tt tt (λ rate l. num0)) none))))))))))
+        (pick word (codes "bang") _ _ (plain_kept _ tt tt (λ now rate l. tt))
+        (pick word (codes "b") _ _ (plain_kept _ tt tt (λ now rate l. tt))
+        (pick word (codes "float") _ _ (plain_kept _ tt tt (λ now rate l. num0))
+        (pick word (codes "f") _ _ (plain_kept _ tt tt (λ now rate l. num0))
+        (pick word (codes "int") _ _ (plain_kept _ tt tt (λ now rate l. whole_in _ num0))
+        (pick word (codes "i") _ _ (plain_kept _ tt tt (λ now rate l. whole_in _ num0))
+        (pick word (codes "moses") _ _ (plain_kept _ tt tt (λ now rate l. tt))
+        (pick word (codes "spigot") _ _ (plain_kept _ tt tt (λ now rate l. tt))
+        (pick word (codes "swap") _ _ (plain_kept _ tt tt (λ now rate l. (no_number, num0)))
+        (pick word (codes "change") _ _ (plain_kept _ tt tt (λ now rate l. num0)) none))))))))))
 
     timed : Holds (IsGlueBorn names) (timed_named word args)
     timed =
-        (pick word (codes "until") _ _ (plain_kept _ tt tt (λ rate l. tt))
-        (pick word (codes "loadbang") _ _ (plain_kept _ tt tt (λ rate l. tt))
-        (pick word (codes "metro") _ _ (plain_kept _ tt tt (λ rate l. tt))
-        (pick word (codes "delay") _ _ (plain_kept _ tt tt (λ rate l. tt))
-        (pick word (codes "del") _ _ (plain_kept _ tt tt (λ rate l. tt))
-        (pick word (codes "timer") _ _ (plain_kept _ tt tt (λ rate l. tt))
-        (pick word (codes "random") _ _ (plain_kept _ tt tt (λ rate l. (omega arith, least_in 1 _ (omega arith) (num 0 (pos 1000000) (near_pos 1000000 (omega arith))))))
-        (pick word (codes "inlet") _ _ (plain_kept _ tt tt (λ rate l. tt))
-        (pick word (codes "outlet") _ _ (plain_kept _ tt tt (λ rate l. tt)) none)))))))))
+        (pick word (codes "until") _ _ (plain_kept _ tt tt (λ now rate l. tt))
+        (pick word (codes "loadbang") _ _ (plain_kept _ tt tt (λ now rate l. tt))
+        (pick word (codes "metro") _ _ (plain_kept _ tt tt (λ now rate l. tt))
+        (pick word (codes "delay") _ _ (plain_kept _ tt tt (λ now rate l. tt))
+        (pick word (codes "del") _ _ (plain_kept _ tt tt (λ now rate l. tt))
+        (pick word (codes "timer") _ _ (plain_kept _ tt tt (λ now rate l. tt))
+        (pick word (codes "random") _ _ (plain_kept _ tt tt (λ now rate l. (omega arith, least_in 1 _ (omega arith) (num 0 (pos 1000000) (near_pos 1000000 (omega arith))))))
+        (pick word (codes "inlet") _ _ (plain_kept _ tt tt (λ now rate l. tt))
+        (pick word (codes "outlet") _ _ (plain_kept _ tt tt (λ now rate l. tt)) none)))))))))
 
     table_born : (n : ℕ) → n < 2 ^ 32 → IsTable (replicate n (pos 0))
     table_born n l = record { few = omega (arith, length-replicate n (pos 0)); numbers = all_same n }
 
     addressed : Holds (IsGlueBorn names) (addressed_named word args)
     addressed =
-        (pick word (codes "symbol") _ _ (plain_kept _ tt tt (λ rate l. or_symbol-in (name_at args 0) (name_there 0)))
-        (pick word (codes "send") _ _ (plain_kept _ tt tt (λ rate l. name_there 0))
-        (pick word (codes "s") _ _ (plain_kept _ tt tt (λ rate l. name_there 0))
-        (pick word (codes "receive") _ _ (plain_kept _ tt tt (λ rate l. tt))
-        (pick word (codes "r") _ _ (plain_kept _ tt tt (λ rate l. tt))
-        (pick word (codes "table") _ _ (plain_kept _ tt tt (λ rate l. table_born (table_size (number_at args 1 (pos 100000000))) l))
-        (pick word (codes "tabread") _ _ (plain_kept _ tt tt (λ rate l. tt))
-        (pick word (codes "tabwrite") _ _ (plain_kept _ tt tt (λ rate l. tt)) none))))))))
+        (pick word (codes "symbol") _ _ (plain_kept _ tt tt (λ now rate l. or_symbol-in (name_at args 0) (name_there 0)))
+        (pick word (codes "send") _ _ (plain_kept _ tt tt (λ now rate l. name_there 0))
+        (pick word (codes "s") _ _ (plain_kept _ tt tt (λ now rate l. name_there 0))
+        (pick word (codes "receive") _ _ (plain_kept _ tt tt (λ now rate l. tt))
+        (pick word (codes "r") _ _ (plain_kept _ tt tt (λ now rate l. tt))
+        (pick word (codes "table") _ _ (plain_kept _ tt tt (λ now rate l. table_born (table_size (number_at args 1 (pos 100000000))) l))
+        (pick word (codes "tabread") _ _ (plain_kept _ tt tt (λ now rate l. tt))
+        (pick word (codes "tabwrite") _ _ (plain_kept _ tt tt (λ now rate l. tt)) none))))))))
 
     triggers_few : length (triggers_of names args) ≤ 1024
     triggers_few = let l : length args ≤ 1024 = given.few in default_few (trigger.Bang ∷ trigger.Bang ∷ []) (map (trigger_of names) args) (omega arith) (omega (arith, length-map args (trigger_of names)))
@@ -270,21 +284,21 @@ module _ (names : Names) (first : HasFirst names) where
     choices_in = record { few = default_few (atom.Number (pos 0) ∷ []) args (omega arith) given.few; all = default_all (IsAtom names) (atom.Number (pos 0) ∷ []) args ((tt, no_number), tt) given.all }
 
     trigger_born : (w : Spelling) → IsGlueBorn names (glue.Trigger w (triggers_of names args))
-    trigger_born w = plain_kept (glue.Trigger w (triggers_of names args)) triggers_few triggers_all (λ rate l. tt)
+    trigger_born w = plain_kept (glue.Trigger w (triggers_of names args)) triggers_few triggers_all (λ now rate l. tt)
 
     select_born : (w : Spelling) → IsGlueBorn names (glue.Select w (choices_of args))
-    select_born w = plain_kept (glue.Select w (choices_of args)) choices_in.few tt (λ rate l. choices_in)
+    select_born w = plain_kept (glue.Select w (choices_of args)) choices_in.few tt (λ now rate l. choices_in)
 
     lists : Holds (IsGlueBorn names) (listed_named names word args)
     lists =
         (pick word (codes "trigger") _ _ (trigger_born Whole)
         (pick word (codes "t") _ _ (trigger_born Short)
-        (pick word (codes "pack") _ _ (plain_kept _ slots_few tt (λ rate l. slots_kept))
-        (pick word (codes "unpack") _ _ (plain_kept _ slots_few tt (λ rate l. tt))
-        (pick word (codes "route") _ _ (plain_kept _ choices_in.few tt (λ rate l. choices_in))
+        (pick word (codes "pack") _ _ (plain_kept _ slots_few tt (λ now rate l. slots_kept))
+        (pick word (codes "unpack") _ _ (plain_kept _ slots_few tt (λ now rate l. tt))
+        (pick word (codes "route") _ _ (plain_kept _ choices_in.few tt (λ now rate l. choices_in))
         (pick word (codes "select") _ _ (select_born Whole)
         (pick word (codes "sel") _ _ (select_born Short)
-        (pick word (codes "print") _ _ (plain_kept _ given.few given.all (λ rate l. tt)) none))))))))
+        (pick word (codes "print") _ _ (plain_kept _ given.few given.all (λ now rate l. tt)) none))))))))
 
     -- `bng` and `tgl`
     unless_empty-in : (o : Option ℕ) → IfSome o (IsName names) → IfSome (unless_empty names o) (IsName names)
@@ -314,22 +328,22 @@ module _ (names : Names) (first : HasFirst names) where
     unfolding listed_kind
     listed_in whole =
         first_in (option_map (λ p. kind.Panel p) (panel_named names word args whole)) _ (mapped (λ p. kind.Panel p) (panel_named names word args whole) (panel_born names) (panels whole))
-        (pick word (codes "vline~") kind.Vline _ (record { kind = tt; kept = λ rate l. tt })
+        (pick word (codes "vline~") kind.Vline _ (record { kind = tt; kept = λ now rate l. omega arith })
         (pick word (codes "dac~") (kind.Signal (signal.Dac (channels_of args))) _ (signal_born names (signal.Dac (channels_of args)))
         (mapped (λ g. kind.Glue g) (listed_named names word args) (glue_born names) lists)))
 
   -- `list` and a second word
   append_born : (w : Spelling) (args : List Atom) → IsList names args → IsGlueBorn names (glue.ListAppend w args)
-  append_born w args h = record { glue = record { small = h.few; words = tt }; kept = λ rate l. h }
+  append_born w args h = record { glue = record { small = h.few; words = tt }; kept = λ now rate l. h }
 
   word_list : (word : List ℕ) (args all : List Atom) → IsList names args → IsList names all → IsGlueBorn names (list_of_word word args all)
   word_list word args all h k =
       let P = IsGlueBorn names in
       either P (bytes_eq word (codes "append")) _ _ (append_born Whole args h)
-      (either P (bytes_eq word (codes "prepend")) _ _ (record { glue = record { small = h.few; words = tt }; kept = λ rate l. h })
-      (either P (bytes_eq word (codes "split")) (glue.ListSplit (number_at args 0 (pos 0))) _ (record { glue = record { small = tt; words = tt }; kept = λ rate l. tt })
-      (either P (bytes_eq word (codes "trim")) glue.ListTrim _ (record { glue = record { small = tt; words = tt }; kept = λ rate l. tt })
-      (either P (bytes_eq word (codes "length")) glue.ListLength _ (record { glue = record { small = tt; words = tt }; kept = λ rate l. tt })
+      (either P (bytes_eq word (codes "prepend")) _ _ (record { glue = record { small = h.few; words = tt }; kept = λ now rate l. h })
+      (either P (bytes_eq word (codes "split")) (glue.ListSplit (number_at args 0 (pos 0))) _ (record { glue = record { small = tt; words = tt }; kept = λ now rate l. tt })
+      (either P (bytes_eq word (codes "trim")) glue.ListTrim _ (record { glue = record { small = tt; words = tt }; kept = λ now rate l. tt })
+      (either P (bytes_eq word (codes "length")) glue.ListLength _ (record { glue = record { small = tt; words = tt }; kept = λ now rate l. tt })
       (append_born Short all k)))))
 
   list_in : (args : List Atom) → IsList names args → IsGlueBorn names (list_of names args)
@@ -366,6 +380,6 @@ pub named_kind : (names : Names) (first : HasFirst names) (text : List Atom) (k 
 unfolding NamedIn
 named_kind names first text k h e = subst (NamedIn names first) e (named_all names first text h)
 
-pub started_in : (names : Names) (s : State) → IsKept names s → IsKept names (started s 0)
-started_in names (state.Timer reset rate) h = tt
-started_in names s h = h
+pub started_in : (names : Names) (now : ℕ) (s : State) → IsKept names now s → IsKept names now (started s 0)
+started_in names now (state.Timer reset rate) h = tt
+started_in names now s h = h

@@ -1,5 +1,5 @@
 -- A patch that has just grown is in order.
-use Rattle.std.proofs.Common.{◌≡◌, ℕ, zero, suc, ◌+◌, ◌-◌, ◌≤◌, inl, inr, ◌==◌, List, [], ◌∷◌, Option, Some, None, IfSome, is_some, unwrap_or, refl, sym, ap, subst, arith, true≢false}
+use Rattle.std.proofs.Common.{◌≡◌, ◌^◌, ℕ, zero, suc, ◌+◌, ◌-◌, ◌≤◌, inl, inr, ◌==◌, List, [], ◌∷◌, Option, Some, None, IfSome, is_some, unwrap_or, refl, sym, ap, subst, arith, true≢false}
 use Rattle.std.specs.List.{AllByRecursion}
 use Rattle.std.proofs.lemmas.Bool.{cases_lt}
 use Rattle.slab.specs.Slab.{get}
@@ -94,36 +94,37 @@ kinds_in : (names : Names) (o : Option Node) → ((n : Node) → o ≡ Some n �
 kinds_in names None h = tt
 kinds_in names (Some n) h = h n refl
 
-some_state : (names : Names) (o : Option State) (s : State) → o ≡ Some s → IsKept names s → IfSome o (IsKept names)
-some_state names o s e h = subst (λ (x : Option State). IfSome x (IsKept names)) (sym e) h
+some_state : (names : Names) (now : ℕ) (o : Option State) (s : State) → o ≡ Some s → IsKept names now s → IfSome o (IsKept names now)
+some_state names now o s e h = subst (λ (x : Option State). IfSome x (IsKept names now)) (sym e) h
 
-states_in : (names : Names) (o : Option Node) → ((n : Node) → o ≡ Some n → IfSome n.state (IsKept names)) → IfSome (state_in o) (IsKept names)
-states_in names None h = tt
-states_in names (Some n) h = h n refl
+states_in : (names : Names) (now : ℕ) (o : Option Node) → ((n : Node) → o ≡ Some n → IfSome n.state (IsKept names now)) → IfSome (state_in o) (IsKept names now)
+states_in names now None h = tt
+states_in names now (Some n) h = h n refl
 
 module _ (p : Patch) (names : Names) (rate : Rate) (t : Trees) (fresh : NodesFresh rate 0 (get p.grove.nodes)) (born : AreBorn names t) (few : sound_of rate t ≤ 16777216) (of : IsOfTree p t) where
   box_born : (k : ℕ) (n : Node) → get p.grove.nodes k ≡ Some n → IsBorn names n.kind
   box_born k n e = kind_born names t n.kind born (of k n e)
 
-  box_keeps : (k : ℕ) (n : Node) → get p.grove.nodes k ≡ Some n → IfSome n.state (IsKept names)
-  box_keeps k n e =
+  box_keeps : (now k : ℕ) (n : Node) → get p.grove.nodes k ≡ Some n → IfSome n.state (IsKept names now)
+  box_keeps now k n e =
       let b : IsBorn names n.kind = box_born k n e in
       let l : size_of n.kind rate ≤ sound_of rate t = kind_size rate t n.kind (of k n e) in
-      some_state names n.state (started (start_of n.kind rate) 0) (fresh k n e) (started_in names (start_of n.kind rate) (b.kept rate (omega arith)))
+      some_state names now n.state (started (start_of n.kind rate) 0) (fresh k n e) (started_in names now (start_of n.kind rate) (b.kept now rate (omega arith)))
 
-  pub planted_in : HasFirst names → (queue : Waiting) → IsInOrder (net_of p) (kept_of p names queue)
-  planted_in first queue = record {
+  pub planted_in : HasFirst names → (now : ℕ) → now ≤ 2 ^ 101 → (queue : Waiting) → IsInOrder (net_of p) now (kept_of p names queue)
+  planted_in first now time queue = record {
+    time = time;
     first = first;
     kinds = λ k. kinds_in names (get p.grove.nodes k) (λ n e. (box_born k n e).kind);
-    states = λ k. states_in names (get p.grove.nodes k) (λ n e. box_keeps k n e);
+    states = λ k. states_in names now (get p.grove.nodes k) (λ n e. box_keeps now k n e);
   }
 
-pub patch_in_order : (files : List (ℕ × Answer)) (name : List ℕ) (root : Page) (names0 names : Names) (n : ℕ) (rate : Rate) (p : Patch) (queue : Waiting) → HasFirst names0 → IsProper names0 root → AreProper names0 files
-    → (tree : IsTree p names rate (grown (answer_in files) name root (beginning names0 n))) → IsFresh p names name rate → IsOfTree p tree.tree.boxes → IsInOrder (net_of p) (kept_of p names queue)
-patch_in_order files name root names0 names n rate p queue first proper library tree fresh of =
+pub patch_in_order : (files : List (ℕ × Answer)) (name : List ℕ) (root : Page) (names0 names : Names) (n : ℕ) (rate : Rate) (p : Patch) (now : ℕ) (queue : Waiting) → now ≤ 2 ^ 101 → HasFirst names0 → IsProper names0 root → AreProper names0 files
+    → (tree : IsTree p names rate (grown (answer_in files) name root (beginning names0 n))) → IsFresh p names name rate → IsOfTree p tree.tree.boxes → IsInOrder (net_of p) now (kept_of p names queue)
+patch_in_order files name root names0 names n rate p now queue time first proper library tree fresh of =
     let g = tree.given in
     let lib = answer_in files in
     let w : Stock = beginning names0 n in
     let born : AreBorn g.after.names tree.tree.boxes = patch_in lib name root w g.after tree.tree (library_in names0 files library) (sound_in names0 root.boxes proper.sound.1) (begins_in names0 n first) g.step in
     let last : HasFirst g.after.names = first_more names0 g.after.names (longer names0 g.after.names (patch_takes lib name root w g.after tree.tree g.step).names) first in
-    planted_in p names rate tree.tree.boxes fresh.states (subst (λ (x : Names). AreBorn x tree.tree.boxes) (sym g.table) born) tree.few_values of (subst HasFirst (sym g.table) last) queue
+    planted_in p names rate tree.tree.boxes fresh.states (subst (λ (x : Names). AreBorn x tree.tree.boxes) (sym g.table) born) tree.few_values of (subst HasFirst (sym g.table) last) now time queue

@@ -1,5 +1,5 @@
 -- Over a whole delivery all stays in order, and nothing is passed over.
-use Rattle.std.proofs.Common.{◌≡◌, ℕ, ℤ, ◌+◌, ◌^◌, ◌<◌, Bool, true, false, cond, ◌&&◌, nat_le, List, [], ◌∷◌, ◌++◌, length, map, Option, Some, None, IfSome, option_map, refl, sym, ap, subst, ◌∙◌, arith}
+use Rattle.std.proofs.Common.{◌≡◌, ◌≤◌, ℕ, ℤ, ◌+◌, ◌^◌, ◌<◌, Bool, true, false, cond, ◌&&◌, nat_le, List, [], ◌∷◌, ◌++◌, length, map, Option, Some, None, IfSome, option_map, refl, sym, ap, subst, ◌∙◌, arith}
 use Rattle.std.proofs.Math.ListN.{length-set}
 use Rattle.std.specs.List.{AllByRecursion, flat_map}
 use Rattle.pd_atom.specs.Names.{Names, Extends, name_of}
@@ -81,30 +81,30 @@ asked_in names net depth node said h =
     (either P (is_again said.deed) (Resume depth node ∷ []) [] (tt, tt) tt))
 
 -- deeds
-value_in : (names : Names) (s : State) (i : ℕ) (z : ℤ) → IsKept names s → IsNumber z → IsKept names (with_value s i z)
-value_in names (state.Table values) i z h k = record { few = let l : length values < 2 ^ 32 = h.few in omega (arith, length-set values i z); numbers = all-set IsNumber values i z k h.numbers }
-value_in names (state.Array values) i z h k = record { few = let l : length values < 2 ^ 32 = h.few in omega (arith, length-set values i z); numbers = all-set IsNumber values i z k h.numbers }
-value_in names s i z h k = h
+value_in : (names : Names) (now : ℕ) (s : State) (i : ℕ) (z : ℤ) → IsKept names now s → IsNumber z → IsKept names now (with_value s i z)
+value_in names now (state.Table values) i z h k = record { few = let l : length values < 2 ^ 32 = h.few in omega (arith, length-set values i z); numbers = all-set IsNumber values i z k h.numbers }
+value_in names now (state.Array values) i z h k = record { few = let l : length values < 2 ^ 32 = h.few in omega (arith, length-set values i z); numbers = all-set IsNumber values i z k h.numbers }
+value_in names now s i z h k = h
 
-module _ (names : Names) (first : HasFirst names) (states : ℕ → Option State) (kept : AreKept names states) (i : ℕ) (z : ℤ) (k : IsNumber z) where
-  mapped_in : (o : Option State) → IfSome o (IsKept names) → IfSome (option_map (λ s. with_value s i z) o) (IsKept names)
+module _ (names : Names) (first : HasFirst names) (now : ℕ) (time : now ≤ 2 ^ 101) (states : ℕ → Option State) (kept : AreKept names now states) (i : ℕ) (z : ℤ) (k : IsNumber z) where
+  mapped_in : (o : Option State) → IfSome o (IsKept names now) → IfSome (option_map (λ s. with_value s i z) o) (IsKept names now)
   mapped_in None h = tt
-  mapped_in (Some s) h = value_in names s i z h k
+  mapped_in (Some s) h = value_in names now s i z h k
 
-  written_at-in : (o : Option ℕ) → AreKept names (written_at states i z o)
+  written_at-in : (o : Option ℕ) → AreKept names now (written_at states i z o)
   written_at-in None = kept
-  written_at-in (Some node) = set_in names first states node (option_map (λ s. with_value s i z) (states node)) kept (mapped_in (states node) (kept node))
+  written_at-in (Some node) = set_in names first now time states node (option_map (λ s. with_value s i z) (states node)) kept (mapped_in (states node) (kept node))
 
-  written_in : (net : Net) (o : Option ℕ) → AreKept names (written net states i z o)
+  written_in : (net : Net) (o : Option ℕ) → AreKept names now (written net states i z o)
   written_in net None = kept
   written_in net (Some name) = written_at-in (table_owner net name)
 
-pub done_in : (net : Net) (now node : ℕ) (d : Deed) (kept : Kept) → IsInOrder net kept → IsDeed d → IsInOrder net (done net now node d kept)
+pub done_in : (net : Net) (now node : ℕ) (d : Deed) (kept : Kept) → IsInOrder net now kept → IsDeed d → IsInOrder net now (done net now node d kept)
 unfolding done
-done_in net now node (deed.SetClock time) kept h k = record { first = h.first; kinds = h.kinds; states = h.states }
-done_in net now node deed.ClearClock kept h k = record { first = h.first; kinds = h.kinds; states = h.states }
+done_in net now node (deed.SetClock time) kept h k = record { time = h.time; first = h.first; kinds = h.kinds; states = h.states }
+done_in net now node deed.ClearClock kept h k = record { time = h.time; first = h.first; kinds = h.kinds; states = h.states }
 done_in net now node (deed.WriteTable i z) kept h k =
-    record { first = h.first; kinds = h.kinds; states = written_in kept.names h.first kept.states h.states i z k net (table_named (kind_in (net.nodes node))) }
+    record { time = h.time; first = h.first; kinds = h.kinds; states = written_in kept.names h.first now h.time kept.states h.states i z k net (table_named (kind_in (net.nodes node))) }
 done_in net now node deed.Nothing kept h k = h
 done_in net now node deed.Print kept h k = h
 done_in net now node deed.Again kept h k = h
@@ -123,14 +123,14 @@ maybe_kind : (old new : Names) → Extends old new → (o : Option Kind) → IfS
 maybe_kind old new e None h = tt
 maybe_kind old new e (Some k) h = kind_more old new (longer old new e) k h
 
-module _ (net : Net) (now node : ℕ) (kept : Kept) (h : IsInOrder net kept) (r : Reply) (k : IsReply kept.names r) where
+module _ (net : Net) (now node : ℕ) (kept : Kept) (h : IsInOrder net now kept) (r : Reply) (k : IsReply kept.names now r) where
   kinds_after : AreKinds net r.names
   kinds_after j = maybe_kind kept.names r.names k.extends (kind_in (net.nodes j)) (h.kinds j)
 
-  replied_in : IsInOrder net (replied kept r)
-  replied_in = record { first = first_more kept.names r.names (longer kept.names r.names k.extends) h.first; kinds = kinds_after; states = k.states }
+  replied_in : IsInOrder net now (replied kept r)
+  replied_in = record { time = h.time; first = first_more kept.names r.names (longer kept.names r.names k.extends) h.first; kinds = kinds_after; states = k.states }
 
-  pub by_in : IsInOrder net (kept_by net now node kept r)
+  pub by_in : IsInOrder net now (kept_by net now node kept r)
   by_in = done_in net now node r.said.deed (replied kept r) replied_in k.said.deed
 
   pub by_names : (kept_by net now node kept r).names ≡ r.names
@@ -217,17 +217,17 @@ module _ (net : Net) (now : ℕ) where
   abbrev IsTaskAt : Kept → Task → Type 0
   IsTaskAt kept t = IsTask kept.names t
 
-  heard_reply : (kept : Kept) → IsInOrder net kept → (node inlet selector : ℕ) (atoms : List Atom) → IsMessage kept.names selector atoms → IsReply kept.names (heard_at net now kept.states kept.names node inlet selector atoms)
-  heard_reply kept h node inlet selector atoms m = at_in net now kept.names h.first h.kinds kept.states h.states node inlet selector atoms m
+  heard_reply : (kept : Kept) → IsInOrder net now kept → (node inlet selector : ℕ) (atoms : List Atom) → IsMessage kept.names selector atoms → IsReply kept.names now (heard_at net now kept.states kept.names node inlet selector atoms)
+  heard_reply kept h node inlet selector atoms m = at_in net now h.time kept.names h.first h.kinds kept.states h.states node inlet selector atoms m
 
-  heard_same : (kept : Kept) → IsInOrder net kept → (node inlet selector : ℕ) (atoms : List Atom) → IsMessage kept.names selector atoms
+  heard_same : (kept : Kept) → IsInOrder net now kept → (node inlet selector : ℕ) (atoms : List Atom) → IsMessage kept.names selector atoms
       → free_at net now kept.states kept.names node inlet selector atoms ≡ heard_at net now kept.states kept.names node inlet selector atoms
-  heard_same kept h node inlet selector atoms m = at_same net now kept.names h.first h.kinds kept.states h.states node inlet selector atoms m
+  heard_same kept h node inlet selector atoms m = at_same net now h.time kept.names h.first h.kinds kept.states h.states node inlet selector atoms m
 
-  again_reply : (kept : Kept) → IsInOrder net kept → (node : ℕ) → IsReply kept.names (resumed_at net kept.states kept.names node)
-  again_reply kept h node = resumed_reply net now kept.names h.first h.kinds kept.states h.states node
+  again_reply : (kept : Kept) → IsInOrder net now kept → (node : ℕ) → IsReply kept.names now (resumed_at net kept.states kept.names node)
+  again_reply kept h node = resumed_reply net now h.time kept.names h.first h.kinds kept.states h.states node
 
-  kept_same : (kept : Kept) (t : Task) → IsInOrder net kept → IsTaskAt kept t → free_kept net now kept t ≡ kept_after net now kept t
+  kept_same : (kept : Kept) (t : Task) → IsInOrder net now kept → IsTaskAt kept t → free_kept net now kept t ≡ kept_after net now kept t
   unfolding free_kept kept_after
   kept_same kept (Deliver depth node inlet selector atoms) h m = ap (kept_by net now node kept) (heard_same kept h node inlet selector atoms m)
   kept_same kept (Ask depth canvas selector atoms) h m =
@@ -235,7 +235,7 @@ module _ (net : Net) (now : ℕ) where
   kept_same kept (Resume depth node) h m = refl
   kept_same kept (Nobody name) h m = refl
 
-  said_same : (kept : Kept) (t : Task) → IsInOrder net kept → IsTaskAt kept t → free_said net now kept t ≡ said_at net now kept t
+  said_same : (kept : Kept) (t : Task) → IsInOrder net now kept → IsTaskAt kept t → free_said net now kept t ≡ said_at net now kept t
   unfolding free_said said_at
   said_same kept (Deliver depth node inlet selector atoms) h m =
       ap (free.said_by_box net depth node selector atoms) (heard_same kept h node inlet selector atoms m)
@@ -244,7 +244,7 @@ module _ (net : Net) (now : ℕ) where
   said_same kept (Resume depth node) h m = refl
   said_same kept (Nobody name) h m = sym (ap (λ (b : Bool). cond b (free.nobody_text kept.names name) []) (name_true kept.names name m))
 
-  caused_same : (kept : Kept) (t : Task) → IsInOrder net kept → IsTaskAt kept t → free_caused net now kept t ≡ caused net now kept t
+  caused_same : (kept : Kept) (t : Task) → IsInOrder net now kept → IsTaskAt kept t → free_caused net now kept t ≡ caused net now kept t
   unfolding free_caused caused
   caused_same kept (Deliver depth node inlet selector atoms) h m = ap (λ (r : Reply). asked_for net depth node r.said) (heard_same kept h node inlet selector atoms m)
   caused_same kept (Ask depth canvas selector atoms) h m = refl
@@ -257,28 +257,28 @@ module _ (net : Net) (now : ℕ) where
   costs_same (Resume depth node) = refl
   costs_same (Nobody name) = refl
 
-  stays_in : (kept : Kept) (t : Task) → IsInOrder net kept → IsTaskAt kept t → IsInOrder net (kept_after net now kept t)
+  stays_in : (kept : Kept) (t : Task) → IsInOrder net now kept → IsTaskAt kept t → IsInOrder net now (kept_after net now kept t)
   unfolding kept_after
   stays_in kept (Deliver depth node inlet selector atoms) h m = by_in net now node kept h (heard_at net now kept.states kept.names node inlet selector atoms) (heard_reply kept h node inlet selector atoms m)
-  stays_in kept (Ask depth canvas selector atoms) h m = record { first = h.first; kinds = h.kinds; states = h.states }
+  stays_in kept (Ask depth canvas selector atoms) h m = record { time = h.time; first = h.first; kinds = h.kinds; states = h.states }
   stays_in kept (Resume depth node) h m = by_in net now node kept h (resumed_at net kept.states kept.names node) (again_reply kept h node)
   stays_in kept (Nobody name) h m = h
 
-  others_in : (kept : Kept) (t : Task) → IsInOrder net kept → IsTaskAt kept t → (u : Task) → IsTaskAt kept u → IsTaskAt (kept_after net now kept t) u
+  others_in : (kept : Kept) (t : Task) → IsInOrder net now kept → IsTaskAt kept t → (u : Task) → IsTaskAt kept u → IsTaskAt (kept_after net now kept t) u
   unfolding kept_after
   others_in kept (Deliver depth node inlet selector atoms) h m u j = by_others net now node kept h (heard_at net now kept.states kept.names node inlet selector atoms) (heard_reply kept h node inlet selector atoms m) u j
   others_in kept (Ask depth canvas selector atoms) h m u j = j
   others_in kept (Resume depth node) h m u j = by_others net now node kept h (resumed_at net kept.states kept.names node) (again_reply kept h node) u j
   others_in kept (Nobody name) h m u j = j
 
-  follow_in : (kept : Kept) (t : Task) → IsInOrder net kept → IsTaskAt kept t → AllByRecursion (IsTaskAt (kept_after net now kept t)) (caused net now kept t)
+  follow_in : (kept : Kept) (t : Task) → IsInOrder net now kept → IsTaskAt kept t → AllByRecursion (IsTaskAt (kept_after net now kept t)) (caused net now kept t)
   unfolding kept_after caused
   follow_in kept (Deliver depth node inlet selector atoms) h m = by_follow net now node kept h (heard_at net now kept.states kept.names node inlet selector atoms) (heard_reply kept h node inlet selector atoms m) depth
   follow_in kept (Ask depth canvas selector atoms) h m = tt
   follow_in kept (Resume depth node) h m = by_follow net now node kept h (resumed_at net kept.states kept.names node) (again_reply kept h node) depth
   follow_in kept (Nobody name) h m = tt
 
-  agreed : Agree (rules net now) (free.rules net now) (IsInOrder net) IsTaskAt
+  agreed : Agree (rules net now) (free.rules net now) (IsInOrder net now) IsTaskAt
   agreed = record {
     kept = kept_same;
     said = said_same;
@@ -292,12 +292,12 @@ module _ (net : Net) (now : ℕ) where
 
   -- runs of tasks
   abbrev pub SameWorlds : World Kept → World Kept → World Kept → Type 0
-  SameWorlds w v u = Same (IsInOrder net) IsTaskAt w v u
+  SameWorlds w v u = Same (IsInOrder net now) IsTaskAt w v u
 
-  ran_same : (w : World Kept) (tasks : List Task) → IsInOrder net w.kept → AllByRecursion (IsTask w.kept.names) tasks → SameWorlds w (ran net now w tasks) (free.ran net now w tasks)
-  ran_same w tasks h k = all_same (rules net now) (free.rules net now) (IsInOrder net) IsTaskAt agreed w tasks h k
+  ran_same : (w : World Kept) (tasks : List Task) → IsInOrder net now w.kept → AllByRecursion (IsTask w.kept.names) tasks → SameWorlds w (ran net now w tasks) (free.ran net now w tasks)
+  ran_same w tasks h k = all_same (rules net now) (free.rules net now) (IsInOrder net now) IsTaskAt agreed w tasks h k
 
-  told_same : (node : ℕ) (said : Said) (w : World Kept) → IsInOrder net w.kept → IsSaid w.kept.names said → SameWorlds w (told_by net now node said w) (free.told_by net now node said w)
+  told_same : (node : ℕ) (said : Said) (w : World Kept) → IsInOrder net now w.kept → IsSaid w.kept.names said → SameWorlds w (told_by net now node said w) (free.told_by net now node said w)
   told_same node said w h k =
       let e : (done net now node said.deed w.kept).names ≡ w.kept.names = done_names net now node said.deed w.kept in
       let tasks : AllByRecursion (IsTask (done net now node said.deed w.kept).names) (asked_for net 0 node said) =
@@ -306,11 +306,11 @@ module _ (net : Net) (now : ℕ) where
       ran_same (after_deed net now node said w) (asked_for net 0 node said) (done_in net now node said.deed w.kept h k.deed) tasks in
       record { same = s.same; after = record { kept = s.after.kept; tasks = λ u j. s.after.tasks u (subst (λ (n : Names). IsTask n u) (sym e) j) } }
 
-  loaded_same : (w : World Kept) (nodes : List ℕ) → IsInOrder net w.kept → SameWorlds w (all_loaded net now w nodes) (free.all_loaded net now w nodes)
+  loaded_same : (w : World Kept) (nodes : List ℕ) → IsInOrder net now w.kept → SameWorlds w (all_loaded net now w nodes) (free.all_loaded net now w nodes)
   loaded_same w [] h = record { same = refl; after = record { kept = h; tasks = λ u j. j } }
   loaded_same w (node ∷ nodes) h =
       let said = loaded_at net w.kept.states node in
-      let s : SameWorlds w (told_by net now node said w) (free.told_by net now node said w) = told_same node said w h (load_said net now w.kept.names h.first h.kinds w.kept.states h.states node) in
+      let s : SameWorlds w (told_by net now node said w) (free.told_by net now node said w) = told_same node said w h (load_said net now h.time w.kept.names h.first h.kinds w.kept.states h.states node) in
       let t : SameWorlds (told_by net now node said w) (all_loaded net now (told_by net now node said w) nodes) (free.all_loaded net now (told_by net now node said w) nodes) =
       loaded_same (told_by net now node said w) nodes s.after.kept in
       record {
@@ -318,7 +318,7 @@ module _ (net : Net) (now : ℕ) where
         after = record { kept = t.after.kept; tasks = λ u j. t.after.tasks u (s.after.tasks u j) };
       }
 
-  pub outcome_same : (w : World Kept) (s : Start) → IsInOrder net w.kept → IsStart w.kept.names s → SameWorlds w (outcome net now w s) (free_outcome net now w s)
+  pub outcome_same : (w : World Kept) (s : Start) → IsInOrder net now w.kept → IsStart w.kept.names s → SameWorlds w (outcome net now w s) (free_outcome net now w s)
   unfolding outcome free_outcome
   outcome_same w (start.Name name message) h k =
       let selector = message.selector in
@@ -327,5 +327,17 @@ module _ (net : Net) (now : ℕ) where
       let r : SameWorlds w (ran net now w (to_name net 1 selector atoms name true)) (free.ran net now w (to_name net 1 selector atoms name true)) =
       ran_same w (to_name net 1 selector atoms name true) h (name_in w.kept.names net 1 0 selector atoms name true k.message k.known) in
       subst (λ (l : List Task). SameWorlds w (ran net now w l) (free.ran net now w (to_name net 1 selector atoms name true))) (sym e) r
-  outcome_same w (start.Clock node) h k = told_same node (fired_at net w.kept.states node) w h (clock_said net now w.kept.names h.first h.kinds w.kept.states h.states node)
+  outcome_same w (start.Clock node) h k = told_same node (fired_at net w.kept.states node) w h (clock_said net now h.time w.kept.names h.first h.kinds w.kept.states h.states node)
   outcome_same w (start.Loads boxes) h k = loaded_same w boxes.now h
+
+-- at a later time
+kept_later : (names : Names) (now later : ℕ) → now ≤ later → (s : State) → IsKept names now s → IsKept names later s
+kept_later names now later l (state.Vline r) h = omega arith
+kept_later names now later l s h = h
+
+some_later : (names : Names) (now later : ℕ) → now ≤ later → (o : Option State) → IfSome o (IsKept names now) → IfSome o (IsKept names later)
+some_later names now later l None h = tt
+some_later names now later l (Some s) h = kept_later names now later l s h
+
+pub order_later : (net : Net) (now later : ℕ) (kept : Kept) → IsInOrder net now kept → now ≤ later → later ≤ 2 ^ 101 → IsInOrder net later kept
+order_later net now later kept h l time = record { time = time; first = h.first; kinds = h.kinds; states = λ k. some_later kept.names now later l (kept.states k) (h.states k) }

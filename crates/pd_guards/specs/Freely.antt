@@ -1,5 +1,5 @@
--- The rules of messages where nothing is passed over: each box does with each message what its object's definition says. Only a `vline~`
--- is still looked at, and how deep a canvas lies.
+-- The rules of messages where nothing is passed over: each box does with each message what its object's definition says. Only how
+-- deep a canvas lies is still looked at.
 use Rattle.std.specs.Prelude.{ℕ, ℤ, Bool, List, [], ◌∷◌, ◌++◌, Option, Some, None, true, if◌then◌else◌}
 use Rattle.std.specs.List.{flat_map}
 use Rattle.pd_atom.specs.Names.{Names, name_of}
@@ -13,6 +13,7 @@ use Rattle.pd_kind.specs.declared.states.State.{State}
 use Rattle.pd_kind.specs.Said.{Said}
 use Rattle.pd_arith.specs.Rows as arith
 use Rattle.pd_panel.specs.Rows as panel
+use Rattle.pd_vline.specs.Rows as vline
 use Rattle.pd_glue.specs.Rows as control
 use Rattle.pd_glue.specs.Rows.{Hearing, with_names, quiet}
 use Rattle.pd_grove.specs.Telling.{kind_in}
@@ -28,7 +29,7 @@ use Rattle.pd_turns.specs.Turns.{Rules, World, all_finished}
 use Rattle.pd_walk.specs.declared.walker.Start.{Start}
 use Rattle.pd_walk.specs.declared.walker.Start.TheVariants as start
 use Rattle.pd_walk.specs.Worlds.{Net, Kept, set_at}
-use Rattle.pd_walk.specs.Hearing.{Reply, mute, reply, heard_line, table_in, table_named, resumed_at, fired_at, loaded_at}
+use Rattle.pd_walk.specs.Hearing.{Reply, mute, reply, table_in, table_named, resumed_at, fired_at, loaded_at}
 use Rattle.pd_walk.specs.Tasks.{Task, Deliver, Ask, Resume, Nobody, costs, asked_for, to_name, overflow_text, is_too_deep, is_print, print_words, full_text, cut_line, path_in, is_near, kept_by}
 use Rattle.pd_walk.specs.Outcome.{after_deed}
 
@@ -36,7 +37,7 @@ use Rattle.pd_walk.specs.Outcome.{after_deed}
 unfoldable pub heard_by : Names → Kind → State → ℕ → ℕ → List Atom → ℕ → Option (List ℤ) → Hearing
 heard_by names (kind.Arith a) s inlet selector atoms now table = with_names names (arith.heard (kind.Arith a) s inlet selector atoms)
 heard_by names (kind.Panel p) s inlet selector atoms now table = with_names names (panel.heard names (kind.Panel p) s selector atoms)
-heard_by names kind.Vline s inlet selector atoms now table = heard_line names kind.Vline s inlet selector atoms now
+heard_by names kind.Vline s inlet selector atoms now table = with_names names (vline.heard names now kind.Vline s inlet selector atoms)
 heard_by names k s inlet selector atoms now table = control.heard names k s inlet selector atoms now table
 
 abbrev pub heard_in : Names → Option Kind → State → ℕ → ℕ → List Atom → ℕ → Option (List ℤ) → Hearing

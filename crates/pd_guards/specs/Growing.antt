@@ -19,7 +19,7 @@ use Rattle.pd_guards.specs.Order.{IsNumber, HasFirst, IsList, IsKept, IsKind}
 -- a kind in order, of which a box keeps at first what is in order, where its table isn't too long
 pub record IsBorn (names : Names) (k : Kind) : Type 0 where
   pub kind : IsKind names k
-  pub kept : (rate : Rate) → size_of k rate < 2 ^ 32 → IsKept names (start_of k rate)
+  pub kept : (now : ℕ) (rate : Rate) → size_of k rate < 2 ^ 32 → IsKept names now (start_of k rate)
 
 -- the boxes of a tree, and those inside them
 abbrev pub AreBorn : Names → Trees → Type 0

@@ -58,32 +58,33 @@ pub record IsTable (values : List ℤ) : Type 0 where
   pub few : length values < 2 ^ 32
   pub numbers : AllByRecursion IsNumber values
 
--- what a box keeps
-abbrev pub IsKept : Names → State → Type 0
-IsKept names (state.Message text) = IsList names text
-IsKept names (state.FloatBox z) = IsNumber z
-IsKept names (state.SymbolBox s) = IsName names s
-IsKept names (state.Array values) = IsTable values
-IsKept names (state.Float z) = IsNumber z
-IsKept names (state.Int z) = IsNumber z
-IsKept names (state.Symbol s) = IsName names s
-IsKept names (state.Pack slots) = IsList names slots
-IsKept names (state.Route args) = IsList names args
-IsKept names (state.Select args) = IsList names args
-IsKept names (state.Swap left right) = IsNumber left × IsNumber right
-IsKept names (state.Change z) = IsNumber z
-IsKept names (state.Send name) = IfSome name (IsName names)
-IsKept names (state.Random seed range) = (seed < 2 ^ 32) × IsNumber range
-IsKept names (state.ListAppend stored) = IsList names stored
-IsKept names (state.ListPrepend stored) = IsList names stored
-IsKept names (state.Operation left right) = IsNumber left × IsNumber right
-IsKept names (state.Comparison left right) = IsNumber left × IsNumber right
-IsKept names (state.Division left right) = IsNumber left × IsNumber right
-IsKept names (state.Clip low high) = IsNumber low × IsNumber high
-IsKept names (state.Table values) = IsTable values
-IsKept names (state.Toggle value other saved) = IsNumber value × IsNumber other
-IsKept names (state.Snapshot held last) = IsInRange billionths last
-IsKept names s = Unit {0}
+-- what a box keeps at a time: a `vline~` has run no block beyond it
+abbrev pub IsKept : Names → ℕ → State → Type 0
+IsKept names now (state.Message text) = IsList names text
+IsKept names now (state.FloatBox z) = IsNumber z
+IsKept names now (state.SymbolBox s) = IsName names s
+IsKept names now (state.Array values) = IsTable values
+IsKept names now (state.Float z) = IsNumber z
+IsKept names now (state.Int z) = IsNumber z
+IsKept names now (state.Symbol s) = IsName names s
+IsKept names now (state.Pack slots) = IsList names slots
+IsKept names now (state.Route args) = IsList names args
+IsKept names now (state.Select args) = IsList names args
+IsKept names now (state.Swap left right) = IsNumber left × IsNumber right
+IsKept names now (state.Change z) = IsNumber z
+IsKept names now (state.Send name) = IfSome name (IsName names)
+IsKept names now (state.Random seed range) = (seed < 2 ^ 32) × IsNumber range
+IsKept names now (state.ListAppend stored) = IsList names stored
+IsKept names now (state.ListPrepend stored) = IsList names stored
+IsKept names now (state.Operation left right) = IsNumber left × IsNumber right
+IsKept names now (state.Comparison left right) = IsNumber left × IsNumber right
+IsKept names now (state.Division left right) = IsNumber left × IsNumber right
+IsKept names now (state.Clip low high) = IsNumber low × IsNumber high
+IsKept names now (state.Table values) = IsTable values
+IsKept names now (state.Toggle value other saved) = IsNumber value × IsNumber other
+IsKept names now (state.Snapshot held last) = IsInRange billionths last
+IsKept names now (state.Vline r) = r.end ≤ now
+IsKept names now s = Unit {0}
 
 -- an outlet of a `trigger` that sends a number
 abbrev pub IsConstant : Trigger → Type 0
@@ -136,12 +137,12 @@ pub record IsSaid (names : Names) (said : Said) : Type 0 where
   pub notices : AllByRecursion (IsNotice names) said.notices
 
 -- what a hearing leaves, in a table that stays
-pub record IsHeard (names : Names) (h : Heard) : Type 0 where
-  pub kept : IsKept names h.state
+pub record IsHeard (names : Names) (now : ℕ) (h : Heard) : Type 0 where
+  pub kept : IsKept names now h.state
   pub said : IsSaid names h.said
 
 -- what a hearing leaves, and the table of names goes on
-pub record IsHearing (names : Names) (h : Hearing) : Type 0 where
+pub record IsHearing (names : Names) (now : ℕ) (h : Hearing) : Type 0 where
   pub extends : Extends names h.names
-  pub kept : IsKept h.names h.state
+  pub kept : IsKept h.names now h.state
   pub said : IsSaid h.names h.said

@@ -1,5 +1,5 @@
 -- When what a patch keeps, tasks and what begins deliveries are in order.
-use Rattle.std.specs.Prelude.{ℕ, List, Option, IfSome}
+use Rattle.std.specs.Prelude.{ℕ, ◌≤◌, ◌^◌, List, Option, IfSome}
 use Rattle.pd_atom.specs.Names.{Names, Extends}
 use Rattle.pd_atom.specs.declared.Atom.{Atom}
 use Rattle.pd_kind.specs.declared.states.State.{State}
@@ -11,17 +11,18 @@ use Rattle.pd_walk.specs.Hearing.{Reply}
 use Rattle.pd_walk.specs.Tasks.{Task, Deliver, Ask, Resume, Nobody}
 use Rattle.pd_guards.specs.Order.{HasFirst, IsName, IsMessage, IsKept, IsKind, IsSaid}
 
-abbrev pub AreKept : Names → (ℕ → Option State) → Type 0
-AreKept names states = (k : ℕ) → IfSome (states k) (IsKept names)
+abbrev pub AreKept : Names → ℕ → (ℕ → Option State) → Type 0
+AreKept names now states = (k : ℕ) → IfSome (states k) (IsKept names now)
 
 abbrev pub AreKinds : Net → Names → Type 0
 AreKinds net names = (k : ℕ) → IfSome (kind_in (net.nodes k)) (IsKind names)
 
--- the table of names has its first names, and every box is in order
-pub record IsInOrder (net : Net) (kept : Kept) : Type 0 where
+-- it is a time at which events come, the table of names has its first names, and every box is in order
+pub record IsInOrder (net : Net) (now : ℕ) (kept : Kept) : Type 0 where
+  pub time : now ≤ 2 ^ 101
   pub first : HasFirst kept.names
   pub kinds : AreKinds net kept.names
-  pub states : AreKept kept.names kept.states
+  pub states : AreKept kept.names now kept.states
 
 abbrev pub IsTask : Names → Task → Type 0
 IsTask names (Deliver depth node inlet selector atoms) = IsMessage names selector atoms
@@ -30,9 +31,9 @@ IsTask names (Resume depth node) = Unit {0}
 IsTask names (Nobody name) = IsName names name
 
 -- what is left by a box that acts
-pub record IsReply (names : Names) (r : Reply) : Type 0 where
+pub record IsReply (names : Names) (now : ℕ) (r : Reply) : Type 0 where
   pub extends : Extends names r.names
-  pub states : AreKept r.names r.states
+  pub states : AreKept r.names now r.states
   pub said : IsSaid r.names r.said
 
 -- a message to a name

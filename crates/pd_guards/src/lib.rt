@@ -5,5 +5,5 @@ mod laws;
 
 pub use laws::{
     boxes_stay_in_order, delivery_passes_nothing_over, grown_patches_are_in_order,
-    hearing_stays_in_order, what_grows_is_in_order,
+    hearing_stays_in_order, order_lasts, what_grows_is_in_order,
 };
