@@ -134,12 +134,12 @@ module _ (names : Names) (first : HasFirst names) where
   float_in-in (atom.Number z ∷ atoms) h = h.0.1
   float_in-in (a ∷ atoms) h = no_number
 
-  symbol_of-in : (atoms : List Atom) → AreAtoms names atoms → IsName names (symbol_of atoms)
+  pub symbol_of-in : (atoms : List Atom) → AreAtoms names atoms → IsName names (symbol_of atoms)
   symbol_of-in [] h = omega (arith, first)
   symbol_of-in (atom.Symbol s ∷ atoms) h = h.0.0
   symbol_of-in (a ∷ atoms) h = omega (arith, first)
 
-  list_selector-in : (atoms : List Atom) → IsName names (list_selector atoms)
+  pub list_selector-in : (atoms : List Atom) → IsName names (list_selector atoms)
   list_selector-in [] = omega (arith, first)
   list_selector-in (atom.Number z ∷ []) = omega (arith, first)
   list_selector-in (atom.Symbol s ∷ []) = omega (arith, first)

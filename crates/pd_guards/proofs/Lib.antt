@@ -20,3 +20,4 @@ pub mod WalkLemmas
 pub mod NamingLemmas
 pub mod GrownLemmas
 pub mod PatchLemmas
+pub mod CommandLemmas

@@ -20,9 +20,9 @@ pub same_table : (names : Names) → Extends names names
 same_table names = ([], sym (append-nil names))
 
 -- the table goes on, and the name that is given is of it
-record IsInterned (names : Names) (o : Outcome ℕ) : Type 0 where
-  extends : Extends names o.names
-  answer : IfOk o.answer (IsName o.names)
+pub record IsInterned (names : Names) (o : Outcome ℕ) : Type 0 where
+  pub extends : Extends names o.names
+  pub answer : IfOk o.answer (IsName o.names)
 
 place_in : (names : Names) (name : List ℕ) → IfSome (position (bytes_eq name) names) (IsName names)
 place_in names name = by_option (position (bytes_eq name) names)
@@ -36,7 +36,7 @@ placed_in names name None h =
     (record { extends = (name ∷ [], refl); answer = omega (arith, length-append names (name ∷ [])) })
     (record { extends = same_table names; answer = tt })
 
-interned_in : (names : Names) (name : List ℕ) → IsInterned names (interned names name)
+pub interned_in : (names : Names) (name : List ℕ) → IsInterned names (interned names name)
 unfolding interned
 interned_in names name =
     either (IsInterned names) (nat_lt longest (length name)) (refused TooLong names) (placed names name (position (bytes_eq name) names))
@@ -83,10 +83,10 @@ map_in : {A : Type 0} (P : Atom → Type 0) (f : A → Atom) (o : Option A) → 
 map_in P f None k = tt
 map_in P f (Some x) k = k x refl
 
-IsNameless : Atom → Type 0
+unfoldable pub IsNameless : Atom → Type 0
 IsNameless a = IsOf [] a × HoldsNumber a
 
-nameless_in : (token : List ℕ) → IfSome (nameless token) IsNameless
+pub nameless_in : (token : List ℕ) → IfSome (nameless token) IsNameless
 unfolding IsNameless
 nameless_in token =
     let P : Option Atom → Type 0 = λ o. IfSome o IsNameless in
@@ -108,7 +108,7 @@ found_in names s h =
     (λ none. absurd (absent_at names name none s h refl))
     (λ t some. subst (λ (o : Option ℕ). P (placed names name o)) (sym some) (position_low names name t some).0))
 
-named_in : (names : Names) (token : List ℕ) (s : ℕ) → IsName names s → IsAtom names (named token s)
+pub named_in : (names : Names) (token : List ℕ) (s : ℕ) → IsName names s → IsAtom names (named token s)
 named_in names token s h = (of_named names token s h, either HoldsNumber (has_argument token) (DollarSymbol s) (Symbol s) tt tt)
 
 answer_in : (names : Names) (token : List ℕ) (a : Atom) (r : Result ℕ SymbolRefusal) → IsAtom names a → IfOk r (IsName names) → IsAtom names (answer_or a (answer_map (named token) r))

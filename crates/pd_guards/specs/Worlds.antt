@@ -9,7 +9,7 @@ use Rattle.pd_walk.specs.declared.walker.Start.TheVariants as start
 use Rattle.pd_walk.specs.Worlds.{Net, Kept}
 use Rattle.pd_walk.specs.Hearing.{Reply}
 use Rattle.pd_walk.specs.Tasks.{Task, Deliver, Ask, Resume, Nobody}
-use Rattle.pd_guards.specs.Order.{HasFirst, IsName, IsMessage, IsKept, IsKind, IsSaid}
+use Rattle.pd_guards.specs.Order.{HasFirst, IsName, AreAtoms, IsMessage, IsKept, IsKind, IsSaid}
 
 abbrev pub AreKept : Names → ℕ → (ℕ → Option State) → Type 0
 AreKept names now states = (k : ℕ) → IfSome (states k) (IsKept names now)
@@ -45,3 +45,9 @@ abbrev pub IsStart : Names → Start → Type 0
 IsStart names (start.Name name message) = IsNamed names name message.selector message.atoms.now
 IsStart names (start.Clock owner) = Unit {0}
 IsStart names (start.Loads boxes) = Unit {0}
+
+-- the name and the atoms of a message that is read are of the table, which goes on
+pub record IsSent (names after : Names) (name : ℕ) (atoms : List Atom) : Type 0 where
+  pub extends : Extends names after
+  pub known : IsName after name
+  pub atoms_known : AreAtoms after atoms

@@ -1,11 +1,15 @@
 //! Laws of what boxes hear, and of whole deliveries.
-ghost use Rattle.std.specs.Prelude.{◌≡◌, ◌≤◌, ◌^◌, ℕ, ℤ, true, List, [], Option, IfSome};
+ghost use Rattle.std.specs.Prelude.{◌≡◌, ◌≤◌, ◌^◌, ℕ, ℤ, true, List, [], Option, Some, IfSome};
 ghost use Rattle.std.specs.List.{list_all};
 ghost use Rattle.pd_atom.specs.Names.{Names};
 ghost use Rattle.pd_atom.specs.declared.Atom.{Atom};
 ghost use Rattle.pd_kind.specs.declared.kinds.Kind.{Kind};
 ghost use Rattle.pd_kind.specs.declared.states.State.{State};
 ghost use Rattle.pd_kind.specs.Said.{Said};
+ghost use Rattle.pd_kind.specs.declared.messages.Target.TheVariants.{Outlet};
+ghost use Rattle.pd_kind.specs.Forming.{message_send, cut_atoms};
+ghost use Rattle.pd_script.specs.declared.commands.Command.TheVariants.{Send};
+ghost use Rattle.pd_script.specs.Scripts.{send_of};
 ghost use Rattle.pd_glue.specs.Rows.{resumed, fired};
 ghost use Rattle.pd_clock.specs.declared.times.Rate.{Rate};
 ghost use Rattle.pd_canvas.specs.Pages.{Page};
@@ -26,8 +30,8 @@ ghost use Rattle.pd_walk.specs.Guards.{is_message, is_table, is_small, is_open, 
 ghost use Rattle.pd_walk.specs.Hearing.{heard_kind, heard_at, resumed_at, fired_at, loaded_at};
 ghost use Rattle.pd_walk.specs.declared.walker.Budget.{Budget};
 ghost use Rattle.pd_walk.specs.Outcome.{outcome, world, IsLeft};
-ghost use Rattle.pd_guards.specs.Order.{HasFirst, IsMessage, IsTable, IsKept, IsKind, IsSaid, IsHeard, IsHearing};
-ghost use Rattle.pd_guards.specs.Worlds.{AreKept, AreKinds, IsReply, IsInOrder, IsStart};
+ghost use Rattle.pd_guards.specs.Order.{HasFirst, IsName, AreAtoms, IsMessage, IsTable, IsKept, IsKind, IsSaid, IsHeard, IsHearing};
+ghost use Rattle.pd_guards.specs.Worlds.{AreKept, AreKinds, IsReply, IsInOrder, IsStart, IsNamed, IsSent};
 ghost use Rattle.pd_guards.specs.Growing.{AreBorn, BoxesIn, LibraryIn, StockIn, IsOfTree};
 ghost use Rattle.pd_guards.specs.Freely.{heard_by as heard_freely, outcome as free_outcome};
 
@@ -94,4 +98,13 @@ pub fn grown_patches_are_in_order()
         now ≤ 2 ^ 101 → HasFirst before → IsProper before root → AreProper before files →
         (tree : IsTree p names rate (grown (answer_in files) name root (beginning before n))) → IsFresh p names name rate →
         IsOfTree p tree.tree.boxes → IsInOrder (net_of p) now (kept_of p names queue) }
+{}
+
+/// A command that is read and sends a message begins its event in order: its name and its atoms are of the table after reading, and the
+/// message that they make, cut at 1,024 atoms, is in order.
+pub fn commands_begin_in_order()
+    ensures read { (names after : Names) (tokens : List (List ℕ)) (name : ℕ) (atoms : List Atom) →
+        send_of names tokens ≡ Some (Send name atoms, after) → IsSent names after name atoms }
+    ensures message { (names : Names) (name : ℕ) (atoms : List Atom) → HasFirst names → IsName names name → AreAtoms names atoms →
+        let m = message_send (Outlet 0) atoms in IsNamed names name m.selector (cut_atoms m.atoms) }
 {}
