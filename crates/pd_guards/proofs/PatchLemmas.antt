@@ -1,0 +1,130 @@
+-- A patch that has just grown is in order.
+use Rattle.std.proofs.Common.{◌≡◌, ◌^◌, ℕ, zero, suc, ◌+◌, ◌-◌, ◌≤◌, inl, inr, ◌==◌, List, [], ◌∷◌, Option, Some, None, IfSome, is_some, unwrap_or, refl, sym, ap, subst, arith, true≢false}
+use Rattle.std.specs.List.{AllByRecursion}
+use Rattle.std.proofs.lemmas.Bool.{cases_lt}
+use Rattle.slab.specs.Slab.{get}
+use Rattle.pd_atom.specs.Names.{Names}
+use Rattle.pd_clock.specs.declared.times.Rate.{Rate}
+use Rattle.pd_kind.specs.declared.kinds.Kind.{Kind}
+use Rattle.pd_kind.specs.declared.states.State.{State}
+use Rattle.pd_kind.specs.States.{size_of, start_of}
+use Rattle.pd_kind.specs.Tables.{started}
+use Rattle.pd_canvas.specs.declared.tree.Doc.{Doc}
+use Rattle.pd_canvas.specs.Pages.{Page}
+use Rattle.pd_canvas.specs.Proper.{IsProper}
+use Rattle.pd_library.specs.declared.answers.Answer.{Answer}
+use Rattle.pd_library.specs.declared.answers.Answer.TheVariants.{Found}
+use Rattle.pd_library.specs.Files.{answer_in}
+use Rattle.pd_gather.specs.Gather.{IsProperAnswer, AreProper}
+use Rattle.pd_tree.specs.Trees.{Trees, Done, Leaf, Holder}
+use Rattle.pd_growth.specs.Steps.{Stock, numbers_up, zeros_from, beginning}
+use Rattle.pd_growth.specs.Growth.{grown}
+use Rattle.pd_grove.specs.declared.nodes.Node.{Node}
+use Rattle.pd_grove.specs.States.{NodesFresh}
+use Rattle.pd_grove.specs.Telling.{kind_in, state_in}
+use Rattle.pd_queue.specs.Queue.{Waiting}
+use Rattle.pd_patch.specs.declared.patch.Patch.{Patch}
+use Rattle.pd_patch.specs.Grown.{IsFresh, IsTree}
+use Rattle.pd_patch.specs.Sounds.{sound_of}
+use Rattle.pd_hearing.specs.Worlds.{bare, net_of, kept_of}
+use Rattle.pd_regrowth.proofs.TakeLemmas.{patch_takes}
+use Rattle.pd_guards.specs.Order.{HasFirst, IsKept, IsKind}
+use Rattle.pd_guards.specs.Worlds.{IsInOrder}
+use Rattle.pd_guards.specs.Growing.{IsBorn, AreBorn, BoxesIn, LibraryIn, StockIn, HasKind, IsOfTree}
+use Rattle.pd_guards.proofs.FactLemmas.{either}
+use Rattle.pd_guards.proofs.MoreLemmas.{longer, first_more}
+use Rattle.pd_guards.proofs.NamingLemmas.{started_in}
+use Rattle.pd_guards.proofs.GrownLemmas.{sound_in, patch_in}
+
+-- what growth has at hand when it begins
+up_in : (n k : ℕ) → n + k ≤ 1000000001 → AllByRecursion (λ z. z ≤ 1000000000) (numbers_up n k)
+unfolding numbers_up
+up_in n zero l = tt
+up_in n (suc k) l = (omega arith, up_in (n + 1) k (omega arith))
+
+none_up : (n k : ℕ) → k ≡ 0 → AllByRecursion (λ z. z ≤ 1000000000) (numbers_up n k)
+unfolding numbers_up
+none_up n zero e = tt
+none_up n (suc k) e = absurd (omega arith)
+
+zeros_in : (n : ℕ) → AllByRecursion (λ z. z ≤ 1000000000) (zeros_from n)
+unfolding zeros_from
+zeros_in n = elim (cases_lt n 1000000001) [ inl low ↦ up_in n (1000000001 - n) (omega arith) | inr high ↦ none_up n (1000000001 - n) (omega arith) ]
+
+pub begins_in : (names : Names) (n : ℕ) → HasFirst names → StockIn (beginning names n)
+begins_in names n h = record { first = h; zeros = zeros_in n }
+
+-- a library of proper documents
+some_same : (a b : Answer) → Some a ≡ Some b → a ≡ b
+some_same a b e = ap (λ (o : Option Answer). unwrap_or o a) e
+
+none_never : (a : Answer) → None ≡ Some a → ⊥
+none_never a e = true≢false (sym (ap (λ (o : Option Answer). is_some o) e))
+
+found_in : (names : Names) (d : Doc) (a : Answer) → IsProperAnswer names a → a ≡ Found d → BoxesIn names d.root.boxes
+found_in names d a h e = let p : IsProper names d.root = subst (IsProperAnswer names) e h in sound_in names d.root.boxes p.sound.1
+
+pub library_in : (names : Names) (files : List (ℕ × Answer)) → AreProper names files → LibraryIn names (answer_in files)
+library_in names [] h s d = λ e. absurd (none_never (Found d) e)
+library_in names (f ∷ files) h s d =
+    either (λ (o : Option Answer). o ≡ Some (Found d) → BoxesIn names d.root.boxes) (f.0 == s) (Some f.1) (answer_in files s)
+    (λ e. found_in names d f.1 h.0 (some_same f.1 (Found d) e)) (library_in names files h.1 s d)
+
+-- a box of the tree
+kind_born : (names : Names) (t : Trees) (k : Kind) → AreBorn names t → HasKind t k → IsBorn names k
+kind_born names Done k h x = absurd x
+kind_born names (Leaf c rest) k h x = elim x [ inl e ↦ subst (IsBorn names) e h.0 | inr y ↦ kind_born names rest k h.1 y ]
+kind_born names (Holder c s inner rest) k h x =
+    elim x [ inl e ↦ subst (IsBorn names) e h.0 | inr y ↦ elim y [ inl z ↦ kind_born names inner k h.1 z | inr z ↦ kind_born names rest k h.2 z ] ]
+
+kind_size : (rate : Rate) (t : Trees) (k : Kind) → HasKind t k → size_of k rate ≤ sound_of rate t
+kind_size rate Done k x = absurd x
+kind_size rate (Leaf c rest) k x =
+    elim x [ inl e ↦ (let same : size_of c.kind rate ≡ size_of k rate = ap (λ (y : Kind). size_of y rate) e in omega arith) | inr y ↦ (let l : size_of k rate ≤ sound_of rate rest = kind_size rate rest k y in omega arith) ]
+kind_size rate (Holder c s inner rest) k x =
+    elim x [
+      | inl e ↦ (let same : size_of c.kind rate ≡ size_of k rate = ap (λ (y : Kind). size_of y rate) e in omega arith)
+      | inr y ↦ elim y [
+        | inl z ↦ (let l : size_of k rate ≤ sound_of rate inner = kind_size rate inner k z in omega arith)
+        | inr z ↦ (let l : size_of k rate ≤ sound_of rate rest = kind_size rate rest k z in omega arith)
+      ]
+    ]
+
+kinds_in : (names : Names) (o : Option Node) → ((n : Node) → o ≡ Some n → IsKind names n.kind) → IfSome (kind_in (bare o)) (IsKind names)
+kinds_in names None h = tt
+kinds_in names (Some n) h = h n refl
+
+some_state : (names : Names) (now : ℕ) (o : Option State) (s : State) → o ≡ Some s → IsKept names now s → IfSome o (IsKept names now)
+some_state names now o s e h = subst (λ (x : Option State). IfSome x (IsKept names now)) (sym e) h
+
+states_in : (names : Names) (now : ℕ) (o : Option Node) → ((n : Node) → o ≡ Some n → IfSome n.state (IsKept names now)) → IfSome (state_in o) (IsKept names now)
+states_in names now None h = tt
+states_in names now (Some n) h = h n refl
+
+module _ (p : Patch) (names : Names) (rate : Rate) (t : Trees) (fresh : NodesFresh rate 0 (get p.grove.nodes)) (born : AreBorn names t) (few : sound_of rate t ≤ 16777216) (of : IsOfTree p t) where
+  box_born : (k : ℕ) (n : Node) → get p.grove.nodes k ≡ Some n → IsBorn names n.kind
+  box_born k n e = kind_born names t n.kind born (of k n e)
+
+  box_keeps : (now k : ℕ) (n : Node) → get p.grove.nodes k ≡ Some n → IfSome n.state (IsKept names now)
+  box_keeps now k n e =
+      let b : IsBorn names n.kind = box_born k n e in
+      let l : size_of n.kind rate ≤ sound_of rate t = kind_size rate t n.kind (of k n e) in
+      some_state names now n.state (started (start_of n.kind rate) 0) (fresh k n e) (started_in names now (start_of n.kind rate) (b.kept now rate (omega arith)))
+
+  pub planted_in : HasFirst names → (now : ℕ) → now ≤ 2 ^ 101 → (queue : Waiting) → IsInOrder (net_of p) now (kept_of p names queue)
+  planted_in first now time queue = record {
+    time = time;
+    first = first;
+    kinds = λ k. kinds_in names (get p.grove.nodes k) (λ n e. (box_born k n e).kind);
+    states = λ k. states_in names now (get p.grove.nodes k) (λ n e. box_keeps now k n e);
+  }
+
+pub patch_in_order : (files : List (ℕ × Answer)) (name : List ℕ) (root : Page) (names0 names : Names) (n : ℕ) (rate : Rate) (p : Patch) (now : ℕ) (queue : Waiting) → now ≤ 2 ^ 101 → HasFirst names0 → IsProper names0 root → AreProper names0 files
+    → (tree : IsTree p names rate (grown (answer_in files) name root (beginning names0 n))) → IsFresh p names name rate → IsOfTree p tree.tree.boxes → IsInOrder (net_of p) now (kept_of p names queue)
+patch_in_order files name root names0 names n rate p now queue time first proper library tree fresh of =
+    let g = tree.given in
+    let lib = answer_in files in
+    let w : Stock = beginning names0 n in
+    let born : AreBorn g.after.names tree.tree.boxes = patch_in lib name root w g.after tree.tree (library_in names0 files library) (sound_in names0 root.boxes proper.sound.1) (begins_in names0 n first) g.step in
+    let last : HasFirst g.after.names = first_more names0 g.after.names (longer names0 g.after.names (patch_takes lib name root w g.after tree.tree g.step).names) first in
+    planted_in p names rate tree.tree.boxes fresh.states (subst (λ (x : Names). AreBorn x tree.tree.boxes) (sym g.table) born) tree.few_values of (subst HasFirst (sym g.table) last) now time queue

@@ -1,0 +1,4 @@
+pub mod Order
+pub mod Worlds
+pub mod Freely
+pub mod Growing
