@@ -1,5 +1,5 @@
 -- A loop over a block has written what its definition gives, once nothing is left of the inputs.
-use Rattle.std.proofs.Common.{◌≡◌, refl, sym, subst, inl, inr, ◌∙◌, ap, ℕ, ℤ, ◌+◌, ◌-◌, ◌<◌, ◌≤◌, min, List, [], ◌∷◌, length, map, ◌++◌, take, drop, slice_set, arith}
+use Rattle.std.proofs.Common.{◌≡◌, refl, sym, subst, inl, inr, ◌∙◌, ap, ℕ, zero, suc, ℤ, ◌+◌, ◌-◌, ◌<◌, ◌≤◌, min, List, [], ◌∷◌, length, map, replicate, ◌++◌, take, drop, slice_set, arith}
 use Rattle.std.proofs.lemmas.List.{take_all, drop_all, append-nil, take_more_set, take-append-le, length-drop}
 use Rattle.std.proofs.lemmas.List.FromFn.{map-range_with_len_more}
 use Rattle.std.proofs.lemmas.Bool.{cases_lt}
@@ -19,6 +19,12 @@ map_ended f xs out whole i x o e = ended out (map f (drop i xs)) whole i o (ap (
 pub zip_ended : (f : ℤ → ℤ → ℤ) (xs ys out whole : List ℤ) (i : ℕ) → length xs ≤ i → length out ≤ i
     → take i out ++ zip_with f (drop i xs) (drop i ys) ≡ whole → out ≡ whole
 zip_ended f xs ys out whole i x o e = ended out (zip_with f (drop i xs) (drop i ys)) whole i o (ap (λ z. zip_with f z (drop i ys)) (drop_all i xs x)) e
+
+-- a block with one value
+pub zip_replicate : (f : ℤ → ℤ → ℤ) (v : ℤ) (xs : List ℤ) (n : ℕ) → length xs ≡ n → zip_with f xs (replicate n v) ≡ map (λ x. f x v) xs
+zip_replicate f v [] n e = refl
+zip_replicate f v (x ∷ xs) zero e = absurd (omega arith)
+zip_replicate f v (x ∷ xs) (suc n) e = ap (λ zs. f x v ∷ zs) (zip_replicate f v xs n (omega arith))
 
 pub low_ended : (k v : ℤ) (xs out whole : List ℤ) (i : ℕ) → length xs ≤ i → length out ≤ i
     → take i out ++ low_passed k v (drop i xs) ≡ whole → out ≡ whole

@@ -1,12 +1,12 @@
 //! `sig~`, the arithmetic objects, `abs~`, `wrap~` and `clip~`.
 
-ghost use Rattle.std.specs.Prelude.{◌≡◌, ◌<◌, length};
+ghost use Rattle.std.specs.Prelude.{◌≡◌, ◌<◌, length, replicate};
 ghost use Rattle.pd_kind.specs.Ports.{operation_ports_of};
 ghost use Rattle.pd_signal.specs.Samples.{zip_with};
 ghost use Rattle.pd_signal.specs.Rows.{sig_row, operation_of, operation_row, function_row, clip_row};
 
 use crate::maps::{clip_all, fill, magnitudes, wrap_all};
-use crate::pairs::{add_all, divide_all, greater_all, lesser_all, multiply_all, subtract_all};
+use crate::pairs::{add_all, divide_all, greater_all, lesser_all, multiply_all, scale_all, subtract_all};
 use pd_kind::{SignalFunction, SignalOperation, State};
 use pd_num::{Num, Sig};
 
@@ -33,6 +33,16 @@ fn operate(operation: SignalOperation, x: &[Sig; 64], y: &[Sig; 64], out: &mut [
     }
 }
 
+/// An operation on a block and one value. A product needs no second block.
+fn operate_by(operation: SignalOperation, x: &[Sig; 64], value: Sig, out: &mut [Sig; 64])
+    ensures { out.new ≡ zip_with (operation_of operation) x.now (replicate 64 value) }
+{
+    match operation {
+        SignalOperation::Multiply => scale_all(x, value, out),
+        _ => operate(operation, x, &[value; 64], out),
+    }
+}
+
 /// The arithmetic objects.
 pub(crate) fn run_operation(
     operation: SignalOperation,
@@ -47,10 +57,7 @@ pub(crate) fn run_operation(
 {
     if let State::SignalOperation { right, .. } = state {
         match argument {
-            Some(_) => {
-                let stored = [Sig::of_num(*right); 64];
-                operate(operation, &ins[0], &stored, &mut outs[0]);
-            }
+            Some(_) => operate_by(operation, &ins[0], Sig::of_num(*right), &mut outs[0]),
             None => operate(operation, &ins[0], &ins[1], &mut outs[0]),
         }
     }

@@ -1,6 +1,6 @@
 //! Two blocks, sample by sample.
 
-ghost use Rattle.std.specs.Prelude.{◌≡◌};
+ghost use Rattle.std.specs.Prelude.{◌≡◌, pos, int_div, replicate};
 ghost use Rattle.pd_num.specs.Scale.{billionths, sum_of, difference_of, product_of, quotient_of};
 ghost use Rattle.pd_signal.specs.Samples.{zip_with, greater_of, lesser_of};
 
@@ -16,6 +16,36 @@ fn lesser(x: Sig, y: Sig) -> Sig
     ensures { result ≡ lesser_of x y }
 {
     if x.nanos() <= y.nanos() { x } else { y }
+}
+
+/// The product where it may need 128 bits, out of the way of the loops.
+#[inline(never)]
+fn long_product(x: Sig, y: Sig) -> Sig
+    ensures { result ≡ product_of billionths x y }
+{
+    x.mul(y)
+}
+
+/// A count of billionths of billionths, toward zero.
+#[inline]
+fn rounded(count: i64) -> Sig
+    ensures { result ≡ int_div count (pos billionths.unit) }
+{
+    match Sig::of_nanos(count / 1_000_000_000) {
+        Some(value) => value,
+        None => unreachable!(),
+    }
+}
+
+/// The product, toward zero.
+#[inline]
+fn product(x: Sig, y: Sig) -> Sig
+    ensures { result ≡ product_of billionths x y }
+{
+    match x.nanos().checked_mul(y.nanos()) {
+        Some(count) => rounded(count),
+        None => long_product(x, y),
+    }
 }
 
 /// The sums of two blocks.
@@ -41,7 +71,16 @@ pub(crate) fn multiply_all(x: &[Sig; 64], y: &[Sig; 64], out: &mut [Sig; 64])
     ensures { out.new ≡ zip_with (product_of billionths) x.now y.now }
 {
     for i in 0..64 {
-        out[i] = x[i].mul(y[i]);
+        out[i] = product(x[i], y[i]);
+    }
+}
+
+/// The products of a block and one value.
+pub(crate) fn scale_all(x: &[Sig; 64], factor: Sig, out: &mut [Sig; 64])
+    ensures { out.new ≡ zip_with (product_of billionths) x.now (replicate 64 factor) }
+{
+    for i in 0..64 {
+        out[i] = product(x[i], factor);
     }
 }
 

@@ -33,6 +33,17 @@ moved_is m p (negsuc a) h =
     let l : suc a ≤ suc a * m = le-mul_of_pos_right (suc a) h in
     ap unsigned_abs (turns m p a h ∙ ap pos (whole_turns (p + suc a * m - suc a) (p / m) (p % m + suc a * m - suc a) m (omega arith)) ∙ sym (turns m (p % m) a h))
 
+-- a phase moves as far as the start of the circle does
+pub moved_by : (m p : ℕ) (x : ℤ) → 0 < m → moved m p x ≡ (p + moved m 0 x) % m
+unfolding moved
+moved_by m p (pos a) h = let e : (0 + a) % m + (0 + a) / m * m ≡ 0 + a = mod-add-div' (0 + a) m in whole_turns (p + a) ((0 + a) / m) (p + (0 + a) % m) m (omega arith)
+moved_by m p (negsuc a) h =
+    let l : suc a ≤ suc a * m = le-mul_of_pos_right (suc a) h in
+    let start : unsigned_abs (int_rem_euclid (pos 0 +ℤ negsuc a) (pos m)) ≡ (0 + suc a * m - suc a) % m = ap unsigned_abs (turns m 0 a h) in
+    let e : (0 + suc a * m - suc a) % m + (0 + suc a * m - suc a) / m * m ≡ 0 + suc a * m - suc a = mod-add-div' (0 + suc a * m - suc a) m in
+    ap unsigned_abs (turns m p a h)
+    ∙ (whole_turns (p + suc a * m - suc a) ((0 + suc a * m - suc a) / m) (p + (0 + suc a * m - suc a) % m) m (omega arith) ∙ ap (λ n. (p + n) % m) (sym start))
+
 -- a phase that has moved lies on the circle, and in one of its parts
 pub moved_small : (m p : ℕ) (x : ℤ) → 0 < m → moved m p x < m
 unfolding moved

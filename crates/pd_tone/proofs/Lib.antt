@@ -3,3 +3,6 @@ pub mod Points
 pub mod Circle
 pub mod Proportions
 pub mod Blocks
+pub mod Turning
+pub mod Shares
+pub mod Steady

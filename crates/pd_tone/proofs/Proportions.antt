@@ -9,7 +9,7 @@ zero_share : (n : ℕ) → n ≡ 0 → pos n ≡ neg_ℤ (pos n)
 zero_share zero e = refl
 zero_share (suc n) e = absurd (omega arith)
 
-negative_share : (a b : ℕ) → int_div (neg_ℤ (pos a)) (pos b) ≡ neg_ℤ (pos (a / b))
+pub negative_share : (a b : ℕ) → int_div (neg_ℤ (pos a)) (pos b) ≡ neg_ℤ (pos (a / b))
 negative_share zero b = zero_share (0 / b) (zero-div b)
 negative_share (suc a) b = refl
 

@@ -1,7 +1,10 @@
 //! The cosine.
 
-ghost use Rattle.std.specs.Prelude.{◌≡◌, ◌<◌, ◌≤◌, ◌+◌, ◌*◌, ◌/◌, ◌+ℤ◌, ◌-ℤ◌, ◌*ℤ◌, pos, slice_index_or, unsigned_abs, int_div};
+ghost use Rattle.std.specs.Prelude.{◌≡◌, ◌<◌, ◌≤◌, ◌+◌, ◌*◌, ◌/◌, ◌^◌, ◌+ℤ◌, ◌-ℤ◌, ◌*ℤ◌, pos, slice_index_or, unsigned_abs, int_div};
 ghost use Rattle.pd_tone.specs.Cosine.{point, between as proportion, cosine as cosine_of};
+
+use crate::changes::change;
+use crate::fractions::high_product;
 
 /// A table of these values.
 macro_rules! table {
@@ -11,8 +14,8 @@ macro_rules! table {
 }
 
 /// The cosine in billionths at each of the 2,048 parts of the circle, and at their end. With all four quarters in it no look-up
-/// depends on the quarter.
-static CIRCLE: [i64; 2049] = table! {
+/// depends on the quarter. Values of 32 bits take half the room, and that a sample lies in a signal's range needs no look then.
+static CIRCLE: [i32; 2049] = table! {
     1_000_000_000, 999_995_294, 999_981_176, 999_957_645, 999_924_702, 999_882_348, 999_830_582,
     999_769_406, 999_698_819, 999_618_823, 999_529_418, 999_430_605, 999_322_385, 999_204_759,
     999_077_728, 998_941_294, 998_795_457, 998_640_219, 998_475_581, 998_301_545, 998_118_113,
@@ -335,7 +338,7 @@ fn entry(k: usize) -> i64
     requires { k ≤ 2048 }
     ensures { result ≡ slice_index_or CIRCLE k (pos 0) }
 {
-    CIRCLE[k]
+    i64::from(CIRCLE[k])
 }
 
 /// The cosine at a part of the circle.
@@ -394,6 +397,18 @@ fn between(from: i64, to: i64, rest: u64, part: u64) -> i64
     ensures small { unsigned_abs result ≤ 1000000000000000000 }
 {
     from + quotient(product(to - from, rest), part)
+}
+
+/// The cosine at a fraction of a part of the circle, in shares of 2^64.
+#[inline]
+#[tactic(auto, using(crate::proofs::Turning::fallen, crate::proofs::Turning::risen, crate::proofs::Shares::share_small))]
+pub(crate) fn cosine_at(k: usize, fraction: u64) -> i64
+    requires { k < 2048 }
+    ensures value { result ≡ proportion (point k) (point (k + 1)) fraction (2 ^ 64) }
+    ensures small { unsigned_abs result ≤ 1000000000000000000 }
+{
+    let way = high_product(change(k), fraction) as i64;
+    if k < 1024 { at(k) - way } else { at(k) + way }
 }
 
 /// The cosine at a phase within the circle, from the size of one of its 2,048 parts.

@@ -1,12 +1,13 @@
 //! The samples of a block.
 
-ghost use Rattle.std.specs.Prelude.{◌≡◌, ◌<◌, ◌≤◌, ◌*◌, ◌-ℤ◌, ◌*ℤ◌, pos, int_div, map};
+ghost use Rattle.std.specs.Prelude.{◌≡◌, ◌<◌, ◌≤◌, ◌+◌, ◌*◌, ◌/◌, ◌%◌, ◌^◌, ◌-ℤ◌, ◌*ℤ◌, pos, int_div, map, replicate, IfSome};
 ghost use Rattle.pd_num.specs.Scale.{billionths, IsInRange};
 ghost use Rattle.pd_tone.specs.Cosine.{cosine as cosine_of};
 ghost use Rattle.pd_tone.specs.Tones.{circle as circle_of, phases, phase_after, share, next_seed as seed_after_this, seeds, seed_after, noise as noise_of};
 ghost use Rattle.pd_clock.specs.Rates.{samples as samples_of};
 
-use crate::cosine::{cosine, cosine_within};
+use crate::cosine::{cosine, cosine_at, cosine_within};
+use crate::fractions::{fraction, high_product, stepped};
 use crate::phases::{moved, moved_within};
 use pd_clock::Rate;
 use pd_num::Sig;
@@ -104,6 +105,70 @@ fn osc_beyond(part: u64, phase: &mut u64, input: &[Sig; 64], output: &mut [Sig; 
     *phase = now;
 }
 
+/// The number that each value of a block is, where they are one number.
+fn steady(input: &[Sig; 64]) -> Option<Sig>
+    ensures { IfSome result (λ step. input.now ≡ replicate 64 step) }
+{
+    let first = input[0];
+    for i in 0..64 {
+        if input[i].nanos() != first.nanos() {
+            return None;
+        }
+    }
+    Some(first)
+}
+
+/// The oscillator's sample at a fraction of a part of the circle that is little above the phase.
+#[inline]
+#[tactic(auto, using(crate::proofs::Shares::cosine_near))]
+fn osc_sample_at(part: u64, index: u64, fraction: u64) -> Sig
+    requires part { 0 < part }
+    requires small { part ≤ 46875000000 }
+    requires index { index < 2048 }
+    requires near { fraction * part % 2 ^ 64 ≤ 64 * part }
+    ensures { result ≡ cosine_of (part * 2048) (index * part + fraction * part / 2 ^ 64) }
+{
+    signal(cosine_at(index as usize, fraction))
+}
+
+/// Steps of one size: the part of the circle and the fraction of it go on in step with the phase, without a division.
+#[inline(always)]
+fn osc_steady(part: u64, phase: &mut u64, step: Sig, output: &mut [Sig; 64])
+    requires part { 0 < part }
+    requires small { part ≤ 46875000000 }
+    requires within { phase.old < part * 2048 }
+    ensures phase { phase.new ≡ phase_after (part * 2048) phase.old (replicate 64 step) }
+    ensures samples { output.new ≡ map (cosine_of (part * 2048)) (phases (part * 2048) phase.old (replicate 64 step)) }
+{
+    let way = moved_within(part * 2048, 0, step.nanos());
+    let parts = way / part;
+    let share = fraction(part, way % part);
+    let mut index = *phase / part;
+    let mut now = fraction(part, *phase % part);
+    for i in 0..64 {
+        output[i] = osc_sample_at(part, index, now);
+        let next = stepped(index, now, parts, share);
+        index = next.0;
+        now = next.1;
+    }
+    *phase = index * part + high_product(now, part);
+}
+
+/// From a phase within the circle.
+#[inline(always)]
+fn osc_on_circle(part: u64, phase: &mut u64, input: &[Sig; 64], output: &mut [Sig; 64])
+    requires part { 0 < part }
+    requires small { part ≤ 46875000000 }
+    requires within { phase.old < part * 2048 }
+    ensures phase { phase.new ≡ phase_after (part * 2048) phase.old input.now }
+    ensures samples { output.new ≡ map (cosine_of (part * 2048)) (phases (part * 2048) phase.old input.now) }
+{
+    match steady(input) {
+        Some(step) => osc_steady(part, phase, step, output),
+        None => osc_within(part, phase, input, output),
+    }
+}
+
 /// From a phase within the circle each sample's phase is within it, so that none has to be looked at.
 #[inline(always)]
 fn osc_at(part: u64, phase: &mut u64, input: &[Sig; 64], output: &mut [Sig; 64])
@@ -113,7 +178,7 @@ fn osc_at(part: u64, phase: &mut u64, input: &[Sig; 64], output: &mut [Sig; 64])
     ensures samples { output.new ≡ map (cosine_of (part * 2048)) (phases (part * 2048) phase.old input.now) }
 {
     if *phase < part * 2048 {
-        osc_within(part, phase, input, output);
+        osc_on_circle(part, phase, input, output);
     } else {
         osc_beyond(part, phase, input, output);
     }
