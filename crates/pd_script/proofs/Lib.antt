@@ -2,3 +2,4 @@ pub mod DigitLemmas
 pub mod TokenLemmas
 pub mod AtomLemmas
 pub mod StepLemmas
+pub mod EditLemmas

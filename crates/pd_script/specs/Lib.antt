@@ -4,6 +4,7 @@ pub mod Splits
 pub mod Fields
 pub mod Atoms
 pub mod Changes
+pub mod Edits
 pub mod Scripts
 pub mod Room
 pub mod Tables

@@ -1,7 +1,5 @@
 -- The room for the lists of a command.
-use Rattle.std.specs.Prelude.{ℕ, ◌≤◌, Option, Some, None, vec_capacity}
-use Rattle.pd_canvas.specs.declared.edits.Edit.{Edit}
-use Rattle.pd_canvas.specs.declared.edits.Edit.TheVariants as edit
+use Rattle.std.specs.Prelude.{◌≤◌, Option, Some, None, vec_capacity}
 use Rattle.pd_script.specs.declared.commands.Command.{Command}
 use Rattle.pd_script.specs.declared.commands.Command.TheVariants as command
 use Rattle.pd_script.specs.declared.commands.Script.{Script}
@@ -12,24 +10,10 @@ use Rattle.pd_script.specs.declared.room.CommandRoom.{CommandRoom}
 abbrev pub IsWhole : CommandRoom → Type 0
 IsWhole room = (65536 ≤ vec_capacity room.atoms) × (255 ≤ vec_capacity room.path)
 
--- so much room for atoms, where the edit holds no list of them
-abbrev pub HasAtomsBeside : Edit → ℕ → Type 0
-HasAtomsBeside (edit.Obj x y text) atoms = Unit {0}
-HasAtomsBeside (edit.Msg x y text) atoms = Unit {0}
-HasAtomsBeside (edit.Comment x y text) atoms = Unit {0}
-HasAtomsBeside (edit.FloatBox x y text) atoms = Unit {0}
-HasAtomsBeside (edit.SymbolBox x y text) atoms = Unit {0}
-HasAtomsBeside (edit.Sub x y text) atoms = Unit {0}
-HasAtomsBeside (edit.Connect wire) atoms = 65536 ≤ atoms
-HasAtomsBeside (edit.Disconnect wire) atoms = 65536 ≤ atoms
-HasAtomsBeside (edit.Delete number) atoms = 65536 ≤ atoms
-HasAtomsBeside (edit.Retype number text) atoms = Unit {0}
-HasAtomsBeside (edit.Move number x y) atoms = 65536 ≤ atoms
-
--- the room has the lists that the command doesn't hold
+-- the room has the lists that the command doesn't hold; those of the command have all their room
 abbrev pub HasRest : Command → CommandRoom → Type 0
 HasRest (command.Send s atoms) room = 255 ≤ vec_capacity room.path
-HasRest (command.Edit place e) room = HasAtomsBeside e (vec_capacity room.atoms)
+HasRest (command.Edit place e) room = Unit {0}
 HasRest (command.Save document) room = IsWhole room
 HasRest (command.Show path) room = 65536 ≤ vec_capacity room.atoms
 HasRest command.Undo room = IsWhole room

@@ -1,17 +1,18 @@
 //! The verbs of an edit.
 
-ghost use Rattle.std.specs.Prelude.{◌≡◌, ℕ, ◌≤◌, bytes_eq, IfNone, IfSome, vec_capacity};
-ghost use Rattle.pd_atom.specs.Names.{Names, Extends};
+ghost use Rattle.std.specs.Prelude.{◌≡◌, ◌≤◌, bytes_eq, IfSome, vec_capacity};
+ghost use Rattle.pd_atom.specs.Names.{Extends};
+ghost use Rattle.pd_canvas.specs.declared.edits.Edit.TheVariants as edit;
 ghost use Rattle.pd_script.specs.Options.{Gives};
-ghost use Rattle.pd_script.specs.Tables.{AreOf, EditOf};
-ghost use Rattle.pd_script.specs.Room.{IsWhole, HasAtomsBeside};
-ghost use Rattle.pd_script.specs.Changes.{box_verb_of, other_verb_of, verb_of as verb_of_word, made_box as made_box_of, new_box as new_box_of, wire_of, delete_of, move_of, retype_of, change_of};
+ghost use Rattle.pd_script.specs.Tokens.{most_tokens};
+ghost use Rattle.pd_script.specs.Tables.{EditOf};
+ghost use Rattle.pd_script.specs.Edits.{edit_of};
+ghost use Rattle.pd_script.specs.Changes.{box_verb_of, other_verb_of, verb_of as verb_of_word, new_box as new_box_of, wire_of, delete_of, move_of, retype_of, change_of};
 
 use crate::atoms::atoms;
-use crate::room::CommandRoom;
 use crate::tokens::Tokens;
-use pd_atom::Symbols;
-use pd_canvas::{Atoms, Edit, Wire};
+use pd_atom::{Atom, Symbols};
+use pd_canvas::Wire;
 use pd_num::Num;
 
 /// What is done in a canvas.
@@ -34,6 +35,17 @@ pub(crate) enum BoxVerb {
     FloatAtom,
     SymbolAtom,
     Sub,
+}
+
+/// An edit but for its text.
+#[derive(Clone, Copy, Debug, PartialEq, Eq)]
+pub(crate) enum Change {
+    Box { shape: BoxVerb, x: Num, y: Num },
+    Connect { wire: Wire },
+    Disconnect { wire: Wire },
+    Delete { number: u32 },
+    Retype { number: u32 },
+    Move { number: u32, x: Num, y: Num },
 }
 
 /// Whether the bytes are a word.
@@ -93,41 +105,24 @@ pub(crate) fn verb_of(word: &[u8]) -> Option<Verb>
     }
 }
 
-fn made_box(shape: BoxVerb, x: Num, y: Num, text: Atoms) -> Edit
-    ensures value { result ≡ made_box_of shape x y text }
-    ensures rest { (atoms : ℕ) → HasAtomsBeside result atoms }
-    ensures of_table { (names : Names) → AreOf names text → EditOf names result }
-{
-    match shape {
-        BoxVerb::Obj => Edit::Obj { x, y, text },
-        BoxVerb::Msg => Edit::Msg { x, y, text },
-        BoxVerb::Text => Edit::Comment { x, y, text },
-        BoxVerb::FloatAtom => Edit::FloatBox { x, y, text },
-        BoxVerb::SymbolAtom => Edit::SymbolBox { x, y, text },
-        BoxVerb::Sub => Edit::Sub { x, y, name: text },
-    }
-}
-
-/// A new box: its place, and its atoms.
-#[tactic(auto, unfolding(crate::specs::Changes::new_box))]
+/// A new box: its place, and its atoms, which are left in `text`.
+#[tactic(auto, using(crate::proofs::EditLemmas::made_of_table), unfolding(crate::specs::Changes::new_box))]
 fn new_box(
     shape: BoxVerb,
     tokens: &mut Tokens<'_>,
     symbols: &mut Symbols,
-    room: &mut CommandRoom,
-) -> Option<Edit>
-    requires { IsWhole room.old }
-    ensures exact { Gives (λ e. (e, symbols.new)) result (new_box_of shape symbols.old tokens.old) }
-    ensures whole { IfNone result (IsWhole room.new) }
-    ensures path { room.new.path ≡ room.old.path }
-    ensures rest { IfSome result (λ e. HasAtomsBeside e (vec_capacity room.new.atoms)) }
-    ensures of_table { IfSome result (EditOf symbols.new) }
+    text: &mut Vec<Atom>,
+) -> Option<Change>
+    requires { most_tokens ≤ vec_capacity text.old }
+    ensures exact { Gives (λ c. (edit_of c text.new.items, symbols.new)) result (new_box_of shape symbols.old tokens.old) }
+    ensures capacity { vec_capacity text.new ≡ vec_capacity text.old }
+    ensures of_table { IfSome result (λ c. EditOf symbols.new (edit_of c text.new.items)) }
     ensures extends { Extends symbols.old symbols.new }
 {
     let x = tokens.number()?;
     let y = tokens.number()?;
-    atoms(tokens, symbols, &mut room.atoms)?;
-    Some(made_box(shape, x, y, room.take_atoms()))
+    atoms(tokens, symbols, text)?;
+    Some(Change::Box { shape, x, y })
 }
 
 /// The wire that exactly four tokens give.
@@ -150,24 +145,22 @@ fn wire(tokens: &mut Tokens<'_>) -> Option<Wire>
     })
 }
 
+/// The number of a box, where no token follows it.
 #[tactic(auto, unfolding(crate::specs::Changes::delete_of))]
-fn delete(tokens: &mut Tokens<'_>) -> Option<Edit>
-    ensures exact { result ≡ delete_of tokens.old }
-    ensures rest { (atoms : ℕ) → 65536 ≤ atoms → IfSome result (λ e. HasAtomsBeside e atoms) }
-    ensures of_table { (names : Names) → IfSome result (EditOf names) }
+fn delete(tokens: &mut Tokens<'_>) -> Option<u32>
+    ensures { Gives (λ n. edit.Delete n) result (delete_of tokens.old) }
 {
     let number = tokens.whole()?;
     if !tokens.is_empty() {
         return None;
     }
-    Some(Edit::Delete { number })
+    Some(number)
 }
 
+/// The number of a box and its new place, where no token follows them.
 #[tactic(auto, unfolding(crate::specs::Changes::move_of))]
-fn move_box(tokens: &mut Tokens<'_>) -> Option<Edit>
-    ensures exact { result ≡ move_of tokens.old }
-    ensures rest { (atoms : ℕ) → 65536 ≤ atoms → IfSome result (λ e. HasAtomsBeside e atoms) }
-    ensures of_table { (names : Names) → IfSome result (EditOf names) }
+fn move_box(tokens: &mut Tokens<'_>) -> Option<(u32, Num, Num)>
+    ensures { Gives (λ m. edit.Move m.0 m.1 m.2) result (move_of tokens.old) }
 {
     let number = tokens.whole()?;
     let x = tokens.number()?;
@@ -175,53 +168,52 @@ fn move_box(tokens: &mut Tokens<'_>) -> Option<Edit>
     if !tokens.is_empty() {
         return None;
     }
-    Some(Edit::Move { number, x, y })
+    Some((number, x, y))
 }
 
+/// A box with another text: its number, and its atoms, which are left in `text`.
 #[tactic(auto, unfolding(crate::specs::Changes::retype_of))]
-fn retype(tokens: &mut Tokens<'_>, symbols: &mut Symbols, room: &mut CommandRoom) -> Option<Edit>
-    requires { IsWhole room.old }
-    ensures exact { Gives (λ e. (e, symbols.new)) result (retype_of symbols.old tokens.old) }
-    ensures whole { IfNone result (IsWhole room.new) }
-    ensures path { room.new.path ≡ room.old.path }
-    ensures rest { IfSome result (λ e. HasAtomsBeside e (vec_capacity room.new.atoms)) }
-    ensures of_table { IfSome result (EditOf symbols.new) }
+fn retype(tokens: &mut Tokens<'_>, symbols: &mut Symbols, text: &mut Vec<Atom>) -> Option<Change>
+    requires { most_tokens ≤ vec_capacity text.old }
+    ensures exact { Gives (λ c. (edit_of c text.new.items, symbols.new)) result (retype_of symbols.old tokens.old) }
+    ensures capacity { vec_capacity text.new ≡ vec_capacity text.old }
+    ensures of_table { IfSome result (λ c. EditOf symbols.new (edit_of c text.new.items)) }
     ensures extends { Extends symbols.old symbols.new }
 {
     let number = tokens.whole()?;
-    atoms(tokens, symbols, &mut room.atoms)?;
-    Some(Edit::Retype {
-        number,
-        text: room.take_atoms(),
-    })
+    atoms(tokens, symbols, text)?;
+    Some(Change::Retype { number })
 }
 
-/// The edit that a verb and the tokens behind it give.
+/// The edit that a verb and the tokens behind it give, with its text in `text`.
 #[tactic(auto, unfolding(crate::specs::Changes::change_of))]
-pub(crate) fn change(
+pub(crate) fn read_change(
     verb: Verb,
     tokens: &mut Tokens<'_>,
     symbols: &mut Symbols,
-    room: &mut CommandRoom,
-) -> Option<Edit>
-    requires { IsWhole room.old }
-    ensures exact { Gives (λ e. (e, symbols.new)) result (change_of verb symbols.old tokens.old) }
-    ensures whole { IfNone result (IsWhole room.new) }
-    ensures path { room.new.path ≡ room.old.path }
-    ensures rest { IfSome result (λ e. HasAtomsBeside e (vec_capacity room.new.atoms)) }
-    ensures of_table { IfSome result (EditOf symbols.new) }
+    text: &mut Vec<Atom>,
+) -> Option<Change>
+    requires { most_tokens ≤ vec_capacity text.old }
+    ensures exact { Gives (λ c. (edit_of c text.new.items, symbols.new)) result (change_of verb symbols.old tokens.old) }
+    ensures capacity { vec_capacity text.new ≡ vec_capacity text.old }
+    ensures of_table { IfSome result (λ c. EditOf symbols.new (edit_of c text.new.items)) }
     ensures extends { Extends symbols.old symbols.new }
 {
     match verb {
-        Verb::Box(shape) => new_box(shape, tokens, symbols, room),
-        Verb::Connect => Some(Edit::Connect {
+        Verb::Box(shape) => new_box(shape, tokens, symbols, text),
+        Verb::Connect => Some(Change::Connect {
             wire: wire(tokens)?,
         }),
-        Verb::Disconnect => Some(Edit::Disconnect {
+        Verb::Disconnect => Some(Change::Disconnect {
             wire: wire(tokens)?,
         }),
-        Verb::Delete => delete(tokens),
-        Verb::Move => move_box(tokens),
-        Verb::Retype => retype(tokens, symbols, room),
+        Verb::Delete => Some(Change::Delete {
+            number: delete(tokens)?,
+        }),
+        Verb::Move => {
+            let (number, x, y) = move_box(tokens)?;
+            Some(Change::Move { number, x, y })
+        }
+        Verb::Retype => retype(tokens, symbols, text),
     }
 }

@@ -1,19 +1,30 @@
 //! Commands.
 
+use crate::edits::{CommandEdit, CommandPlace};
+use crate::lists::{CommandAtoms, CommandPath};
 use pd_atom::Sym;
-use pd_canvas::{Atoms, Edit, Numbers, Place};
 
-/// A command of the script.
+/// A command of the script. Its lists have all the room that a record asks for.
 #[derive(Debug, Drop)]
 pub enum Command {
     /// The message that the atoms make goes to the receivers of a name.
-    Send { name: Sym, atoms: Atoms },
+    Send {
+        name: Sym,
+        atoms: CommandAtoms,
+    },
     /// An edit of one canvas of a document.
-    Edit { place: Place, edit: Edit },
+    Edit {
+        place: CommandPlace,
+        edit: CommandEdit,
+    },
     /// A document is saved; the root one has no name.
-    Save { document: Option<Sym> },
+    Save {
+        document: Option<Sym>,
+    },
     /// The signal order of the canvas at a path is printed.
-    Show { path: Numbers },
+    Show {
+        path: CommandPath,
+    },
     /// The last edit is taken back.
     Undo,
     /// The last edit that was taken back is made again.

@@ -4,7 +4,9 @@
 mod atoms;
 mod changes;
 mod commands;
+mod edits;
 mod fields;
+mod lists;
 mod reading;
 mod room;
 #[cfg(test)]
@@ -12,5 +14,7 @@ mod tests;
 mod tokens;
 
 pub use commands::{Command, Script};
+pub use edits::{CommandEdit, CommandPlace};
+pub use lists::{CommandAtoms, CommandPath};
 pub use reading::read_command;
 pub use room::CommandRoom;

@@ -11,13 +11,13 @@ ghost use Rattle.pd_script.specs.Room.{IsWhole, IsWholeAfter, HasRest};
 ghost use Rattle.pd_script.specs.Scripts.{word_of as word_of_token, send_of, edit_in as edit_of_document, edit_of, save_of, show_of, script_of, timed_of, command_of};
 
 use crate::atoms::{are_plain, atoms, document, symbol};
-use crate::changes::{change, is_word, verb_of};
+use crate::changes::{is_word, read_change, verb_of};
 use crate::commands::{Command, Script};
+use crate::edits::{CommandEdit, CommandPlace};
 use crate::fields::{milliseconds, path};
 use crate::room::CommandRoom;
 use crate::tokens::Tokens;
 use pd_atom::{Sym, Symbols};
-use pd_canvas::Place;
 use pd_num::Num;
 
 /// The word of a command.
@@ -94,11 +94,12 @@ fn edit_in(
     let verb = tokens.next()?;
     path(token.as_slice(), &mut room.path)?;
     let verb = verb_of(verb.as_slice())?;
-    let edit = change(verb, tokens, symbols, room)?;
-    let place = Place {
+    let change = read_change(verb, tokens, symbols, &mut room.atoms)?;
+    let place = CommandPlace {
         document,
         path: room.take_path(),
     };
+    let edit = CommandEdit::new(change, room.take_atoms());
     Some(Command::Edit { place, edit })
 }
 

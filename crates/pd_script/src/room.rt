@@ -1,19 +1,13 @@
 //! The room for the lists of a command.
 
-ghost use Rattle.std.specs.Prelude.{◌≡◌, ◌≤◌, true, IfOk, vec_capacity};
-ghost use Rattle.pd_script.specs.Room.{IsWhole};
+ghost use Rattle.std.specs.Prelude.{◌≡◌, ◌↔◌, ◌≤◌, IfOk, IsTrue, vec_capacity};
+ghost use Rattle.pd_script.specs.Room.{IsWhole, HasRest};
 
 use crate::commands::Command;
+use crate::lists::{CommandAtoms, CommandPath, MOST_ATOMS, MOST_NUMBERS};
 use pd_atom::Atom;
-use pd_canvas::{Atoms, Edit, Numbers};
 use std::alloc::{AllocError, Global};
 use std::mem;
-
-/// The most atoms of a record.
-const MOST_ATOMS: usize = 65_536;
-
-/// The most numbers of a path.
-const MOST_NUMBERS: usize = 255;
 
 /// A list for the atoms of a command, and one for the numbers of its path.
 #[derive(Debug, Drop)]
@@ -34,73 +28,45 @@ impl CommandRoom {
     }
 
     /// Takes the list of atoms out.
-    pub(crate) fn take_atoms(&mut self) -> Atoms
+    pub(crate) fn take_atoms(&mut self) -> CommandAtoms
+        requires { MOST_ATOMS ≤ vec_capacity self.old.atoms }
         ensures atoms { result ≡ self.old.atoms.items }
         ensures path { self.new.path ≡ self.old.path }
     {
         let alloc = *self.atoms.allocator();
-        Atoms::from_vec(mem::replace(&mut self.atoms, Vec::new(alloc)))
+        CommandAtoms::from_vec(mem::replace(&mut self.atoms, Vec::new(alloc)))
     }
 
     /// Takes the path out.
-    pub(crate) fn take_path(&mut self) -> Numbers
+    pub(crate) fn take_path(&mut self) -> CommandPath
+        requires { MOST_NUMBERS ≤ vec_capacity self.old.path }
         ensures path { result ≡ self.old.path.items }
         ensures atoms { self.new.atoms ≡ self.old.atoms }
     {
         let alloc = *self.path.allocator();
-        Numbers::from_vec(mem::replace(&mut self.path, Vec::new(alloc)))
+        CommandPath::from_vec(mem::replace(&mut self.path, Vec::new(alloc)))
     }
 
-    /// Takes the lists of a command back. A list with more room takes the place of the one that is here.
-    pub fn give_back(&mut self, cmd: Command) {
+    /// Takes the lists of a command back.
+    pub fn give_back(&mut self, cmd: Command)
+        requires { HasRest cmd self.old }
+        ensures { IsWhole self.new }
+    {
         match cmd {
-            Command::Send { atoms, .. } => self.keep_atoms(atoms),
+            Command::Send { atoms, .. } => self.atoms = atoms.into_vec(),
             Command::Edit { place, edit } => {
-                self.keep_path(place.path);
-                self.keep_edit(edit);
+                self.path = place.path.into_vec();
+                self.atoms = edit.into_text().into_vec();
             }
-            Command::Show { path } => self.keep_path(path),
+            Command::Show { path } => self.path = path.into_vec(),
             Command::Save { .. } | Command::Undo | Command::Redo => {}
         }
     }
 
     /// Whether both lists are here with all their room.
     pub fn is_whole(&self) -> bool
-        ensures { result ≡ true → IsWhole self.now }
+        ensures { IsTrue result ↔ IsWhole self.now }
     {
         self.atoms.capacity() >= MOST_ATOMS && self.path.capacity() >= MOST_NUMBERS
-    }
-
-    /// Takes the list of an edit back.
-    fn keep_edit(&mut self, edit: Edit) {
-        match edit {
-            Edit::Obj { text, .. } => self.keep_atoms(text),
-            Edit::Msg { text, .. } => self.keep_atoms(text),
-            Edit::Comment { text, .. } => self.keep_atoms(text),
-            Edit::FloatBox { text, .. } => self.keep_atoms(text),
-            Edit::SymbolBox { text, .. } => self.keep_atoms(text),
-            Edit::Sub { name, .. } => self.keep_atoms(name),
-            Edit::Retype { text, .. } => self.keep_atoms(text),
-            Edit::Connect { .. }
-            | Edit::Disconnect { .. }
-            | Edit::Delete { .. }
-            | Edit::Move { .. } => {}
-        }
-    }
-
-    fn keep_atoms(&mut self, atoms: Atoms) {
-        let mut atoms = atoms.into_vec();
-        if atoms.capacity() > self.atoms.capacity() {
-            atoms.clear();
-            self.atoms = atoms;
-        }
-    }
-
-    fn keep_path(&mut self, path: Numbers) {
-        let mut path = path.into_vec();
-        if path.capacity() > self.path.capacity() {
-            path.clear();
-            self.path = path;
-        }
     }
 }

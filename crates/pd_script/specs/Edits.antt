@@ -1,0 +1,17 @@
+-- The edit that a change and a text are.
+use Rattle.std.specs.Prelude.{List}
+use Rattle.pd_atom.specs.declared.Atom.{Atom}
+use Rattle.pd_canvas.specs.declared.edits.Edit.{Edit}
+use Rattle.pd_canvas.specs.declared.edits.Edit.TheVariants as edit
+use Rattle.pd_script.specs.declared.changes.Change.{Change}
+use Rattle.pd_script.specs.declared.changes.Change.TheVariants as change
+use Rattle.pd_script.specs.Changes.{made_box}
+
+-- a change that takes no text passes over it
+abbrev pub edit_of : Change → List Atom → Edit
+edit_of (change.Box shape x y) text = made_box shape x y text
+edit_of (change.Connect wire) text = edit.Connect wire
+edit_of (change.Disconnect wire) text = edit.Disconnect wire
+edit_of (change.Delete number) text = edit.Delete number
+edit_of (change.Retype number) text = edit.Retype number text
+edit_of (change.Move number x y) text = edit.Move number x y
