@@ -6,7 +6,9 @@ ghost use Rattle.pd_signal.specs.Samples.{zip_with};
 ghost use Rattle.pd_signal.specs.Rows.{sig_row, operation_of, operation_row, function_row, clip_row};
 
 use crate::maps::{clip_all, fill, magnitudes, wrap_all};
-use crate::pairs::{add_all, divide_all, greater_all, lesser_all, multiply_all, scale_all, subtract_all};
+use crate::pairs::{
+    add_all, divide_all, greater_all, lesser_all, multiply_all, scale_all, subtract_all,
+};
 use pd_kind::{SignalFunction, SignalOperation, State};
 use pd_num::{Num, Sig};
 

@@ -1,5 +1,5 @@
 -- Fractions of a part in shares of 2^64: a fraction little above a phase gives the same cosine, and goes on in step with it.
-use Rattle.std.proofs.Common.{◌≡◌, ℕ, zero, suc, ℤ, pos, negsuc, neg_ℤ, ◌+◌, ◌-◌, ◌*◌, ◌/◌, ◌%◌, ◌^◌, ◌+ℤ◌, ◌-ℤ◌, ◌*ℤ◌, ◌<◌, ◌≤◌, int_div, unsigned_abs, inl, inr, refl, ap, ◌∙◌, sym, arith}
+use Rattle.std.proofs.Common.{◌≡◌, ℕ, suc, ℤ, pos, negsuc, neg_ℤ, ◌+◌, ◌-◌, ◌*◌, ◌/◌, ◌%◌, ◌^◌, ◌+ℤ◌, ◌-ℤ◌, ◌*ℤ◌, ◌<◌, ◌≤◌, int_div, unsigned_abs, inl, inr, ap, ◌∙◌, sym, arith}
 use Rattle.std.proofs.Math.Nat.{div-add-mod, mul-le-mul_right, mul-le-mul_left, div-lt_iff_lt-mul}
 use Rattle.std.proofs.lemmas.Nat.{mod-mul-add, div-mul-add}
 use Rattle.std.proofs.lemmas.Bool.{cases_lt}
@@ -12,9 +12,9 @@ placed n q w a b = let e : n ≡ q * w + (n - q * w) = omega arith in ap (λ m. 
 
 cancelled : (a b p : ℕ) → 0 < p → a * p ≤ b * p → a ≤ b
 cancelled a b p h l = elim (cases_lt b a) [
-    | inl lt ↦ (let m : suc b * p ≤ a * p = mul-le-mul_right p lt in absurd (omega (arith, m, l, h)))
-    | inr ge ↦ ge
-  ]
+  | inl lt ↦ (let m : suc b * p ≤ a * p = mul-le-mul_right p lt in absurd (omega (arith, m, l, h)))
+  | inr ge ↦ ge
+]
 
 word_positive : 0 < 2 ^ 64
 word_positive = omega arith
@@ -45,9 +45,9 @@ digit_is part n = div-add-mod n part
 
 pub fraction_fits : (f part rest : ℕ) → 0 < part → part ≤ 46875000000 → rest < part → f * part ≤ rest * 2 ^ 64 → f + 1 < 2 ^ 64
 fraction_fits f part rest g s h l = elim (cases_lt (f + 1) (2 ^ 64)) [
-    | inl lt ↦ lt
-    | inr ge ↦ (let m : 2 ^ 64 * part ≤ (f + 1) * part = mul-le-mul_right part ge in absurd (omega (arith, m, l, h, s)))
-  ]
+  | inl lt ↦ lt
+  | inr ge ↦ (let m : 2 ^ 64 * part ≤ (f + 1) * part = mul-le-mul_right part ge in absurd (omega (arith, m, l, h, s)))
+]
 
 fraction_parts : (f part rest : ℕ) → f * part ≤ rest * 2 ^ 64 → rest * 2 ^ 64 < f * part + part → (f + 1) * part ≡ rest * 2 ^ 64 + (f * part + part - rest * 2 ^ 64)
 fraction_parts f part rest l u = omega arith
@@ -90,7 +90,7 @@ share_near s f part g small few near =
     let l : s * (f * part / 2 ^ 64) % part < part = omega arith in
     let is : f * part ≡ f * part / 2 ^ 64 * 2 ^ 64 + f * part % 2 ^ 64 = omega (arith, div-add-mod (f * part) (2 ^ 64)) in
     share_core s f part (f * part / 2 ^ 64) (f * part % 2 ^ 64) (s * (f * part / 2 ^ 64) / part) (s * (f * part / 2 ^ 64) % part) g small few is near
-        (div-add-mod (s * (f * part / 2 ^ 64)) part) l
+    (div-add-mod (s * (f * part / 2 ^ 64)) part) l
 
 between_near : (from d : ℤ) (f part : ℕ) → 0 < part → part ≤ 46875000000 → unsigned_abs d ≤ 3067957 → f * part % 2 ^ 64 ≤ 64 * part
     → from +ℤ int_div (d *ℤ pos f) (pos (2 ^ 64)) ≡ from +ℤ int_div (d *ℤ pos (f * part / 2 ^ 64)) (pos part)

@@ -1,7 +1,7 @@
 -- Steps of one size, taken by parts of the circle and fractions of them.
-use Rattle.std.proofs.Common.{◌≡◌, ℕ, zero, suc, ℤ, pos, negsuc, ◌+◌, ◌-◌, ◌*◌, ◌/◌, ◌%◌, ◌^◌, ◌<◌, ◌≤◌, List, [], ◌∷◌, ◌++◌, length, take, map, set, replicate, refl, ap, subst, ◌∙◌, sym, append_assoc, arith}
+use Rattle.std.proofs.Common.{◌≡◌, ℕ, suc, ℤ, ◌+◌, ◌-◌, ◌*◌, ◌/◌, ◌%◌, ◌^◌, ◌<◌, ◌≤◌, List, [], ◌∷◌, ◌++◌, length, take, map, set, replicate, ap, subst, ◌∙◌, sym, append_assoc, arith}
 use Rattle.std.proofs.lemmas.List.{take_all, append-nil, take_more_set}
-use Rattle.std.proofs.Math.Nat.{div-add-mod, mod-add-div', mul-le-mul_right, le-mul_of_pos_right}
+use Rattle.std.proofs.Math.Nat.{div-add-mod, mul-le-mul_right}
 use Rattle.std.proofs.lemmas.Nat.{mod-mul-add, div-mul-add}
 use Rattle.pd_tone.specs.Tones.{moved, phases, phase_after}
 use Rattle.pd_tone.proofs.Circle.{moved_by}
@@ -47,12 +47,12 @@ next_place : (k dk f df part : ℕ) → 0 < part → f * part % 2 ^ 64 + df * pa
     → (k + dk + (f + df) / 2 ^ 64) % 2048 * part + (f + df) % 2 ^ 64 * part / 2 ^ 64 ≡ (k * part + f * part / 2 ^ 64 + (dk * part + df * part / 2 ^ 64)) % (part * 2048)
 next_place k dk f df part h small =
     place_core k dk f df part (f * part / 2 ^ 64) (f * part % 2 ^ 64) (df * part / 2 ^ 64) (df * part % 2 ^ 64) ((f + df) / 2 ^ 64) ((f + df) % 2 ^ 64)
-        h (by_word (f * part)) (by_word (df * part)) small (by_word (f + df)) (word_rest (f + df))
+    h (by_word (f * part)) (by_word (df * part)) small (by_word (f + df)) (word_rest (f + df))
 
 pub next_near : (f df part : ℕ) → f * part % 2 ^ 64 + df * part % 2 ^ 64 < 2 ^ 64 → (f + df) % 2 ^ 64 * part % 2 ^ 64 ≡ f * part % 2 ^ 64 + df * part % 2 ^ 64
 next_near f df part small =
     ap (λ n. n % 2 ^ 64) (left_over f df part (f * part / 2 ^ 64) (f * part % 2 ^ 64) (df * part / 2 ^ 64) (df * part % 2 ^ 64) ((f + df) / 2 ^ 64) ((f + df) % 2 ^ 64)
-        (by_word (f * part)) (by_word (df * part)) small (by_word (f + df)))
+    (by_word (f * part)) (by_word (df * part)) small (by_word (f + df)))
     ∙ mod-mul-add (f * part / 2 ^ 64 + df * part / 2 ^ 64 - (f + df) / 2 ^ 64 * part) (2 ^ 64) (f * part % 2 ^ 64 + df * part % 2 ^ 64) small
 
 -- the phase moves as the part and the fraction do

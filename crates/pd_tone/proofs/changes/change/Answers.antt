@@ -1,4 +1,3 @@
-use Rattle.std.proofs.Common.{◌≡◌, ◌≤◌}
 use Rattle.pd_tone.proofs.Turning.{change_at, change_small}
 use Rattle.pd_tone.proofs.changes.change.Goals as goal
 

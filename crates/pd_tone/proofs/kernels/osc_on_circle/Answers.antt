@@ -1,4 +1,4 @@
-use Rattle.std.proofs.Common.{◌≡◌, ◌*◌, ◌∙◌, ap, sym, map, replicate}
+use Rattle.std.proofs.Common.{◌*◌, ◌∙◌, ap, sym, map}
 use Rattle.pd_tone.specs.Cosine.{cosine}
 use Rattle.pd_tone.specs.Tones.{phases}
 use Rattle.pd_tone.proofs.kernels.osc_on_circle.Goals as goal

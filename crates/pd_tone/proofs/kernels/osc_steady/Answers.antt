@@ -1,4 +1,4 @@
-use Rattle.std.proofs.Common.{arith, rules, ◌≡◌, ◌+◌, ◌*◌, ◌/◌, ◌%◌, ◌^◌, ◌<◌, ◌≤◌, ◌∙◌, ap, sym, pos}
+use Rattle.std.proofs.Common.{arith, rules, ◌≡◌, ◌+◌, ◌*◌, ◌/◌, ◌%◌, ◌^◌, ◌<◌, ◌≤◌, ◌∙◌, ap}
 use Rattle.std.proofs.Math.Nat.{mul-le-mul_right}
 use Rattle.std.proofs.lemmas.Int.{to_z-of_z}
 use mir.Syntax.{w64}
@@ -18,8 +18,8 @@ loop-i-preserved c =
     let there : c.moved_within-way.result ≡ moved (c.args.part * 2048) 0 c.nanos.result = simp to_z-of_z at c.moved_within-way.ensures.value in
     let turn : c.moved_within-way.result ≡ moved (c.args.part * 2048) 0 c.args.step = there ∙ ap (moved (c.args.part * 2048) 0) c.nanos.ensures.value in
     let next : moved (c.args.part * 2048) (c.loop-i.index * c.args.part + c.loop-i.now * c.args.part / 2 ^ 64) c.args.step
-        ≡ (c.loop-i.index + c.moved_within-way.result / c.args.part + (c.loop-i.now + c.fraction-share.result) / 2 ^ 64) % 2048 * c.args.part
-            + (c.loop-i.now + c.fraction-share.result) % 2 ^ 64 * c.args.part / 2 ^ 64 =
+    ≡ (c.loop-i.index + c.moved_within-way.result / c.args.part + (c.loop-i.now + c.fraction-share.result) / 2 ^ 64) % 2048 * c.args.part
+    + (c.loop-i.now + c.fraction-share.result) % 2 ^ 64 * c.args.part / 2 ^ 64 =
     goes_on c.loop-i.index c.loop-i.now c.fraction-share.result c.args.part c.moved_within-way.result c.args.step c.requires.part turn c.fraction-share.ensures.whole small in
     record {
       room = search rules;
@@ -30,7 +30,7 @@ loop-i-preserved c =
           (phase_more (c.args.part * 2048) _ _ c.loop-i.i 64 _ c.args.step c.loop-i-test.true next c.loop-i.invariant.phase);
       samples = rw (c.stepped-next.ensures.index, c.stepped-next.ensures.fraction)
           (sample_more (cosine (c.args.part * 2048)) (c.args.part * 2048) _ _ c.loop-i.i 64 c.args.step _ c.loop-i.output _ c.loop-i-test.true (omega (arith, c.loop-i.invariant.room, c.loop-i-test.true)) next
-              c.osc_sample_at.ensures c.loop-i.invariant.samples);
+          c.osc_sample_at.ensures c.loop-i.invariant.samples);
     }
 
 pub overflow_add-phase : goal.overflow_add-phase
@@ -42,9 +42,9 @@ overflow_add-phase c =
 pub returns-clause-samples : goal.returns-clause-samples
 returns-clause-samples c =
     samples_done (cosine (c.args.part * 2048)) (c.args.part * 2048) (c.loop-i.index * c.args.part + c.loop-i.now * c.args.part / 2 ^ 64) c.loop-i.i 64 c.args.step c.loop-i.output _
-        (omega arith) (omega arith) c.loop-i.invariant.samples
+    (omega arith) (omega arith) c.loop-i.invariant.samples
 
 pub returns-clause-phase : goal.returns-clause-phase
 returns-clause-phase c =
     rw c.high_product.ensures
-        (phase_done (c.args.part * 2048) (c.loop-i.index * c.args.part + c.loop-i.now * c.args.part / 2 ^ 64) c.loop-i.i 64 _ c.args.step (omega arith) c.loop-i.invariant.phase)
+    (phase_done (c.args.part * 2048) (c.loop-i.index * c.args.part + c.loop-i.now * c.args.part / 2 ^ 64) c.loop-i.i 64 _ c.args.step (omega arith) c.loop-i.invariant.phase)
