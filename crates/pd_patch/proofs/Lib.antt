@@ -1,5 +1,6 @@
 pub mod GrowingLemmas
 pub mod GrowthLemmas
+pub mod MakingLemmas
 pub mod ListingLemmas
 pub mod SoundLemmas
 pub mod PathLemmas

@@ -1,5 +1,5 @@
 -- The way out of a canvas to which a path leads is that path, backwards.
-use Rattle.std.proofs.Common.{arith, ◌≡◌, ℕ, zero, suc, ◌≤◌, List, [], ◌∷◌, ◌++◌, length, refl, sym, ap, ◌∙◌, subst}
+use Rattle.std.proofs.Common.{arith, ◌≡◌, ℕ, zero, suc, ◌+◌, ◌≤◌, max, List, [], ◌∷◌, ◌++◌, length, refl, sym, ap, ◌∙◌, subst}
 use Rattle.std.specs.Prelude.{Option, Some, None, slice_get, option_map, option_and_then, unwrap_or, reverse}
 use Rattle.std.proofs.lemmas.List.{reverse-reverse, length-reverse, reverse-append}
 use Rattle.std.proofs.lemmas.Option.{none-some, same_Some}
@@ -11,7 +11,8 @@ use Rattle.pd_grove.specs.declared.boards.Board.{Board}
 use Rattle.pd_grove.specs.declared.grove.Grove.{Grove}
 use Rattle.pd_grove.specs.Standing.{NodeSeen, node_seen, BoardSeen, board_seen, Stands, GroveStands}
 use Rattle.pd_grove.specs.Telling.{inner_in, keys_in, step_in, reached}
-use Rattle.pd_grove.specs.Places.{canvas_along, CanvasStands, LeadsTo}
+use Rattle.pd_grove.specs.TextOrder.{deep}
+use Rattle.pd_grove.specs.Places.{canvas_in_box, canvas_along, CanvasStands, LeadsTo}
 use Rattle.pd_grove.proofs.PlaceLemmas.{path_leads}
 use Rattle.pd_web.specs.Canvases.{keys_at}
 use Rattle.pd_patch.specs.Numbers.{AreUnder}
@@ -105,11 +106,12 @@ before_in : (g : Grove) (path : List ℕ) (n j : ℕ) (o : Option ℕ) → reach
 before_in g path n j None e h = absurd (none-some j h)
 before_in g path n j (Some c) e h = record { canvas = c; leads = e; step = h }
 
-stands_along : (g : Grove) (c : ℕ) (key : Option ℕ) (v : Option Tree) → LeadsTo g key v → key ≡ Some c → (u : Tree) × CanvasStands g c u
-stands_along g c key None h e = absurd (none-some c (sym h ∙ e))
-stands_along g c key (Some u) h e = (u, subst (λ x. CanvasStands g x u) (same_Some h.0 c (sym h.1 ∙ e)) h.2)
+-- the canvas that stands where a path leads
+pub canvas_led : (g : Grove) (c : ℕ) (key : Option ℕ) (v : Option Tree) → LeadsTo g key v → key ≡ Some c → (u : Tree) × (v ≡ Some u) × CanvasStands g c u
+canvas_led g c key None h e = absurd (none-some c (sym h ∙ e))
+canvas_led g c key (Some u) h e = (u, refl, subst (λ x. CanvasStands g x u) (same_Some h.0 c (sym h.1 ∙ e)) h.2)
 
-root_stands : (g : Grove) (s : Sheet) (t : Trees) → GroveStands g s t → CanvasStands g g.root (record { sheet = s; boxes = t })
+pub root_stands : (g : Grove) (s : Sheet) (t : Trees) → GroveStands g s t → CanvasStands g g.root (record { sheet = s; boxes = t })
 root_stands g s t G = record { holder = None; depth = 0; keys = G.keys; board = G.root; stands = G.stands }
 
 root_around : (g : Grove) (numbers : List ℕ) (s : Sheet) (t : Trees) → GroveStands g s t → around (get g.nodes) g.boards numbers g.root ≡ None
@@ -125,9 +127,9 @@ way_out g numbers s t (i ∷ back) c zero G h e l = absurd (omega (arith, l))
 way_out g numbers s t (i ∷ back) c (suc n) G h e l =
     let b = before_in g (reverse back) i c (reached g (Some g.root) (reverse back)) refl
     (sym (reached-append g (Some g.root) (reverse back) i) ∙ ap (reached g (Some g.root)) (sym (reverse-append (i ∷ []) back)) ∙ e) in
-    let v = stands_along g b.canvas (reached g (Some g.root) (reverse back)) (canvas_along (reverse back) (record { sheet = s; boxes = t }))
+    let v = canvas_led g b.canvas (reached g (Some g.root) (reverse back)) (canvas_along (reverse back) (record { sheet = s; boxes = t }))
     (path_leads g (reverse back) g.root (record { sheet = s; boxes = t }) (root_stands g s t G)) b.leads in
-    ap (outward (get g.nodes) g.boards numbers (suc n)) (around_step g numbers b.canvas i c v.0 (h b.canvas) v.1 b.step)
+    ap (outward (get g.nodes) g.boards numbers (suc n)) (around_step g numbers b.canvas i c v.0 (h b.canvas) v.2 b.step)
     ∙ one_out g numbers n b.canvas i
     ∙ ap (λ x. i ∷ x) (way_out g numbers s t back b.canvas n G h b.leads (omega (arith, l)))
 
@@ -139,3 +141,34 @@ path_back g numbers s t path c G h e l =
     let there : reached g (Some g.root) (reverse (reverse path)) ≡ Some c = ap (reached g (Some g.root)) (reverse-reverse path) ∙ e in
     let long = length-reverse path in
     ap (λ x. reverse x) (way_out g numbers s t (reverse path) c 256 G h there (omega (arith, l, long))) ∙ reverse-reverse path
+
+-- a canvas in a box lies deeper
+box_deep : (n : ℕ) (t : Trees) (u : Tree) → canvas_in_box n t ≡ Some u → deep u.boxes + 1 ≤ deep t
+box_deep n Done u h = absurd (none-some u h)
+box_deep zero (Leaf c rest) u h = absurd (none-some u h)
+box_deep zero (Holder c s inner rest) u h =
+    let e : deep inner ≡ deep u.boxes = ap (λ (x : Tree). deep x.boxes) (same_Some (record { sheet = s; boxes = inner }) u h) in omega (arith, e)
+box_deep (suc n) (Leaf c rest) u h = box_deep n rest u h
+box_deep (suc n) (Holder c s inner rest) u h = let k = box_deep n rest u h in omega (arith, k)
+
+step_deep : (path : List ℕ) (u : Tree) (o : Option Tree) (b : Trees) → ((x : Tree) → canvas_along path x ≡ Some u → length path + deep u.boxes ≤ deep x.boxes)
+    → ((x : Tree) → o ≡ Some x → deep x.boxes + 1 ≤ deep b) → option_and_then (canvas_along path) o ≡ Some u → length path + 1 + deep u.boxes ≤ deep b
+step_deep path u None b P D h = absurd (none-some u h)
+step_deep path u (Some x) b P D h = let k = P x h in let l = D x refl in omega (arith, k, l)
+
+-- each number of a path leads one canvas deeper
+pub path_deep : (path : List ℕ) (t u : Tree) → canvas_along path t ≡ Some u → length path + deep u.boxes ≤ deep t.boxes
+path_deep [] t u h = let e : deep t.boxes ≡ deep u.boxes = ap (λ (x : Tree). deep x.boxes) (same_Some t u h) in omega (arith, e)
+path_deep (n ∷ path) t u h =
+    let k = step_deep path u (canvas_in_box n t.boxes) t.boxes (λ x e. path_deep path x u e) (λ x e. box_deep n t.boxes x e) h in omega (arith, k)
+
+-- a path has no more numbers than canvases lie in one another
+pub path_short : (g : Grove) (s : Sheet) (t : Trees) (path : List ℕ) (c : ℕ) → GroveStands g s t → reached g (Some g.root) path ≡ Some c → length path ≤ deep t
+path_short g s t path c G e =
+    let tree : Tree = record { sheet = s; boxes = t } in
+    let v = canvas_led g c (reached g (Some g.root) path) (canvas_along path tree) (path_leads g path g.root tree (root_stands g s t G)) e in
+    let k = path_deep path tree v.0 v.1 in omega (arith, k)
+
+pub path_whole : (g : Grove) (numbers : List ℕ) (s : Sheet) (t : Trees) (path : List ℕ) (c : ℕ) → GroveStands g s t → ((d : ℕ) → AreUnder numbers (keys_at g d)) → deep t ≤ 256
+    → reached g (Some g.root) path ≡ Some c → path_told (get g.nodes) g.boards numbers c ≡ path
+path_whole g numbers s t path c G h l e = let k = path_short g s t path c G e in path_back g numbers s t path c G h e (omega (arith, k, l))

@@ -1,5 +1,5 @@
 -- What the growth of a patch gives, and why it is refused.
-use Rattle.std.specs.Prelude.{◌≡◌, ◌<◌, ◌≤◌, ℕ, List, [], length, Some, None, IsSome}
+use Rattle.std.specs.Prelude.{◌≡◌, ◌<◌, ◌≤◌, ◌+◌, ℕ, List, [], length, Some, None, IsSome}
 use Rattle.slab.specs.Slab.{get}
 use Rattle.pd_atom.specs.Names.{Names}
 use Rattle.pd_clock.specs.declared.times.Rate.{Rate}
@@ -65,12 +65,13 @@ pub record Gives (s : Step Tree) (names : Names) (t : Tree) : Type 0 where
   pub step : s ≡ gives t after
   pub table : names ≡ after.names
 
--- The tree stands that growth gives, with its wires. No more of them fit, and no more sound is in it, than there may be.
+-- The tree stands that growth gives, with its wires. With the root at most 256 canvases lie in one another. No more wires fit, and no more
+-- sound is in it, than there may be.
 pub record IsTree (p : Patch) (names : Names) (rate : Rate) (s : Step Tree) : Type 0 where
   pub tree : Tree
   pub given : Gives s names tree
   pub stands : GroveStands p.grove tree.sheet tree.boxes
-  pub shallow : deep tree.boxes ≤ 256
+  pub shallow : deep tree.boxes + 1 ≤ 256
   pub wired : IsWired p.grove p.web tree
   pub few_wires : wires_fitting tree.sheet tree.boxes ≤ 65536
   pub few_values : sound_of rate tree.boxes ≤ 16777216

@@ -15,7 +15,7 @@ mod telling;
 mod values;
 mod walking;
 
-pub use laws::paths_lead_back;
+pub use laws::{growth_is_shallow, paths_are_short, paths_lead_back};
 pub use patch::Patch;
 pub use refusal::GrowRefusal;
 pub use report::{Remark, Report};
