@@ -104,6 +104,7 @@ most_right m n k h = omega (arith, h)
 -- where no more canvases lie in one another in a document than may, what its boxes hold has no more either
 pub levels_hold : (lib : ℕ → Option Answer) (root : List ℕ) (left : ℕ) (b : Boxes) → levels b ≤ left → AllByRecursion (MayHold lib root left (HasLevels left)) (listed b)
 levels_hold lib root left End l = tt
-levels_hold lib root left (Box d f inner rest) l =
-    ((λ a names text m h. form_holds lib root left d.form (page_of f inner) (most_left (levels_of d.form (levels inner)) (levels rest) left l) a names text m h),
-     levels_hold lib root left rest (most_right (levels_of d.form (levels inner)) (levels rest) left l))
+levels_hold lib root left (Box d f inner rest) l = (
+  (λ a names text m h. form_holds lib root left d.form (page_of f inner) (most_left (levels_of d.form (levels inner)) (levels rest) left l) a names text m h),
+  levels_hold lib root left rest (most_right (levels_of d.form (levels inner)) (levels rest) left l),
+)
