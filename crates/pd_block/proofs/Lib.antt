@@ -1,5 +1,6 @@
 pub mod NetLemmas
 pub mod WalkLemmas
+pub mod LevelLemmas
 pub mod BeginLemmas
 pub mod InletLemmas
 pub mod BoxLemmas

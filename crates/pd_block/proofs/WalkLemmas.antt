@@ -37,7 +37,7 @@ inner_told p node = inner_bare (get p.grove.nodes node)
 pub steps_on : {P : Type 0} (one : P → ℕ → P) (p q r : P) (xs : List ℕ) (i : ℕ) → q ≡ each one p (take i xs) → r ≡ next one q (slice_get xs i) → r ≡ each one p (take (i + 1) xs)
 steps_on one p q r xs i at step = rw add-one (step ∙ ap (λ z. next one z (slice_get xs i)) at ∙ each_next one p xs i)
 
-canvas_suc : (net : Net) (start n : ℕ) (p : Played) (canvas : ℕ) → ran_canvas net start (suc n) p canvas ≡ down_chain net start (ran_canvas net start n) p canvas
+pub canvas_suc : (net : Net) (start n : ℕ) (p : Played) (canvas : ℕ) → ran_canvas net start (suc n) p canvas ≡ down_chain net start (ran_canvas net start n) p canvas
 unfolding ran_canvas
 canvas_suc net start n p canvas = refl
 

@@ -270,6 +270,11 @@ begun_box s k = record { states = set_at s.states k (option_map block_begun (s.s
 abbrev pub begun : Sound → Sound
 begun s = record { states = λ k. line_begun k (s.states k); blocks = s.blocks }
 
--- The block of a patch that starts at a time: down the root's chain, over two channels of silence. Canvases lie at most 256 deep.
+-- The block of a patch that starts at a time: down the root's chain, over two channels of silence. With the root so many canvases may lie
+-- in one another.
+abbrev pub block_within : ℕ → Net → Sound → ℕ → Played
+block_within levels net s start = ran_canvas net start levels (played (begun s) (silent_block ∷ silent_block ∷ [])) net.root
+
+-- More than 256 never do, so that any greater number gives the same block.
 unfoldable pub block_of : Net → Sound → ℕ → Played
-block_of net s start = ran_canvas net start 257 (played (begun s) (silent_block ∷ silent_block ∷ [])) net.root
+block_of net s start = block_within 257 net s start

@@ -55,6 +55,21 @@ net_of p = record {
   end = p.timers.end;
 }
 
+-- the same but for the clocks
+abbrev pub with_clocks : Net → List Clock → Net
+with_clocks net clocks = record {
+  nodes = net.nodes;
+  boards = net.boards;
+  root = net.root;
+  web = net.web;
+  owners = net.owners;
+  orders = net.orders;
+  numbers = net.numbers;
+  rate = net.rate;
+  clocks = clocks;
+  end = net.end;
+}
+
 abbrev pub states_of : Patch → ℕ → Option State
 states_of p k = state_in (get p.grove.nodes k)
 

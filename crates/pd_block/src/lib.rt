@@ -6,8 +6,10 @@
 mod beside;
 mod canvases;
 mod inlets;
+mod laws;
 mod own;
 mod ports;
 mod room;
 
 pub use canvases::run_block;
+pub use laws::levels_are_enough;
