@@ -133,10 +133,11 @@ module _ (holds : Option (List FileRow)) (name : List ℕ) (rate : Rate) (d : Pa
       ap (λ (x : List Remark). loaded (first_stage p table) (remarks_text table p x) boxes) notes
       ∙ ap (λ (x : List ℕ). loaded (first_stage p table) (remarks_text table p (notices_in p.grove p.web p.orders.items)) x) loads
 
-  pub opens_so : (r : Result Engine OpenRefusal) → IfOk r (λ e. Says (loaded (first_stage p table) (remarks_text table p remarks) boxes) (stage_of e) t t')
-      → IfOk r (λ e. Opens holds name rate d names (stage_of e) t t')
-  opens_so (Ok e) says = record { patch = p; table = table; grows = grows; says = subst (λ x. Says x (stage_of e) t t') same says }
-  opens_so (Err e) says = tt
+  pub opens_so : (r : Result Engine OpenRefusal) → IfOk r (λ e. e.library ≡ grows.files.files)
+      → IfOk r (λ e. Says (loaded (first_stage p table) (remarks_text table p remarks) boxes) (stage_of e) t t')
+      → IfOk r (λ e. Opens holds name rate d names e.library (stage_of e) t t')
+  opens_so (Ok e) keeps says = record { patch = p; table = table; grows = grows; keeps = keeps; says = subst (λ x. Says x (stage_of e) t t') same says }
+  opens_so (Err e) keeps says = tt
 
   pub breaks_so : (r : Result Engine OpenRefusal) → OnErr r (TookPart t t' (loaded (first_stage p table) (remarks_text table p remarks) boxes).lines)
       → IfErr r (λ e. e ≡ WriteFault) → IfErr r (IsRefused holds name rate d names t t')

@@ -10,6 +10,7 @@ use Rattle.pd_clock.specs.declared.times.Rate.{Rate}
 use Rattle.pd_doc.specs.declared.refusal.DocRefusal.{DocRefusal}
 use Rattle.pd_doc.specs.Reading.{document_of}
 use Rattle.pd_library.specs.Files.{answer_in}
+use Rattle.pd_library.specs.declared.answers.Answer.{Answer}
 use Rattle.pd_tree.specs.Trees.{Tree}
 use Rattle.pd_growth.specs.declared.growing.Stop.TheVariants as stop
 use Rattle.pd_growth.specs.Steps.{Step, beginning}
@@ -58,6 +59,10 @@ opened p names =
 abbrev pub growth_of : List ℕ → Page → Known → Step Tree
 growth_of name d k = grown (answer_in k.files) name d (beginning k.names 1001)
 
+-- what is known of files, by the names of abstractions
+abbrev pub Files : Type 0
+Files = List (ℕ × Answer)
+
 -- Of a document with its names the files that it asks for are gathered, and then this is known.
 abbrev pub GathersAll : Option (List FileRow) → List ℕ → Page → Names → Known → Type 0
 GathersAll holds name d names k = Gathers holds name d (known [] names) (Gathered k)
@@ -69,11 +74,12 @@ pub record Grows (holds : Option (List FileRow)) (name : List ℕ) (rate : Rate)
   pub tree : IsTree p names' rate (growth_of name d files)
   pub fresh : IsFresh p names' name rate
 
--- A document with its names opens as an engine that stands at this stage, and its lines were taken.
-pub record Opens (holds : Option (List FileRow)) (name : List ℕ) (rate : Rate) (d : Page) (names : Names) (s : Stage) (lines lines' : Option (List ℕ)) : Type 0 where
+-- A document with its names opens as an engine that keeps the files that were gathered and stands at this stage, and its lines were taken.
+pub record Opens (holds : Option (List FileRow)) (name : List ℕ) (rate : Rate) (d : Page) (names : Names) (library : Files) (s : Stage) (lines lines' : Option (List ℕ)) : Type 0 where
   pub patch : Patch
   pub table : Names
   pub grows : Grows holds name rate d names patch table
+  pub keeps : library ≡ grows.files.files
   pub says : Says (opened patch table) s lines lines'
 
 -- The table of names is full while the files are gathered, or the folder failed, or memory was wanting.
@@ -156,12 +162,12 @@ IsUnread holds name names ShelfFault = Unit {0}
 IsUnread holds name names WriteFault = ⊥
 IsUnread holds name names NoMemory = Unit {0}
 
--- the file of a name is read, and opens as an engine that stands at this stage
-pub record OpensFile (holds : Option (List FileRow)) (name : List ℕ) (rate : Rate) (s : Stage) (lines lines' : Option (List ℕ)) : Type 0 where
+-- the file of a name is read, and opens as an engine that keeps these files and stands at this stage
+pub record OpensFile (holds : Option (List FileRow)) (name : List ℕ) (rate : Rate) (library : Files) (s : Stage) (lines lines' : Option (List ℕ)) : Type 0 where
   pub document : Page
   pub names : Names
   pub reads : Reads holds name first_names (Ok (document, names))
-  pub opens : Opens holds name rate document names s lines lines'
+  pub opens : Opens holds name rate document names library s lines lines'
 
 -- the file of a name is read, and its document doesn't open
 pub record IsReadRefused (holds : Option (List FileRow)) (name : List ℕ) (rate : Rate) (lines lines' : Option (List ℕ)) (e : OpenRefusal) : Type 0 where

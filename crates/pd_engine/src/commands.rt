@@ -32,6 +32,7 @@ impl Engine {
         ensures err { OnErr result (TookPart (L.taken lines.old) (L.taken lines.new) (commanded cmd.now (stage_of self.old)).lines) }
         ensures cause { HasCause (L.faults lines.old) (L.faults lines.new) result }
         ensures stays { self.new.stopped ≡ self.old.stopped }
+        ensures library { self.new.library ≡ self.old.library }
     {
         match cmd {
             Command::Send { name, atoms } => self.send(*name, atoms.as_slice(), lines),
@@ -55,6 +56,7 @@ impl Engine {
         ensures err { OnErr result (TookPart (L.taken lines.old) (L.taken lines.new) (sent name atoms.now (stage_of self.old)).lines) }
         ensures cause { HasCause (L.faults lines.old) (L.faults lines.new) result }
         ensures stays { self.new.stopped ≡ self.old.stopped }
+        ensures library { self.new.library ≡ self.old.library }
     {
         let one = [one_atom(atoms)];
         let formed = message_of(atoms, &one);
@@ -75,6 +77,7 @@ impl Engine {
         ensures err { OnErr result (TookPart (L.taken lines.old) (L.taken lines.new) (cut_line is_cut)) }
         ensures cause { HasCause (L.faults lines.old) (L.faults lines.new) result }
         ensures stays { self.new.stopped ≡ self.old.stopped }
+        ensures library { self.new.library ≡ self.old.library }
     {
         if !is_cut {
             return Ok(());
@@ -89,6 +92,7 @@ impl Engine {
         ensures err { OnErr result (TookPart (L.taken lines.old) (L.taken lines.new) (shown (stage_of self.old).net path.now)) }
         ensures cause { HasCause (L.faults lines.old) (L.faults lines.new) result }
         ensures stays { self.new.stopped ≡ self.old.stopped }
+        ensures library { self.new.library ≡ self.old.library }
     {
         show(
             &self.patch,
@@ -113,6 +117,7 @@ impl Engine {
         ensures err { OnErr result (TookPart (L.taken lines.old) (L.taken lines.new) (refusal_text request why)) }
         ensures cause { HasCause (L.faults lines.old) (L.faults lines.new) result }
         ensures stays { self.new.stopped ≡ self.old.stopped }
+        ensures library { self.new.library ≡ self.old.library }
     {
         print_refusal(request, why, &self.symbols, &mut self.held, lines)?;
         Ok(outcome_of(why))

@@ -71,6 +71,7 @@ impl Engine {
         ensures whole { IsWholeAfter (option_map (λ r. r.1) result) room.new }
         ensures stage { stage_of self.new ≡ with_names (stage_of self.old) self.new.symbols }
         ensures stays { self.new.stopped ≡ self.old.stopped }
+        ensures library { self.new.library ≡ self.old.library }
     {
         read_command(bytes, &mut self.symbols, room)
     }
@@ -90,6 +91,7 @@ impl Engine {
         ensures nothing { self.old.stopped ≡ true → (self.new ≡ self.old) × (L.taken lines.new ≡ L.taken lines.old) }
         ensures after { OnErr result (self.new.stopped ≡ true) }
         ensures goes_on { OnOk result (self.new.stopped ≡ false) }
+        ensures library { self.new.library ≡ self.old.library }
         ensures cause { IsErrOf result EngineFault.WriteFault → Rose (L.faults lines.old) (L.faults lines.new) }
         ensures counted { L.faults lines.old ≤ L.faults lines.new }
     {
@@ -121,6 +123,7 @@ impl Engine {
         ensures nothing { self.old.stopped ≡ true → (self.new ≡ self.old) × (L.taken lines.new ≡ L.taken lines.old) × (P.taken pcm.new ≡ P.taken pcm.old) }
         ensures after { OnErr result (self.new.stopped ≡ true) }
         ensures goes_on { OnOk result (self.new.stopped ≡ false) }
+        ensures library { self.new.library ≡ self.old.library }
         ensures cause { IsErrOf result EngineFault.WriteFault → Rose (L.faults lines.old) (L.faults lines.new) ⊎ Rose (P.faults pcm.old) (P.faults pcm.new) }
         ensures lines_counted { L.faults lines.old ≤ L.faults lines.new }
         ensures pcm_counted { P.faults pcm.old ≤ P.faults pcm.new }
@@ -151,6 +154,7 @@ impl Engine {
         ensures nothing { self.old.stopped ≡ true → (self.new ≡ self.old) × (L.taken lines.new ≡ L.taken lines.old) × (P.taken pcm.new ≡ P.taken pcm.old) }
         ensures after { OnErr result (self.new.stopped ≡ true) }
         ensures goes_on { OnOk result (self.new.stopped ≡ false) }
+        ensures library { self.new.library ≡ self.old.library }
         ensures cause { IsErrOf result EngineFault.WriteFault → Rose (L.faults lines.old) (L.faults lines.new) ⊎ Rose (P.faults pcm.old) (P.faults pcm.new) }
         ensures lines_counted { L.faults lines.old ≤ L.faults lines.new }
         ensures pcm_counted { P.faults pcm.old ≤ P.faults pcm.new }
@@ -168,6 +172,7 @@ impl Engine {
     fn stop(&mut self) -> EngineFault
         ensures fault { result ≡ EngineFault.WriteFault }
         ensures stopped { self.new.stopped ≡ true }
+        ensures library { self.new.library ≡ self.old.library }
     {
         self.stopped = true;
         EngineFault::WriteFault

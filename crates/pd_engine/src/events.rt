@@ -23,6 +23,7 @@ impl Engine {
         ensures err { OnErr result (TookPart (L.taken lines.old) (L.taken lines.new) (event (stage_of self.old) (beginning_of start.now)).lines) }
         ensures cause { HasCause (L.faults lines.old) (L.faults lines.new) result }
         ensures stays { self.new.stopped ≡ self.old.stopped }
+        ensures library { self.new.library ≡ self.old.library }
     {
         let mut budget = Budget::new();
         self.queue.clear();
@@ -45,6 +46,7 @@ impl Engine {
         ensures err { OnErr result (TookPart (L.taken lines.old) (L.taken lines.new) (refusals self.old.queue)) }
         ensures cause { HasCause (L.faults lines.old) (L.faults lines.new) result }
         ensures stays { self.new.stopped ≡ self.old.stopped }
+        ensures library { self.new.library ≡ self.old.library }
     {
         for _ in 0..self.queue.len() {
             print_refusal(

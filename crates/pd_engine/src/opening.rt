@@ -68,7 +68,7 @@ impl Engine {
         lines: &mut L,
     ) -> Result<Engine, OpenRefusal>
         ensures running { IfOk result (λ e. e.stopped ≡ false) }
-        ensures opens { IfOk result (λ e. OpensFile (H.holds shelf.old) name.now rate (stage_of e) (L.taken lines.old) (L.taken lines.new)) }
+        ensures opens { IfOk result (λ e. OpensFile (H.holds shelf.old) name.now rate e.library (stage_of e) (L.taken lines.old) (L.taken lines.new)) }
         ensures refused { IfErr result (IsFileRefused (H.holds shelf.old) name.now rate (L.taken lines.old) (L.taken lines.new)) }
         ensures quiet { IfErr result (λ e. e ≢ OpenRefusal.WriteFault → L.taken lines.new ≡ L.taken lines.old) }
         ensures kept { H.holds shelf.new ≡ H.holds shelf.old }
@@ -96,7 +96,7 @@ impl Engine {
     ) -> Result<Engine, OpenRefusal>
         requires { IsProper symbols doc.root }
         ensures running { IfOk result (λ e. e.stopped ≡ false) }
-        ensures opens { IfOk result (λ e. Opens (H.holds shelf.old) name.now rate doc.root symbols (stage_of e) (L.taken lines.old) (L.taken lines.new)) }
+        ensures opens { IfOk result (λ e. Opens (H.holds shelf.old) name.now rate doc.root symbols e.library (stage_of e) (L.taken lines.old) (L.taken lines.new)) }
         ensures refused { IfErr result (IsRefused (H.holds shelf.old) name.now rate doc.root symbols (L.taken lines.old) (L.taken lines.new)) }
         ensures quiet { IfErr result (λ e. e ≢ OpenRefusal.WriteFault → L.taken lines.new ≡ L.taken lines.old) }
         ensures kept { H.holds shelf.new ≡ H.holds shelf.old }
@@ -209,7 +209,7 @@ fn open_document<H: Shelf, L: Sink>(
 ) -> Result<Engine, OpenRefusal>
     requires { IsProper symbols doc.root }
     ensures running { IfOk result (λ e. e.stopped ≡ false) }
-    ensures opens { IfOk result (λ e. Opens (H.holds shelf.old) name.now rate doc.root symbols (stage_of e) (L.taken lines.old) (L.taken lines.new)) }
+    ensures opens { IfOk result (λ e. Opens (H.holds shelf.old) name.now rate doc.root symbols e.library (stage_of e) (L.taken lines.old) (L.taken lines.new)) }
     ensures refused { IfErr result (IsRefused (H.holds shelf.old) name.now rate doc.root symbols (L.taken lines.old) (L.taken lines.new)) }
     ensures quiet { IfErr result (λ e. e ≢ OpenRefusal.WriteFault → L.taken lines.new ≡ L.taken lines.old) }
     ensures kept { H.holds shelf.new ≡ H.holds shelf.old }
@@ -235,6 +235,7 @@ fn begin<L: Sink>(
     lines: &mut L,
 ) -> Result<Engine, OpenRefusal>
     ensures running { IfOk result (λ e. e.stopped ≡ false) }
+    ensures library { IfOk result (λ e. e.library ≡ library) }
     ensures ok { IfOk result (λ e. Says (loaded (first_stage patch symbols) (remarks_text symbols patch report.notices.items) report.fresh.items) (stage_of e) (L.taken lines.old) (L.taken lines.new)) }
     ensures err { OnErr result (TookPart (L.taken lines.old) (L.taken lines.new) (loaded (first_stage patch symbols) (remarks_text symbols patch report.notices.items) report.fresh.items).lines) }
     ensures fault { IfErr result (λ e. e ≡ OpenRefusal.WriteFault) }
@@ -271,6 +272,7 @@ impl Engine {
         ensures err { OnErr result (TookPart (L.taken lines.old) (L.taken lines.new) (loaded (stage_of self.old) (remarks_text self.old.symbols self.old.patch report.now.notices.items) report.now.fresh.items).lines) }
         ensures cause { HasCause (L.faults lines.old) (L.faults lines.new) result }
         ensures stays { self.new.stopped ≡ self.old.stopped }
+        ensures library { self.new.library ≡ self.old.library }
     {
         print_remarks(
             &self.patch,

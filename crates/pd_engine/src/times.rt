@@ -35,6 +35,7 @@ impl Engine {
         ensures err { OnErr result (BreaksOff (advanced to (stage_of self.old)) (L.taken lines.old) (L.taken lines.new) (P.taken pcm.old) (P.taken pcm.new)) }
         ensures cause { HasCauses (L.faults lines.old) (L.faults lines.new) (P.faults pcm.old) (P.faults pcm.new) result }
         ensures stays { self.new.stopped ≡ self.old.stopped }
+        ensures library { self.new.library ≡ self.old.library }
     {
         while self.block_end.units() <= to.units() {
             self.run_next_block(lines, pcm)?;
@@ -54,6 +55,7 @@ impl Engine {
         ensures err { OnErr result (BreaksOff (finished (stage_of self.old)) (L.taken lines.old) (L.taken lines.new) (P.taken pcm.old) (P.taken pcm.new)) }
         ensures cause { HasCauses (L.faults lines.old) (L.faults lines.new) (P.faults pcm.old) (P.faults pcm.new) result }
         ensures stays { self.new.stopped ≡ self.old.stopped }
+        ensures library { self.new.library ≡ self.old.library }
     {
         let end = self.block_end.units();
         if end < BLOCK || end - BLOCK < self.time.units() {
@@ -72,6 +74,7 @@ impl Engine {
         ensures err { OnErr result (BreaksOff (block_runs (stage_of self.old)) (L.taken lines.old) (L.taken lines.new) (P.taken pcm.old) (P.taken pcm.new)) }
         ensures cause { HasCauses (L.faults lines.old) (L.faults lines.new) (P.faults pcm.old) (P.faults pcm.new) result }
         ensures stays { self.new.stopped ≡ self.old.stopped }
+        ensures library { self.new.library ≡ self.old.library }
     {
         self.fire_below(self.block_end, lines)?;
         self.sound_block(pcm)
@@ -84,6 +87,7 @@ impl Engine {
         ensures err { OnErr result (TookPart (P.taken pcm.old) (P.taken pcm.new) (block_sounds (stage_of self.old)).samples) }
         ensures cause { HasCause (P.faults pcm.old) (P.faults pcm.new) result }
         ensures stays { self.new.stopped ≡ self.old.stopped }
+        ensures library { self.new.library ≡ self.old.library }
     {
         let end = self.block_end.units();
         let start = Time::of_units(end.saturating_sub(BLOCK));
@@ -103,6 +107,7 @@ impl Engine {
         ensures err { OnErr result (TookPart (L.taken lines.old) (L.taken lines.new) (clocks_fire limit (stage_of self.old)).lines) }
         ensures cause { HasCause (L.faults lines.old) (L.faults lines.new) result }
         ensures stays { self.new.stopped ≡ self.old.stopped }
+        ensures library { self.new.library ≡ self.old.library }
     {
         while self.fired < MOST_FIRED {
             let Some((time, owner)) = self.patch.next_clock(limit) else {
@@ -120,6 +125,7 @@ impl Engine {
         ensures err { OnErr result (TookPart (L.taken lines.old) (L.taken lines.new) (fires_at (stage_of self.old) time owner).lines) }
         ensures cause { HasCause (L.faults lines.old) (L.faults lines.new) result }
         ensures stays { self.new.stopped ≡ self.old.stopped }
+        ensures library { self.new.library ≡ self.old.library }
     {
         self.fired += 1;
         self.time = later(self.time, time);

@@ -24,6 +24,7 @@ whole_causes s t u l m n p q r ends a b c h =
       usage = h.usage;
       absent = h.absent;
       shelf = h.shelf;
+      memory = h.memory;
       script_counted = omega (arith, a, script);
       lines_counted = omega (arith, b, lines);
       pcm_counted = omega (arith, c, pcm);

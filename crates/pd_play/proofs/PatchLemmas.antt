@@ -22,7 +22,7 @@ use Rattle.pd_play.specs.Playing.{Played, Cut, Plays, EndsBy, Ends}
 use Rattle.pd_play.proofs.CauseLemmas.{rose_on}
 use Rattle.pd_play.specs.Patches.{unread, start, Tells, IsScript, PlaysScript, PlaysPatch, PlaysAsked, Runs}
 use Rattle.pd_play.specs.declared.status.Status.{Status}
-use Rattle.pd_play.specs.declared.status.Status.TheVariants.{WriteFault, NoMemory}
+use Rattle.pd_play.specs.declared.status.Status.TheVariants.{Done, WriteFault, NoMemory}
 
 grown_nothing : (t t' : Option (List ℕ)) → t' ≡ grown t [] → t' ≡ t
 grown_nothing t t' e = e ∙ sym (printed_nothing t [] refl)
@@ -42,23 +42,21 @@ write_fault_told name status t t' before now (inl h) = (h.0, grown_nothing t t' 
 write_fault_told name status t t' before now (inr h) = (h.0, part_of_nothing t t' h.2)
 
 short_told : (name : List ℕ) (run : Run) (status how : Status) (t₁ t₂ t₃ : Option (List ℕ)) (x y : ℕ) (u u' : Option (List ℕ)) → Cut run how t₁ t₂ u u' →
-    (how ≡ WriteFault) ⊎ (how ≡ NoMemory) → Answers (told name how) status t₂ t₃ x y → Tells name run status t₁ t₃ x y u u'
-short_told name run status how t₁ t₂ t₃ x y u u' h (inl is) a =
-    let w = write_fault_told name status t₂ t₃ x y (subst (λ (s : Status). Answers (told name s) status t₂ t₃ x y) is a) in
+    Answers (told name how) status t₂ t₃ x y → Tells name run status t₁ t₃ u u'
+short_told name run status how t₁ t₂ t₃ x y u u' h a =
+    let w = write_fault_told name status t₂ t₃ x y (subst (λ (s : Status). Answers (told name s) status t₂ t₃ x y) h.status_is a) in
     let took = h.breaks_off in
-    inr (inl (record {
+    inr (record {
       status_is = w.0;
       breaks_off = record {
         lines_took = subst (λ (t : Option (List ℕ)). TookPart t₁ t (run.passage.lines ++ status_line name run.status)) (sym w.1)
             (took_more t₁ t₂ run.passage.lines (status_line name run.status) took.lines_took);
         samples_took = took_more u u' run.passage.samples [] took.samples_took;
       };
-    }))
-short_told name run status how t₁ t₂ t₃ x y u u' h (inr is) a =
-    inr (inr (record { by_then = t₂; breaks_off = h.breaks_off; tells = subst (λ (s : Status). Answers (told name s) status t₂ t₃ x y) is a }))
+    })
 
 all_told : (name : List ℕ) (run : Run) (status how : Status) (t₁ t₂ t₃ : Option (List ℕ)) (x y : ℕ) (u u' : Option (List ℕ)) → Played run how t₁ t₂ u u' →
-    Answers (told name run.status) status t₂ t₃ x y → Tells name run status t₁ t₃ x y u u'
+    Answers (told name run.status) status t₂ t₃ x y → Tells name run status t₁ t₃ u u'
 all_told name run status how t₁ t₂ t₃ x y u u' h (inl a) =
     inl (record {
       status_is = a.0;
@@ -67,19 +65,19 @@ all_told name run status how t₁ t₂ t₃ x y u u' h (inl a) =
       samples_are = h.samples_are ∙ ap (λ (l : List ℕ). grown u l) (sym (append-nil run.passage.samples));
     })
 all_told name run status how t₁ t₂ t₃ x y u u' h (inr a) =
-    inr (inl (record {
+    inr (record {
       status_is = a.0;
       breaks_off = record {
         lines_took = took_after t₁ t₂ t₃ run.passage.lines (status_line name run.status) h.lines_are a.2;
         samples_took = took_more u u' run.passage.samples [] (took_all u u' run.passage.samples h.samples_are);
       };
-    }))
+    })
 
 run_told : (name : List ℕ) (run : Run) (status how : Status) (t₁ t₂ t₃ : Option (List ℕ)) (x y : ℕ) (u u' : Option (List ℕ)) → Plays run how t₁ t₂ u u' →
-    Answers (told name how) status t₂ t₃ x y → Tells name run status t₁ t₃ x y u u'
+    Answers (told name how) status t₂ t₃ x y → Tells name run status t₁ t₃ u u'
 run_told name run status how t₁ t₂ t₃ x y u u' (inl h) a =
     all_told name run status how t₁ t₂ t₃ x y u u' h (subst (λ (s : Status). Answers (told name s) status t₂ t₃ x y) h.status_is a)
-run_told name run status how t₁ t₂ t₃ x y u u' (inr h) a = short_told name run status how t₁ t₂ t₃ x y u u' h h.why a
+run_told name run status how t₁ t₂ t₃ x y u u' (inr h) a = short_told name run status how t₁ t₂ t₃ x y u u' h a
 
 -- what was given, and what is still to come
 script_whole : (given more : List ℕ) (left left' : Option (List ℕ)) → left ≡ with_front given left' → IfSome left' (λ b. b ≡ more) →
@@ -94,14 +92,25 @@ is_script Whole given more left left' read read' came by = script_whole given mo
 is_script Broken given more left left' read read' came by =
     (came ∙ ap (λ (l : List ℕ). with_front l left') (sym (append-nil given) ∙ ap (λ (l : List ℕ). given ++ l) (sym by.0)), by.1)
 
+-- a run that is done was done before its line
+told_done : (name : List ℕ) (how status : Status) (t t' : Option (List ℕ)) (x y : ℕ) → Answers (told name how) status t t' x y → status ≡ Done → how ≡ Done
+told_done name how status t t' x y (inl h) e = sym h.0 ∙ e
+told_done name how status t t' x y (inr h) e = let no : WriteFault ≡ Done = sym h.0 ∙ e in absurd (cc)
+
+-- memory was short before the line that tells of it
+pub told_short : (name : List ℕ) (how status : Status) (t t' : Option (List ℕ)) (x y : ℕ) → Answers (told name how) status t t' x y → status ≡ NoMemory → how ≡ NoMemory
+told_short name how status t t' x y (inl h) e = sym h.0 ∙ e
+told_short name how status t t' x y (inr h) e = let no : WriteFault ≡ NoMemory = sym h.0 ∙ e in absurd (cc)
+
 script_told : (name : List ℕ) (begin : Point) (status how : Status) (left left' : Option (List ℕ)) (read read' : ℕ) (t₁ t₂ t₃ : Option (List ℕ)) (x y : ℕ)
     (u u' : Option (List ℕ)) → Ends unread begin how left left' read read' t₁ t₂ u u' → Answers (told name how) status t₂ t₃ x y →
-    PlaysScript name begin status left left' read read' t₁ t₃ x y u u'
+    PlaysScript name begin status left left' read read' t₁ t₃ u u'
 script_told name begin status how left left' read read' t₁ t₂ t₃ x y u u' e a = record {
   ending = e.ending;
   bytes = e.given ++ e.more;
   is_script = is_script e.ending e.given e.more left left' read read' e.came e.by;
   tells = run_told name (run_of e.ending (script_of 0 0 (e.given ++ e.more)) begin) status how t₁ t₂ t₃ x y u u' e.plays a;
+  over = λ d. e.over (told_done name how status t₂ t₃ x y a d);
 }
 
 answers_on : (name : List ℕ) (how status : Status) (t t' : Option (List ℕ)) (x y z : ℕ) → x ≤ y → Answers (told name how) status t t' y z →
@@ -116,6 +125,7 @@ plays_told holds name rate status how left left' read read' t₀ t t' x y u u' (
     inl (record { why = how; printed = t; refused = h.refused; tells = a; unread = h.unread; silent = h.silent })
 plays_told holds name rate status how left left' read read' t₀ t t' x y u u' (inr h) a =
     inr (record {
+      library = h.library;
       stage = h.stage;
       printed = h.printed;
       opens = h.opens;

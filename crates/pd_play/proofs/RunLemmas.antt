@@ -7,7 +7,7 @@ use Rattle.pd_io.specs.Stream.{grown, with_front}
 use Rattle.pd_atom.specs.Names.{Names}
 use Rattle.pd_say.proofs.GatheringLemmas.{grown-grown, took_more, printed_nothing}
 use Rattle.pd_feed.specs.Script.{is_shown, fed_of}
-use Rattle.pd_feed.specs.Feed.{Feed, Feeds, Waits, script_ahead}
+use Rattle.pd_feed.specs.Feed.{Feed, IsAtEnd, Feeds, Waits, script_ahead}
 use Rattle.pd_feed.specs.declared.feed.Fed.{Fed}
 use Rattle.pd_feed.specs.declared.feed.Fed.TheVariants as fed
 use Rattle.pd_script.specs.Tokens.{tokens_of}
@@ -18,10 +18,10 @@ use Rattle.pd_script.specs.declared.commands.Script.{Script}
 use Rattle.pd_engine.specs.Stages.{Stage, Passage, with_names, still, joined, Passes, BreaksOff}
 use Rattle.pd_engine.specs.Events.{event}
 use Rattle.pd_engine.specs.Commands.{commanded}
-use Rattle.pd_engine.proofs.PassageLemmas.{took_after, took_none}
+use Rattle.pd_engine.proofs.PassageLemmas.{took_after}
 use Rattle.pd_play.specs.declared.status.Status.{Status}
-use Rattle.pd_play.specs.declared.status.Status.TheVariants.{ScriptBad, ReadFault, WriteFault, NoMemory}
-use Rattle.pd_play.specs.Runs.{Point, Run, Ending, Whole, Broken, at_stage, counted, ended, bad, done, behind, goes_on, read_run, timed_run, millionths, record_run, end_run, run_of}
+use Rattle.pd_play.specs.declared.status.Status.TheVariants.{Done, ScriptBad, ReadFault, WriteFault}
+use Rattle.pd_play.specs.Runs.{Point, Run, Ending, Whole, Broken, at_stage, counted, ended, bad, done, behind, goes_on, read_run, timed_run, millionths, record_run, end_run, run_of, MeetsEnd}
 use Rattle.pd_play.specs.Playing.{Plays, GoesOn, Leads, fed_run, ahead, Moves, EndsBy, Ends, Steps}
 use Rattle.pd_play.proofs.CauseLemmas.{rose_on}
 use Rattle.pd_play.proofs.AheadLemmas.{told, told_is, record_ahead, too_long_ahead, end_ahead, unfinished_ahead, waits_ahead}
@@ -38,22 +38,22 @@ commanded_soundless command.Redo s = refl
 
 -- ---- what was played of a run
 
--- nothing was taken
-pub cut_at_once : (run : Run) (status : Status) (t u : Option (List ℕ)) → status ≡ NoMemory → Plays run status t t u u
-cut_at_once run status t u e =
-    inr (record { why = inr e; breaks_off = record { lines_took = took_none t run.passage.lines; samples_took = took_none u run.passage.samples } })
-
 -- a sink failed in the first part of a run
 pub cut_early : (part : Passage) (run : Run) (status : Status) (t t' u u' : Option (List ℕ)) → status ≡ WriteFault → BreaksOff part t t' u u' →
     Plays (behind part run) status t t' u u'
 cut_early part run status t t' u u' e b =
     inr (record {
-      why = inl e;
+      status_is = e;
       breaks_off = record {
         lines_took = took_more t t' part.lines run.passage.lines b.lines_took;
         samples_took = took_more u u' part.samples run.passage.samples b.samples_took;
       };
     })
+
+-- what was played to a run's end without a fault has the run's status
+pub done_is : (run : Run) (status : Status) (t t' u u' : Option (List ℕ)) → Plays run status t t' u u' → status ≡ Done → run.status ≡ Done
+done_is run status t t' u u' (inl h) e = sym h.status_is ∙ e
+done_is run status t t' u u' (inr h) e = let no : WriteFault ≡ Done = sym h.status_is ∙ e in absurd (cc)
 
 -- the run ends and nothing happens
 pub ended_played : (p : Point) (status : Status) (t u : Option (List ℕ)) → Plays (ended p status) status t t u u
@@ -70,7 +70,7 @@ played_behind part run status t₁ t₂ t₃ u₁ u₂ u₃ a b (inl h) =
     })
 played_behind part run status t₁ t₂ t₃ u₁ u₂ u₃ a b (inr h) =
     inr (record {
-      why = h.why;
+      status_is = h.status_is;
       breaks_off = record {
         lines_took = took_after t₁ t₂ t₃ part.lines run.passage.lines a h.breaks_off.lines_took;
         samples_took = took_after u₁ u₂ u₃ part.samples run.passage.samples b h.breaks_off.samples_took;
@@ -168,25 +168,44 @@ record_moves f f' p p' left left' t t' u u' h g = record {
 
 -- the run ends at what was read, and all that is left comes behind it
 ends_whole : (f : Feed) (p : Point) (status : Status) (given : List ℕ) (left left' : Option (List ℕ)) (faults faults' : ℕ) (t t' u u' : Option (List ℕ)) →
-    left ≡ with_front given left' → Plays (ahead Whole f p (given ++ told left')) status t t' u u' → Ends f p status left left' faults faults' t t' u u'
-ends_whole f p status given left left' faults faults' t t' u u' came plays =
-    record { given = given; came = came; ending = Whole; more = told left'; by = told_is left'; plays = plays }
+    left ≡ with_front given left' → Plays (ahead Whole f p (given ++ told left')) status t t' u u' →
+    (status ≡ Done → IsAtEnd left' ⊎ MeetsEnd (script_ahead f (given ++ told left')) p) → Ends f p status left left' faults faults' t t' u u'
+ends_whole f p status given left left' faults faults' t t' u u' came plays over =
+    record { given = given; came = came; ending = Whole; more = told left'; by = told_is left'; plays = plays; over = over }
+
+-- the run of the script ahead, where the answer of the feed is a record
+record_ends : (f f' : Feed) (p : Point) (left left' : Option (List ℕ)) (h : Feeds fed.Record f left f' left') (ending : Ending) →
+    ahead ending f p (h.given ++ told left') ≡ record_run f'.last (counted p) (λ q. run_of ending (script_ahead f' (told left')) q)
+record_ends f f' p left left' h ending = ap (λ s. run_of ending s p) (record_ahead f f' left left' h (told left'))
+
+-- a rest that is no record leads to no run that is done
+rest_undone : (v : Fed) (text : List ℕ) (p : Point) (status : Status) (t t' u u' : Option (List ℕ)) (rest : Point → Run) → (v ≡ fed.TooLong) ⊎ (v ≡ fed.Unfinished) →
+    Plays (fed_run v text p rest) status t t' u u' → status ≡ Done → ⊥
+rest_undone v text p status t t' u u' rest e plays d =
+    let no : ScriptBad (p.number + 1) ≡ Done =
+    sym (ap (λ (r : Run). r.status) (rest_is v text p rest e)) ∙ done_is (fed_run v text p rest) status t t' u u' plays d in
+    cc
 
 fed_ends : (v : Fed) (f f' : Feed) (p : Point) (status : Status) (left left' : Option (List ℕ)) (faults faults' : ℕ) (t t' u u' : Option (List ℕ)) →
     Feeds v f left f' left' → ((rest : Point → Run) → Plays (fed_run v f'.last p rest) status t t' u u') → Ends f p status left left' faults faults' t t' u u'
 fed_ends fed.Record f f' p status left left' faults faults' t t' u u' h plays =
+    let after : Ending → Point → Run = λ ending q. run_of ending (script_ahead f' (told left')) q in
     ends_whole f p status h.given left left' faults faults' t t' u u' h.came
-    (subst (λ s. Plays (run_of Whole s p) status t t' u u') (sym (record_ahead f f' left left' h (told left')))
-    (plays (λ q. run_of Whole (script_ahead f' (told left')) q)))
+    (subst (λ (r : Run). Plays r status t t' u u') (sym (record_ends f f' p left left' h Whole)) (plays (after Whole)))
+    (λ e. inr (ap (λ (r : Run). r.status) (record_ends f f' p left left' h Broken)
+    ∙ done_is (record_run f'.last (counted p) (after Broken)) status t t' u u' (plays (after Broken)) e))
 fed_ends fed.End f f' p status left left' faults faults' t t' u u' h plays =
     ends_whole f p status h.given left left' faults faults' t t' u u' h.came
     (subst (λ s. Plays (run_of Whole s p) status t t' u u') (sym (end_ahead f f' left left' h)) (plays (λ q. ended q ReadFault)))
+    (λ e. inl (h.ended refl))
 fed_ends fed.TooLong f f' p status left left' faults faults' t t' u u' h plays =
     ends_whole f p status h.given left left' faults faults' t t' u u' h.came
     (subst (λ s. Plays (run_of Whole s p) status t t' u u') (sym (too_long_ahead f f' left left' h (told left'))) (plays (λ q. ended q ReadFault)))
+    (λ e. absurd (rest_undone fed.TooLong f'.last p status t t' u u' (λ q. ended q ReadFault) (inl refl) (plays (λ q. ended q ReadFault)) e))
 fed_ends fed.Unfinished f f' p status left left' faults faults' t t' u u' h plays =
     ends_whole f p status h.given left left' faults faults' t t' u u' h.came
     (subst (λ s. Plays (run_of Whole s p) status t t' u u') (sym (unfinished_ahead f f' left left' h)) (plays (λ q. ended q ReadFault)))
+    (λ e. absurd (rest_undone fed.Unfinished f'.last p status t t' u u' (λ q. ended q ReadFault) (inr refl) (plays (λ q. ended q ReadFault)) e))
 
 -- the feed answered, and that was carried out
 pub fed_steps : (r : Option Status) (v : Fed) (f f' f'' : Feed) (p p' : Point) (left left' : Option (List ℕ)) (faults faults' : ℕ) (t t' u u' : Option (List ℕ)) →
@@ -222,6 +241,7 @@ waits_ends f f' p left left' faults faults' t u h rose =
       plays =
           subst (λ (x : Run). Plays x ReadFault t t u u) (sym (ap (λ (x : List ℕ). ahead Broken f p x) (append-nil h.given) ∙ is))
           (ended_played p ReadFault t u);
+      over = λ e. absurd (cc);
     }
 
 -- ---- one step after another
@@ -264,6 +284,12 @@ moves_on f f' f'' p p' p'' l₁ l₂ l₃ t₁ t₂ t₃ u₁ u₂ u₃ a b = re
       ∙ ap (behind a.part) (b.same ending more) ∙ behind_behind a.part b.part (ahead ending f'' p'' more);
 }
 
+at_end_on : (given more : List ℕ) (f f' : Feed) (p p' : Point) (l₁ l₂ left t t' u u' : Option (List ℕ)) (a : Moves f p f' p' l₁ l₂ t t' u u') →
+    IsAtEnd left ⊎ MeetsEnd (script_ahead f' (given ++ more)) p' → IsAtEnd left ⊎ MeetsEnd (script_ahead f ((a.given ++ given) ++ more)) p
+at_end_on given more f f' p p' l₁ l₂ left t t' u u' a (inl h) = inl h
+at_end_on given more f f' p p' l₁ l₂ left t t' u u' a (inr h) =
+    inr (ap (λ (r : Run). r.status) (ap (λ (x : List ℕ). ahead Broken f p x) (append_assoc a.given given more) ∙ a.same Broken (given ++ more)) ∙ h)
+
 ends_by_on : (ending : Ending) (more : List ℕ) (left : Option (List ℕ)) (x y z : ℕ) → x ≤ y → EndsBy ending more left y z → EndsBy ending more left x z
 ends_by_on Whole more left x y z l h = h
 ends_by_on Broken more left x y z l h = (h.0, rose_on x y z l h.1)
@@ -280,4 +306,5 @@ moves_end f f' p p' status l₁ l₂ l₃ x y z t₁ t₂ t₃ u₁ u₂ u₃ l 
       subst (λ (r : Run). Plays r status t₁ t₃ u₁ u₃)
       (sym (ap (λ (r : List ℕ). ahead b.ending f p r) (append_assoc a.given b.given b.more) ∙ a.same b.ending (b.given ++ b.more)))
       (played_behind a.part (ahead b.ending f' p' (b.given ++ b.more)) status t₁ t₂ t₃ u₁ u₂ u₃ a.lines_are a.samples_are b.plays);
+  over = λ e. at_end_on b.given b.more f f' p p' l₁ l₂ l₃ t₁ t₂ u₁ u₂ a (b.over e);
 }

@@ -6,17 +6,17 @@ use Rattle.pd_io.specs.declared.files.FileRow.{FileRow}
 use Rattle.pd_clock.specs.declared.times.Rate.{Rate}
 use Rattle.pd_clock.specs.Rates.{samples}
 use Rattle.pd_feed.specs.Script.{script_of}
-use Rattle.pd_feed.specs.Feed.{Feed}
-use Rattle.pd_engine.specs.Stages.{Stage, saying, joined, BreaksOff}
-use Rattle.pd_engine.specs.Opening.{OpensFile}
+use Rattle.pd_feed.specs.Feed.{Feed, IsAtEnd}
+use Rattle.pd_engine.specs.Stages.{Stage, saying, joined}
+use Rattle.pd_engine.specs.Opening.{Files, OpensFile}
 use Rattle.pd_words.specs.Grammar.{Asked}
 use Rattle.pd_play.specs.Ending.{status_line}
 use Rattle.pd_play.specs.Refusing.{IsRefusal}
 use Rattle.pd_play.specs.Telling.{told, Answers, is_unmade}
-use Rattle.pd_play.specs.Runs.{Point, Run, Ending, Whole, Broken, run_of}
-use Rattle.pd_play.specs.Playing.{Played, Ends}
+use Rattle.pd_play.specs.Runs.{Point, Run, Ending, Whole, Broken, run_of, MeetsEnd}
+use Rattle.pd_play.specs.Playing.{Plays, Ends}
 use Rattle.pd_play.specs.declared.status.Status.{Status}
-use Rattle.pd_play.specs.declared.status.Status.TheVariants.{WriteFault, NoMemory}
+use Rattle.pd_play.specs.declared.status.Status.TheVariants.{Done}
 
 -- a patch that was opened, with no record read
 abbrev pub start : Stage → ℕ → Point
@@ -30,43 +30,32 @@ unread = record { passed = 0; blank = 0; bytes = []; last = [] }
 abbrev pub with_line : List ℕ → Run → Run
 with_line name run = record { status = run.status; passage = joined run.passage (saying run.passage.stage (status_line name run.status)) }
 
--- a sink failed: a first part was taken of the lines, and of the samples
-pub record BreaksDown (run : Run) (status : Status) (lines lines' pcm pcm' : Option (List ℕ)) : Type 0 where
-  pub status_is : status ≡ WriteFault
-  pub breaks_off : BreaksOff run.passage lines lines' pcm pcm'
-
--- The room for a command wasn't whole: a first part was taken, and then the line that tells of it.
-pub record RunsShort (name : List ℕ) (run : Run) (status : Status) (lines lines' : Option (List ℕ)) (faults faults' : ℕ) (pcm pcm' : Option (List ℕ)) : Type 0 where
-  pub by_then : Option (List ℕ)
-  pub breaks_off : BreaksOff run.passage lines by_then pcm pcm'
-  pub tells : Answers (told name NoMemory) status by_then lines' faults faults'
-
 -- how a run ends with the line of its status
-abbrev pub Tells : List ℕ → Run → Status → Option (List ℕ) → Option (List ℕ) → ℕ → ℕ → Option (List ℕ) → Option (List ℕ) → Type 0
-Tells name run status lines lines' faults faults' pcm pcm' =
-    Played (with_line name run) status lines lines' pcm pcm' ⊎ BreaksDown (with_line name run) status lines lines' pcm pcm'
-    ⊎ RunsShort name run status lines lines' faults faults' pcm pcm'
+abbrev pub Tells : List ℕ → Run → Status → Option (List ℕ) → Option (List ℕ) → Option (List ℕ) → Option (List ℕ) → Type 0
+Tells name run status lines lines' pcm pcm' = Plays (with_line name run) status lines lines' pcm pcm'
 
 -- A script is all that its source has left, where it tells that. Where the source failed, it is what the source gave until then.
 abbrev pub IsScript : Ending → List ℕ → Option (List ℕ) → Option (List ℕ) → ℕ → ℕ → Type 0
 IsScript Whole bytes left left' faults faults' = IfSome left (λ b. b ≡ bytes)
 IsScript Broken bytes left left' faults faults' = (left ≡ with_front bytes left') × Rose faults faults'
 
--- a patch that was opened is played by a script
-pub record PlaysScript (name : List ℕ) (begin : Point) (status : Status) (left left' : Option (List ℕ)) (read read' : ℕ) (lines lines' : Option (List ℕ))
-    (faults faults' : ℕ) (pcm pcm' : Option (List ℕ)) : Type 0 where
+-- A patch that was opened is played by a script. It is done only where nothing is left of the script, where that is told, or where an `end` is met.
+pub record PlaysScript (name : List ℕ) (begin : Point) (status : Status) (left left' : Option (List ℕ)) (read read' : ℕ)
+    (lines lines' pcm pcm' : Option (List ℕ)) : Type 0 where
   pub ending : Ending
   pub bytes : List ℕ
   pub is_script : IsScript ending bytes left left' read read'
-  pub tells : Tells name (run_of ending (script_of 0 0 bytes) begin) status lines lines' faults faults' pcm pcm'
+  pub tells : Tells name (run_of ending (script_of 0 0 bytes) begin) status lines lines' pcm pcm'
+  pub over : status ≡ Done → IsAtEnd left' ⊎ MeetsEnd (script_of 0 0 bytes) begin
 
--- The patch of the name opens: it then stands at this stage, and its lines were taken. From there it is played.
+-- The patch of the name opens: its engine then keeps these files and stands at this stage, and its lines were taken. From there it is played.
 pub record PlaysOpened (holds : Option (List FileRow)) (name : List ℕ) (rate : Rate) (status : Status) (left left' : Option (List ℕ)) (read read' : ℕ)
-    (lines lines' : Option (List ℕ)) (faults faults' : ℕ) (pcm pcm' : Option (List ℕ)) : Type 0 where
+    (lines lines' pcm pcm' : Option (List ℕ)) : Type 0 where
+  pub library : Files
   pub stage : Stage
   pub printed : Option (List ℕ)
-  pub opens : OpensFile holds name rate stage lines printed
-  pub plays : PlaysScript name (start stage (samples rate)) status left left' read read' printed lines' faults faults' pcm pcm'
+  pub opens : OpensFile holds name rate library stage lines printed
+  pub plays : PlaysScript name (start stage (samples rate)) status left left' read read' printed lines' pcm pcm'
 
 -- The patch of the name doesn't open, for this cause, and then the line that tells of it follows. No script is read, and no sample written.
 pub record Refuses (holds : Option (List FileRow)) (name : List ℕ) (rate : Rate) (status : Status) (left left' lines lines' : Option (List ℕ)) (faults faults' : ℕ)
@@ -82,7 +71,7 @@ abbrev pub PlaysPatch : Option (List FileRow) → List ℕ → Rate → Status �
     ℕ → ℕ → Option (List ℕ) → Option (List ℕ) → Type 0
 PlaysPatch holds name rate status left left' read read' lines lines' faults faults' pcm pcm' =
     Refuses holds name rate status left left' lines lines' faults faults' pcm pcm'
-    ⊎ PlaysOpened holds name rate status left left' read read' lines lines' faults faults' pcm pcm'
+    ⊎ PlaysOpened holds name rate status left left' read read' lines lines' pcm pcm'
 
 -- The patch that the words ask for is played at their rate, where they ask for one that is there.
 abbrev pub PlaysAsked : Option Asked → Option (List FileRow) → Status → Option (List ℕ) → Option (List ℕ) → ℕ → ℕ → Option (List ℕ) → Option (List ℕ) →
@@ -102,9 +91,10 @@ pub record NotOpened (holds : Option (List FileRow)) (name : List ℕ) (rate : R
 -- it opened, and the script was run
 pub record Opened (holds : Option (List FileRow)) (name : List ℕ) (rate : Rate) (status : Status) (left left' : Option (List ℕ)) (read read' : ℕ)
     (lines lines' pcm pcm' : Option (List ℕ)) : Type 0 where
+  pub library : Files
   pub stage : Stage
   pub printed : Option (List ℕ)
-  pub opens : OpensFile holds name rate stage lines printed
+  pub opens : OpensFile holds name rate library stage lines printed
   pub ends : Ends unread (start stage (samples rate)) status left left' read read' printed lines' pcm pcm'
 
 abbrev pub Runs : Option (List FileRow) → List ℕ → Rate → Status → Option (List ℕ) → Option (List ℕ) → ℕ → ℕ → Option (List ℕ) → Option (List ℕ) →

@@ -3,13 +3,13 @@ use Rattle.std.specs.Prelude.{◌≡◌, ◌≤◌, ◌⊎◌, ℕ, List, [], �
 use Rattle.pd_io.specs.Faults.{Rose}
 use Rattle.pd_io.specs.Stream.{grown, with_front}
 use Rattle.pd_clock.specs.Rates.{samples}
-use Rattle.pd_feed.specs.Feed.{Feed, script_ahead}
+use Rattle.pd_feed.specs.Feed.{Feed, IsAtEnd, script_ahead}
 use Rattle.pd_feed.specs.declared.feed.Fed.{Fed}
 use Rattle.pd_feed.specs.declared.feed.Fed.TheVariants as fed
 use Rattle.pd_engine.specs.Stages.{Passage, BreaksOff, stage_of}
-use Rattle.pd_play.specs.Runs.{Point, Run, Ending, Whole, Broken, behind, counted, record_run, end_run, run_of}
+use Rattle.pd_play.specs.Runs.{Point, Run, Ending, Whole, Broken, behind, counted, record_run, end_run, run_of, MeetsEnd}
 use Rattle.pd_play.specs.declared.status.Status.{Status}
-use Rattle.pd_play.specs.declared.status.Status.TheVariants.{WriteFault, NoMemory}
+use Rattle.pd_play.specs.declared.status.Status.TheVariants.{Done, WriteFault}
 use Rattle.pd_play.specs.declared.session.Session.{Session}
 
 -- where a session stands
@@ -34,9 +34,9 @@ pub record Played (run : Run) (status : Status) (lines lines' pcm pcm' : Option 
   pub lines_are : lines' ≡ grown lines run.passage.lines
   pub samples_are : pcm' ≡ grown pcm run.passage.samples
 
--- a sink failed, or the room for a command wasn't whole: a first part of a run's lines and samples was taken
+-- a sink failed: a first part of a run's lines and samples was taken
 pub record Cut (run : Run) (status : Status) (lines lines' pcm pcm' : Option (List ℕ)) : Type 0 where
-  pub why : (status ≡ WriteFault) ⊎ (status ≡ NoMemory)
+  pub status_is : status ≡ WriteFault
   pub breaks_off : BreaksOff run.passage lines lines' pcm pcm'
 
 abbrev pub Plays : Run → Status → Option (List ℕ) → Option (List ℕ) → Option (List ℕ) → Option (List ℕ) → Type 0
@@ -79,7 +79,8 @@ abbrev pub EndsBy : Ending → List ℕ → Option (List ℕ) → ℕ → ℕ �
 EndsBy Whole more left faults faults' = IfSome left (λ bytes. bytes ≡ more)
 EndsBy Broken more left faults faults' = (more ≡ []) × Rose faults faults'
 
--- The run ahead was played to its end: that of the bytes that the source gave, and of those that are still to come.
+-- The run ahead was played to its end: that of the bytes that the source gave, and of those that are still to come. It is done only at the end of
+-- what the source has, or where it meets an `end`.
 pub record Ends (feed : Feed) (p : Point) (status : Status) (left left' : Option (List ℕ)) (faults faults' : ℕ) (lines lines' pcm pcm' : Option (List ℕ)) : Type 0 where
   pub given : List ℕ
   pub came : left ≡ with_front given left'
@@ -87,6 +88,7 @@ pub record Ends (feed : Feed) (p : Point) (status : Status) (left left' : Option
   pub more : List ℕ
   pub by : EndsBy ending more left' faults faults'
   pub plays : Plays (ahead ending feed p (given ++ more)) status lines lines' pcm pcm'
+  pub over : status ≡ Done → IsAtEnd left' ⊎ MeetsEnd (script_ahead feed (given ++ more)) p
 
 -- one step of the run ahead
 abbrev pub Steps : Option Status → Feed → Point → Feed → Point → Option (List ℕ) → Option (List ℕ) → ℕ → ℕ → Option (List ℕ) → Option (List ℕ) →

@@ -1,5 +1,5 @@
 -- The run of a script: its records, one after another, and how it ends.
-use Rattle.std.specs.Prelude.{ℕ, ◌+◌, ◌*◌, ◌==◌, ℤ, pos, negsuc, List, [], ◌∷◌, length, nat_lt, Option, Some, None, if◌then◌else◌}
+use Rattle.std.specs.Prelude.{◌≡◌, ℕ, ◌+◌, ◌*◌, ◌==◌, ℤ, pos, negsuc, List, [], ◌∷◌, length, nat_lt, Option, Some, None, if◌then◌else◌}
 use Rattle.pd_atom.specs.Names.{Names}
 use Rattle.pd_feed.specs.Script.{Script as Text}
 use Rattle.pd_feed.specs.declared.feed.Fed.{Fed}
@@ -116,3 +116,7 @@ end_run _ _ p = bad (counted p)
 -- the run of a script from a point
 abbrev pub run_of : Ending → Text → Point → Run
 run_of ending script p = records_run script.records (end_run ending script.end) p
+
+-- The run of a script meets an `end`: it comes to it among the records, and so is done even where the source fails behind them.
+abbrev pub MeetsEnd : Text → Point → Type 0
+MeetsEnd script p = (run_of Broken script p).status ≡ Done

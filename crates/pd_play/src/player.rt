@@ -3,6 +3,7 @@
 ghost use Rattle.std.specs.Prelude.{◌≡◌, ◌≢◌, ◌≤◌, [], true, false, Some, map, is_some};
 ghost use Rattle.std.specs.String.{string_bytes};
 ghost use Rattle.pd_words.specs.Grammar.{words_of};
+ghost use Rattle.pd_script.specs.Room.{IsWhole};
 ghost use Rattle.pd_play.specs.Causes.{HasRunCauses, HasCauses};
 ghost use Rattle.pd_play.specs.Playing.{point_of, IsCounted, Ends};
 ghost use Rattle.pd_play.specs.Patches.{Runs, PlaysPatch, PlaysAsked};
@@ -33,6 +34,7 @@ pub fn play<H: Shelf, S: Source, L: Sink, P: Sink>(
     ensures folder { H.holds shelf.new ≡ H.holds shelf.old }
     ensures folder_counted { H.faults shelf.old ≤ H.faults shelf.new }
     ensures causes { HasCauses (H.faults shelf.old) (H.faults shelf.new) (S.faults script.old) (S.faults script.new) (L.faults lines.old) (L.faults lines.new) (P.faults pcm.old) (P.faults pcm.new) result }
+    ensures short { result ≡ Status.NoMemory → (S.left script.new ≡ S.left script.old) × (P.taken pcm.new ≡ P.taken pcm.old) }
     ensures usage { result ≡ Status.Usage → is_played (words_of (map (λ w. string_bytes w) words.now)) ≡ false }
     ensures unplayed { is_played (words_of (map (λ w. string_bytes w) words.now)) ≡ false →
         IsUnplayed result (L.taken lines.old) (L.taken lines.new) (L.faults lines.old) (L.faults lines.new) }
@@ -60,6 +62,7 @@ fn play_asked<H: Shelf, S: Source, L: Sink, P: Sink>(
     ensures folder { H.holds shelf.new ≡ H.holds shelf.old }
     ensures folder_counted { H.faults shelf.old ≤ H.faults shelf.new }
     ensures causes { HasCauses (H.faults shelf.old) (H.faults shelf.new) (S.faults script.old) (S.faults script.new) (L.faults lines.old) (L.faults lines.new) (P.faults pcm.old) (P.faults pcm.new) result }
+    ensures short { result ≡ Status.NoMemory → (S.left script.new ≡ S.left script.old) × (P.taken pcm.new ≡ P.taken pcm.old) }
     ensures usage { result ≡ Status.Usage → is_some asked.now.make ≡ true }
     ensures unplayed { is_some asked.now.make ≡ true → Answers (told [] Status.Usage) result (L.taken lines.old) (L.taken lines.new) (L.faults lines.old) (L.faults lines.new) }
     ensures plays { is_unmade asked.now.make ≡ true → PlaysPatch (H.holds shelf.old) asked.now.patch.now asked.now.rate result (S.left script.old) (S.left script.new) (S.faults script.old) (S.faults script.new) (L.taken lines.old) (L.taken lines.new) (L.faults lines.old) (L.faults lines.new) (P.taken pcm.old) (P.taken pcm.new) }
@@ -93,6 +96,7 @@ fn run<H: Shelf, S: Source, L: Sink, P: Sink>(
     ensures folder { H.holds shelf.new ≡ H.holds shelf.old }
     ensures folder_counted { H.faults shelf.old ≤ H.faults shelf.new }
     ensures causes { HasCauses (H.faults shelf.old) (H.faults shelf.new) (S.faults script.old) (S.faults script.new) (L.faults lines.old) (L.faults lines.new) (P.faults pcm.old) (P.faults pcm.new) result }
+    ensures short { result ≡ Status.NoMemory → (S.left script.new ≡ S.left script.old) × (P.taken pcm.new ≡ P.taken pcm.old) }
     ensures usage { result ≢ Status.Usage }
     ensures plays { PlaysPatch (H.holds shelf.old) patch.now rate result (S.left script.old) (S.left script.new) (S.faults script.old) (S.faults script.new) (L.taken lines.old) (L.taken lines.new) (L.faults lines.old) (L.faults lines.new) (P.taken pcm.old) (P.taken pcm.new) }
 {
@@ -115,6 +119,7 @@ fn play_whole<H: Shelf, S: Source, L: Sink, P: Sink>(
     ensures folder_counted { H.faults shelf.old ≤ H.faults shelf.new }
     ensures lines_counted { L.faults lines.old ≤ L.faults lines.new }
     ensures causes { HasCauses (H.faults shelf.old) (H.faults shelf.new) (S.faults script.old) (S.faults script.new) (L.faults lines.old) (L.faults lines.new) (P.faults pcm.old) (P.faults pcm.new) result }
+    ensures short { result ≡ Status.NoMemory → (S.left script.new ≡ S.left script.old) × (P.taken pcm.new ≡ P.taken pcm.old) }
     ensures usage { result ≢ Status.Usage }
     ensures runs { Runs (H.holds shelf.old) patch.now rate result (S.left script.old) (S.left script.new) (S.faults script.old) (S.faults script.new) (L.taken lines.old) (L.taken lines.new) (P.taken pcm.old) (P.taken pcm.new) }
 {
@@ -133,6 +138,7 @@ fn play_script<S: Source, L: Sink, P: Sink>(
 ) -> Status
     requires running { session.engine.stopped ≡ false }
     requires counted { IsCounted session.number session.feed }
+    requires whole { IsWhole session.room }
     ensures plays { Ends session.feed (point_of session) result (S.left script.old) (S.left script.new) (S.faults script.old) (S.faults script.new) (L.taken lines.old) (L.taken lines.new) (P.taken pcm.old) (P.taken pcm.new) }
     ensures causes { HasRunCauses (S.faults script.old) (S.faults script.new) (L.faults lines.old) (L.faults lines.new) (P.faults pcm.old) (P.faults pcm.new) (Some result) }
 {

@@ -1,6 +1,7 @@
 //! The records of a script, carried out one by one.
 ghost use Rattle.std.specs.Prelude.{◌≡◌, ◌+◌, ◌<◌, ◌≤◌, ◌⊎◌, false, Some, None, OnOk, OnErr};
 ghost use Rattle.pd_io.specs.Faults.{Rose};
+ghost use Rattle.pd_script.specs.Room.{IsWhole, IsWholeAfter, HasRest};
 ghost use Rattle.pd_engine.specs.Stages.{stage_of, Passes, BreaksOff};
 ghost use Rattle.pd_play.specs.Causes.{HasRunCauses};
 ghost use Rattle.pd_play.specs.Runs.{millionths as count_of_millionths, done, end_reached, reached, carried_out, goes_on, said_run, timed_run, record_run, counted};
@@ -28,7 +29,9 @@ impl Session {
     ) -> Option<Status>
         requires running { self.old.engine.stopped ≡ false }
         requires counted { IsCounted self.old.number self.old.feed }
+        requires whole { IsWhole self.old.room }
         ensures running { result ≡ None → self.new.engine.stopped ≡ false }
+        ensures whole { result ≡ None → IsWhole self.new.room }
         ensures counted { result ≡ None → IsCounted self.new.number self.new.feed }
         ensures one_more { result ≡ None → self.new.number ≡ self.old.number + 1 }
         ensures steps { Steps result self.old.feed (point_of self.old) self.new.feed (point_of self.new) (S.left script.old) (S.left script.new) (S.faults script.old) (S.faults script.new) (L.taken lines.old) (L.taken lines.new) (P.taken pcm.old) (P.taken pcm.new) }
@@ -44,7 +47,9 @@ impl Session {
     fn run_fed<L: Sink, P: Sink>(&mut self, fed: Fed, lines: &mut L, pcm: &mut P) -> Option<Status>
         requires running { self.old.engine.stopped ≡ false }
         requires few { self.old.number < 4294967295 }
+        requires whole { IsWhole self.old.room }
         ensures running { result ≡ None → self.new.engine.stopped ≡ false }
+        ensures whole { result ≡ None → IsWhole self.new.room }
         ensures one_more { result ≡ None → self.new.number ≡ self.old.number + 1 }
         ensures record { result ≡ None → fed ≡ Fed.Record }
         ensures feed { self.new.feed ≡ self.old.feed }
@@ -72,7 +77,9 @@ impl Session {
     fn run_record<L: Sink, P: Sink>(&mut self, lines: &mut L, pcm: &mut P) -> Option<Status>
         requires running { self.old.engine.stopped ≡ false }
         requires few { self.old.number < 4294967295 }
+        requires whole { IsWhole self.old.room }
         ensures running { result ≡ None → self.new.engine.stopped ≡ false }
+        ensures whole { result ≡ None → IsWhole self.new.room }
         ensures one_more { self.new.number ≡ self.old.number + 1 }
         ensures feed { self.new.feed ≡ self.old.feed }
         ensures leads { Leads result (record_run self.old.feed.last (counted (point_of self.old))) (point_of self.new) (L.taken lines.old) (L.taken lines.new) (P.taken pcm.old) (P.taken pcm.new) }
@@ -81,9 +88,6 @@ impl Session {
         self.number += 1;
         if self.feed.last().is_empty() {
             return None;
-        }
-        if !self.room.is_whole() {
-            return Some(Status::NoMemory);
         }
         match self.engine.read_record(self.feed.last(), &mut self.room) {
             Some((milliseconds, script)) => self.run_at(milliseconds, script, lines, pcm),
@@ -107,8 +111,10 @@ impl Session {
         lines: &mut L,
         pcm: &mut P,
     ) -> Option<Status>
-        requires { self.old.engine.stopped ≡ false }
+        requires running { self.old.engine.stopped ≡ false }
+        requires whole { IsWholeAfter (Some script) self.old.room }
         ensures running { result ≡ None → self.new.engine.stopped ≡ false }
+        ensures whole { result ≡ None → IsWhole self.new.room }
         ensures number { self.new.number ≡ self.old.number }
         ensures feed { self.new.feed ≡ self.old.feed }
         ensures leads { Leads result (timed_run (self.old.time + count_of_millionths milliseconds) script (point_of self.old)) (point_of self.new) (L.taken lines.old) (L.taken lines.new) (P.taken pcm.old) (P.taken pcm.new) }
@@ -129,8 +135,10 @@ impl Session {
         lines: &mut L,
         pcm: &mut P,
     ) -> Option<Status>
-        requires { self.old.engine.stopped ≡ false }
+        requires running { self.old.engine.stopped ≡ false }
+        requires whole { IsWholeAfter (Some script) self.old.room }
         ensures running { result ≡ None → self.new.engine.stopped ≡ false }
+        ensures whole { result ≡ None → IsWhole self.new.room }
         ensures stays { StaysBut self.old self.new }
         ensures leads { Leads result (said_run script (point_of self.old)) (point_of self.new) (L.taken lines.old) (L.taken lines.new) (P.taken pcm.old) (P.taken pcm.new) }
         ensures causes { HasRunCauses 0 0 (L.faults lines.old) (L.faults lines.new) (P.faults pcm.old) (P.faults pcm.new) result }
@@ -147,8 +155,10 @@ impl Session {
         lines: &mut L,
         pcm: &mut P,
     ) -> Option<Status>
-        requires { self.old.engine.stopped ≡ false }
+        requires running { self.old.engine.stopped ≡ false }
+        requires rest { HasRest command self.old.room }
         ensures running { result ≡ None → self.new.engine.stopped ≡ false }
+        ensures whole { result ≡ None → IsWhole self.new.room }
         ensures stays { StaysBut self.old self.new }
         ensures leads { Leads result (λ rest. goes_on (point_of self.old) rest (carried_out command (point_of self.old))) (point_of self.new) (L.taken lines.old) (L.taken lines.new) (P.taken pcm.old) (P.taken pcm.new) }
         ensures causes { HasRunCauses 0 0 (L.faults lines.old) (L.faults lines.new) (P.faults pcm.old) (P.faults pcm.new) result }
@@ -169,6 +179,7 @@ impl Session {
         requires { self.old.engine.stopped ≡ false }
         ensures running { OnOk result (self.new.engine.stopped ≡ false) }
         ensures stays { StaysBut self.old self.new }
+        ensures room { self.new.room ≡ self.old.room }
         ensures passed { OnOk result (Passes (reached (point_of self.old)) (stage_of self.new.engine) (L.taken lines.old) (L.taken lines.new) (P.taken pcm.old) (P.taken pcm.new)) }
         ensures part { OnErr result (BreaksOff (reached (point_of self.old)) (L.taken lines.old) (L.taken lines.new) (P.taken pcm.old) (P.taken pcm.new)) }
         ensures cause { OnErr result (Rose (L.faults lines.old) (L.faults lines.new) ⊎ Rose (P.faults pcm.old) (P.faults pcm.new)) }

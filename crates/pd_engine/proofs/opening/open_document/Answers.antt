@@ -17,7 +17,7 @@ returns-clause-opens g c =
     } in
     opens_so (g.H.Shelf.holds c.args.shelf.now) c.args.name.now c.args.rate c.args.doc.root c.args.symbols c.in_ok-patch.patch c.grow_all.new.symbols
     c.in_ok-patch.report.notices.items c.in_ok-patch.report.fresh.items (g.L.Sink.taken c.args.lines.now) (g.L.Sink.taken c.begin.new.lines) grows
-    c.in_ok-patch.ensures.notices c.in_ok-patch.ensures.loads c.begin.result c.begin.ensures.ok
+    c.in_ok-patch.ensures.notices c.in_ok-patch.ensures.loads c.begin.result c.begin.ensures.library c.begin.ensures.ok
 
 pub returns-clause-refused : goal.returns-clause-refused
 returns-clause-refused g c =

@@ -7,6 +7,7 @@ pub records-init : goal.records-init
 records-init g c = record {
   running = c.requires.running;
   counted = c.requires.counted;
+  whole = c.requires.whole;
   moves = moves_nothing _ _ _ _ _;
   script = omega arith;
   lines = omega arith;
@@ -23,6 +24,7 @@ records-preserved g c =
     record {
       running = c.step.ensures.running c.in_default.is;
       counted = c.step.ensures.counted c.in_default.is;
+      whole = c.step.ensures.whole c.in_default.is;
       moves = moves_on _ _ _ _ _ _ _ _ _ _ _ _ _ _ _ c.records.invariant.moves c.in_default.ensures.steps;
       script = omega (arith, c.records.invariant.script, causes.script_counted);
       lines = omega (arith, c.records.invariant.lines, causes.lines_counted);

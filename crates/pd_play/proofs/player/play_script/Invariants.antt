@@ -1,4 +1,5 @@
 use Rattle.std.proofs.Common.{◌≡◌, ◌≤◌, ◌-◌, false}
+use Rattle.pd_script.specs.Room.{IsWhole}
 use Rattle.pd_play.specs.Playing.{point_of, IsCounted, Moves}
 use Rattle.pd_play.proofs.player.play_script.Given as goal
 
@@ -6,6 +7,7 @@ abbrev pub invariant-records : goal.invariant-records
 invariant-records g l = record {
   running : l.session.engine.stopped ≡ false;
   counted : IsCounted l.session.number l.session.feed;
+  whole : IsWhole l.session.room;
   moves : Moves l.initial.session.feed (point_of l.initial.session) l.session.feed (point_of l.session) (g.S.Source.left l.fn.script) (g.S.Source.left l.script)
       (g.L.Sink.taken l.fn.lines) (g.L.Sink.taken l.lines) (g.P.Sink.taken l.fn.pcm) (g.P.Sink.taken l.pcm);
   script : g.S.Source.faults l.fn.script ≤ g.S.Source.faults l.script;

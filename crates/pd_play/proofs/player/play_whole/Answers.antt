@@ -1,13 +1,18 @@
-use Rattle.std.proofs.Common.{inr}
+use Rattle.std.proofs.Common.{inr, ap, Some}
 use Rattle.pd_engine.specs.Stages.{stage_of}
+use Rattle.pd_play.specs.declared.status.Status.{Status}
 use Rattle.pd_play.proofs.OpenedLemmas.{ends_opened}
 use Rattle.pd_play.proofs.player.play_whole.Goals as goal
 
 pub returns-in-Ok-clause-runs : goal.returns-in-Ok-clause-runs
 returns-in-Ok-clause-runs g c =
     inr (record {
+      library = c.in-Ok.session.engine.library;
       stage = stage_of c.in-Ok.session.engine;
       printed = g.L.Sink.taken c.open.new.lines;
       opens = c.in-Ok.ensures.opens;
       ends = ends_opened _ _ _ _ _ _ _ _ _ _ _ _ _ _ _ c.in-Ok.ensures.begins c.play_script.ensures.plays;
     })
+
+pub returns-in-Ok-clause-short : goal.returns-in-Ok-clause-short
+returns-in-Ok-clause-short g c = λ e. absurd (c.play_script.ensures.causes.memory (ap (λ (s : Status). Some s) e))

@@ -6,7 +6,7 @@ use Rattle.pd_engine.proofs.TimeLemmas.{blocks_begin, block_goes_on, block_break
 use Rattle.pd_engine.proofs.engine.Engine.advance_to.Goals as goal
 
 pub loop-self-init : goal.loop-self-init
-loop-self-init g c = record { way = blocks_begin _ _ _ _; lines = omega arith; pcm = omega arith; stays = refl }
+loop-self-init g c = record { way = blocks_begin _ _ _ _; lines = omega arith; pcm = omega arith; stays = refl; library = refl }
 
 pub loop-self-smaller : goal.loop-self-smaller
 loop-self-smaller g c =
@@ -21,6 +21,7 @@ loop-self-preserved g c = record {
   lines = omega arith;
   pcm = omega arith;
   stays = c.run_next_block.ensures.stays ∙ c.loop-self.invariant.stays;
+  library = c.run_next_block.ensures.library ∙ c.loop-self.invariant.library;
 }
 
 pub returns-in_err-run_next_block-clause-err : goal.returns-in_err-run_next_block-clause-err

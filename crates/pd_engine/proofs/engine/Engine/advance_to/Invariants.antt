@@ -10,6 +10,7 @@ invariant-loop-self g l = record {
   lines : g.L.Sink.faults l.fn.lines ≤ g.L.Sink.faults l.lines;
   pcm : g.P.Sink.faults l.fn.pcm ≤ g.P.Sink.faults l.pcm;
   stays : l.self.stopped ≡ l.fn.self.stopped;
+  library : l.self.library ≡ l.fn.self.library;
 }
 
 abbrev pub decreases-loop-self : goal.decreases-loop-self

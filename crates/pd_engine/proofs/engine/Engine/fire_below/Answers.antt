@@ -7,7 +7,7 @@ use Rattle.pd_engine.proofs.ClockLemmas.{next_is, left_is, none_is, fires_none, 
 use Rattle.pd_engine.proofs.engine.Engine.fire_below.Goals as goal
 
 pub loop-self-init : goal.loop-self-init
-loop-self-init g c = record { way = way_begins _ _ _ _; counted = omega arith; stays = refl }
+loop-self-init g c = record { way = way_begins _ _ _ _; counted = omega arith; stays = refl; library = refl }
 
 pub returns-in_default-clause-ok : goal.returns-in_default-clause-ok
 returns-in_default-clause-ok g c =
@@ -39,6 +39,7 @@ loop-self-preserved g c =
           c.loop-self.invariant.way c.in_ok-fire.ensures.ok;
       counted = omega arith;
       stays = c.fire.ensures.stays ∙ c.loop-self.invariant.stays;
+      library = c.fire.ensures.library ∙ c.loop-self.invariant.library;
     }
 
 pub returns-in_err-fire-clause-err : goal.returns-in_err-fire-clause-err

@@ -11,6 +11,7 @@ invariant-loop-self g l = record {
       (g.L.Sink.taken l.fn.lines) (g.L.Sink.taken l.lines) None None;
   counted : g.L.Sink.faults l.fn.lines ≤ g.L.Sink.faults l.lines;
   stays : l.self.stopped ≡ l.fn.self.stopped;
+  library : l.self.library ≡ l.fn.self.library;
 }
 
 abbrev pub decreases-loop-self : goal.decreases-loop-self

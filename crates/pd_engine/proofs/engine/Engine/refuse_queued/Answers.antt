@@ -16,4 +16,5 @@ loop-preserved g c = record {
   said = lines_more c.loop.counter refused_edit _ _ _ c.loop.invariant.said c.in_ok-print_refusal.ensures.ok;
   counted = omega arith;
   stays = c.loop.invariant.stays;
+  library = c.loop.invariant.library;
 }

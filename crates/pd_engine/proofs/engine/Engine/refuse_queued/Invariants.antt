@@ -10,4 +10,5 @@ invariant-loop g l = record {
   said : g.L.Sink.taken l.lines ≡ grown (g.L.Sink.taken l.fn.lines) (repeated l.counter refused_edit);
   counted : g.L.Sink.faults l.fn.lines ≤ g.L.Sink.faults l.lines;
   stays : l.self.stopped ≡ l.fn.self.stopped;
+  library : l.self.library ≡ l.fn.self.library;
 }

@@ -5,7 +5,7 @@ use Rattle.pd_play.specs.declared.status.Status.{Status}
 use Rattle.pd_play.specs.declared.status.Status.TheVariants.{ScriptBad}
 use Rattle.pd_play.specs.Runs.{Point, Run, counted, bad, record_run}
 use Rattle.pd_play.specs.Playing.{Plays, point_of}
-use Rattle.pd_play.proofs.RunLemmas.{nothing_goes_on, leads_same, ended_played, record_empty, record_read, record_bad, cut_at_once}
+use Rattle.pd_play.proofs.RunLemmas.{nothing_goes_on, leads_same, ended_played, record_empty, record_read, record_bad}
 use Rattle.pd_play.proofs.session.Session.run_record.Goals as goal
 
 pub returns-then-is_empty-clause-leads : goal.returns-then-is_empty-clause-leads
@@ -34,7 +34,3 @@ returns-in-None-clause-leads g c = λ rest.
     let pcm = g.P.Sink.taken c.args.pcm.now in
     subst (λ (x : Run). Plays x c.bad_record.result lines lines pcm pcm) (sym (record_bad text p e read rest))
     (subst (λ (x : Status). Plays (bad p) x lines lines pcm pcm) (sym c.bad_record.ensures) (ended_played p (ScriptBad p.number) lines pcm))
-
-pub returns-then-not-is_whole-clause-leads : goal.returns-then-not-is_whole-clause-leads
-returns-then-not-is_whole-clause-leads g c = λ rest.
-    cut_at_once (record_run c.args.self.now.feed.last (counted (point_of c.args.self.now)) rest) _ _ _ refl
