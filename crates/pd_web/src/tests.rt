@@ -5,11 +5,10 @@ ghost use Rattle.slab.specs.Slab.{get};
 ghost use Rattle.pd_kind.specs.Ports.{IsSmallKind};
 ghost use Rattle.pd_grove.specs.States.{NodesSmall};
 
-use crate::ends::end_at;
-use crate::{Hop, Spot, Web};
+use crate::{Hop, Web};
 use pd_canvas::{AtomRows, Atoms, Canvas, Element, Form, Wire, Wires};
 use pd_clock::{Rate, Time};
-use pd_grove::{Grove, Side};
+use pd_grove::Grove;
 use pd_kind::{Glue, Kind, Side as PortSide, Signal};
 use pd_num::Num;
 use pd_tree::{Row, Sheet};
@@ -209,21 +208,5 @@ fn wires_that_fit_are_laid_in_order(rt: HostRuntime) -> Result<(), Fail> {
     assert!(rt; !web.fits(&grove, inner, &wire(1, 0, 2, 0)));
     assert!(rt; web.wire_key(first, 0, 2).is_some());
     assert!(rt; web.wire_key(first, 0, 3).is_none());
-    Ok(())
-}
-
-#[test]
-fn ports_have_ends_from_their_first_wire(rt: HostRuntime) -> Result<(), Fail> {
-    let grove = planted(rt.alloc())?;
-    let web = Web::lay(rt.alloc(), &grove)?;
-    let first = grove.box_key(grove.root(), 1).unwrap_or(99);
-    let mut spot = Spot {
-        node: first,
-        side: Side::Outlets,
-        port: 0,
-    };
-    assert!(rt; end_at(web.sockets.as_slice(), spot).is_some());
-    spot.side = Side::Inlets;
-    assert!(rt; end_at(web.sockets.as_slice(), spot).is_none());
     Ok(())
 }
