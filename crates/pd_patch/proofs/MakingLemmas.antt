@@ -1,7 +1,7 @@
 -- Which canvases the boxes of a document may hold.
-use Rattle.std.proofs.Common.{arith, ◌≡◌, ℕ, ◌+◌, ◌≤◌, max, nat_lt, Bool, true, false, if◌then◌else◌, List, [], ◌∷◌, Option, Some, None, refl, ap, subst}
+use Rattle.std.proofs.Common.{arith, ◌≡◌, ℕ, ◌+◌, ◌≤◌, max, nat_lt, Bool, true, false, if◌then◌else◌, List, [], ◌∷◌, Option, Some, None, refl, subst}
 use Rattle.std.proofs.lemmas.Bool.Decides.{nat_tests}
-use Rattle.std.specs.Prelude.{Result, Ok, Err}
+use Rattle.std.specs.Prelude.{Result, Ok}
 use Rattle.std.specs.List.{AllByRecursion}
 use Rattle.pd_atom.specs.declared.Atom.{Atom}
 use Rattle.pd_atom.specs.Names.{Names, name_of}
@@ -13,7 +13,6 @@ use Rattle.pd_canvas.specs.Pages.{Shape, Obj, Msg, Comment, FloatBox, SymbolBox,
 use Rattle.pd_canvas.specs.Proper.{levels, levels_of}
 use Rattle.pd_library.specs.declared.answers.Answer.{Answer}
 use Rattle.pd_library.specs.declared.answers.Answer.TheVariants.{Found, Absent, Bad}
-use Rattle.pd_tree.specs.declared.rows.Fault.{Fault}
 use Rattle.pd_tree.specs.declared.rows.Fault.TheVariants.{Unknown, InsideItself, TooDeep}
 use Rattle.pd_growth.specs.declared.growing.Stop.{Stop}
 use Rattle.pd_growth.specs.Making.{Around, Making, Plain, Subpatch, File, unmade, is_inside, has_slash, answer_made, abstraction_made, object_made, made}
