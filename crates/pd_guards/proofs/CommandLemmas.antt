@@ -1,5 +1,5 @@
 -- The message of a command that is read is in order.
-use Rattle.std.proofs.Common.{◌≡◌, ℕ, ◌+◌, ◌<◌, ◌≤◌, Bool, true, cond, zero, suc, List, [], ◌∷◌, length, Option, Some, None, IfSome, Result, Ok, Err, IfOk, refl, sym, ap, subst, arith}
+use Rattle.std.proofs.Common.{◌≡◌, ℕ, cond, zero, suc, List, [], ◌∷◌, Option, Some, None, IfSome, Result, Ok, Err, IfOk, sym, subst, arith}
 use Rattle.std.specs.List.{list_all}
 use Rattle.pd_atom.specs.Names.{Names, Extends, Outcome, answer_map, interned}
 use Rattle.pd_atom.specs.Tokens.{nameless, named, atom_read}
@@ -14,11 +14,11 @@ use Rattle.pd_script.specs.declared.commands.Command.TheVariants as command
 use Rattle.pd_script.specs.Options.{◌>>=◌}
 use Rattle.pd_script.specs.Atoms.{answered, atom_of, atoms_of, is_plain, symbol_in, symbol_of}
 use Rattle.pd_script.specs.Scripts.{send_of}
-use Rattle.pd_guards.specs.Order.{HasFirst, IsName, IsAtom, AreAtoms, IsMessage}
+use Rattle.pd_guards.specs.Order.{HasFirst, IsName, IsAtom, AreAtoms}
 use Rattle.pd_guards.specs.Worlds.{IsNamed, IsSent}
 use Rattle.pd_guards.proofs.FactLemmas.{either}
 use Rattle.pd_guards.proofs.MoreLemmas.{longer, name_more, atom_more}
-use Rattle.pd_guards.proofs.BaseLemmas.{no_number, list_selector-in, float_of, symbol_of-in, cut_in}
+use Rattle.pd_guards.proofs.BaseLemmas.{list_selector-in, float_of, symbol_of-in, cut_in}
 use Rattle.pd_guards.proofs.NameLemmas.{same_table, IsInterned, interned_in, named_in, IsNameless, nameless_in}
 use Rattle.pd_message.proofs.TextLemmas.{extends_onward}
 

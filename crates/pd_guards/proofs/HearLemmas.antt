@@ -1,5 +1,5 @@
 -- A box that hears, is resumed, fires or is loaded: what it keeps and says is in order, and nothing was passed over.
-use Rattle.std.proofs.Common.{◌≡◌, ◌≤◌, ℕ, ℤ, ◌^◌, ◌==◌, Bool, ◌&&◌, nat_le, cond, List, Option, Some, None, IfSome, option_and_then, refl, sym, ap, subst, ◌∙◌}
+use Rattle.std.proofs.Common.{◌≡◌, ◌≤◌, ℕ, ℤ, ◌^◌, ◌==◌, Bool, nat_le, cond, List, Option, Some, None, IfSome, option_and_then, refl, sym, ap, subst, ◌∙◌}
 use Rattle.pd_atom.specs.Names.{Names, Extends}
 use Rattle.pd_atom.specs.declared.Atom.{Atom}
 use Rattle.pd_kind.specs.declared.kinds.Kind.{Kind}
