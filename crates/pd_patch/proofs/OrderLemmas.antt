@@ -1,6 +1,6 @@
 -- Orders of canvases, one after another, and signal wires along an outlet.
 use Rattle.std.proofs.Common.{arith, ◌≡◌, ℕ, zero, suc, ◌+◌, ◌<◌, ◌≤◌, List, [], ◌∷◌, ◌++◌, append_assoc, length, take, Option, Some, None, refl, sym, ap, ◌∙◌, subst, inl, inr}
-use Rattle.std.specs.Prelude.{slice_get, filter, Bool, ◌==◌, ◌&&◌}
+use Rattle.std.specs.Prelude.{slice_get, filter, map, Bool}
 use Rattle.std.proofs.lemmas.Bool.{cases_eq, cases_lt}
 use Rattle.std.proofs.lemmas.List.{append-nil, get_or_past, length-map}
 use Rattle.std.proofs.lemmas.Option.{none-some, same_Some, slice_get_past}
@@ -12,7 +12,7 @@ use Rattle.pd_web.specs.declared.web.Hop.{Hop}
 use Rattle.pd_web.specs.declared.web.Web.{Web}
 use Rattle.pd_order.proofs.Basics.{by_test}
 use Rattle.pd_web.specs.Hops.{fan_hops, places_of}
-use Rattle.pd_web.specs.Lines.{Line, all_lines, fed_from}
+use Rattle.pd_web.specs.Lines.{all_lines, fed_from}
 use Rattle.pd_patch.specs.Telling.{order_in}
 use Rattle.pd_patch.specs.Orders.{wires_by, wire_to, is_heard, hop_wires, HasOrder, AreOrdered}
 use Rattle.pd_patch.proofs.PushLemmas.{noted_parts}
@@ -95,17 +95,19 @@ hops_done w source hops i old now e h = h ∙ ap (λ x. old ++ wires_by w source
 pub none_past : (hops : List Hop) (most i : ℕ) → length hops ≤ most → most ≤ i → None ≡ slice_get hops i
 none_past hops most i l m = sym (slice_get_past hops i (omega (arith, l, m)))
 
-shorter : (p : Line → Bool) (ls : List Line) → length (filter p ls) ≤ length ls
+shorter : {A : Type 0} (p : A → Bool) (ls : List A) → length (filter p ls) ≤ length ls
 shorter p [] = omega arith
 shorter p (l ∷ ls) = let rest = shorter p ls in by_test (p l)
     (λ t. rw t (omega (arith, rest)))
     (λ f. rw f (omega (arith, rest)))
 
+fewer : {A : Type 0} (p : A → Bool) (f : A → ℕ × ℕ) (ls : List A) → length (map f (filter p ls)) ≤ length ls
+fewer p f ls = omega (arith, length-map (filter p ls) f, shorter p ls)
+
 -- no outlet has more wires than there are
 pub few_hops : (g : Grove) (w : Web) (k outlet : ℕ) → places_of (fan_hops w k outlet) ≡ fed_from k outlet (all_lines g) → length (all_lines g) ≤ 65536 → length (fan_hops w k outlet) ≤ 65536
 few_hops g w k outlet fans few =
     let hops = length-map {B = ℕ × ℕ} (fan_hops w k outlet) (λ (h : Hop). (h.node, h.port)) in
-    let lines = length-map {B = ℕ × ℕ} (filter (λ (l : Line). l.source == k && l.outlet == outlet) (all_lines g)) (λ (l : Line). (l.sink, l.inlet)) in
-    let less = shorter (λ (l : Line). l.source == k && l.outlet == outlet) (all_lines g) in
+    let less : length (fed_from k outlet (all_lines g)) ≤ length (all_lines g) = fewer _ _ (all_lines g) in
     let same = ap length fans in
-    omega (arith, hops, lines, less, same, few)
+    omega (arith, hops, less, same, few)
