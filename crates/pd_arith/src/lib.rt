@@ -5,7 +5,5 @@ mod frequencies;
 mod operations;
 mod pairs;
 mod rows;
-#[cfg(test)]
-mod tests;
 
 pub use rows::hear;

@@ -139,5 +139,3 @@ all_three names a b c ha hb hc (suc (suc (suc k))) d low = absurd (past k low)
   where
     past : (k : ℕ) → suc (suc (suc k)) < 3 → ⊥
     past k low = omega (arith, low)
-
-pub ruleset test_steps = (of_extended, all_three)

@@ -8,8 +8,6 @@ mod laws;
 mod spelling;
 mod symbols;
 mod table;
-#[cfg(test)]
-mod tests;
 mod tokens;
 
 pub use expansion::expand;

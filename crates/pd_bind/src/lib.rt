@@ -6,8 +6,6 @@ mod laws;
 mod naming;
 mod owners;
 mod receivers;
-#[cfg(test)]
-mod tests;
 
 pub use binding::bind_names;
 pub use laws::owners_are_of_the_tree;

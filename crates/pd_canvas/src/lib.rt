@@ -17,6 +17,3 @@ pub use laws::{edits_keep_proper, fan_outs};
 pub use lists::{AtomRows, Atoms, Numbers, Nums};
 pub use tree::{Canvas, Doc, Element, Elements, Form, canvas_at};
 pub use wires::{Wire, Wires};
-
-#[cfg(test)]
-mod tests;

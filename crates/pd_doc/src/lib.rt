@@ -13,8 +13,6 @@ mod reading;
 mod records;
 mod refusal;
 mod rows;
-#[cfg(test)]
-mod tests;
 mod writing;
 
 pub use laws::{proper_extended, proper_pages, read_again, read_proper, written_read};

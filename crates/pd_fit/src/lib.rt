@@ -4,8 +4,6 @@
 mod boxes;
 mod counting;
 mod ports;
-#[cfg(test)]
-mod tests;
 mod wires;
 
 pub use counting::{MOST_WIRES, has_too_many_wires};

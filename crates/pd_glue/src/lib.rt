@@ -5,8 +5,6 @@
 mod laws;
 mod rows;
 mod sounding;
-#[cfg(test)]
-mod tests;
 
 pub use laws::starts_small;
 pub use rows::{fire, hear, resume};

@@ -10,8 +10,6 @@ mod ports;
 mod seeds;
 mod spots;
 mod telling;
-#[cfg(test)]
-mod tests;
 mod text_order;
 
 pub use boards::Board;

@@ -9,8 +9,6 @@ mod rows;
 mod scope;
 mod suits;
 mod supply;
-#[cfg(test)]
-mod tests;
 mod texts;
 
 pub use documents::{Grown, grow};

@@ -4,7 +4,5 @@
 mod rows;
 mod slopes;
 mod stores;
-#[cfg(test)]
-mod tests;
 
 pub use rows::hear_held;

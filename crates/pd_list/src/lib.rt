@@ -7,7 +7,5 @@ mod messages;
 mod outlets;
 mod rows;
 mod slots;
-#[cfg(test)]
-mod tests;
 
 pub use rows::hear_list;

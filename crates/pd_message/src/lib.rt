@@ -5,8 +5,6 @@ mod edits;
 mod pieces;
 mod rows;
 mod segments;
-#[cfg(test)]
-mod tests;
 
 pub use pieces::Receiver;
 pub use rows::hear_message;

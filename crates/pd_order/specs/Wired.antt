@@ -1,4 +1,4 @@
--- Graphs over lists of wires, as the tests of this crate have them: wire i leads from the i-th source to the i-th sink.
+-- Graphs over lists of wires: wire i leads from the i-th source to the i-th sink.
 use Rattle.std.specs.Prelude.{◌≡◌, ℕ, suc, zero, ◌≤◌, ◌==◌, cond, List, [], ◌∷◌, ◌++◌}
 use Rattle.pd_order.specs.Graph.{Graph, tally, IsOrder}
 use Rattle.pd_order.specs.Spots.{nodes_of}

@@ -263,6 +263,3 @@ impl Order {
         if at == NOWHERE { None } else { Some(at) }
     }
 }
-
-#[cfg(test)]
-mod tests;

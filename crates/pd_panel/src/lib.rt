@@ -2,8 +2,6 @@
 #![tactic(auto)]
 
 mod rows;
-#[cfg(test)]
-mod tests;
 mod toggles;
 
 pub use rows::{hear, load, toggle_folds};

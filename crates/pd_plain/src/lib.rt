@@ -6,8 +6,6 @@ mod clocked;
 mod numbers;
 mod rows;
 mod tables;
-#[cfg(test)]
-mod tests;
 mod timed;
 mod values;
 

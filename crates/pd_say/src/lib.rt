@@ -8,8 +8,6 @@ mod messages;
 mod paths;
 mod pieces;
 mod refusals;
-#[cfg(test)]
-mod tests;
 
 pub use atoms::put_pair;
 pub use gathering::{Held, flush, put};

@@ -9,8 +9,6 @@ mod fields;
 mod lists;
 mod reading;
 mod room;
-#[cfg(test)]
-mod tests;
 mod tokens;
 
 pub use commands::{Command, Script};

@@ -21,11 +21,7 @@ mod pairs;
 mod ramps;
 mod rows;
 mod shared_rows;
-#[cfg(test)]
-mod shared_tests;
 mod tables;
-#[cfg(test)]
-mod tests;
 
 pub use rows::run;
 pub use shared_rows::{run_shared, run_table};

@@ -7,7 +7,5 @@ mod fractions;
 mod kernels;
 mod phases;
 mod rows;
-#[cfg(test)]
-mod tests;
 
 pub use rows::run;

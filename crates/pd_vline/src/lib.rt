@@ -5,8 +5,6 @@ mod passing;
 mod rows;
 mod running;
 mod stores;
-#[cfg(test)]
-mod tests;
 mod values;
 
 pub use rows::hear;

@@ -11,8 +11,6 @@ mod laws;
 mod lay;
 mod lines;
 mod sockets;
-#[cfg(test)]
-mod tests;
 mod web;
 mod wires;
 
