@@ -4,4 +4,5 @@ pub mod LevelLemmas
 pub mod BeginLemmas
 pub mod InletLemmas
 pub mod BoxLemmas
+pub mod LentLemmas
 pub mod PortLemmas

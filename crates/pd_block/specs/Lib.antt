@@ -1,3 +1,4 @@
 pub mod Nets
 pub mod Inlets
+pub mod Given
 pub mod Blocks

@@ -31,11 +31,30 @@ pub fn copy(block: &[Sig; 64], out: &mut [Sig; 64])
     *out = *block;
 }
 
+/// The sum where it may be beyond the greatest value, out of the way of the loop.
+#[inline(never)]
+fn limited_sum(x: Sig, y: Sig) -> Sig
+    ensures { result ≡ sum_of billionths x y }
+{
+    x.add(y)
+}
+
+/// The sum.
+#[inline]
+fn sum(x: Sig, y: Sig) -> Sig
+    ensures { result ≡ sum_of billionths x y }
+{
+    match Sig::of_nanos(x.nanos() + y.nanos()) {
+        Some(sum) => sum,
+        None => limited_sum(x, y),
+    }
+}
+
 /// A block is added, limited after each sum.
 pub fn add(block: &[Sig; 64], out: &mut [Sig; 64])
     ensures { out.new ≡ zip_with (sum_of billionths) out.old block.now }
 {
     for i in 0..64 {
-        out[i] = out[i].add(block[i]);
+        out[i] = sum(out[i], block[i]);
     }
 }

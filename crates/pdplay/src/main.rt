@@ -3,8 +3,11 @@
 //! Printed lines go to standard output, samples to the file `out.pcm`, and the exit code is that of the run's status.
 #![tactic(auto)]
 
+mod samples;
+
+use crate::samples::Samples;
 use pd_io::{FolderShelf, StdSink, StdSource};
-use pd_play::play;
+use pd_play::{Status, play};
 use std::env::Env;
 use std::io::ErrorKind;
 use std::process::ExitCode;
@@ -40,8 +43,11 @@ fn main(rt: HostRuntime) -> ExitCode {
         Err(error) if error.kind() == ErrorKind::OutOfMemory => return ExitCode::from(NO_MEMORY),
         Err(_) => return ExitCode::from(NO_WORDS),
     };
-    let Ok(samples) = fs::create(&rt, "out.pcm") else {
+    let Ok(file) = fs::create(&rt, "out.pcm") else {
         return ExitCode::from(NO_SAMPLES);
+    };
+    let Ok(mut samples) = Samples::new(rt.alloc(), file) else {
+        return ExitCode::from(NO_MEMORY);
     };
     let status = play(
         rt.alloc(),
@@ -49,7 +55,11 @@ fn main(rt: HostRuntime) -> ExitCode {
         &mut FolderShelf::new(&rt),
         &mut StdSource::new(rt.stdin()),
         &mut StdSink::new(rt.stdout()),
-        &mut StdSink::new(samples),
+        &mut StdSink::new(&mut samples),
     );
+    let status = match samples.finish() {
+        Ok(()) => status,
+        Err(_) => Status::WriteFault,
+    };
     ExitCode::from(status.code())
 }
