@@ -19,7 +19,7 @@ use Rattle.pd_patch.specs.Walking.{RestStays, table_named}
 use Rattle.pd_block.specs.Nets.{Net, Sound, bare, net_of, states_of, sound_of, kind_at, set_at}
 use Rattle.pd_turn.specs.Rows.{Ran, ran, table_name}
 use Rattle.pd_turn.specs.Pairs.{Pair}
-use Rattle.pd_block.specs.Blocks.{left_by, own_in, own_by, table_told, table_beside, table_in, table_by, values_in, pair_in, Aside, aside_pair, aside_owner, aside_by, left_aside, with_none, beside_by}
+use Rattle.pd_block.specs.Blocks.{left_by, table_told, table_beside, table_in, table_by, values_in, pair_in, Aside, aside_pair, aside_owner, aside_by, left_aside, with_none, beside_by}
 use Rattle.pd_block.proofs.NetLemmas.{blocks_same, blocks_states, states_set, states_taken, states_twice, sound_is, keeps_net, box_left}
 use Rattle.pd_block.proofs.WalkLemmas.{kind_told}
 
@@ -30,24 +30,6 @@ kind_with (Some n) s = refl
 -- a box whose state is out has its kind
 pub kind_kept : (p0 p1 : Patch) (node : ℕ) (s : Option State) → Keeps p0.grove p1.grove node s → kind_in (get p1.grove.nodes node) ≡ kind_at (net_of p0) node
 kind_kept p0 p1 node s keeps = ap kind_in keeps.node ∙ kind_with (get p0.grove.nodes node) s ∙ sym (kind_told p0 node)
-
-own_told : (p0 p1 : Patch) (node start : ℕ) (s : State) (t : Option State) → Keeps p0.grove p1.grove node t → RestStays p0 p1
-    → own_in p1.web (blocks_told p1) start node (kind_in (get p1.grove.nodes node)) s ≡ own_in p0.web (blocks_told p0) start node (kind_at (net_of p0) node) s
-own_told p0 p1 node start s t keeps rest =
-    ap (λ (w : Web). own_in w (blocks_told p1) start node (kind_in (get p1.grove.nodes node)) s) rest.web
-    ∙ ap (λ (b : Blocks). own_in p0.web b start node (kind_in (get p1.grove.nodes node)) s) (blocks_same p0 p1 rest.values)
-    ∙ ap (λ (k : Option Kind). own_in p0.web (blocks_told p0) start node k s) (kind_kept p0 p1 node t keeps)
-
-pub own_done : (p0 p1 p2 p3 : Patch) (node start : ℕ) (s s2 : State) (outs : List (List ℤ)) (block : List ℤ) → state_in (get p0.grove.nodes node) ≡ Some s
-    → Keeps p0.grove p1.grove node None → RestStays p0 p1
-    → ran s2 outs ≡ own_in p1.web (blocks_told p1) start node (kind_in (get p1.grove.nodes node)) s
-    → Keeps p1.grove p2.grove node (Some s2) → RestStays p1 p2
-    → p3.grove ≡ p2.grove → blocks_told p3 ≡ with_block (blocks_told p2) node 0 block → block ≡ slice_index_or outs 0 silent_block
-    → sound_of p3 ≡ own_by (net_of p0) start (sound_of p0) node (kind_at (net_of p0) node) (states_of p0 node)
-own_done p0 p1 p2 p3 node start s s2 outs block is took rest run put rest2 grove blocks out =
-    box_left p0 p1 p2 p3 node s s2 block (ran s2 outs) is took rest put rest2 grove blocks refl out
-    ∙ ap (left_by (sound_of p0) node) (run ∙ own_told p0 p1 node start s None took rest)
-    ∙ ap (λ (o : Option State). own_by (net_of p0) start (sound_of p0) node (kind_at (net_of p0) node) o) (sym is)
 
 -- the values of a table are looked for among the other boxes
 table_found : (p : Patch) (owners : List Row) (states : ℕ → Option State) (t : Option ℕ) → p.names ≡ owners → states_of p ≡ states

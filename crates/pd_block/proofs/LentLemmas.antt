@@ -1,7 +1,7 @@
 -- A box that was lent has run.
-use Rattle.std.proofs.Common.{◌≡◌, ℕ, ℤ, List, refl, sym, ◌∙◌, ap}
-use Rattle.std.proofs.lemmas.Option.{none-some}
-use Rattle.std.specs.Prelude.{Option, Some, None, option_map, IsSome}
+use Rattle.std.proofs.Common.{◌≡◌, ℕ, ℤ, List, ◌∷◌, [], refl, sym, ◌∙◌, ap}
+use Rattle.std.proofs.lemmas.Bool.{false≢true}
+use Rattle.std.specs.Prelude.{Option, Some, None, option_map, IsSome, slice_index_or}
 use Rattle.slab.specs.Slab.{get, ContainsKey}
 use Rattle.slab.proofs.SlabLemmas.{Updates-with_value}
 use Rattle.pd_kind.specs.declared.kinds.Kind.{Kind}
@@ -15,7 +15,7 @@ use Rattle.pd_patch.specs.Lending.{with_box}
 use Rattle.pd_patch.specs.Values.{Blocks, blocks_told, with_block}
 use Rattle.pd_turn.specs.declared.sizes.Few.{Few}
 use Rattle.pd_turn.specs.Sizes.{few_of}
-use Rattle.pd_turn.specs.Rows.{Ran, own_ran}
+use Rattle.pd_turn.specs.Rows.{own_ran}
 use Rattle.pd_block.specs.Given.{AreBrought, few_brought, state_brought, few_given, state_given, box_given, BoxRan, Given, given_by, given_at}
 use Rattle.pd_block.specs.Nets.{net_of, states_of, sound_of, kind_at, set_at}
 use Rattle.pd_block.specs.Blocks.{left_by, own_with, own_by}
@@ -58,22 +58,29 @@ pub given_net : (p : Patch) (node start : ℕ) (n n2 : Node) (ins : List (List �
     → record { node = n2; block = block } ≡ box_given start n ins → net_of (with_box p node n2) ≡ net_of p
 given_net p node start n n2 ins block is ran = given_net_by p node start n n2 ins block n.state is ran refl
 
+abbrev given : (ℕ → Option State) → List ℤ → Given
+given states block = record { states = states; block = block }
+
 given_states_by : (p : Patch) (node start : ℕ) (n n2 : Node) (ins : List (List ℤ)) (block : List ℤ) (o : Option State) → get p.grove.nodes node ≡ Some n
     → record { node = n2; block = block } ≡ state_given start n o ins → n.state ≡ o
-    → record { states = states_of (with_box p node n2); block = block } ≡ record { states = set_at (states_of p) node (state_given start n o ins).node.state; block = (state_given start n o ins).block }
+    → record { states = states_of (with_box p node n2); block = block } ≡ given_by (states_of p) node (state_given start n o ins)
 given_states_by p node start n n2 ins block None is ran e =
-    ap (λ (r : BoxRan). record { states = states_of (with_box p node r.node); block = r.block }) ran
-    ∙ ap (λ (f : ℕ → Option State). record { states = f; block = silent_block }) (lent_states p node n n.state is)
+    ap (λ (r : BoxRan). given (states_of (with_box p node r.node)) r.block) ran
+    ∙ ap (λ (f : ℕ → Option State). given f silent_block) (lent_states p node n n.state is)
 given_states_by p node start n n2 ins block (Some s) is ran e =
     let r = few_given start n.kind s (few_of n.kind) ins in
-    ap (λ (r : BoxRan). record { states = states_of (with_box p node r.node); block = r.block }) ran
-    ∙ ap (λ (f : ℕ → Option State). record { states = f; block = r.block }) (lent_states p node n (Some r.state) is)
+    ap (λ (r : BoxRan). given (states_of (with_box p node r.node)) r.block) ran
+    ∙ ap (λ (f : ℕ → Option State). given f r.block) (lent_states p node n (Some r.state) is)
 
 pub given_states : (p : Patch) (node start : ℕ) (n n2 : Node) (ins : List (List ℤ)) (block : List ℤ) → get p.grove.nodes node ≡ Some n
     → record { node = n2; block = block } ≡ box_given start n ins
     → record { states = states_of (with_box p node n2); block = block } ≡ given_at start (states_of p) node (get p.grove.nodes node) ins
 given_states p node start n n2 ins block is ran =
     given_states_by p node start n n2 ins block n.state is ran refl ∙ sym (ap (λ (o : Option Node). given_at start (states_of p) node o ins) is)
+
+pub given_none : (p : Patch) (node start : ℕ) (ins outs : List (List ℤ)) → outs ≡ silent_block ∷ [] → get p.grove.nodes node ≡ None
+    → given (states_of p) (slice_index_or outs 0 silent_block) ≡ given_at start (states_of p) node (get p.grove.nodes node) ins
+given_none p node start ins outs silent is = rw (silent, is) refl
 
 -- what came to a box is what the definition of a block says
 few_told : (web : Web) (blocks : Blocks) (start node : ℕ) (k : Kind) (st : State) (few : Option Few) (ins : List (List ℤ)) → few_brought web blocks node st few ins
@@ -87,14 +94,14 @@ own_lent_by : (p0 p1 p2 : Patch) (node start : ℕ) (o : Option Node) (ins : Lis
     → record { states = states_of p1; block = block } ≡ given_at start (states_of p0) node o ins → blocks_told p1 ≡ blocks_told p0
     → p2.grove ≡ p1.grove → blocks_told p2 ≡ with_block (blocks_told p1) node 0 block
     → sound_of p2 ≡ own_by (net_of p0) start (sound_of p0) node (kind_in o) (state_in o)
-own_lent_by p0 p1 p2 node start None ins block is some brought ran same grove blocks = absurd some
+own_lent_by p0 p1 p2 node start None ins block is some brought ran same grove blocks = absurd (false≢true some)
 own_lent_by p0 p1 p2 node start (Some n) ins block is some brought ran same grove blocks =
     lent_with n.state refl some brought ran
   where
     lent_with : (s : Option State) → n.state ≡ s → IsSome s → state_brought p0.web (blocks_told p0) node n.kind s ins
         → record { states = states_of p1; block = block } ≡ given_by (states_of p0) node (state_given start n s ins)
         → sound_of p2 ≡ own_by (net_of p0) start (sound_of p0) node (Some n.kind) s
-    lent_with None e some brought ran = absurd some
+    lent_with None e some brought ran = absurd (false≢true some)
     lent_with (Some st) e some brought ran =
         let r = few_given start n.kind st (few_of n.kind) ins in
         sound_is p2 (set_at (states_of p0) node (Some r.state)) (with_block (blocks_told p0) node 0 r.block)

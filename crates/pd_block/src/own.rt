@@ -33,12 +33,11 @@ pub(crate) fn run_own(
     ensures net { net_of patch.new ≡ net_of patch.old }
     ensures sound { sound_of patch.new ≡ own_by (net_of patch.old) start (sound_of patch.old) node (kind_at (net_of patch.old) node) (states_of patch.old node) }
 {
-    if !bring(patch, node, ins) {
-        return;
+    if bring(patch, node, ins) {
+        silence_outlet(outs);
+        run_lent(patch, node, start, ins, outs);
+        put_outlet(patch, node, outs);
     }
-    silence_outlet(outs);
-    run_lent(patch, node, start, ins, outs);
-    put_outlet(patch, node, outs);
 }
 
 /// What comes to the inlets of a box; whether it has what it keeps.
@@ -86,8 +85,9 @@ fn run_lent(
     ensures values { patch.new.values ≡ patch.old.values }
     ensures ran { record { states = states_of patch.new; block = slice_index_or outs.new 0 silent_block } ≡ given_at start (states_of patch.old) node (get patch.old.grove.nodes node) ins.now }
 {
-    if let Some(found) = patch.node_mut(node) {
-        run_box(found, start, ins, outs);
+    match patch.node_mut(node) {
+        Some(found) => run_box(found, start, ins, outs),
+        None => {}
     }
 }
 
