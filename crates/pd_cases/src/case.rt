@@ -1,6 +1,6 @@
 //! A case, and its answer.
 
-use crate::{hearing, naming, playing, refusals, shown, trees};
+use crate::{documents, edits, hearing, naming, orders, playing, refusals, shown, trees};
 use anyhow::{Result, bail};
 use pd_atom::Symbols;
 use pd_clock::Rate;
@@ -21,6 +21,14 @@ enum Case<'a> {
     Tree { parts: &'a str },
     /// The texts of the refusals of growth.
     Refusals,
+    /// The text of the document of a text.
+    Document { parts: &'a str },
+    /// What a record of the script says.
+    Command { record: &'a str },
+    /// The document of a text after edits.
+    Edit { parts: &'a str },
+    /// The order of a graph after changes.
+    Order { parts: &'a str },
 }
 
 /// The first word of a line, and the rest behind the blank after it.
@@ -42,6 +50,10 @@ fn case_of(line: &str) -> Option<Case<'_>> {
         "play" => Some(Case::Play { parts: rest }),
         "tree" => Some(Case::Tree { parts: rest }),
         "refusals" => Some(Case::Refusals),
+        "document" => Some(Case::Document { parts: rest }),
+        "command" => Some(Case::Command { record: rest }),
+        "edit" => Some(Case::Edit { parts: rest }),
+        "order" => Some(Case::Order { parts: rest }),
         _ => None,
     }
 }
@@ -73,6 +85,10 @@ pub(crate) fn answer(alloc: Global, line: &str) -> Result<String> {
         Some(Case::Play { parts }) => playing::played(alloc, parts),
         Some(Case::Tree { parts }) => trees::tree(alloc, parts),
         Some(Case::Refusals) => refusals::texts(alloc),
+        Some(Case::Document { parts }) => documents::document(alloc, parts, &mut symbols),
+        Some(Case::Command { record }) => edits::command(alloc, record, &mut symbols),
+        Some(Case::Edit { parts }) => edits::edits(alloc, parts, &mut symbols),
+        Some(Case::Order { parts }) => orders::orders(alloc, parts),
         None => bail!("no case: {line}"),
     }
 }

@@ -21,7 +21,7 @@ fn is_between(character: char) -> bool {
 }
 
 /// The words of a printed value that say something, each behind a blank.
-fn push_words(printed: &str, shown: &mut String) -> Result<(), AllocError> {
+pub(crate) fn push_words(printed: &str, shown: &mut String) -> Result<(), AllocError> {
     for word in printed.split(is_between) {
         if tells(word) {
             shown.push(' ')?;

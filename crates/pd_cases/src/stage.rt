@@ -81,6 +81,11 @@ impl Stage {
         Ok(())
     }
 
+    /// The text of the last file.
+    pub(crate) fn last_text(&self) -> Option<&[u8]> {
+        Some(self.pages.last()?.text.as_slice())
+    }
+
     /// The files, whose names have to differ.
     pub(crate) fn files(&self) -> Result<Files> {
         let mut files = Files::new(self.alloc);
