@@ -2,7 +2,7 @@
 # Measures the sound of whole runs: bench/sounds.sh
 #
 # A voice is `osc~` into `*~`, and all voices feed `dac~`. Printed are nanoseconds for a voice and a sample, of the whole run less those of a run
-# of one block, by the number of voices; beside them the same patch in Pd (`pd -nogui -batch`), where `pd` is installed. Build the
+# of one block, by the number of voices; beside them the same patch in Pd (`pd -nogui -batch`), where `pd` is installed, and how many times its time ours is. The runs of the two take turns. Build the
 # program first, by ./play.
 set -u
 top=$(cd "$(dirname "$0")/.." && pwd) || exit 2
@@ -31,22 +31,30 @@ pd_patch() {
   echo "#X connect 0 0 1 0; #X connect 0 0 2 0; #X connect 2 0 3 0;"
 }
 
-printf '%-8s %14s %14s\n' voices pdplay pd
+# Runs of the two programs, over the script or the length of the moment.
+ours() { "$program" main.pd; }
+theirs() { pd -nogui -noprefs -batch -open sound.pd; }
+none() { :; }
+
+# The patches of so many voices over so many milliseconds.
+prepare() {
+  { echo "#N canvas 0 0 400 300 12;"; voices "$1" 0; } >main.pd
+  echo "$2 end;" >script
+  pd_patch "$1" "$2" >sound.pd
+}
+
+other=none
+command -v pd >/dev/null && other=theirs
+printf '%-8s %14s %14s %8s\n' voices pdplay pd times
 for count in 10 100 1000; do
   length=$((200000 / count))
-  { echo "#N canvas 0 0 400 300 12;"; voices "$count" 0; } >main.pd
-  echo "1 end;" >script
-  idle=$(seconds "$program" main.pd)
-  echo "$length end;" >script
-  ours=$(seconds "$program" main.pd)
-  theirs=-
-  samples=$(awk -v l="$length" -v c="$count" 'BEGIN { printf "%d", l * 44.1 * c }')
-  if command -v pd >/dev/null; then
-    pd_patch "$count" "$length" >sound.pd
-    pd_patch "$count" 1 >idle.pd
-    theirs=$(awk -v a="$(seconds pd -nogui -noprefs -batch -open sound.pd)" -v b="$(seconds pd -nogui -noprefs -batch -open idle.pd)" \
-      -v n="$samples" 'BEGIN { printf "%.1f ns", (a - b) * 1e9 / n }')
-  fi
-  awk -v c="$count" -v a="$ours" -v b="$idle" -v n="$samples" -v t="$theirs" \
-    'BEGIN { printf "%-8s %11.1f ns %14s\n", c, (a - b) * 1e9 / n, t }'
+  prepare "$count" 1
+  read -r idle other_idle < <(in_turn ours "$other")
+  prepare "$count" "$length"
+  read -r whole other_whole < <(in_turn ours "$other")
+  awk -v c="$count" -v l="$length" -v a="$whole" -v b="$idle" -v d="$other_whole" -v e="$other_idle" -v o="$other" 'BEGIN {
+    n = int(l * 44.1 * c)
+    if (o == "none") printf "%-8s %11.1f ns %14s %8s\n", c, (a - b) * 1e9 / n, "-", "-"
+    else printf "%-8s %11.1f ns %11.1f ns %8.1f\n", c, (a - b) * 1e9 / n, (d - e) * 1e9 / n, (a - b) / (d - e)
+  }'
 done
