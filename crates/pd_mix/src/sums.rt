@@ -51,6 +51,7 @@ fn sum(x: Sig, y: Sig) -> Sig
 }
 
 /// A block is added, limited after each sum.
+#[inline(never)]
 pub fn add(block: &[Sig; 64], out: &mut [Sig; 64])
     ensures { out.new ≡ zip_with (sum_of billionths) out.old block.now }
 {

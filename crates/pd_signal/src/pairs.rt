@@ -1,6 +1,6 @@
 //! Two blocks, sample by sample.
 
-ghost use Rattle.std.specs.Prelude.{◌≡◌, pos, int_div, replicate};
+ghost use Rattle.std.specs.Prelude.{◌≡◌, ◌≤◌, ◌*ℤ◌, true, pos, int_div, unsigned_abs, replicate};
 ghost use Rattle.pd_num.specs.Scale.{billionths, sum_of, difference_of, product_of, quotient_of};
 ghost use Rattle.pd_signal.specs.Samples.{zip_with, greater_of, lesser_of};
 
@@ -17,6 +17,9 @@ fn lesser(x: Sig, y: Sig) -> Sig
 {
     if x.nanos() <= y.nanos() { x } else { y }
 }
+
+/// The product of two values of at most so many billionths takes 64 bits: this is the root of 2^63, cut.
+const SMALL: i64 = 3_037_000_499;
 
 /// The product where it may need 128 bits, out of the way of the loops.
 #[inline(never)]
@@ -37,18 +40,38 @@ fn rounded(count: i64) -> Sig
     }
 }
 
+/// Whether a value is small.
+#[inline]
+fn is_small(x: i64) -> bool
+    ensures { result ≡ true → unsigned_abs x ≤ 3037000499 }
+{
+    -SMALL <= x && x <= SMALL
+}
+
+/// The product of small values, in billionths of billionths.
+#[inline]
+fn small_product(x: i64, y: i64) -> i64
+    requires x { unsigned_abs x ≤ 3037000499 }
+    requires y { unsigned_abs y ≤ 3037000499 }
+    ensures { result ≡ x *ℤ y }
+{
+    x * y
+}
+
 /// The product, toward zero.
 #[inline]
 fn product(x: Sig, y: Sig) -> Sig
     ensures { result ≡ product_of billionths x y }
 {
-    match x.nanos().checked_mul(y.nanos()) {
-        Some(count) => rounded(count),
-        None => long_product(x, y),
+    if is_small(x.nanos()) && is_small(y.nanos()) {
+        rounded(small_product(x.nanos(), y.nanos()))
+    } else {
+        long_product(x, y)
     }
 }
 
 /// The sums of two blocks.
+#[inline(never)]
 pub(crate) fn add_all(x: &[Sig; 64], y: &[Sig; 64], out: &mut [Sig; 64])
     ensures { out.new ≡ zip_with (sum_of billionths) x.now y.now }
 {
@@ -58,6 +81,7 @@ pub(crate) fn add_all(x: &[Sig; 64], y: &[Sig; 64], out: &mut [Sig; 64])
 }
 
 /// The differences of two blocks.
+#[inline(never)]
 pub(crate) fn subtract_all(x: &[Sig; 64], y: &[Sig; 64], out: &mut [Sig; 64])
     ensures { out.new ≡ zip_with (difference_of billionths) x.now y.now }
 {
@@ -67,6 +91,7 @@ pub(crate) fn subtract_all(x: &[Sig; 64], y: &[Sig; 64], out: &mut [Sig; 64])
 }
 
 /// The products of two blocks.
+#[inline(never)]
 pub(crate) fn multiply_all(x: &[Sig; 64], y: &[Sig; 64], out: &mut [Sig; 64])
     ensures { out.new ≡ zip_with (product_of billionths) x.now y.now }
 {
@@ -76,6 +101,7 @@ pub(crate) fn multiply_all(x: &[Sig; 64], y: &[Sig; 64], out: &mut [Sig; 64])
 }
 
 /// The products of a block and one value.
+#[inline(never)]
 pub(crate) fn scale_all(x: &[Sig; 64], factor: Sig, out: &mut [Sig; 64])
     ensures { out.new ≡ zip_with (product_of billionths) x.now (replicate 64 factor) }
 {

@@ -185,6 +185,7 @@ fn osc_at(part: u64, phase: &mut u64, input: &[Sig; 64], output: &mut [Sig; 64])
 }
 
 /// The samples of `phasor~`. The rate's own arm divides by a constant.
+#[inline(never)]
 pub(crate) fn phasor(rate: Rate, phase: &mut u64, input: &[Sig; 64], output: &mut [Sig; 64])
     ensures phase { phase.new ≡ phase_after (circle_of rate) phase.old input.now }
     ensures samples { output.new ≡ map (share (samples_of rate)) (phases (circle_of rate) phase.old input.now) }
@@ -198,6 +199,7 @@ pub(crate) fn phasor(rate: Rate, phase: &mut u64, input: &[Sig; 64], output: &mu
 }
 
 /// The samples of `osc~`, from the size of one of the 2,048 parts of the rate's circle.
+#[inline(never)]
 pub(crate) fn osc(rate: Rate, phase: &mut u64, input: &[Sig; 64], output: &mut [Sig; 64])
     ensures phase { phase.new ≡ phase_after (circle_of rate) phase.old input.now }
     ensures samples { output.new ≡ map (cosine_of (circle_of rate)) (phases (circle_of rate) phase.old input.now) }
@@ -230,6 +232,7 @@ fn noise_sample(seed: u32) -> Sig
 }
 
 /// The samples of `noise~`.
+#[inline(never)]
 pub(crate) fn noise(seed: &mut u32, output: &mut [Sig; 64])
     ensures seed { seed.new ≡ seed_after 64 seed.old }
     ensures samples { output.new ≡ map noise_of (seeds 64 seed.old) }
