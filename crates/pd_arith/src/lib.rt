@@ -6,4 +6,5 @@ mod operations;
 mod pairs;
 mod rows;
 
+pub use pairs::{Binary, compute};
 pub use rows::hear;

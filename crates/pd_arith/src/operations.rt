@@ -8,6 +8,7 @@ use pd_kind::{Comparison, Division, Operation};
 use pd_num::Num;
 
 /// One of the operations on two numbers.
+#[inline(always)]
 pub(crate) fn operate(operation: Operation, left: Num, right: Num) -> Num
     ensures { result ≡ operation_of operation left right }
 {

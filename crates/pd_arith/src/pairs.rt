@@ -13,13 +13,15 @@ use pd_num::Num;
 
 /// What an object with two inlets computes.
 #[derive(Clone, Copy, Debug, PartialEq, Eq, Drop)]
-pub(crate) enum Binary {
+pub enum Binary {
     Operation(Operation),
     Comparison(Comparison),
     Division(Division),
 }
 
-fn compute(binary: Binary, left: Num, right: Num) -> Num
+/// What an object computes of its two numbers.
+#[inline(always)]
+pub fn compute(binary: Binary, left: Num, right: Num) -> Num
     ensures { result ≡ binary_of binary left right }
 {
     match binary {

@@ -49,3 +49,7 @@ all-flat P Q f k (x ∷ xs) h = all-append Q (f x) (flat_map f xs) (k x h.0) (al
 pub some-weaker : {A : Type 0} (P Q : A → Type 0) → ((x : A) → P x → Q x) → (o : Option A) → IfSome o P → IfSome o Q
 some-weaker P Q k None h = tt
 some-weaker P Q k (Some x) h = k x h
+
+pub all-from : {A : Type 0} (P : A → Type 0) (xs : List A) → ((i : ℕ) → IfSome (slice_get xs i) P) → AllByRecursion P xs
+all-from P [] h = tt
+all-from P (x ∷ xs) h = (h zero, all-from P xs (λ i. h (suc i)))

@@ -76,7 +76,7 @@ sound_in names (Box h f inner rest) k = (head_in names h k.0, sound_in names inn
 -- a table that goes on
 module _ (old new : Names) (l : length old ≤ length new) where
   born_more : (k : Kind) → IsBorn old k → IsBorn new k
-  born_more k h = record { kind = kind_more old new l k h.kind; kept = λ now rate s. kept_more old new l now (start_of k rate) (h.kept now rate s) }
+  born_more k h = record { kind = kind_more old new l k h.kind; kept = λ now rate s. kept_more old new l now (start_of k rate) (h.kept now rate s); values = h.values }
 
   trees_more : (t : Trees) → AreBorn old t → AreBorn new t
   trees_more Done h = tt
@@ -172,7 +172,7 @@ record IsMade (names : Names) (r : Result Making Stop) : Type 0 where
   ok : IfOk r (MakingIn names)
 
 bare_born : (names : Names) → IsBorn names kind.Unmade
-bare_born names = record { kind = tt; kept = λ now rate l. tt }
+bare_born names = record { kind = tt; kept = λ now rate l. tt; values = λ rate. tt }
 
 unmade_in : (names : Names) (fault : Fault) → IsMade names (Ok (unmade fault))
 unfolding MakingIn
@@ -209,12 +209,12 @@ made_in : (names : Names) → HasFirst names → (lib : ℕ → Option Answer) (
     → IsMade names (made lib root left a names form text)
 unfolding MakingIn
 made_in names first lib root left a Obj text h k v = object_in names lib root left a text (named_by names text) h (λ x e. named_kind names first text x k e)
-made_in names first lib root left a Msg text h k v = record { ok = record { kind = record { small = k.few; words = tt }; kept = λ now rate l. k } }
-made_in names first lib root left a Comment text h k v = record { ok = record { kind = record { small = tt; words = tt }; kept = λ now rate l. tt } }
-made_in names first lib root left a FloatBox text h k v = record { ok = record { kind = record { small = k.few; words = k.all }; kept = λ now rate l. no_number } }
-made_in names first lib root left a SymbolBox text h k v = record { ok = record { kind = record { small = k.few; words = k.all }; kept = λ now rate l. omega (arith, first) } }
+made_in names first lib root left a Msg text h k v = record { ok = record { kind = record { small = k.few; words = tt }; kept = λ now rate l. k; values = λ rate. tt } }
+made_in names first lib root left a Comment text h k v = record { ok = record { kind = record { small = tt; words = tt }; kept = λ now rate l. tt; values = λ rate. tt } }
+made_in names first lib root left a FloatBox text h k v = record { ok = record { kind = record { small = k.few; words = k.all }; kept = λ now rate l. no_number; values = λ rate. tt } }
+made_in names first lib root left a SymbolBox text h k v = record { ok = record { kind = record { small = k.few; words = k.all }; kept = λ now rate l. omega (arith, first); values = λ rate. tt } }
 made_in names first lib root left a Sub text h k v = record { ok = tt }
-made_in names first lib root left a (Array values) text h k v = record { ok = record { kind = record { small = k.few; words = tt }; kept = λ now rate l. record { few = l; numbers = v } } }
+made_in names first lib root left a (Array values) text h k v = record { ok = record { kind = record { small = k.few; words = tt }; kept = λ now rate l. record { few = l; numbers = v }; values = λ rate. tt } }
 made_in names first lib root left a (Other s) text h k v = unmade_in names Unknown
 
 making_in : (names : Names) (r : Result Making Stop) (m : Making) → r ≡ Ok m → IsMade names r → MakingIn names m
@@ -226,7 +226,7 @@ InnerIn lib inner = (a : Around) (p : Page) (w : Stock) (t : Trees) (v : Stock) 
     → inner a p w ≡ gives t v → AreBorn v.names t
 
 canvas_born : (names : Names) → IsBorn names kind.Canvas
-canvas_born names = record { kind = tt; kept = λ now rate l. tt }
+canvas_born names = record { kind = tt; kept = λ now rate l. tt; values = λ rate. tt }
 
 canvas_in : (lib : ℕ → Option Answer) (inner : Inner) (a : Around) (p : Page) (h : Head) (text : List Atom) (w : Stock) (t : Trees) (v : Stock) → InnerIn lib inner → LibraryIn w.names lib → AroundIn w.names a
     → StockIn w → EntriesIn w.names (elements_of p) → canvas_grown inner a p h text w ≡ gives t v → AreBorn v.names t

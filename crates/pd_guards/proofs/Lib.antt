@@ -21,3 +21,8 @@ pub mod NamingLemmas
 pub mod GrownLemmas
 pub mod PatchLemmas
 pub mod CommandLemmas
+pub mod SignalLemmas
+pub mod BlockLemmas
+pub mod KeepLemmas
+pub mod HeldLemmas
+pub mod RunLemmas

@@ -1,5 +1,5 @@
 -- The kind that a text names is in order, and so is what a box of it keeps at first.
-use Rattle.std.proofs.Common.{◌≡◌, ℕ, ℤ, pos, zero, suc, ◌<◌, ◌≤◌, ◌^◌, Bool, cond, ◌==◌, List, [], ◌∷◌, length, map, replicate, slice_get, Option, Some, None, IfSome, option_map, codes, bytes_eq, subst, arith, rules}
+use Rattle.std.proofs.Common.{◌≡◌, ℕ, ℤ, pos, zero, suc, ◌+◌, ◌<◌, ◌≤◌, ◌^◌, Bool, cond, ◌==◌, List, [], ◌∷◌, length, map, replicate, slice_get, Option, Some, None, IfSome, option_map, codes, bytes_eq, subst, arith, rules}
 use Rattle.std.proofs.lemmas.List.{length-replicate, length-map}
 use Rattle.pd_kind.specs.declared.kinds.Spelling.{Spelling}
 use Rattle.pd_kind.specs.declared.kinds.Spelling.TheVariants.{Whole, Short}
@@ -31,13 +31,15 @@ use Rattle.pd_kind.specs.declared.states.State.{State}
 use Rattle.pd_kind.specs.declared.states.State.TheVariants as state
 use Rattle.pd_kind.specs.Ports.{IsSmallGlue}
 use Rattle.pd_kind.specs.Tables.{started}
-use Rattle.pd_kind.specs.States.{table_size, slot_start, or_one, arith_start, glue_start, tone_start, signal_start, panel_start, glue_size}
-use Rattle.pd_kind.specs.Naming.{first_of, is_argument, arguments_of, number_at, name_at, symbol_in, operation_named, comparison_named, division_named, arith_named, plain_named, timed_named, or_symbol, addressed_named, trigger_letter, first_letter, trigger_of, slot_of, or_default, triggers_of, slots_of, choices_of, listed_named, tone_named, signal_named, unless_empty, panel_name, panel_named, glue_named, sounding_kind, control_kind, simple_kind, listed_kind, is_whole_text, word_kind, kind_or_abstraction, begins_foreign, list_of_word, list_of, list_named, object_named, named_by, channels_of}
+use Rattle.pd_kind.specs.States.{table_size, slot_start, or_one, or_zero, line_length, arith_start, glue_start, tone_start, signal_start, panel_start, glue_size}
+use Rattle.pd_kind.specs.Naming.{first_of, is_argument, arguments_of, number_at, name_at, symbol_in, operation_named, comparison_named, division_named, arith_named, plain_named, timed_named, or_symbol, addressed_named, trigger_letter, first_letter, trigger_of, slot_of, or_default, triggers_of, slots_of, choices_of, listed_named, tone_named, number_in, first_number, mixed_named, shaped_named, shared_named, signal_named, unless_empty, panel_name, panel_named, glue_named, sounding_kind, control_kind, simple_kind, listed_kind, is_whole_text, word_kind, kind_or_abstraction, begins_foreign, list_of_word, list_of, list_named, object_named, named_by, channels_of}
 use Rattle.pd_guards.specs.Order.{IsNumber, HasFirst, IsName, IsAtom, AreAtoms, IsList, IsTable, IsKept, IsConstant, HasWords, IsGlue, IsPanel}
 use Rattle.pd_guards.specs.Growing.{IsBorn}
+use Rattle.pd_guards.specs.Sounds.{IsValue, HasValues}
 use Rattle.pd_guards.proofs.FactLemmas.{either, all-at, all-map}
 use Rattle.pd_guards.proofs.NumberLemmas.{near_pos, whole_in, least_in}
 use Rattle.pd_guards.proofs.BaseLemmas.{no_number, stored_in, list_tail}
+use Rattle.pd_guards.proofs.SignalLemmas.{zero_value, all-same, silent_values, circle_positive}
 
 -- what holds of a value, where there is one
 record Holds {A : Type 0} (P : A → Type 0) (o : Option A) : Type 0 where
@@ -84,15 +86,28 @@ any_panel : (names : Names) (now : ℕ) (p : Panel) → IsKept names 0 (panel_st
 any_panel names now (panel.Bng button) h = h
 any_panel names now (panel.Tgl toggle) h = h
 
+-- control objects have no values of signals
+pub glue_values : (g : Glue) (rate : Rate) → HasValues (glue_start g rate)
+glue_values (glue.Message text) rate = tt
+glue_values g rate = tt
+
+arith_values : (a : Arith) → HasValues (arith_start a)
+arith_values (arith.Function f) = tt
+arith_values a = tt
+
+panel_values : (p : Panel) → HasValues (panel_start p)
+panel_values (panel.Bng button) = tt
+panel_values (panel.Tgl toggle) = tt
+
 glue_born : (names : Names) (g : Glue) → IsGlueBorn names g → IsBorn names (kind.Glue g)
-glue_born names g h = record { kind = h.glue; kept = h.kept }
+glue_born names g h = record { kind = h.glue; kept = h.kept; values = glue_values g }
 
 arith_born : (names : Names) (a : Arith) → IsArithBorn names a → IsBorn names (kind.Arith a)
 unfolding IsArithBorn
-arith_born names a h = record { kind = tt; kept = λ now rate l. any_arith names now a h }
+arith_born names a h = record { kind = tt; kept = λ now rate l. any_arith names now a h; values = λ rate. arith_values a }
 
 panel_born : (names : Names) (p : Panel) → IsPanelBorn names p → IsBorn names (kind.Panel p)
-panel_born names p h = record { kind = h.panel; kept = λ now rate l. any_panel names now p h.kept }
+panel_born names p h = record { kind = h.panel; kept = λ now rate l. any_panel names now p h.kept; values = λ rate. panel_values p }
 
 tone_kept : (names : Names) (now : ℕ) (t : Tone) (rate : Rate) → IsKept names now (tone_start t rate)
 tone_kept names now (tone.Phasor z) rate = tt
@@ -103,16 +118,20 @@ signal_kept : (names : Names) (now : ℕ) (s : Signal) (rate : Rate) → IsKept 
 signal_kept names now signal.Snapshot rate = (search rules, search rules)
 signal_kept names now s rate = tt
 
-all_tones : (names : Names) (o : Option Tone) → Holds (IsBorn names) (option_map (λ t. kind.Tone t) o)
-all_tones names None = none
-all_tones names (Some t) = some (kind.Tone t) (record { kind = tt; kept = λ now rate l. tone_kept names now t rate })
+-- what a box of a signal object keeps at first is in range
+IsToneBorn : Tone → Type 0
+IsToneBorn t = (rate : Rate) → HasValues (tone_start t rate)
 
-signal_born : (names : Names) (s : Signal) → IsBorn names (kind.Signal s)
-signal_born names s = record { kind = tt; kept = λ now rate l. signal_kept names now s rate }
+IsSignalBorn : Signal → Type 0
+IsSignalBorn s = (rate : Rate) → HasValues (signal_start s rate)
 
-all_signals : (names : Names) (o : Option Signal) → Holds (IsBorn names) (option_map (λ s. kind.Signal s) o)
-all_signals names None = none
-all_signals names (Some s) = some (kind.Signal s) (signal_born names s)
+tone_born : (names : Names) (t : Tone) → IsToneBorn t → IsBorn names (kind.Tone t)
+unfolding IsToneBorn
+tone_born names t h = record { kind = tt; kept = λ now rate l. tone_kept names now t rate; values = h }
+
+signal_born : (names : Names) (s : Signal) → IsSignalBorn s → IsBorn names (kind.Signal s)
+unfolding IsSignalBorn
+signal_born names s h = record { kind = tt; kept = λ now rate l. signal_kept names now s rate; values = h }
 
 filter_less : (p : Atom → Bool) (xs : List Atom) → length (filter p xs) ≤ length xs
 filter_less p [] = omega arith
@@ -300,6 +319,67 @@ module _ (names : Names) (first : HasFirst names) where
         (pick word (codes "sel") _ _ (select_born Short)
         (pick word (codes "print") _ _ (plain_kept _ given.few given.all (λ now rate l. tt)) none))))))))
 
+    -- the signal objects
+    tones : Holds IsToneBorn (tone_named word args)
+    unfolding IsToneBorn
+    tones =
+        (pick word (codes "phasor~") _ _ (λ rate. (num0, circle_positive rate))
+        (pick word (codes "osc~") _ _ (λ rate. num0)
+        (pick word (codes "noise~") _ _ (λ rate. tt) none)))
+
+    or_zero-in : (o : Option Atom) → IfSome o (IsAtom names) → IsNumber (or_zero (number_in o))
+    or_zero-in None h = no_number
+    or_zero-in (Some (atom.Number z)) h = h.1
+    or_zero-in (Some a) h = no_number
+
+    right_in : IsNumber (or_zero (first_number args))
+    right_in = or_zero-in (slice_get args 0) (all-at (IsAtom names) args 0 given.all)
+
+    mixed : Holds IsSignalBorn (mixed_named word args)
+    unfolding IsSignalBorn
+    mixed =
+        (pick word (codes "+~") _ _ (λ rate. (no_number, right_in))
+        (pick word (codes "-~") _ _ (λ rate. (no_number, right_in))
+        (pick word (codes "*~") _ _ (λ rate. (no_number, right_in))
+        (pick word (codes "/~") _ _ (λ rate. (no_number, right_in))
+        (pick word (codes "max~") _ _ (λ rate. (no_number, right_in))
+        (pick word (codes "min~") _ _ (λ rate. (no_number, right_in))
+        (pick word (codes "abs~") _ _ (λ rate. no_number)
+        (pick word (codes "wrap~") _ _ (λ rate. no_number) none))))))))
+
+    shaped : Holds IsSignalBorn (shaped_named word args)
+    unfolding IsSignalBorn
+    shaped =
+        (pick word (codes "sig~") _ _ (λ rate. num0)
+        (pick word (codes "clip~") _ _ (λ rate. (no_number, num0, num 1 (pos 0) no_number))
+        (pick word (codes "line~") _ _ (λ rate. (zero_value, zero_value))
+        (pick word (codes "samphold~") _ _ (λ rate. (no_number, no_number, zero_value, zero_value))
+        (pick word (codes "lop~") _ _ (λ rate. (no_number, zero_value))
+        (pick word (codes "hip~") _ _ (λ rate. (no_number, zero_value))
+        (pick word (codes "snapshot~") _ _ (λ rate. no_number)
+        (pick word (codes "inlet~") _ _ (λ rate. no_number)
+        (pick word (codes "outlet~") _ _ (λ rate. no_number) none)))))))))
+
+    shared : Holds IsSignalBorn (shared_named word args)
+    unfolding IsSignalBorn
+    shared =
+        (pick word (codes "delwrite~") _ _ (λ rate. (no_number, all-same IsValue (line_length rate (number_at args 1 (pos 0)) + 64) (pos 0) zero_value))
+        (pick word (codes "delread~") _ _ (λ rate. tt)
+        (pick word (codes "send~") _ _ (λ rate. (no_number, silent_values))
+        (pick word (codes "s~") _ _ (λ rate. (no_number, silent_values))
+        (pick word (codes "receive~") _ _ (λ rate. tt)
+        (pick word (codes "r~") _ _ (λ rate. tt)
+        (pick word (codes "throw~") _ _ (λ rate. no_number)
+        (pick word (codes "catch~") _ _ (λ rate. silent_values)
+        (pick word (codes "tabread~") _ _ (λ rate. no_number) none)))))))))
+
+    signals : Holds IsSignalBorn (signal_named word args)
+    signals = first_in (mixed_named word args) (first_of (shaped_named word args) (shared_named word args)) mixed (first_in (shaped_named word args) (shared_named word args) shaped shared)
+
+    dac_in : IsSignalBorn (signal.Dac (channels_of args))
+    unfolding IsSignalBorn
+    dac_in rate = all_same (length (channels_of args))
+
     -- `bng` and `tgl`
     unless_empty-in : (o : Option ℕ) → IfSome o (IsName names) → IfSome (unless_empty names o) (IsName names)
     unless_empty-in None h = tt
@@ -322,14 +402,14 @@ module _ (names : Names) (first : HasFirst names) where
         first_in (option_map (λ a. kind.Arith a) (arith_named word args)) (control_kind word args) (mapped (λ a. kind.Arith a) (arith_named word args) (arith_born names) ariths)
         (first_in (option_map (λ g. kind.Glue g) (glue_named word args)) (sounding_kind word args)
         (mapped (λ g. kind.Glue g) (glue_named word args) (glue_born names) (first_in (plain_named word args) (first_of (timed_named word args) (addressed_named word args)) plains (first_in (timed_named word args) (addressed_named word args) timed addressed)))
-        (first_in (option_map (λ t. kind.Tone t) (tone_named word args)) (option_map (λ s. kind.Signal s) (signal_named word args)) (all_tones names (tone_named word args)) (all_signals names (signal_named word args))))
+        (first_in (option_map (λ t. kind.Tone t) (tone_named word args)) (option_map (λ s. kind.Signal s) (signal_named word args)) (mapped (λ t. kind.Tone t) (tone_named word args) (tone_born names) tones) (mapped (λ s. kind.Signal s) (signal_named word args) (signal_born names) signals)))
 
     listed_in : (whole : Bool) → Holds (IsBorn names) (listed_kind names word args whole)
     unfolding listed_kind
     listed_in whole =
         first_in (option_map (λ p. kind.Panel p) (panel_named names word args whole)) _ (mapped (λ p. kind.Panel p) (panel_named names word args whole) (panel_born names) (panels whole))
-        (pick word (codes "vline~") kind.Vline _ (record { kind = tt; kept = λ now rate l. omega arith })
-        (pick word (codes "dac~") (kind.Signal (signal.Dac (channels_of args))) _ (signal_born names (signal.Dac (channels_of args)))
+        (pick word (codes "vline~") kind.Vline _ (record { kind = tt; kept = λ now rate l. omega arith; values = λ rate. record { base = tt; ramps = tt } })
+        (pick word (codes "dac~") (kind.Signal (signal.Dac (channels_of args))) _ (signal_born names (signal.Dac (channels_of args)) dac_in)
         (mapped (λ g. kind.Glue g) (listed_named names word args) (glue_born names) lists)))
 
   -- `list` and a second word
@@ -383,3 +463,7 @@ named_kind names first text k h e = subst (NamedIn names first) e (named_all nam
 pub started_in : (names : Names) (now : ℕ) (s : State) → IsKept names now s → IsKept names now (started s 0)
 started_in names now (state.Timer reset rate) h = tt
 started_in names now s h = h
+
+pub started_values : (s : State) → HasValues s → HasValues (started s 0)
+started_values (state.Timer reset rate) h = tt
+started_values s h = h

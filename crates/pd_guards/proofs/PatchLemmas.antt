@@ -1,5 +1,5 @@
 -- A patch that has just grown is in order.
-use Rattle.std.proofs.Common.{◌≡◌, ◌^◌, ℕ, zero, suc, ◌+◌, ◌-◌, ◌≤◌, inl, inr, ◌==◌, List, [], ◌∷◌, Option, Some, None, IfSome, is_some, unwrap_or, refl, sym, ap, subst, arith, true≢false}
+use Rattle.std.proofs.Common.{◌≡◌, ◌^◌, ℕ, ℤ, zero, suc, ◌+◌, ◌-◌, ◌≤◌, inl, inr, ◌==◌, List, [], ◌∷◌, replicate, slice_get, Option, Some, None, IfSome, IsSome, is_some, unwrap_or, refl, sym, ap, subst, arith, true≢false}
 use Rattle.std.specs.List.{AllByRecursion}
 use Rattle.std.proofs.lemmas.Bool.{cases_lt}
 use Rattle.slab.specs.Slab.{get}
@@ -7,7 +7,7 @@ use Rattle.pd_atom.specs.Names.{Names}
 use Rattle.pd_clock.specs.declared.times.Rate.{Rate}
 use Rattle.pd_kind.specs.declared.kinds.Kind.{Kind}
 use Rattle.pd_kind.specs.declared.states.State.{State}
-use Rattle.pd_kind.specs.States.{size_of, start_of}
+use Rattle.pd_kind.specs.States.{silent_block, size_of, start_of}
 use Rattle.pd_kind.specs.Tables.{started}
 use Rattle.pd_canvas.specs.declared.tree.Doc.{Doc}
 use Rattle.pd_canvas.specs.Pages.{Page}
@@ -26,14 +26,19 @@ use Rattle.pd_queue.specs.Queue.{Waiting}
 use Rattle.pd_patch.specs.declared.patch.Patch.{Patch}
 use Rattle.pd_patch.specs.Grown.{IsFresh, IsTree}
 use Rattle.pd_patch.specs.Sounds.{sound_of}
-use Rattle.pd_hearing.specs.Worlds.{bare, net_of, kept_of}
+use Rattle.pd_patch.specs.Values.{blocks_told, block_count, AreSilent}
+use Rattle.pd_grove.specs.declared.ports.Side.TheVariants.{Outlets}
+use Rattle.pd_web.specs.Hops.{ports_told}
+use Rattle.pd_hearing.specs.Worlds.{bare, net_of, states_of, kept_of}
 use Rattle.pd_regrowth.proofs.TakeLemmas.{patch_takes}
 use Rattle.pd_guards.specs.Order.{HasFirst, IsKept, IsKind}
 use Rattle.pd_guards.specs.Worlds.{IsInOrder}
-use Rattle.pd_guards.specs.Growing.{IsBorn, AreBorn, BoxesIn, LibraryIn, StockIn, HasKind, IsOfTree}
-use Rattle.pd_guards.proofs.FactLemmas.{either}
+use Rattle.pd_guards.specs.Growing.{IsBorn, AreBorn, BoxesIn, LibraryIn, StockIn, HasKind, IsOfTree, HasNoOtherBlocks}
+use Rattle.pd_guards.specs.Sounds.{AreValues, HasValues, HaveValues, IsSounding, sound_with}
+use Rattle.pd_guards.proofs.FactLemmas.{either, all-from}
 use Rattle.pd_guards.proofs.MoreLemmas.{longer, first_more}
-use Rattle.pd_guards.proofs.NamingLemmas.{started_in}
+use Rattle.pd_guards.proofs.NamingLemmas.{started_in, started_values}
+use Rattle.pd_guards.proofs.SignalLemmas.{all-same, silent_values}
 use Rattle.pd_guards.proofs.GrownLemmas.{sound_in, patch_in}
 
 -- what growth has at hand when it begins
@@ -94,6 +99,22 @@ kinds_in : (names : Names) (o : Option Node) → ((n : Node) → o ≡ Some n �
 kinds_in names None h = tt
 kinds_in names (Some n) h = h n refl
 
+some_values : (o : Option State) (s : State) → o ≡ Some s → HasValues s → IfSome o HasValues
+some_values o s e h = subst (λ (x : Option State). IfSome x HasValues) (sym e) h
+
+values_in : (o : Option Node) → ((n : Node) → o ≡ Some n → IfSome n.state HasValues) → IfSome (state_in o) HasValues
+values_in None h = tt
+values_in (Some n) h = h n refl
+
+-- the blocks of a row
+row_in : (o : Option (List (List ℤ))) (n : ℕ) → (IsSome o → o ≡ Some (replicate n silent_block)) → IfSome o (AllByRecursion AreValues)
+row_in None n h = tt
+row_in (Some own) n h = subst (λ (x : Option (List (List ℤ))). IfSome x (AllByRecursion AreValues)) (sym (h refl)) (all-same AreValues n silent_block silent_values)
+
+blocks_in : (p : Patch) → AreSilent p.grove p.web (blocks_told p) → HasNoOtherBlocks p → AllByRecursion (AllByRecursion AreValues) (blocks_told p)
+blocks_in p silent no_other =
+    all-from (AllByRecursion AreValues) (blocks_told p) (λ k. row_in (slice_get (blocks_told p) k) (block_count (ports_told p.web Outlets k)) (λ is. silent k (no_other k is)))
+
 some_state : (names : Names) (now : ℕ) (o : Option State) (s : State) → o ≡ Some s → IsKept names now s → IfSome o (IsKept names now)
 some_state names now o s e h = subst (λ (x : Option State). IfSome x (IsKept names now)) (sym e) h
 
@@ -111,6 +132,11 @@ module _ (p : Patch) (names : Names) (rate : Rate) (t : Trees) (fresh : NodesFre
       let l : size_of n.kind rate ≤ sound_of rate t = kind_size rate t n.kind (of k n e) in
       some_state names now n.state (started (start_of n.kind rate) 0) (fresh k n e) (started_in names now (start_of n.kind rate) (b.kept now rate (omega arith)))
 
+  pub planted_values : HaveValues (states_of p)
+  planted_values k =
+      values_in (get p.grove.nodes k)
+      (λ n e. some_values n.state (started (start_of n.kind rate) 0) (fresh k n e) (started_values (start_of n.kind rate) ((box_born k n e).values rate)))
+
   pub planted_in : HasFirst names → (now : ℕ) → now ≤ 2 ^ 101 → (queue : Waiting) → IsInOrder (net_of p) now (kept_of p names queue)
   planted_in first now time queue = record {
     time = time;
@@ -119,12 +145,24 @@ module _ (p : Patch) (names : Names) (rate : Rate) (t : Trees) (fresh : NodesFre
     states = λ k. states_in names now (get p.grove.nodes k) (λ n e. box_keeps now k n e);
   }
 
-pub patch_in_order : (files : List (ℕ × Answer)) (name : List ℕ) (root : Page) (names0 names : Names) (n : ℕ) (rate : Rate) (p : Patch) (now : ℕ) (queue : Waiting) → now ≤ 2 ^ 101 → HasFirst names0 → IsProper names0 root → AreProper names0 files
-    → (tree : IsTree p names rate (grown (answer_in files) name root (beginning names0 n))) → IsFresh p names name rate → IsOfTree p tree.tree.boxes → IsInOrder (net_of p) now (kept_of p names queue)
-patch_in_order files name root names0 names n rate p now queue time first proper library tree fresh of =
-    let g = tree.given in
-    let lib = answer_in files in
-    let w : Stock = beginning names0 n in
-    let born : AreBorn g.after.names tree.tree.boxes = patch_in lib name root w g.after tree.tree (library_in names0 files library) (sound_in names0 root.boxes proper.sound.1) (begins_in names0 n first) g.step in
-    let last : HasFirst g.after.names = first_more names0 g.after.names (longer names0 g.after.names (patch_takes lib name root w g.after tree.tree g.step).names) first in
-    planted_in p names rate tree.tree.boxes fresh.states (subst (λ (x : Names). AreBorn x tree.tree.boxes) (sym g.table) born) tree.few_values of (subst HasFirst (sym g.table) last) now time queue
+module _ (files : List (ℕ × Answer)) (name : List ℕ) (root : Page) (names0 names : Names) (n : ℕ) (rate : Rate) (p : Patch) (queue : Waiting) (first : HasFirst names0) (proper : IsProper names0 root) (library : AreProper names0 files)
+    (tree : IsTree p names rate (grown (answer_in files) name root (beginning names0 n))) (fresh : IsFresh p names name rate) (of : IsOfTree p tree.tree.boxes) where
+  tree_born : AreBorn names tree.tree.boxes
+  tree_born =
+      let g = tree.given in
+      let w : Stock = beginning names0 n in
+      let born : AreBorn g.after.names tree.tree.boxes = patch_in (answer_in files) name root w g.after tree.tree (library_in names0 files library) (sound_in names0 root.boxes proper.sound.1) (begins_in names0 n first) g.step in
+      subst (λ (x : Names). AreBorn x tree.tree.boxes) (sym g.table) born
+
+  pub patch_in_order : (now : ℕ) → now ≤ 2 ^ 101 → IsInOrder (net_of p) now (kept_of p names queue)
+  patch_in_order now time =
+      let g = tree.given in
+      let w : Stock = beginning names0 n in
+      let last : HasFirst g.after.names = first_more names0 g.after.names (longer names0 g.after.names (patch_takes (answer_in files) name root w g.after tree.tree g.step).names) first in
+      planted_in p names rate tree.tree.boxes fresh.states tree_born tree.few_values of (subst HasFirst (sym g.table) last) now time queue
+
+  pub patch_values : HaveValues (kept_of p names queue).states
+  patch_values = planted_values p names rate tree.tree.boxes fresh.states tree_born tree.few_values of
+
+  pub patch_sounds : HasNoOtherBlocks p → IsSounding (sound_with (net_of p) (kept_of p names queue))
+  patch_sounds no_other = record { states = patch_values; blocks = blocks_in p fresh.blocks no_other }

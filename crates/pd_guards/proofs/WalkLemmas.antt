@@ -214,7 +214,7 @@ module _ (net : Net) (canvas selector : ℕ) (atoms : List Atom) (names : Names)
 
 -- the rules agree with the free ones
 module _ (net : Net) (now : ℕ) where
-  abbrev IsTaskAt : Kept → Task → Type 0
+  abbrev pub IsTaskAt : Kept → Task → Type 0
   IsTaskAt kept t = IsTask kept.names t
 
   heard_reply : (kept : Kept) → IsInOrder net now kept → (node inlet selector : ℕ) (atoms : List Atom) → IsMessage kept.names selector atoms → IsReply kept.names now (heard_at net now kept.states kept.names node inlet selector atoms)
@@ -257,21 +257,21 @@ module _ (net : Net) (now : ℕ) where
   costs_same (Resume depth node) = refl
   costs_same (Nobody name) = refl
 
-  stays_in : (kept : Kept) (t : Task) → IsInOrder net now kept → IsTaskAt kept t → IsInOrder net now (kept_after net now kept t)
+  pub stays_in : (kept : Kept) (t : Task) → IsInOrder net now kept → IsTaskAt kept t → IsInOrder net now (kept_after net now kept t)
   unfolding kept_after
   stays_in kept (Deliver depth node inlet selector atoms) h m = by_in net now node kept h (heard_at net now kept.states kept.names node inlet selector atoms) (heard_reply kept h node inlet selector atoms m)
   stays_in kept (Ask depth canvas selector atoms) h m = record { time = h.time; first = h.first; kinds = h.kinds; states = h.states }
   stays_in kept (Resume depth node) h m = by_in net now node kept h (resumed_at net kept.states kept.names node) (again_reply kept h node)
   stays_in kept (Nobody name) h m = h
 
-  others_in : (kept : Kept) (t : Task) → IsInOrder net now kept → IsTaskAt kept t → (u : Task) → IsTaskAt kept u → IsTaskAt (kept_after net now kept t) u
+  pub others_in : (kept : Kept) (t : Task) → IsInOrder net now kept → IsTaskAt kept t → (u : Task) → IsTaskAt kept u → IsTaskAt (kept_after net now kept t) u
   unfolding kept_after
   others_in kept (Deliver depth node inlet selector atoms) h m u j = by_others net now node kept h (heard_at net now kept.states kept.names node inlet selector atoms) (heard_reply kept h node inlet selector atoms m) u j
   others_in kept (Ask depth canvas selector atoms) h m u j = j
   others_in kept (Resume depth node) h m u j = by_others net now node kept h (resumed_at net kept.states kept.names node) (again_reply kept h node) u j
   others_in kept (Nobody name) h m u j = j
 
-  follow_in : (kept : Kept) (t : Task) → IsInOrder net now kept → IsTaskAt kept t → AllByRecursion (IsTaskAt (kept_after net now kept t)) (caused net now kept t)
+  pub follow_in : (kept : Kept) (t : Task) → IsInOrder net now kept → IsTaskAt kept t → AllByRecursion (IsTaskAt (kept_after net now kept t)) (caused net now kept t)
   unfolding kept_after caused
   follow_in kept (Deliver depth node inlet selector atoms) h m = by_follow net now node kept h (heard_at net now kept.states kept.names node inlet selector atoms) (heard_reply kept h node inlet selector atoms m) depth
   follow_in kept (Ask depth canvas selector atoms) h m = tt

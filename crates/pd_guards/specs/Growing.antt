@@ -1,5 +1,5 @@
 -- When a document, what growth has at hand, and the boxes of a tree are in order.
-use Rattle.std.specs.Prelude.{◌≡◌, ℕ, ◌<◌, ◌≤◌, ◌^◌, ◌⊎◌, Option, Some}
+use Rattle.std.specs.Prelude.{◌≡◌, ℕ, ◌<◌, ◌≤◌, ◌^◌, ◌⊎◌, slice_get, Option, Some, IsSome}
 use Rattle.std.specs.List.{AllByRecursion}
 use Rattle.slab.specs.Slab.{get}
 use Rattle.pd_atom.specs.Names.{Names}
@@ -14,12 +14,15 @@ use Rattle.pd_tree.specs.Trees.{Trees, Done, Leaf, Holder}
 use Rattle.pd_growth.specs.Steps.{Stock}
 use Rattle.pd_grove.specs.declared.nodes.Node.{Node}
 use Rattle.pd_patch.specs.declared.patch.Patch.{Patch}
+use Rattle.pd_patch.specs.Values.{blocks_told}
 use Rattle.pd_guards.specs.Order.{IsNumber, HasFirst, IsList, IsKept, IsKind}
+use Rattle.pd_guards.specs.Sounds.{HasValues}
 
--- a kind in order, of which a box keeps at first what is in order, where its table isn't too long
+-- A kind in order, of which a box keeps at first what is in order, where its table isn't too long, and values of signals in their range.
 pub record IsBorn (names : Names) (k : Kind) : Type 0 where
   pub kind : IsKind names k
   pub kept : (now : ℕ) (rate : Rate) → size_of k rate < 2 ^ 32 → IsKept names now (start_of k rate)
+  pub values : (rate : Rate) → HasValues (start_of k rate)
 
 -- the boxes of a tree, and those inside them
 abbrev pub AreBorn : Names → Trees → Type 0
@@ -58,3 +61,7 @@ HasKind (Holder c s inner rest) k = (c.kind ≡ k) ⊎ (HasKind inner k ⊎ HasK
 -- each box of the patch is of the kind of a box of the tree
 abbrev pub IsOfTree : Patch → Trees → Type 0
 IsOfTree p t = (k : ℕ) (n : Node) → get p.grove.nodes k ≡ Some n → HasKind t n.kind
+
+-- each row of blocks of the patch is that of a box
+abbrev pub HasNoOtherBlocks : Patch → Type 0
+HasNoOtherBlocks p = (k : ℕ) → IsSome (slice_get (blocks_told p) k) → IsSome (get p.grove.nodes k)

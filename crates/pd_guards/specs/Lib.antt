@@ -2,3 +2,4 @@ pub mod Order
 pub mod Worlds
 pub mod Freely
 pub mod Growing
+pub mod Sounds

@@ -1,11 +1,12 @@
 //! Laws of what boxes hear, and of whole deliveries.
-ghost use Rattle.std.specs.Prelude.{◌≡◌, ◌≤◌, ◌^◌, ℕ, ℤ, true, List, [], Option, Some, IfSome};
+ghost use Rattle.std.specs.Prelude.{◌≡◌, ◌+◌, ◌≤◌, ◌^◌, ℕ, ℤ, true, List, [], Option, Some, IfSome};
 ghost use Rattle.std.specs.List.{list_all};
 ghost use Rattle.pd_atom.specs.Names.{Names};
 ghost use Rattle.pd_atom.specs.declared.Atom.{Atom};
 ghost use Rattle.pd_kind.specs.declared.kinds.Kind.{Kind};
 ghost use Rattle.pd_kind.specs.declared.states.State.{State};
 ghost use Rattle.pd_kind.specs.Said.{Said};
+ghost use Rattle.pd_kind.specs.declared.messages.Deed.{Deed};
 ghost use Rattle.pd_kind.specs.declared.messages.Target.TheVariants.{Outlet};
 ghost use Rattle.pd_kind.specs.Forming.{message_send, cut_atoms};
 ghost use Rattle.pd_script.specs.declared.commands.Command.TheVariants.{Send};
@@ -28,11 +29,15 @@ ghost use Rattle.pd_walk.specs.declared.walker.Start.{Start};
 ghost use Rattle.pd_hearing.specs.Worlds.{Net, Kept, net_of, kept_of};
 ghost use Rattle.pd_hearing.specs.Guards.{is_message, is_table, is_small, is_open, is_known};
 ghost use Rattle.pd_hearing.specs.Hearing.{heard_kind, heard_at, resumed_at, fired_at, loaded_at};
+ghost use Rattle.pd_hearing.specs.Deeds.{done};
 ghost use Rattle.pd_walk.specs.declared.walker.Budget.{Budget};
 ghost use Rattle.pd_walk.specs.Outcome.{outcome, world, IsLeft};
+ghost use Rattle.pd_block.specs.Nets.{Net as BlockNet, Sound};
+ghost use Rattle.pd_block.specs.Blocks.{block_of};
+ghost use Rattle.pd_guards.specs.Sounds.{HasValues, HaveValues, IsSounding, sound_with};
 ghost use Rattle.pd_guards.specs.Order.{HasFirst, IsName, AreAtoms, IsMessage, IsTable, IsKept, IsKind, IsSaid, IsHeard, IsHearing};
 ghost use Rattle.pd_guards.specs.Worlds.{AreKept, AreKinds, IsReply, IsInOrder, IsStart, IsNamed, IsSent};
-ghost use Rattle.pd_guards.specs.Growing.{AreBorn, BoxesIn, LibraryIn, StockIn, IsOfTree};
+ghost use Rattle.pd_guards.specs.Growing.{AreBorn, BoxesIn, LibraryIn, StockIn, IsOfTree, HasNoOtherBlocks};
 ghost use Rattle.pd_guards.specs.Freely.{heard_by as heard_freely, outcome as free_outcome};
 
 /// A box in order that hears a message in order keeps and says what is in order again, in a table of names that goes on. Nothing is
@@ -92,12 +97,21 @@ pub fn what_grows_is_in_order()
         LibraryIn w.names lib → BoxesIn w.names p.boxes → StockIn w → grown lib name p w ≡ gives t v → AreBorn v.names t.boxes }
 {}
 
-/// A patch that has just grown is in order, where each of its boxes is of its tree: so its deliveries begin in order.
+/// A patch that has just grown is in order, where each of its boxes is of its tree: so its deliveries begin in order. The values of
+/// signals that its boxes keep are in their range, and so are those of its outlets, where each row of blocks is that of a box.
 pub fn grown_patches_are_in_order()
-    ensures { (files : List (ℕ × Answer)) (name : List ℕ) (root : Page) (before names : Names) (n : ℕ) (rate : Rate) (p : Patch) (now : ℕ) (queue : Waiting) →
+    ensures order { (files : List (ℕ × Answer)) (name : List ℕ) (root : Page) (before names : Names) (n : ℕ) (rate : Rate) (p : Patch) (now : ℕ) (queue : Waiting) →
         now ≤ 2 ^ 101 → HasFirst before → IsProper before root → AreProper before files →
         (tree : IsTree p names rate (grown (answer_in files) name root (beginning before n))) → IsFresh p names name rate →
         IsOfTree p tree.tree.boxes → IsInOrder (net_of p) now (kept_of p names queue) }
+    ensures values { (files : List (ℕ × Answer)) (name : List ℕ) (root : Page) (before names : Names) (n : ℕ) (rate : Rate) (p : Patch) (queue : Waiting) →
+        HasFirst before → IsProper before root → AreProper before files →
+        (tree : IsTree p names rate (grown (answer_in files) name root (beginning before n))) → IsFresh p names name rate →
+        IsOfTree p tree.tree.boxes → HaveValues (kept_of p names queue).states }
+    ensures sounds { (files : List (ℕ × Answer)) (name : List ℕ) (root : Page) (before names : Names) (n : ℕ) (rate : Rate) (p : Patch) (queue : Waiting) →
+        HasFirst before → IsProper before root → AreProper before files →
+        (tree : IsTree p names rate (grown (answer_in files) name root (beginning before n))) → IsFresh p names name rate →
+        IsOfTree p tree.tree.boxes → HasNoOtherBlocks p → IsSounding (sound_with (net_of p) (kept_of p names queue)) }
 {}
 
 /// A command that is read and sends a message begins its event in order: its name and its atoms are of the table after reading, and the
@@ -107,4 +121,30 @@ pub fn commands_begin_in_order()
         send_of names tokens ≡ Some (Send name atoms, after) → IsSent names after name atoms }
     ensures message { (names : Names) (name : ℕ) (atoms : List Atom) → HasFirst names → IsName names name → AreAtoms names atoms →
         let m = message_send (Outlet 0) atoms in IsNamed names name m.selector (cut_atoms m.atoms) }
+{}
+
+/// A block leaves in order what the boxes keep, at its end and at each later time, and the values of signals that they keep and that
+/// their outlets give in their range, where all that was so before it.
+pub fn blocks_stay_in_order()
+    ensures kept { (net : BlockNet) (names : Names) (now later start : ℕ) (s : Sound) → now ≤ later → start + 64000000000 ≤ later →
+        AreKept names now s.states → IsSounding s → AreKept names later (block_of net s start).sound.states }
+    ensures sounds { (net : BlockNet) (names : Names) (now start : ℕ) (s : Sound) → AreKept names now s.states → IsSounding s →
+        IsSounding (block_of net s start).sound }
+{}
+
+/// A box leaves in their range the values of signals that it keeps, where they were so, when it hears a message in order, is resumed, or
+/// has a value of its table written. So do all boxes over a whole delivery that begins in order; and the blocks of the outlets stay.
+pub fn messages_keep_values()
+    ensures hearing { (names : Names) (k : Kind) (s : State) (inlet selector : ℕ) (atoms : List Atom) (now : ℕ) (table : Option (List ℤ)) →
+        HasFirst names → IsMessage names selector atoms → HasValues s → HasValues (heard_kind names k s inlet selector atoms now table).state }
+    ensures again { (k : Kind) (s : State) → HasValues s → HasValues (resumed k s).state }
+    ensures boxes { (net : Net) (now : ℕ) (names : Names) (states : ℕ → Option State) (node inlet selector : ℕ) (atoms : List Atom) →
+        HasFirst names → IsMessage names selector atoms → HaveValues states → HaveValues (heard_at net now states names node inlet selector atoms).states }
+    ensures boxes_again { (net : Net) (names : Names) (states : ℕ → Option State) (node : ℕ) → HaveValues states → HaveValues (resumed_at net states names node).states }
+    ensures deed { (net : Net) (now node : ℕ) (d : Deed) (kept : Kept) → HaveValues kept.states → HaveValues (done net now node d kept).states }
+    ensures delivery { (net : Net) (now : ℕ) (w : World Kept) (s : Start) → IsInOrder net now w.kept → IsStart w.kept.names s →
+        HaveValues w.kept.states → HaveValues (outcome net now w s).kept.states }
+    ensures left { (net : Net) (now : ℕ) (before after : Kept) (budget rest : Budget) (s : Start) (old new : Option (List ℕ)) → IsInOrder net now before →
+        IsStart before.names s → IsSounding (sound_with net before) → IsLeft after rest old new (outcome net now (world before budget []) s) →
+        IsSounding (sound_with net after) }
 {}

@@ -4,6 +4,7 @@
 mod laws;
 
 pub use laws::{
-    boxes_stay_in_order, commands_begin_in_order, delivery_passes_nothing_over,
-    grown_patches_are_in_order, hearing_stays_in_order, order_lasts, what_grows_is_in_order,
+    blocks_stay_in_order, boxes_stay_in_order, commands_begin_in_order,
+    delivery_passes_nothing_over, grown_patches_are_in_order, hearing_stays_in_order,
+    messages_keep_values, order_lasts, what_grows_is_in_order,
 };

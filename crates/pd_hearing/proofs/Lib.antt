@@ -2,3 +2,4 @@ pub mod KnownLemmas
 pub mod ResultLemmas
 pub mod WorldLemmas
 pub mod HearLemmas
+pub mod BriefLemmas

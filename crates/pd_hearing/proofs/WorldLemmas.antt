@@ -1,9 +1,9 @@
 -- What a change of one box's state leaves.
 use Rattle.std.proofs.Common.{◌≡◌, ◌≢◌, ◌<◌, ◌≤◌, ℕ, zero, suc, Bool, true, false, cond, eqb, nat_lt, List, ◌∷◌, [], ◌++◌, refl, sym, ◌∙◌, ap, subst, arith}
 use Rattle.std.proofs.Math.Path.{fun_ext}
-use Rattle.std.proofs.lemmas.Bool.{eqb-true, eq-eqb, false≢true, ltb-true}
+use Rattle.std.proofs.lemmas.Bool.{eqb-true, eq-eqb, false≢true}
 use Rattle.std.proofs.lemmas.Bool.Decides.{nat_tests}
-use Rattle.std.specs.Prelude.{◌==◌, ◌↔◌, IsSome, ℤ, Option, Some, None, option_map, option_and_then, slice_get}
+use Rattle.std.specs.Prelude.{◌↔◌, IsSome, ℤ, Option, Some, None, option_map, option_and_then}
 use Rattle.std.specs.Prelude.{reverse}
 use Rattle.slab.specs.Slab.{get}
 use Rattle.slab.specs.Slab.{Slab, ContainsKey}
@@ -13,7 +13,7 @@ use Rattle.pd_atom.specs.declared.Atom.{Atom}
 use Rattle.pd_clock.specs.Queue.{Clock, without}
 use Rattle.pd_kind.specs.declared.states.State.{State}
 use Rattle.pd_kind.specs.Said.{Said, silent}
-use Rattle.pd_kind.specs.Tables.{table_of, with_value}
+use Rattle.pd_kind.specs.Tables.{with_value}
 use Rattle.pd_glue.specs.Rows.{Hearing, with_names}
 use Rattle.pd_glue.specs.Rows as control
 use Rattle.pd_grove.specs.declared.nodes.Node.{Node}
@@ -23,12 +23,11 @@ use Rattle.pd_grove.specs.declared.boards.Board.{Board}
 use Rattle.pd_patch.specs.Paths.{path_told, outward, around, out_of, spot_of, number_of, holder_in}
 use Rattle.pd_patch.specs.declared.patch.Patch.{Patch}
 use Rattle.pd_patch.specs.Walking.{RestStays, WritesAt}
-use Rattle.pd_patch.specs.Walking as walking
 use Rattle.pd_patch.specs.Lending.{with_box}
 use Rattle.pd_queue.specs.Queue.{Waiting}
-use Rattle.pd_hearing.specs.Worlds.{Net, Kept, bare, net_of, kept_of, states_of, set_at}
-use Rattle.pd_hearing.specs.Hearing.{Reply, reply, BoxReply, box_reply, box_heard, box_resumed, heard_kind, table_name, table_in, table_by, table_named, heard_in, heard_with, heard_at, mute, resumed_in, resumed_with, resumed_at, fired_with, fired_at, loaded_with, loaded_kind, loaded_at}
-use Rattle.pd_hearing.specs.Deeds.{written, written_at, with_clock, with_clocks, with_states}
+use Rattle.pd_hearing.specs.Worlds.{Kept, bare, net_of, kept_of, states_of, set_at}
+use Rattle.pd_hearing.specs.Hearing.{reply, BoxReply, box_reply, box_heard, box_resumed, heard_kind, table_name, table_in, table_by, table_named, heard_in, heard_with, heard_at, mute, resumed_in, resumed_with, resumed_at, fired_with, fired_at, loaded_with, loaded_kind, loaded_at}
+use Rattle.pd_hearing.specs.Deeds.{written_at, with_clock, with_clocks}
 
 -- two numbers are the same or not
 pub one-or-other : {P : Type 0} (j k : ℕ) → (j ≡ k → P) → (j ≢ k → P) → P

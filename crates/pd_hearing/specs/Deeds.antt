@@ -3,7 +3,6 @@ use Rattle.std.specs.Prelude.{ℕ, ℤ, pos, negsuc, ◌+◌, ◌*◌, ◌-◌, 
 use Rattle.pd_clock.specs.Rates.{samples}
 use Rattle.pd_clock.specs.declared.times.Rate.{Rate}
 use Rattle.pd_clock.specs.Queue.{Clock, without}
-use Rattle.pd_kind.specs.declared.kinds.Kind.{Kind}
 use Rattle.pd_kind.specs.declared.states.State.{State}
 use Rattle.pd_kind.specs.declared.messages.Deed.{Deed}
 use Rattle.pd_kind.specs.declared.messages.Deed.TheVariants.{Nothing, SetClock, ClearClock, WriteTable, Print, Again}

@@ -1,6 +1,6 @@
 -- Whether a message, a box or a line is one with which the objects' definitions go on. Of every box that grew and of every message that
 -- it sends it is so; what isn't so is passed over.
-use Rattle.std.specs.Prelude.{ℕ, Bool, true, false, ◌&&◌, ◌^◌, nat_lt, nat_le, ℤ, List, length, Option, Some, None}
+use Rattle.std.specs.Prelude.{ℕ, Bool, true, ◌&&◌, ◌^◌, nat_lt, nat_le, ℤ, List, length, Option, Some, None}
 use Rattle.std.specs.List.{list_all}
 use Rattle.pd_atom.specs.Names.{Names}
 use Rattle.pd_atom.specs.declared.Atom.{Atom}

@@ -1,5 +1,5 @@
 -- What a box does with a message, when it is resumed, when its clock fires and when it is loaded.
-use Rattle.std.specs.Prelude.{◌≡◌, ℕ, ℤ, ◌&&◌, ◌^◌, nat_le, List, [], ◌∷◌, slice_get, Option, Some, None, option_map, option_and_then, if◌then◌else◌}
+use Rattle.std.specs.Prelude.{ℕ, ℤ, ◌&&◌, ◌^◌, nat_le, List, [], ◌∷◌, slice_get, Option, Some, None, option_map, option_and_then, if◌then◌else◌}
 use Rattle.pd_atom.specs.Names.{Names}
 use Rattle.pd_atom.specs.declared.Atom.{Atom}
 use Rattle.pd_name.specs.Rows.{owners_of}

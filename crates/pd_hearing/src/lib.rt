@@ -2,11 +2,13 @@
 //! for beside its sends.
 #![tactic(auto)]
 
+mod briefs;
 mod deeds;
 mod hearing;
 mod known;
 mod small;
 
+pub use briefs::{Brief, Reaction, goes_on_at, hear_brief};
 pub use deeds::do_deed;
 pub use hearing::{fire_at, hear_at, load_at, resume_at};
 pub use known::{are_known, is_known, is_name};

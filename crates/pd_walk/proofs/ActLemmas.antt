@@ -6,7 +6,7 @@ use Rattle.pd_atom.specs.Names.{Names}
 use Rattle.pd_atom.specs.declared.Atom.{Atom}
 use Rattle.pd_kind.specs.Said.{Said}
 use Rattle.pd_say.specs.Gathering.{Says, Fails}
-use Rattle.pd_say.proofs.GatheringLemmas.{says_then, says_nothing, says_then_fails, fails_sooner}
+use Rattle.pd_say.proofs.GatheringLemmas.{says_then, says_then_fails, fails_sooner}
 use Rattle.pd_queue.specs.declared.asking.Verb.{Verb}
 use Rattle.pd_queue.specs.Asking as asking
 use Rattle.pd_queue.specs.Queue.{Waiting, answer_to, after_asking}
@@ -16,12 +16,12 @@ use Rattle.pd_patch.specs.declared.patch.Patch.{Patch}
 use Rattle.pd_walk.specs.Pile.{Pile}
 use Rattle.pd_hearing.specs.Worlds.{Net, Kept, net_of, kept_of, states_of}
 use Rattle.pd_hearing.specs.Hearing.{Reply, heard_at, resumed_at}
-use Rattle.pd_hearing.specs.Deeds.{done, replied}
+use Rattle.pd_hearing.specs.Deeds.{done}
 use Rattle.pd_kind.specs.declared.sends.SendRow.{SendRow}
 use Rattle.pd_kind.specs.Rows.{Send, send_of}
 use Rattle.pd_walk.specs.declared.steps.Place.{Place}
 use Rattle.pd_walk.specs.declared.steps.Place.TheVariants as place
-use Rattle.pd_walk.specs.Tasks.{Task, kept_after, said_at, caused, kept_by, said_by_box, asked_for, notices_text, printed, overflow_text, is_too_deep, sends_of, sent, again_after, is_again, has_some, leads_out, queue_with, asked_text, answer_text, verb_in, path_in, is_near}
+use Rattle.pd_walk.specs.Tasks.{Task, kept_after, said_at, caused, kept_by, said_by_box, asked_for, notices_text, printed, overflow_text, is_too_deep, sends_of, sent, again_after, is_again, has_some, queue_with, asked_text, answer_text, verb_in, path_in, is_near}
 use Rattle.pd_walk.specs.Turns.{doing}
 use Rattle.pd_walk.specs.Piles.{LeftOn}
 

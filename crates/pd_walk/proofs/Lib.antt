@@ -4,3 +4,5 @@ pub mod TurnLemmas
 pub mod SendLemmas
 pub mod WayLemmas
 pub mod ActLemmas
+pub mod StayLemmas
+pub mod RelayLemmas

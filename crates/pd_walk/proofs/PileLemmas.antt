@@ -1,17 +1,13 @@
 -- Piles: what is left stays left while the atoms below stay.
-use Rattle.std.proofs.Common.{arith, ◌≡◌, ℕ, zero, suc, ◌+◌, ◌-◌, ◌*◌, ◌<◌, ◌≤◌, List, [], ◌∷◌, ◌++◌, length, take, drop, refl, sym, ◌∙◌, ap, subst, length-append, length-take}
-use Rattle.std.specs.List.{slice_range, slice_get}
-use Rattle.std.specs.Prelude.{Option, Some, None}
+use Rattle.std.proofs.Common.{arith, ◌≡◌, ℕ, ◌≤◌, List, [], ◌∷◌, ◌++◌, length, take, drop, sym, ◌∙◌, ap, subst, length-take}
+use Rattle.std.specs.List.{slice_range}
 use Rattle.std.proofs.lemmas.Slice.{between_is}
 use Rattle.std.proofs.lemmas.List.{take-take, take-append-le}
 use Rattle.pd_atom.specs.declared.Atom.{Atom}
-use Rattle.pd_walk.specs.declared.stack.Cursor.{Cursor}
-use Rattle.pd_walk.specs.declared.stack.Cursor.TheVariants.{Wires, Owners, Again}
 use Rattle.pd_walk.specs.declared.stack.Pending.{Pending}
-use Rattle.pd_walk.specs.Pile.{Pile}
 use Rattle.pd_hearing.specs.Worlds.{Net}
 use Rattle.pd_walk.specs.Tasks.{Task}
-use Rattle.pd_walk.specs.Piles.{CursorTasks, PendingTasks, message_of, Joins, AreLeft, Lies, AllLie, IsPiled, LeftOn}
+use Rattle.pd_walk.specs.Piles.{CursorTasks, AreLeft, AllLie}
 
 -- a message stays where the atoms up to its end stay
 pub slice-agree : (n a b : ℕ) (xs ys : List Atom) → take n xs ≡ take n ys → b ≤ n → slice_range xs a b ≡ slice_range ys a b

@@ -1,23 +1,19 @@
 -- Sends that go on a pile.
-use Rattle.std.proofs.Common.{arith, ◌≡◌, ℕ, zero, suc, ◌+◌, ◌-◌, ◌*◌, ◌<◌, ◌≤◌, Bool, true, false, cond, ◌&&◌, List, [], ◌∷◌, ◌++◌, length, take, drop, get_or, map, refl, sym, ◌∙◌, ap, subst, append_assoc, append-nil, length-append, nat_le}
-use Rattle.std.proofs.Math.Seq.{drop-append-add, drop-append_seam, drop-length, drop-cons}
+use Rattle.std.proofs.Common.{arith, ◌≡◌, ℕ, zero, suc, ◌+◌, ◌-◌, ◌<◌, ◌≤◌, Bool, true, false, ◌&&◌, List, [], ◌∷◌, ◌++◌, length, take, get_or, map, refl, sym, ◌∙◌, ap, subst, nat_le}
+use Rattle.std.proofs.Math.Seq.{drop-append-add, drop-length}
 use Rattle.std.proofs.lemmas.Bool.Decides.{nat_tests}
-use Rattle.std.specs.List.{slice_range, slice_get, flat_map, list_all}
-use Rattle.std.specs.Prelude.{Option, Some, None}
-use Rattle.std.proofs.lemmas.List.{take-take, take-append-le}
+use Rattle.std.specs.List.{slice_range, slice_get, flat_map}
+use Rattle.std.specs.Prelude.{Option, None}
 use Rattle.pd_atom.specs.declared.Atom.{Atom}
 use Rattle.pd_kind.specs.declared.sends.SendRow.{SendRow}
-use Rattle.pd_kind.specs.declared.messages.Target.{Target}
 use Rattle.pd_kind.specs.Rows.{Send, send_of, are_within}
 use Rattle.pd_web.specs.declared.web.Hop.{Hop}
-use Rattle.pd_web.specs.Hops.{fan_hops, port_told}
-use Rattle.pd_walk.specs.declared.stack.Cursor.{Cursor}
-use Rattle.pd_walk.specs.declared.stack.Cursor.TheVariants.{Wires, Owners, Again}
+use Rattle.pd_web.specs.Hops.{fan_hops}
 use Rattle.pd_walk.specs.declared.stack.Pending.{Pending}
 use Rattle.pd_walk.specs.Pile.{Pile}
 use Rattle.pd_hearing.specs.Worlds.{Net}
-use Rattle.pd_walk.specs.Tasks.{Task, Resume, sent, sent_to, again_after}
-use Rattle.pd_walk.specs.Piles.{IsAlong, CursorTasks, PendingTasks, message_of, Joins, AreLeft, Fits, Lies, AllLie, IsPiled, LeftOn, row_from, send_at}
+use Rattle.pd_walk.specs.Tasks.{Task, sent, again_after}
+use Rattle.pd_walk.specs.Piles.{IsAlong, AreLeft, AllLie, LeftOn, row_from, send_at}
 use Rattle.pd_walk.proofs.PileLemmas.{left-agree, cut-agree, more-agree}
 use Rattle.pd_walk.proofs.TurnLemmas.{get-none}
 

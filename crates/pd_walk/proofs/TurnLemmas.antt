@@ -1,17 +1,13 @@
 -- Turns of a walk.
-use Rattle.std.proofs.Common.{arith, ◌≡◌, ℕ, zero, suc, ◌+◌, ◌-◌, ◌*◌, ◌<◌, ◌≤◌, Bool, true, false, List, [], ◌∷◌, ◌++◌, length, take, drop, map, refl, sym, ◌∙◌, ap, subst, append_assoc, append-nil}
-use Rattle.std.specs.List.{slice_range, slice_get, flat_map}
+use Rattle.std.proofs.Common.{arith, ◌≡◌, ℕ, zero, suc, ◌+◌, List, [], ◌∷◌, ◌++◌, length, drop, refl, sym, ◌∙◌, ap, subst, append_assoc, append-nil}
+use Rattle.std.specs.List.{slice_get, flat_map}
 use Rattle.std.specs.Prelude.{Option, Some, None}
 use Rattle.pd_atom.specs.declared.Atom.{Atom}
 use Rattle.pd_atom.specs.Names.{Names}
-use Rattle.pd_say.specs.Gathering.{Says, Fails, IsSaid}
-use Rattle.pd_io.specs.Stream.{TookPart}
-use Rattle.pd_name.specs.Rows.{owners_of}
-use Rattle.pd_name.specs.declared.Class.TheVariants.{Receiver}
+use Rattle.pd_say.specs.Gathering.{Says, Fails}
 use Rattle.pd_web.specs.declared.web.Hop.{Hop}
 use Rattle.pd_web.specs.Hops.{fan_hops}
-use Rattle.pd_walk.specs.declared.stack.Cursor.{Cursor}
-use Rattle.pd_walk.specs.declared.stack.Cursor.TheVariants.{Wires, Owners, Again}
+use Rattle.pd_walk.specs.declared.stack.Cursor.TheVariants.{Wires}
 use Rattle.pd_walk.specs.declared.stack.Pending.{Pending}
 use Rattle.pd_walk.specs.declared.steps.Place.{Place}
 use Rattle.pd_walk.specs.declared.steps.Task.{Task as Due}
@@ -19,12 +15,11 @@ use Rattle.pd_walk.specs.declared.steps.Turn.{Turn}
 use Rattle.pd_walk.specs.declared.steps.Turn.TheVariants as turn
 use Rattle.pd_walk.specs.Pile.{Pile}
 use Rattle.pd_hearing.specs.Worlds.{Net}
-use Rattle.pd_walk.specs.Tasks.{Task, Nobody, Resume, along, delivery, end_of, to_owners, unless_heard, arrival, owner_told, nobody_text}
-use Rattle.pd_walk.specs.Piles.{IsAlong, GoesAlong, CursorTasks, PendingTasks, message_of, owner_tasks, Joins, AreLeft, Lies, AllLie, IsPiled, LeftOn}
-use Rattle.pd_walk.specs.Turns.{doing, told, told_list, due_in, StartsWith, TurnTasks, TurnFits, AfterTurn, IsDue, turn_text, nobodies, Yields, BreaksOff}
+use Rattle.pd_walk.specs.Tasks.{Task, Nobody, along, delivery, end_of, nobody_text}
+use Rattle.pd_walk.specs.Piles.{IsAlong, GoesAlong, CursorTasks, PendingTasks, message_of, Joins, AreLeft, LeftOn}
+use Rattle.pd_walk.specs.Turns.{doing, told, due_in, StartsWith, TurnTasks, AfterTurn, turn_text, nobodies, Yields, BreaksOff}
 use Rattle.std.proofs.lemmas.List.Concat.{flat_map-append}
 use Rattle.pd_say.proofs.GatheringLemmas.{says_then, says_nothing, says_then_fails}
-use Rattle.pd_walk.proofs.PileLemmas.{left-agree, cut-agree}
 
 -- a place of a list and what follows it
 pub drop-here : {X : Type 0} (xs : List X) (i : ℕ) (x : X) → Some x ≡ slice_get xs i → drop i xs ≡ x ∷ drop (i + 1) xs

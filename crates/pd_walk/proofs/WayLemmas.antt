@@ -1,11 +1,10 @@
 -- A walk that is under way goes on, is cut off, ends or fails.
-use Rattle.std.proofs.Common.{arith, ◌≡◌, ℕ, zero, suc, ◌+◌, ◌-◌, ◌<◌, ◌≤◌, Bool, true, false, List, [], ◌∷◌, ◌++◌, length, take, drop, get_or, refl, sym, ◌∙◌, ap, subst, append_assoc, append-nil}
+use Rattle.std.proofs.Common.{arith, ◌≡◌, ℕ, ◌+◌, ◌-◌, ◌<◌, Bool, true, false, List, [], ◌∷◌, ◌++◌, length, take, drop, get_or, refl, sym, ◌∙◌, ap, subst, append_assoc, append-nil}
 use Rattle.std.specs.Prelude.{Option, Some, None}
 use Rattle.std.specs.List.{flat_map}
-use Rattle.pd_atom.specs.Names.{Names}
 use Rattle.pd_io.specs.Stream.{grown, IsPrefix, TookPart}
 use Rattle.pd_say.specs.Gathering.{Says, Fails, IsSaid}
-use Rattle.pd_turns.specs.Turns.{World, Rules, acted, causes, cut_off, all_finished}
+use Rattle.pd_turns.specs.Turns.{World}
 use Rattle.pd_turns.proofs.Turns.{all_finished-step, all_finished-free, all_finished-cut, all_finished-end, all_finished-said, prefix-trans, prefix-whole}
 use Rattle.std.proofs.lemmas.List.{take-append-drop, take_more}
 use Rattle.pd_walk.specs.declared.walker.Budget.{Budget}
@@ -51,7 +50,7 @@ some-nobodies net now kept left said (name ∷ names) ts =
     ∙ ap (λ (l : List ℕ). ran net now (world_of kept left false l) ts) (append_assoc said (nobody_text kept.names name) (flat_map (nobody_text kept.names) names))
 
 -- a task with its budget
-step : (net : Net) (now : ℕ) (kept : Kept) (left : ℕ) (said : List ℕ) (t : Task) (ts : List Task) → costs t ≡ true → 0 < left
+pub step : (net : Net) (now : ℕ) (kept : Kept) (left : ℕ) (said : List ℕ) (t : Task) (ts : List Task) → costs t ≡ true → 0 < left
     → ran net now (world_of kept left false said) (t ∷ ts) ≡ ran net now (world_of (kept_after net now kept t) (left - 1) false (said ++ said_at net now kept t)) (caused net now kept t ++ ts)
 step net now kept left said t ts pays more =
     all_finished-step (rules net now) (world_of kept left false said) t ts refl pays more ∙ rw pays refl

@@ -4,3 +4,4 @@ pub mod Pile
 pub mod Piles
 pub mod Turns
 pub mod Ways
+pub mod Relays

@@ -1,7 +1,8 @@
 -- What becomes of an event's messages.
-use Rattle.std.specs.Prelude.{◌≡◌, ℕ, true, List, [], ◌∷◌, ◌++◌, Option, if◌then◌else◌}
+use Rattle.std.specs.Prelude.{◌≡◌, ℕ, true, List, [], ◌∷◌, Option, IsSome, if◌then◌else◌}
 use Rattle.pd_atom.specs.declared.Atom.{Atom}
 use Rattle.pd_kind.specs.Said.{Said}
+use Rattle.pd_kind.specs.declared.states.State.{State}
 use Rattle.pd_io.specs.Stream.{grown}
 use Rattle.pd_turns.specs.Turns.{World, all_finished}
 use Rattle.pd_walk.specs.declared.walker.Budget.{Budget}
@@ -50,3 +51,7 @@ pub record IsLeft (kept : Kept) (budget : Budget) (before now : Option (List ℕ
   pub left : budget.left ≡ final.budget
   pub cut : budget.cut ≡ final.cut
   pub said : now ≡ grown before final.said
+
+-- each box that keeps something still does
+pub record StatesStay (old new : ℕ → Option State) : Type 0 where
+  pub stay : (k : ℕ) → IsSome (old k) → IsSome (new k)

@@ -1,5 +1,5 @@
 -- What a stack of pending sends stands for. The pendings of a pile are listed from its top down.
-use Rattle.std.specs.Prelude.{◌≡◌, ℕ, ◌+◌, ◌*◌, ◌<◌, ◌≤◌, Bool, false, List, [], ◌∷◌, ◌++◌, length, drop, slice_get, slice_range, Option, Some, None}
+use Rattle.std.specs.Prelude.{◌≡◌, ℕ, ◌+◌, ◌*◌, ◌<◌, ◌≤◌, Bool, List, [], ◌∷◌, ◌++◌, length, drop, slice_get, slice_range, Option}
 use Rattle.pd_atom.specs.declared.Atom.{Atom}
 use Rattle.pd_name.specs.Rows.{owners_of}
 use Rattle.pd_name.specs.declared.Class.TheVariants.{Receiver}

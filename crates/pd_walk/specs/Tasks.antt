@@ -1,7 +1,6 @@
 -- What messages lead to: which tasks there are, what each does and says, and which it causes.
-use Rattle.std.specs.Prelude.{ℕ, Bool, true, false, ◌+◌, ◌==◌, nat_le, not, ◌&&◌, ◌||◌, List, [], ◌∷◌, ◌++◌, map, length, slice_get, codes, Option, Some, None, is_some, option_and_then, cond, if◌then◌else◌}
+use Rattle.std.specs.Prelude.{ℕ, Bool, true, false, ◌+◌, ◌==◌, nat_le, not, ◌&&◌, ◌||◌, List, [], ◌∷◌, ◌++◌, map, length, codes, Option, Some, None, is_some, if◌then◌else◌}
 use Rattle.std.specs.List.{flat_map}
-use Rattle.slab.specs.Slab.{get}
 use Rattle.pd_atom.specs.Names.{Names, name_of}
 use Rattle.pd_atom.specs.declared.Atom.{Atom}
 use Rattle.pd_atom.specs.declared.Atom.TheVariants.{Symbol}
@@ -11,8 +10,6 @@ use Rattle.pd_kind.specs.declared.kinds.Kind.{Kind}
 use Rattle.pd_kind.specs.declared.kinds.Kind.TheVariants as kind
 use Rattle.pd_kind.specs.declared.kinds.Glue.{Glue}
 use Rattle.pd_kind.specs.declared.kinds.Glue.TheVariants as glue
-use Rattle.pd_kind.specs.declared.kinds.Side.{Side}
-use Rattle.pd_kind.specs.declared.kinds.Side.TheVariants as side
 use Rattle.pd_kind.specs.declared.messages.Deed.{Deed}
 use Rattle.pd_kind.specs.declared.messages.Deed.TheVariants as deed
 use Rattle.pd_kind.specs.declared.messages.Target.{Target}
@@ -40,7 +37,8 @@ use Rattle.pd_web.specs.Homes.{inner_in as port_in}
 use Rattle.pd_patch.specs.Paths.{path_told}
 use Rattle.pd_turns.specs.Turns.{Rules}
 use Rattle.pd_hearing.specs.Worlds.{Net, Kept}
-use Rattle.pd_hearing.specs.Guards.{is_name, is_atom, are_atoms, is_few, is_known}
+use Rattle.pd_hearing.specs.Outlets.{is_outlet}
+use Rattle.pd_hearing.specs.Guards.{is_name, are_atoms, is_few, is_known}
 use Rattle.pd_hearing.specs.Hearing.{Reply, heard_at, resumed_at}
 use Rattle.pd_hearing.specs.Deeds.{done, replied}
 
@@ -92,19 +90,6 @@ unless_heard loud name owners = []
 abbrev pub to_name : Net → ℕ → ℕ → List Atom → ℕ → Bool → List Task
 to_name net depth selector atoms name loud =
     let owners = owners_of net.owners Receiver name in to_owners net depth selector atoms owners ++ unless_heard loud name owners
-
-abbrev pub is_outlet_side : Side → Bool
-is_outlet_side side.Outlet = true
-is_outlet_side s = false
-
-abbrev pub is_outlet_glue : Glue → Bool
-is_outlet_glue (glue.Port s) = is_outlet_side s
-is_outlet_glue g = false
-
--- a box that is an outlet of its canvas
-abbrev pub is_outlet : Option Kind → Bool
-is_outlet (Some (kind.Glue g)) = is_outlet_glue g
-is_outlet k = false
 
 abbrev pub fan_at : Web → Option (ℕ × ℕ) → List Hop
 fan_at web None = []

@@ -4,7 +4,6 @@ use Rattle.std.specs.List.{flat_map}
 use Rattle.pd_atom.specs.Names.{Names}
 use Rattle.pd_atom.specs.declared.Atom.{Atom}
 use Rattle.pd_say.specs.Gathering.{Says, Fails}
-use Rattle.pd_walk.specs.declared.stack.Cursor.{Cursor}
 use Rattle.pd_walk.specs.declared.stack.Pending.{Pending}
 use Rattle.pd_walk.specs.declared.steps.Place.{Place}
 use Rattle.pd_walk.specs.declared.steps.Place.TheVariants as place

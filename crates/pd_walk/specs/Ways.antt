@@ -1,5 +1,5 @@
 -- A walk that is under way: what is left to do, from the world as it is, gives the final world.
-use Rattle.std.specs.Prelude.{◌≡◌, ℕ, List, [], ◌++◌, Option}
+use Rattle.std.specs.Prelude.{◌≡◌, ℕ, List, ◌++◌, Option}
 use Rattle.pd_say.specs.Gathering.{IsSaid}
 use Rattle.pd_turns.specs.Turns.{World}
 use Rattle.pd_walk.specs.declared.walker.Budget.{Budget}

@@ -13,6 +13,7 @@ ghost use Rattle.std.specs.Option.{option_copied};
 ghost use Rattle.pd_hearing.specs.Worlds.{net_of, kept_of, states_of};
 ghost use Rattle.pd_hearing.specs.Hearing.{heard_at as reply_at, resumed_at as reply_again};
 ghost use Rattle.pd_walk.specs.Tasks.{Task as Doing, kept_after, said_at, caused, asked_for, is_too_deep, overflow_text, printed, is_print as is_print_of, print_words as words_of, is_again as is_again_of, has_some, leads_out as leads_nowhere, kept_by, said_by_box, sent, again_after};
+ghost use Rattle.pd_walk.specs.Outcome.{StatesStay};
 ghost use Rattle.pd_walk.specs.Piles.{IsPiled, LeftOn};
 ghost use Rattle.pd_walk.specs.Turns.{told, IsDue};
 
@@ -50,6 +51,7 @@ pub(crate) fn perform<L: Sink>(
     requires due { IsDue stack.old task.now }
     ensures kept { OnOk result (kept_of patch.new symbols.new queue.new ≡ kept_after (net_of patch.old) now (kept_of patch.old symbols.old queue.old) (told stack.old.atoms task.now)) }
     ensures net { net_of patch.new ≡ net_of patch.old }
+    ensures states { StatesStay (states_of patch.old) (states_of patch.new) }
     ensures ok { OnOk result (Says (L.taken lines.old) held.old.items (L.taken lines.new) held.new.items (said_at (net_of patch.old) now (kept_of patch.old symbols.old queue.old) (told stack.old.atoms task.now))) }
     ensures err { OnErr result (Fails (L.taken lines.old) held.old.items (L.taken lines.new) (said_at (net_of patch.old) now (kept_of patch.old symbols.old queue.old) (told stack.old.atoms task.now))) }
     ensures left { (tasks : List Doing) → LeftOn (net_of patch.old) stack.old tasks → OnOk result (
@@ -99,6 +101,7 @@ fn deliver_at<L: Sink>(
     ensures kept { (queue : Waiting) → OnOk result (kept_of patch.new symbols.new queue ≡ kept_by (net_of patch.old) now node (kept_of patch.old symbols.old queue)
         (reply_at (net_of patch.old) now (states_of patch.old) symbols.old node inlet task.now.selector (slice_range stack.old.atoms task.now.first task.now.after))) }
     ensures net { net_of patch.new ≡ net_of patch.old }
+    ensures states { StatesStay (states_of patch.old) (states_of patch.new) }
     ensures ok { OnOk result (Says (L.taken lines.old) held.old.items (L.taken lines.new) held.new.items
         (said_by_box (net_of patch.old) task.now.depth node task.now.selector (slice_range stack.old.atoms task.now.first task.now.after)
         (reply_at (net_of patch.old) now (states_of patch.old) symbols.old node inlet task.now.selector (slice_range stack.old.atoms task.now.first task.now.after)))) }
@@ -156,6 +159,7 @@ fn resume<L: Sink>(
     ensures kept { (queue : Waiting) → OnOk result (kept_of patch.new symbols.now queue ≡ kept_by (net_of patch.old) now node (kept_of patch.old symbols.now queue)
         (reply_again (net_of patch.old) (states_of patch.old) symbols.now node)) }
     ensures net { net_of patch.new ≡ net_of patch.old }
+    ensures states { StatesStay (states_of patch.old) (states_of patch.new) }
     ensures ok { OnOk result (Says (L.taken lines.old) held.old.items (L.taken lines.new) held.new.items
         (overflow_text (is_too_deep (net_of patch.old) depth node (reply_again (net_of patch.old) (states_of patch.old) symbols.now node).said))) }
     ensures err { OnErr result (Fails (L.taken lines.old) held.old.items (L.taken lines.new)

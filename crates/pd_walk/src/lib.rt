@@ -4,6 +4,8 @@
 mod acting;
 mod canvases;
 mod printing;
+mod relay;
+mod routes;
 mod sending;
 mod stack;
 mod steps;

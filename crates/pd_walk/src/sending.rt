@@ -6,7 +6,8 @@ ghost use Rattle.pd_atom.specs.declared.Atom.{Atom};
 ghost use Rattle.pd_kind.specs.Rows.{are_within, send_of};
 ghost use Rattle.pd_hearing.specs.Worlds.{net_of, Net};
 ghost use Rattle.pd_grove.specs.Telling.{kind_in};
-ghost use Rattle.pd_walk.specs.Tasks.{Task as Doing, sent, sent_to, wires_from, leads_out as leads_nowhere, is_outlet as is_outlet_of, again_after, fan_at};
+ghost use Rattle.pd_walk.specs.Tasks.{Task as Doing, sent, sent_to, wires_from, leads_out as leads_nowhere, again_after, fan_at};
+ghost use Rattle.pd_hearing.specs.Outlets.{is_outlet as is_outlet_of};
 ghost use Rattle.pd_walk.specs.Piles.{CursorTasks, IsAlong, Fits, AllLie, IsPiled, LeftOn, AreLeft, send_at, row_from};
 
 use crate::stack::{Cursor, Frame, Stack};

@@ -221,16 +221,22 @@ fn wire_turn(patch: &Patch, next: Option<Hop>) -> Turn
     }
 }
 
-/// Where a wire leads. One into a box that holds a canvas leads to the box of that port.
+/// Where a wire leads.
 fn fed_by(patch: &Patch, hop: Hop) -> Place
     ensures { (depth selector : ℕ) (atoms : List Atom) → doing result depth selector atoms ≡ delivery depth selector atoms (end_of patch.now.web hop) }
 {
+    let (node, inlet) = end_at(patch, hop);
+    Place::Inlet { node, inlet }
+}
+
+/// The box and the inlet to which a wire leads. One into a box that holds a canvas leads to the box of that port.
+#[inline(always)]
+pub(crate) fn end_at(patch: &Patch, hop: Hop) -> (u32, u32)
+    ensures { result ≡ end_of patch.now.web hop }
+{
     match patch.port_box(hop.node(), hop.port(), false) {
-        Some(node) => Place::Inlet { node, inlet: 0 },
-        None => Place::Inlet {
-            node: hop.node(),
-            inlet: hop.port(),
-        },
+        Some(node) => (node, 0),
+        None => (hop.node(), hop.port()),
     }
 }
 

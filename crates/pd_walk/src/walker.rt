@@ -11,10 +11,12 @@ ghost use Rattle.pd_hearing.specs.Deeds.{done};
 ghost use Rattle.pd_walk.specs.Tasks.{Task as Doing, asked_for};
 ghost use Rattle.pd_walk.specs.Piles.{IsPiled, LeftOn};
 ghost use Rattle.pd_walk.specs.Ways.{IsUnderWay, IsDone};
-ghost use Rattle.pd_walk.specs.Outcome.{world, outcome, told_by, all_loaded, named_tasks, ran, IsLeft};
+ghost use Rattle.pd_walk.specs.Outcome.{world, outcome, told_by, all_loaded, named_tasks, ran, IsLeft, StatesStay};
 
 use crate::acting::{perform, push_sends};
 use crate::printing::print_cut;
+use crate::relay::relay_task;
+use crate::routes::no_routes;
 use crate::stack::{Cursor, Frame, Stack};
 use crate::steps::next_task;
 use pd_atom::{Atom, Sym, Symbols};
@@ -103,6 +105,7 @@ impl Walker {
         ensures err { OnErr result (TookPart (L.taken lines.old) (L.taken lines.new)
             (outcome (net_of patch.old) now (world (kept_of patch.old symbols.old queue.old) budget.old []) start.now).said) }
         ensures net { net_of patch.new ≡ net_of patch.old }
+        ensures states { StatesStay (states_of patch.old) (states_of patch.new) }
         ensures cause { HasCause (L.faults lines.old) (L.faults lines.new) result }
     {
         self.held.clear();
@@ -135,6 +138,7 @@ fn begin<L: Sink>(
     ensures err { (before : Option (List ℕ)) (said : List ℕ) → IsSaid before (L.taken lines.old) held.old.items said → OnErr result (
         TookPart before (L.taken lines.new) (outcome (net_of patch.old) now (world (kept_of patch.old symbols.old queue.old) budget.old said) start.now).said) }
     ensures net { net_of patch.new ≡ net_of patch.old }
+    ensures states { StatesStay (states_of patch.old) (states_of patch.new) }
     ensures cause { HasCause (L.faults lines.old) (L.faults lines.new) result }
 {
     match start {
@@ -169,6 +173,7 @@ fn walk_name<L: Sink>(
     ensures err { (before : Option (List ℕ)) (said : List ℕ) → IsSaid before (L.taken lines.old) held.old.items said → OnErr result (
         TookPart before (L.taken lines.new) (ran (net_of patch.old) now (world (kept_of patch.old symbols.old queue.old) budget.old said) (named_tasks (net_of patch.old) name message.now.selector message.now.atoms.now)).said) }
     ensures net { net_of patch.new ≡ net_of patch.old }
+    ensures states { StatesStay (states_of patch.old) (states_of patch.new) }
     ensures cause { HasCause (L.faults lines.old) (L.faults lines.new) result }
 {
     stack.clear();
@@ -223,6 +228,7 @@ fn walk_clock<L: Sink>(
     ensures err { (before : Option (List ℕ)) (said : List ℕ) → IsSaid before (L.taken lines.old) held.old.items said → OnErr result (
         TookPart before (L.taken lines.new) (told_by (net_of patch.old) now owner (fired_at (net_of patch.old) (states_of patch.old) owner) (world (kept_of patch.old symbols.old queue.old) budget.old said)).said) }
     ensures net { net_of patch.new ≡ net_of patch.old }
+    ensures states { StatesStay (states_of patch.old) (states_of patch.new) }
     ensures cause { HasCause (L.faults lines.old) (L.faults lines.new) result }
 {
     fire_at(patch, owner, sends);
@@ -249,6 +255,7 @@ fn walk_loads<L: Sink>(
     ensures err { (before : Option (List ℕ)) (said : List ℕ) → IsSaid before (L.taken lines.old) held.old.items said → OnErr result (
         TookPart before (L.taken lines.new) (all_loaded (net_of patch.old) now (world (kept_of patch.old symbols.old queue.old) budget.old said) boxes.now).said) }
     ensures net { net_of patch.new ≡ net_of patch.old }
+    ensures states { StatesStay (states_of patch.old) (states_of patch.new) }
     ensures cause { HasCause (L.faults lines.old) (L.faults lines.new) result }
 {
     for node in boxes {
@@ -278,6 +285,7 @@ fn walk_box<L: Sink>(
     ensures err { (before : Option (List ℕ)) (said : List ℕ) → IsSaid before (L.taken lines.old) held.old.items said → OnErr result (
         TookPart before (L.taken lines.new) (told_by (net_of patch.old) now node (said_by sends.old) (world (kept_of patch.old symbols.old queue.old) budget.old said)).said) }
     ensures net { net_of patch.new ≡ net_of patch.old }
+    ensures states { StatesStay (states_of patch.old) (states_of patch.new) }
     ensures cause { HasCause (L.faults lines.old) (L.faults lines.new) result }
 {
     stack.clear();
@@ -306,18 +314,22 @@ fn walk<L: Sink>(
     ensures err { (before : Option (List ℕ)) (final : World Kept) → IsUnderWay (net_of patch.old) now (kept_of patch.old symbols.old queue.old) budget.old stack.old [] before (L.taken lines.old) held.old.items final →
         OnErr result (TookPart before (L.taken lines.new) final.said) }
     ensures net { net_of patch.new ≡ net_of patch.old }
+    ensures states { StatesStay (states_of patch.old) (states_of patch.new) }
     ensures cause { HasCause (L.faults lines.old) (L.faults lines.new) result }
 {
     if budget.cut {
         return Ok(());
     }
+    let mut routes = no_routes();
     while let Some(task) = next_task(patch, stack, symbols, held, lines)? {
         if budget.left == 0 {
             budget.cut = true;
             return print_cut(symbols, held, lines);
         }
-        budget.left -= 1;
-        perform(patch, stack, sends, symbols, now, queue, held, lines, &task)?;
+        if !relay_task(patch, &mut routes, stack, symbols, &task, budget) {
+            budget.left -= 1;
+            perform(patch, stack, sends, symbols, now, queue, held, lines, &task)?;
+        }
     }
     Ok(())
 }

@@ -1,4 +1,4 @@
-use Rattle.std.proofs.Common.{arith, ◌≡◌, ◌++◌, ℕ, List, [], refl, sym, ◌∙◌, subst, OnOk, OnErr}
+use Rattle.std.proofs.Common.{◌≡◌, ◌++◌, List, [], refl, sym, ◌∙◌, subst, OnOk, OnErr}
 use Rattle.std.proofs.lemmas.Result.{err_from_is_err_and}
 use Rattle.pd_atom.specs.declared.Atom.{Atom}
 use Rattle.pd_kind.specs.declared.messages.Notice.{Notice}
@@ -9,6 +9,7 @@ use Rattle.pd_walk.specs.Tasks.{kept_by, said_by_box, asked_for, notices_text}
 use Rattle.pd_walk.specs.Piles.{LeftOn}
 use Rattle.pd_hearing.proofs.ResultLemmas.{on_ok_map, on_err_map}
 use Rattle.pd_walk.proofs.ActLemmas.{box-says, box-fails, print-fails, notices-fail, asked-left, acts-kept}
+use Rattle.pd_walk.proofs.StayLemmas.{heard-stay, done-stay, stay-then}
 use Rattle.pd_walk.proofs.acting.deliver_at.Goals as goal
 
 pub returns-clause-ok : goal.returns-clause-ok
@@ -81,3 +82,14 @@ returns-clause-left g c = λ tasks left.
     (on_ok_map c.push_sends.result
     (asked-left _ _ a.task.now.depth a.node _ _ _ tasks same c.hear_at.ensures.reply)
     (c.push_sends.ensures.left tasks left2))
+
+pub returns-in_err-print_notices-clause-states : goal.returns-in_err-print_notices-clause-states
+returns-in_err-print_notices-clause-states g c = heard-stay _ _ _ _ _ _ _ _ _ c.hear_at.ensures.reply
+
+pub returns-in_err-print_at-clause-states : goal.returns-in_err-print_at-clause-states
+returns-in_err-print_at-clause-states g c = heard-stay _ _ _ _ _ _ _ _ _ c.hear_at.ensures.reply
+
+pub returns-clause-states : goal.returns-clause-states
+returns-clause-states g c =
+    stay-then _ _ _ (heard-stay _ _ _ _ _ _ _ _ _ c.hear_at.ensures.reply)
+    (done-stay _ _ _ _ (kept_of c.hear_at.new.patch [] []) _ (c.do_deed.ensures.kept [] []))

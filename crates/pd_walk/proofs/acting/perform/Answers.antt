@@ -1,11 +1,12 @@
-use Rattle.std.proofs.Common.{◌≡◌, ◌++◌, ℕ, List, sym, ◌∙◌, subst, OnOk, OnErr}
+use Rattle.std.proofs.Common.{◌++◌, ℕ, List, sym, ◌∙◌, subst, OnOk, OnErr}
 use Rattle.std.specs.List.{slice_range}
 use Rattle.pd_say.specs.Gathering.{Says, Fails}
 use Rattle.pd_hearing.specs.Worlds.{net_of, kept_of}
 use Rattle.pd_walk.specs.Tasks.{Task}
 use Rattle.pd_walk.specs.Piles.{LeftOn}
-use Rattle.pd_hearing.proofs.ResultLemmas.{on_ok_map, on_err_map}
-use Rattle.pd_walk.proofs.ActLemmas.{inlet-kept, inlet-said, inlet-caused, again-kept, again-said, again-caused, canvas-kept, canvas-said, canvas-caused}
+use Rattle.pd_hearing.proofs.ResultLemmas.{on_ok_map}
+use Rattle.pd_walk.proofs.ActLemmas.{inlet-kept, inlet-said, inlet-caused, again-kept, again-said, again-caused}
+use Rattle.pd_walk.proofs.StayLemmas.{all-stay}
 use Rattle.pd_walk.proofs.acting.perform.Goals as goal
 
 -- a message comes to a box
@@ -73,3 +74,6 @@ returns-in-Again-clause-left g c = λ tasks left.
     (sym (again-caused (net_of a.patch.now) a.now (kept_of a.patch.now a.symbols.now a.queue.now) a.task.now.place a.task.now.depth a.task.now.selector
     (slice_range a.stack.now.atoms a.task.now.first a.task.now.after) c.in-Again.node c.in-Again.is))
     (c.resume.ensures.left tasks left)
+
+pub returns-in-Canvas-clause-states : goal.returns-in-Canvas-clause-states
+returns-in-Canvas-clause-states g c = all-stay _

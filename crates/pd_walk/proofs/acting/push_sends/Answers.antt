@@ -1,4 +1,4 @@
-use Rattle.std.proofs.Common.{arith, ◌+◌, ◌≡◌, ◌≤◌, ◌++◌, ◌||◌, ℕ, Bool, List, [], map, sym, refl, ◌∙◌, ap, subst, false, true, OnOk, OnErr}
+use Rattle.std.proofs.Common.{arith, ◌+◌, ◌++◌, ℕ, List, map, sym, subst, OnOk, OnErr}
 use Rattle.pd_atom.specs.declared.Atom.{Atom}
 use Rattle.pd_kind.specs.Rows.{send_of}
 use Rattle.pd_say.specs.Gathering.{Says, Fails}

@@ -1,6 +1,8 @@
-use Rattle.std.proofs.Common.{arith, ◌≡◌, List, sym, ◌∙◌}
+use Rattle.std.proofs.Common.{[], ◌∙◌}
 use Rattle.pd_hearing.proofs.ResultLemmas.{on_ok_map, on_err_map}
 use Rattle.pd_walk.proofs.ActLemmas.{again-says, again-fails, asked-left, acts-kept}
+use Rattle.pd_hearing.specs.Worlds.{kept_of}
+use Rattle.pd_walk.proofs.StayLemmas.{resumed-stay, done-stay, stay-then}
 use Rattle.pd_walk.proofs.acting.resume.Goals as goal
 
 pub returns-clause-ok : goal.returns-clause-ok
@@ -28,3 +30,8 @@ returns-clause-left g c = λ tasks left.
     on_ok_map c.push_sends.result
     (asked-left _ _ c.args.depth c.args.node _ _ _ tasks net (c.resume_at.ensures.reply c.args.symbols.now))
     (c.push_sends.ensures.left tasks (rw net left))
+
+pub returns-clause-states : goal.returns-clause-states
+returns-clause-states g c =
+    stay-then _ _ _ (resumed-stay _ _ _ _ _ (c.resume_at.ensures.reply []))
+    (done-stay _ _ _ _ (kept_of c.resume_at.new.patch [] []) _ (c.do_deed.ensures.kept [] []))

@@ -2,6 +2,8 @@ use Rattle.std.proofs.Common.{refl, []}
 use Rattle.pd_kind.specs.Said.{said_by}
 use Rattle.std.proofs.lemmas.Result.{err_from_is_err_and}
 use Rattle.pd_walk.proofs.WayLemmas.{box-begins, box-breaks}
+use Rattle.pd_hearing.specs.Worlds.{kept_of}
+use Rattle.pd_walk.proofs.StayLemmas.{done-stay, stay-then}
 use Rattle.pd_walk.proofs.walker.walk_box.Goals as goal
 
 pub returns-clause-ok : goal.returns-clause-ok
@@ -20,3 +22,10 @@ pub returns-in_err-push_sends-clause-err : goal.returns-in_err-push_sends-clause
 returns-in_err-push_sends-clause-err g c = λ before said is_said.
     let p = err_from_is_err_and c.from_residual.result c.from_residual.ensures.1 in
     rw p.1 (box-breaks _ c.args.now c.args.node _ c.args.budget.now (said_by c.args.sends.now) before _ _ _ said is_said c.in_err-push_sends.ensures.err)
+
+pub returns-clause-states : goal.returns-clause-states
+returns-clause-states g c =
+    stay-then _ _ _ (done-stay _ _ _ _ (kept_of c.args.patch.now [] []) _ (c.do_deed.ensures.kept [] [])) c.walk.ensures.states
+
+pub returns-in_err-push_sends-clause-states : goal.returns-in_err-push_sends-clause-states
+returns-in_err-push_sends-clause-states g c = done-stay _ _ _ _ (kept_of c.args.patch.now [] []) _ (c.do_deed.ensures.kept [] [])

@@ -1,4 +1,4 @@
-use Rattle.std.proofs.Common.{arith, ◌≡◌, ◌<◌, ◌≤◌, ℕ, List, Option, length, take, get_or, sym, ◌∙◌, subst}
+use Rattle.std.proofs.Common.{arith, ◌≡◌, ◌<◌, ℕ, List, length, take, get_or, sym, ◌∙◌, subst}
 use Rattle.pd_say.proofs.RowLemmas.{get_or-any}
 use Rattle.std.proofs.lemmas.Result.{err_from_is_err_and}
 use Rattle.pd_io.specs.Stream.{TookPart}
@@ -8,6 +8,7 @@ use Rattle.pd_walk.specs.Outcome.{world, all_loaded}
 use Rattle.pd_walk.specs.Ways.{IsDone}
 use Rattle.pd_hearing.proofs.KnownLemmas.{take_whole}
 use Rattle.pd_walk.proofs.WayLemmas.{loads-one, loads-more, loads-part}
+use Rattle.pd_walk.proofs.StayLemmas.{stay-then}
 use Rattle.pd_walk.proofs.walker.walk_loads.Goals as goal
 
 pub loop-node-preserved : goal.loop-node-preserved
@@ -17,6 +18,7 @@ loop-node-preserved g c =
     let is : node ≡ get_or c.args.boxes.now c.loop-node.node-index node = get_or-any c.args.boxes.now c.loop-node.node-index 0 node lt in
     record {
       net = c.walk_box.ensures.net ∙ c.loop-node.invariant.net;
+      states = stay-then _ _ _ c.loop-node.invariant.states c.walk_box.ensures.states;
       done = λ before said is_said.
           let w : World Kept = world (kept_of c.args.patch.now c.args.symbols.now c.args.queue.now) c.args.budget.now said in
           let v : World Kept = all_loaded (net_of c.args.patch.now) c.args.now w (take c.loop-node.node-index c.args.boxes.now) in
@@ -48,3 +50,6 @@ returns-clause-ok g c = λ before said is_said.
     subst (λ (l : List ℕ). IsDone (kept_of c.loop-node.patch c.loop-node.symbols c.loop-node.queue) c.loop-node.budget before (g.L.Sink.taken c.loop-node.lines) c.loop-node.held.items (all_loaded (net_of c.args.patch.now) c.args.now (world (kept_of c.args.patch.now c.args.symbols.now c.args.queue.now) c.args.budget.now said) l))
     (take_whole c.args.boxes.now c.loop-node.node-index c.loop-node-test.false)
     (c.loop-node.invariant.done before said is_said)
+
+pub returns-in_err-walk_box-clause-states : goal.returns-in_err-walk_box-clause-states
+returns-in_err-walk_box-clause-states g c = stay-then _ _ _ c.loop-node.invariant.states c.walk_box.ensures.states
