@@ -6,3 +6,4 @@ pub mod OpeningLemmas
 pub mod PassageLemmas
 pub mod ShowLemmas
 pub mod TimeLemmas
+pub mod WholeLemmas

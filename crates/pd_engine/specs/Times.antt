@@ -1,8 +1,9 @@
 -- Clocks and blocks in time.
-use Rattle.std.specs.Prelude.{ℕ, zero, suc, ◌+◌, ◌-◌, min, max, nat_lt, nat_le, List, [], ◌∷◌, Option, Some, None, if◌then◌else◌}
+use Rattle.std.specs.Prelude.{◌≡◌, ℕ, zero, suc, ◌+◌, ◌-◌, min, max, nat_lt, nat_le, List, [], ◌∷◌, Option, Some, None, if◌then◌else◌}
 use Rattle.pd_clock.specs.Queue.{Clock}
 use Rattle.pd_mix.specs.Samples.{block_bytes}
 use Rattle.pd_hearing.specs.Worlds.{Net}
+use Rattle.pd_patch.specs.declared.patch.Patch.{Patch}
 use Rattle.pd_block.specs.Nets as block
 use Rattle.pd_block.specs.Blocks.{Played, block_of}
 use Rattle.pd_engine.specs.Stages.{Stage, Passage, still, followed_by}
@@ -116,6 +117,10 @@ block_net s = record {
   clocks = s.clocks;
   end = s.net.end;
 }
+
+-- all of a patch is as it was once, but its clocks, what its boxes keep and the blocks of their outlets
+abbrev pub IsStageOf : Patch → Stage → Type 0
+IsStageOf p s = block_net s ≡ block.with_clocks (block.net_of p) s.clocks
 
 abbrev pub sound_at : Stage → block.Sound
 sound_at s = record { states = s.states; blocks = s.net.blocks }

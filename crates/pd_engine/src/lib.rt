@@ -4,6 +4,7 @@
 mod commands;
 mod engine;
 mod events;
+mod laws;
 mod messages;
 mod opening;
 mod printing;
@@ -14,4 +15,5 @@ mod showing;
 mod times;
 
 pub use engine::Engine;
+pub use laws::blocks_are_whole;
 pub use refusals::{BadCause, EditRefusal, EngineFault, OpenRefusal, Outcome};
