@@ -32,7 +32,7 @@ use pd_queue::EditQueue;
 use pd_say::Held;
 
 /// A delivery at this depth sends nothing.
-const DEEPEST: u32 = 1000;
+pub(crate) const DEEPEST: u32 = 1000;
 
 /// Does one task.
 #[tactic(auto, unfolding(crate::specs::Tasks::kept_after, crate::specs::Tasks::said_at, crate::specs::Tasks::caused))]

@@ -13,6 +13,7 @@ ghost use Rattle.pd_walk.specs.Turns.{told, IsDue};
 ghost use Rattle.pd_walk.specs.Outcome.{StatesStay};
 ghost use Rattle.pd_walk.specs.Relays.{AreRoutes, saying_tasks, resumption, Stepped, Relayed, GoesFrom};
 
+use crate::acting::DEEPEST;
 use crate::routes::{Routes, route_of};
 use crate::stack::{Cursor, Frame, Stack};
 use crate::steps::{Place, Task};
@@ -21,9 +22,6 @@ use pd_atom::{Atom, Sym, Symbols};
 use pd_hearing::{Brief, Reaction, goes_on_at, hear_brief};
 use pd_patch::Patch;
 use pd_web::Hop;
-
-/// A delivery at this depth sends nothing.
-const DEEPEST: u32 = 1000;
 
 /// A box says a brief message to its first outlet, to be delivered at this depth.
 #[derive(Clone, Copy, Drop)]
