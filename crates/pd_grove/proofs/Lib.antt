@@ -1,4 +1,5 @@
 pub mod TreeLemmas
+pub mod TreeBoxes
 pub mod Standings
 pub mod Plantings
 pub mod Freshness

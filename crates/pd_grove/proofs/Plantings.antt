@@ -9,8 +9,8 @@ use Rattle.pd_tree.specs.Trees.{Cell, Trees, Done, Leaf, Holder, Stand, join, wi
 use Rattle.pd_grove.specs.declared.nodes.Node.{Node}
 use Rattle.pd_grove.specs.declared.boards.Board.{Board}
 use Rattle.pd_grove.specs.declared.seeds.Seed.{Seed}
-use Rattle.pd_grove.specs.Standing.{NodeSeen, node_seen, BoardSeen, board_seen, depth_of, board_room, with_inner, Gains}
-use Rattle.pd_grove.specs.Planting.{stands_ready, AreRoomy, HaveRoom, Keeps, Plants, PlantsInside, with_keys}
+use Rattle.pd_grove.specs.Standing.{NodeSeen, node_seen, BoardSeen, board_seen, depth_of, board_room, with_inner, Gains, NodesOf}
+use Rattle.pd_grove.specs.Planting.{stands_ready, SeedsOf, AreRoomy, HaveRoom, Keeps, Plants, PlantsInside, with_keys}
 use Rattle.pd_grove.specs.States.{AreFresh, NodesFresh, SeedsSmall, NodesSmall}
 use Rattle.pd_grove.specs.Owning.{AreOwn}
 use Rattle.pd_grove.proofs.TreeLemmas.{width-join, join-assoc, first_box, other_boxes, first_other, first_width, first_stands, no_boxes}
@@ -35,6 +35,7 @@ pub record Halfway (nodes₀ nodes₁ : Slab Node) (boards₀ boards₁ : Slab B
   pub fewer : length seeds₁ ≤ length seeds₀
   pub fresh : (rate : Rate) (now : ℕ) → AreFresh rate now seeds₀ → NodesFresh rate now (get nodes₀) → AreFresh rate now seeds₁ × NodesFresh rate now (get nodes₁)
   pub small : SeedsSmall seeds₀ → NodesSmall (get nodes₀) → SeedsSmall seeds₁ × NodesSmall (get nodes₁)
+  pub of_tree : (t : Trees) → SeedsOf t seeds₀ → NodesOf t (get nodes₀) → SeedsOf t seeds₁ × NodesOf t (get nodes₁)
   pub own : AreOwn (get nodes₀) (get boards₀) → AreOwn (get nodes₁) (get boards₁)
   pub splits : (t : Trees) (more : List Stand) → stands_ready seeds₀ ≡ stands_of t ++ more → width t ≡ count
       → Split (get nodes₀) (get nodes₁) (get boards₀) (get boards₁) seeds₁ b d i t more
@@ -89,6 +90,7 @@ halfway_start nodes boards seeds b d count l R A = record {
   fewer = omega arith;
   fresh = λ rate now f g. (f, g);
   small = λ f g. (f, g);
+  of_tree = λ t f g. (f, g);
   own = λ h. h;
   splits = λ t more h w. record { done = Done; left = t; whole = refl; wide = refl; plants = plants_none (get nodes) (get boards) b d; ready = h };
 }
@@ -136,10 +138,11 @@ pub halfway_next : (n₀ n₁ n₂ : Slab Node) (b₀ b₁ b₂ : Slab Board) (s
     → HaveRoom n₂ b₂ (length seeds₂) → AreRoomy seeds₂ → length seeds₂ ≤ length seeds₁
     → ((rate : Rate) (now : ℕ) → AreFresh rate now seeds₁ → NodesFresh rate now (get n₁) → AreFresh rate now seeds₂ × NodesFresh rate now (get n₂))
     → (SeedsSmall seeds₁ → NodesSmall (get n₁) → SeedsSmall seeds₂ × NodesSmall (get n₂))
+    → ((t : Trees) → SeedsOf t seeds₁ → NodesOf t (get n₁) → SeedsOf t seeds₂ × NodesOf t (get n₂))
     → (AreOwn (get n₁) (get b₁) → AreOwn (get n₂) (get b₂))
     → ((u : Trees) (rest : List Stand) → stands_ready seeds₁ ≡ stands_of u ++ rest → width u ≡ 1 → Plants (get n₁) (get n₂) (get b₁) (get b₂) b d u × (stands_ready seeds₂ ≡ rest))
     → Halfway n₀ n₂ b₀ b₂ seeds₀ seeds₂ b d (i + 1) count
-halfway_next n₀ n₁ n₂ b₀ b₁ b₂ seeds₀ seeds₁ seeds₂ b d i count l e H K O R A F N M W P = record {
+halfway_next n₀ n₁ n₂ b₀ b₁ b₂ seeds₀ seeds₁ seeds₂ b d i count l e H K O R A F N M T W P = record {
   within = omega (arith, l);
   kept = keeps_then (get n₀) (get n₁) (get n₂) (get b₀) (get b₁) (get b₂) b H.kept K;
   own_room = (let o = H.own_room in omega (arith, o, O));
@@ -148,6 +151,7 @@ halfway_next n₀ n₁ n₂ b₀ b₁ b₂ seeds₀ seeds₁ seeds₂ b d i coun
   fewer = (let f = H.fewer in omega (arith, f, F));
   fresh = λ rate now f g. let x = H.fresh rate now f g in N rate now x.0 x.1;
   small = λ f g. let x = H.small f g in M x.0 x.1;
+  of_tree = λ t f g. let x = H.of_tree t f g in T t x.0 x.1;
   own = λ h. W (H.own h);
   splits = λ t more h w. split_next (get n₀) (get n₁) (get n₂) (get b₀) (get b₁) (get b₂) seeds₁ seeds₂ b d i count t more l w (H.kept.depth ∙ e) K P (H.splits t more h w);
 }

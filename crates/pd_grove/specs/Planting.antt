@@ -8,7 +8,7 @@ use Rattle.pd_grove.specs.declared.nodes.Node.{Node}
 use Rattle.pd_grove.specs.declared.boards.Board.{Board}
 use Rattle.pd_grove.specs.declared.seeds.Seed.{Seed}
 use Rattle.pd_grove.specs.declared.seeds.Seeds.{Seeds}
-use Rattle.pd_grove.specs.Standing.{BoardSeen, board_seen, Stands, depth_of, with_inner}
+use Rattle.pd_grove.specs.Standing.{BoardSeen, board_seen, HasCell, Stands, depth_of, with_inner}
 
 abbrev pub seeds_in : Seeds → List Seed
 seeds_in s = s.items.items
@@ -21,6 +21,10 @@ stands_ready seeds = map seed_stand seeds
 
 abbrev pub one : Stand → List Stand → List Stand
 one s more = s ∷ more
+
+-- each seed is a box of the tree
+abbrev pub SeedsOf : Trees → List Seed → Type 0
+SeedsOf t seeds = AllByRecursion (λ s. HasCell t (seed_stand s).cell) seeds
 
 -- a seed's list is empty and has room for the boxes that come into it
 abbrev pub IsRoomy : Seed → Type 0

@@ -1,5 +1,5 @@
 -- Which tree stands under keys.
-use Rattle.std.specs.Prelude.{◌≡◌, ◌≢◌, ℕ, ◌+◌, ◌-◌, List, [], ◌∷◌, ◌++◌, Option, Some, None, option_map, vec_len, vec_capacity}
+use Rattle.std.specs.Prelude.{◌≡◌, ◌≢◌, ℕ, ◌+◌, ◌-◌, List, [], ◌∷◌, ◌++◌, ◌⊎◌, Option, Some, None, option_map, vec_len, vec_capacity}
 use Rattle.slab.specs.Slab.{get}
 use Rattle.pd_canvas.specs.Views.{entry_of}
 use Rattle.pd_tree.specs.declared.rows.Sheet.{Sheet}
@@ -24,6 +24,16 @@ node_seen n = record {
 abbrev pub with_inner : ℕ → Node → Node
 with_inner j n =
     record { board = n.board; element = n.element; text = n.text; kind = n.kind; fault = n.fault; state = n.state; inner = Some j }
+
+-- one of the boxes, or of those inside them, is this one
+abbrev pub HasCell : Trees → Cell → Type 0
+HasCell Done x = ⊥
+HasCell (Leaf c rest) x = (c ≡ x) ⊎ HasCell rest x
+HasCell (Holder c s inner rest) x = (c ≡ x) ⊎ (HasCell inner x ⊎ HasCell rest x)
+
+-- each box under a key is a box of the tree
+abbrev pub NodesOf : Trees → (ℕ → Option Node) → Type 0
+NodesOf t nodes = (k : ℕ) (n : Node) → nodes k ≡ Some n → HasCell t (node_seen n).cell
 
 -- what is seen of a canvas: the key of the box that holds it, how many canvases it lies in, its sheet, and the keys of its boxes
 pub record BoardSeen : Type 0 where

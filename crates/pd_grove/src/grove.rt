@@ -3,7 +3,7 @@
 ghost use Rattle.std.specs.Prelude.{◌≡◌, ◌+◌, ◌<◌, ◌≤◌, ◌^◌, ℕ, length, IfOk};
 ghost use Rattle.slab.specs.Slab.{get, HasRoomFor, slab_len};
 ghost use Rattle.pd_tree.specs.Trees.{Trees, width, stands_of, stands_in};
-ghost use Rattle.pd_grove.specs.Standing.{GroveStands, IsEmpty};
+ghost use Rattle.pd_grove.specs.Standing.{GroveStands, NodesOf, IsEmpty};
 ghost use Rattle.pd_grove.specs.States.{AreSmall, NodesFresh, NodesSmall};
 ghost use Rattle.pd_grove.specs.Owning.{AreOwn};
 
@@ -40,6 +40,7 @@ impl Grove {
     ) -> Result<Grove, AllocError>
         requires { AreSmall rows.items }
         ensures stands { (t : Trees) → stands_in rows.items ≡ stands_of t → width t ≡ count → IfOk result (λ g. GroveStands g sheet t) }
+        ensures of_tree { (t : Trees) → stands_in rows.items ≡ stands_of t → IfOk result (λ g. NodesOf t (get g.nodes)) }
         ensures fresh { IfOk result (λ g. NodesFresh rate now (get g.nodes)) }
         ensures small { IfOk result (λ g. NodesSmall (get g.nodes)) }
         ensures own { IfOk result (λ g. AreOwn (get g.nodes) (get g.boards)) }

@@ -3,8 +3,8 @@
 ghost use Rattle.std.specs.Prelude.{◌≡◌, ◌+◌, ◌-◌, ◌*◌, ◌^◌, ◌≤◌, ◌<◌, ℕ, List, length, ◌++◌, ◌≢◌, [], vec_len, vec_capacity, Some, None, IsSome};
 ghost use Rattle.slab.specs.Slab.{get, ContainsKey, HasRoomFor};
 ghost use Rattle.pd_tree.specs.Trees.{Trees, Stand, width, stands_of};
-ghost use Rattle.pd_grove.specs.Standing.{depth_of, board_room};
-ghost use Rattle.pd_grove.specs.Planting.{seeds_in, AreRoomy, IsRoomy, stands_ready, seed_stand, HaveRoom, Keeps, Plants, PlantsInside, one};
+ghost use Rattle.pd_grove.specs.Standing.{HasCell, NodesOf, depth_of, board_room};
+ghost use Rattle.pd_grove.specs.Planting.{seeds_in, SeedsOf, AreRoomy, IsRoomy, stands_ready, seed_stand, HaveRoom, Keeps, Plants, PlantsInside, one};
 ghost use Rattle.pd_kind.specs.Ports.{IsSmallKind};
 ghost use Rattle.pd_tree.specs.declared.rows.Sheet.{Sheet};
 ghost use Rattle.pd_clock.specs.declared.times.Rate.{Rate};
@@ -40,6 +40,7 @@ pub(crate) fn plant_boxes(
     ensures fresh { (rate : Rate) (now : ℕ) → AreFresh rate now (seeds_in seeds.old) → NodesFresh rate now (get nodes.old) →
         AreFresh rate now (seeds_in seeds.new) × NodesFresh rate now (get nodes.new) }
     ensures small { SeedsSmall (seeds_in seeds.old) → NodesSmall (get nodes.old) → SeedsSmall (seeds_in seeds.new) × NodesSmall (get nodes.new) }
+    ensures of_tree { (t : Trees) → SeedsOf t (seeds_in seeds.old) → NodesOf t (get nodes.old) → SeedsOf t (seeds_in seeds.new) × NodesOf t (get nodes.new) }
     ensures own { AreOwn (get nodes.old) (get boards.old) → AreOwn (get nodes.new) (get boards.new) }
     ensures fewer { length (seeds_in seeds.new) ≤ length (seeds_in seeds.old) }
     ensures plants { (t : Trees) (more : List Stand) → stands_ready (seeds_in seeds.old) ≡ stands_of t ++ more → width t ≡ count →
@@ -72,6 +73,7 @@ fn plant_next(
     ensures fresh { (rate : Rate) (now : ℕ) → AreFresh rate now (seeds_in seeds.old) → NodesFresh rate now (get nodes.old) →
         AreFresh rate now (seeds_in seeds.new) × NodesFresh rate now (get nodes.new) }
     ensures small { SeedsSmall (seeds_in seeds.old) → NodesSmall (get nodes.old) → SeedsSmall (seeds_in seeds.new) × NodesSmall (get nodes.new) }
+    ensures of_tree { (t : Trees) → SeedsOf t (seeds_in seeds.old) → NodesOf t (get nodes.old) → SeedsOf t (seeds_in seeds.new) × NodesOf t (get nodes.new) }
     ensures own { AreOwn (get nodes.old) (get boards.old) → AreOwn (get nodes.new) (get boards.new) }
     ensures fewer { length (seeds_in seeds.new) ≤ length (seeds_in seeds.old) }
     ensures plants { (t : Trees) (more : List Stand) → stands_ready (seeds_in seeds.old) ≡ stands_of t ++ more → width t ≡ 1 →
@@ -106,6 +108,7 @@ fn plant_box(
     ensures fresh { (rate : Rate) (now : ℕ) → IsFresh rate now seed → AreFresh rate now (seeds_in seeds.old) → NodesFresh rate now (get nodes.old) →
         AreFresh rate now (seeds_in seeds.new) × NodesFresh rate now (get nodes.new) }
     ensures small { IsSmallKind seed.row.kind → SeedsSmall (seeds_in seeds.old) → NodesSmall (get nodes.old) → SeedsSmall (seeds_in seeds.new) × NodesSmall (get nodes.new) }
+    ensures of_tree { (t : Trees) → HasCell t (seed_stand seed).cell → SeedsOf t (seeds_in seeds.old) → NodesOf t (get nodes.old) → SeedsOf t (seeds_in seeds.new) × NodesOf t (get nodes.new) }
     ensures own { AreOwn (get nodes.old) (get boards.old) → AreOwn (get nodes.new) (get boards.new) }
     ensures fewer { length (seeds_in seeds.new) ≤ length (seeds_in seeds.old) }
     ensures plants { (t : Trees) (more : List Stand) → one (seed_stand seed) (stands_ready (seeds_in seeds.old)) ≡ stands_of t ++ more → width t ≡ 1 →
@@ -166,6 +169,7 @@ fn plant_inside(
     ensures fresh { (rate : Rate) (now : ℕ) → AreFresh rate now (seeds_in seeds.old) → NodesFresh rate now (get nodes.old) →
         AreFresh rate now (seeds_in seeds.new) × NodesFresh rate now (get nodes.new) }
     ensures small { SeedsSmall (seeds_in seeds.old) → NodesSmall (get nodes.old) → SeedsSmall (seeds_in seeds.new) × NodesSmall (get nodes.new) }
+    ensures of_tree { (t : Trees) → SeedsOf t (seeds_in seeds.old) → NodesOf t (get nodes.old) → SeedsOf t (seeds_in seeds.new) × NodesOf t (get nodes.new) }
     ensures own { AreOwn (get nodes.old) (get boards.old) → AreOwn (get nodes.new) (get boards.new) }
     ensures fewer { length (seeds_in seeds.new) ≤ length (seeds_in seeds.old) }
     ensures plain { sheet ≡ None → (get nodes.new key ≡ get nodes.old key) × (seeds_in seeds.new ≡ seeds_in seeds.old) }

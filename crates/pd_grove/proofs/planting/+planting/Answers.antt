@@ -4,10 +4,11 @@ use Rattle.slab.specs.Slab.{get}
 use Rattle.pd_canvas.specs.Views.{entry_of}
 use Rattle.pd_grove.specs.Standing.{node_seen, with_inner}
 use Rattle.pd_grove.specs.Telling.{keys_in}
-use Rattle.pd_grove.specs.Planting.{seeds_in}
+use Rattle.pd_grove.specs.Planting.{seeds_in, SeedsOf}
 use Rattle.pd_grove.specs.Owning.{board_in}
 use Rattle.pd_grove.specs.States.{AreFresh}
 use Rattle.pd_grove.proofs.Freshness.{fresh_put, fresh_inner, small_put, small_inner}
+use Rattle.pd_grove.proofs.TreeBoxes.{of_put, of_inner}
 use Rattle.pd_grove.proofs.OwnLemmas.{own_put, own_open, own_inner, own_gains, not_there, inner_board, inner_some}
 use Rattle.pd_grove.proofs.Plantings.{halfway_next, split_end, box_planted, some_on}
 use Rattle.pd_grove.proofs.planting.+planting.Goals as goal
@@ -16,7 +17,7 @@ pub plant_boxes-loop-preserved : goal.plant_boxes-loop-preserved
 plant_boxes-loop-preserved t c =
     let p = c.plant_next.ensures in
     halfway_next c.args.nodes.now c.loop.nodes c.plant_next.new.nodes c.args.boards.now c.loop.boards c.plant_next.new.boards (seeds_in c.args.seeds.now) (seeds_in c.loop.seeds) (seeds_in c.plant_next.new.seeds)
-    c.args.board c.args.depth c.loop.counter c.args.count (omega arith) c.requires.depth c.loop.invariant p.kept p.own_room p.room p.roomy p.fewer p.fresh p.small p.own p.plants
+    c.args.board c.args.depth c.loop.counter c.args.count (omega arith) c.requires.depth c.loop.invariant p.kept p.own_room p.room p.roomy p.fewer p.fresh p.small p.of_tree p.own p.plants
 
 pub plant_boxes-returns-clause-plants : goal.plant_boxes-returns-clause-plants
 plant_boxes-returns-clause-plants t c = λ u more h w.
@@ -45,6 +46,14 @@ plant_box-returns-clause-small t c = λ s f n.
 pub plant_inside-returns-in-Some-clause-small : goal.plant_inside-returns-in-Some-clause-small
 plant_inside-returns-in-Some-clause-small t c = λ f n.
     c.plant_boxes.ensures.small f (small_inner c.open_board-inner.result (get c.args.nodes.now) (get c.set_inner.new.nodes) c.args.key c.set_inner.ensures.is c.set_inner.ensures.others n)
+
+pub plant_box-returns-clause-of_tree : goal.plant_box-returns-clause-of_tree
+plant_box-returns-clause-of_tree t c = λ tree s f n.
+    c.plant_inside.ensures.of_tree tree f (of_put tree (get c.args.nodes.now) (get c.put_node-key.new.nodes) c.put_node-key.result _ c.put_node-key.ensures.is c.put_node-key.ensures.others s n)
+
+pub plant_inside-returns-in-Some-clause-of_tree : goal.plant_inside-returns-in-Some-clause-of_tree
+plant_inside-returns-in-Some-clause-of_tree t c = λ tree f n.
+    c.plant_boxes.ensures.of_tree tree f (of_inner tree c.open_board-inner.result (get c.args.nodes.now) (get c.set_inner.new.nodes) c.args.key c.set_inner.ensures.is c.set_inner.ensures.others n)
 
 pub plant_box-returns-clause-own : goal.plant_box-returns-clause-own
 plant_box-returns-clause-own t c = λ h.
@@ -81,3 +90,8 @@ pub plant_next-returns-in-Some-clause-fresh : goal.plant_next-returns-in-Some-cl
 plant_next-returns-in-Some-clause-fresh t c = λ rate now f n.
     let first = subst (AreFresh rate now) c.in-Some.ensures f in
     c.plant_box.ensures.fresh rate now first.0 first.1 n
+
+pub plant_next-returns-in-Some-clause-of_tree : goal.plant_next-returns-in-Some-clause-of_tree
+plant_next-returns-in-Some-clause-of_tree t c = λ tree f n.
+    let first = subst (SeedsOf tree) c.in-Some.ensures f in
+    c.plant_box.ensures.of_tree tree first.0 first.1 n

@@ -8,6 +8,7 @@ use Rattle.pd_grove.specs.Standing.{board_seen}
 use Rattle.pd_grove.specs.Planting.{seeds_in, with_keys}
 use Rattle.pd_grove.specs.Telling.{keys_in}
 use Rattle.pd_grove.proofs.Freshness.{as_many}
+use Rattle.pd_grove.proofs.TreeBoxes.{seeds_of}
 use Rattle.pd_grove.proofs.OwnLemmas.{own_bare, own_open}
 use Rattle.pd_grove.proofs.grove.Grove.plant.Goals as goal
 
@@ -43,6 +44,10 @@ returns-clause-fresh c =
 pub returns-clause-small : goal.returns-clause-small
 returns-clause-small c =
     (c.plant_boxes.ensures.small c.in_ok-seeds.ensures.small (λ k n h. absurd (none-some n (sym (c.in_ok-nodes.ensures.empty k) ∙ h)))).1
+
+pub returns-clause-of_tree : goal.returns-clause-of_tree
+returns-clause-of_tree c = λ t h.
+    (c.plant_boxes.ensures.of_tree t (seeds_of t (seeds_in c.in_ok-seeds.seeds) (c.in_ok-seeds.ensures.ready ∙ h)) (λ k n e. absurd (none-some n (sym (c.in_ok-nodes.ensures.empty k) ∙ e)))).1
 
 pub returns-clause-own : goal.returns-clause-own
 returns-clause-own c =
