@@ -1,10 +1,9 @@
 -- Boxes in text order, by their keys and as cells.
-use Rattle.std.proofs.Common.{◌≡◌, ◌≢◌, ℕ, zero, suc, ◌+◌, ◌-◌, ◌<◌, ◌≤◌, Bool, true, ◌&&◌, List, [], ◌∷◌, ◌++◌, append_assoc, map, Option, Some, None, IsSome, refl, sym, ap, ◌∙◌, subst, arith}
+use Rattle.std.proofs.Common.{◌≡◌, ◌≢◌, ℕ, zero, suc, ◌+◌, ◌-◌, ◌≤◌, Bool, true, ◌&&◌, List, [], ◌∷◌, ◌++◌, map, Option, Some, None, IsSome, refl, sym, ap, ◌∙◌, subst, arith}
 use Rattle.std.specs.Prelude.{option_map}
 use Rattle.std.specs.List.{flat_map, AllByRecursion}
-use Rattle.std.proofs.lemmas.List.{map-append, append-nil}
+use Rattle.std.proofs.lemmas.List.{map-append}
 use Rattle.std.proofs.lemmas.Option.{none-some, same_Some}
-use Rattle.pd_canvas.specs.Views.{entry_of}
 use Rattle.slab.specs.Slab.{get}
 use Rattle.pd_tree.specs.declared.rows.Sheet.{Sheet}
 use Rattle.pd_tree.specs.Trees.{Cell, Trees, Done, Leaf, Holder}
@@ -12,7 +11,7 @@ use Rattle.pd_grove.specs.declared.nodes.Node.{Node}
 use Rattle.pd_grove.specs.declared.boards.Board.{Board}
 use Rattle.pd_grove.specs.declared.spots.Spot.{Spot}
 use Rattle.pd_grove.specs.declared.grove.Grove.{Grove}
-use Rattle.pd_grove.specs.Standing.{NodeSeen, node_seen, BoardSeen, board_seen, Stands, GroveStands}
+use Rattle.pd_grove.specs.Standing.{NodeSeen, node_seen, Stands, GroveStands}
 use Rattle.pd_grove.specs.Telling.{keys_in}
 use Rattle.pd_grove.specs.TextOrder.{deep, cells_in_order, is_sub, Placed, placed, placed_in_order, keys_standing, keys_inside, spot, box_spots, spots_among, spots_in_order, keys_of_spots, cell_under, placed_at}
 use Rattle.pd_grove.proofs.PlaceLemmas.{seen_cell, seen_keys}
