@@ -53,7 +53,7 @@ abbrev pub is_heard : Reaction → Bool
 is_heard reaction.Unheard = false
 is_heard r = true
 
--- a number at any inlet, or a bang at the first one
+-- what a box takes that keeps numbers: a number at any inlet, or a bang at the first one
 abbrev pub is_taken : ℕ → Brief → Bool
 is_taken inlet brief.Bang = inlet == 0
 is_taken inlet (brief.Float z) = true
@@ -78,7 +78,7 @@ is_passage (glue.Receive w n) = true
 is_passage (glue.Port Inlet) = true
 is_passage g = false
 
--- The brief messages that a box of a kind answers past the general hearing, where it keeps this.
+-- The brief messages that are answered at a box of a kind that keeps this. All others are left to the general hearing.
 abbrev pub is_answered : Kind → State → ℕ → Brief → Bool
 is_answered (kind.Arith a) s inlet m = is_pair a s && is_taken inlet m
 is_answered (kind.Glue g) s inlet m = is_passage g || is_value g s && is_taken inlet m
@@ -99,12 +99,12 @@ has_turn_left true None = true
 has_turn_left true (Some (suc n)) = true
 has_turn_left running count = false
 
--- a box of a kind that keeps this goes on when it is resumed: an `until` that has a turn left
+-- a box of a kind that keeps this goes on when it is resumed: it is an `until` that has a turn left
 abbrev pub has_turn : Kind → State → Bool
 has_turn (kind.Glue glue.Until) (state.Until running count) = has_turn_left running count
 has_turn k s = false
 
--- the same of a box, which does not go on while its state is out
+-- the same of a box, which doesn't go on while its state is out
 abbrev pub has_turn_in : Option Kind → Option State → Bool
 has_turn_in (Some k) (Some s) = has_turn k s
 has_turn_in k s = false
