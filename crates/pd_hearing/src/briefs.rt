@@ -1,9 +1,10 @@
 //! Brief messages, and the boxes that answer one with at most another one.
 
-ghost use Rattle.std.specs.Prelude.{◌≡◌, ◌≤◌, ℕ, true, false, length, None, IfSome, IfNone};
+ghost use Rattle.std.specs.Prelude.{◌≡◌, ◌≤◌, ◌&&◌, ℕ, true, false, length, None, IfSome, IfNone};
 ghost use Rattle.pd_atom.specs.Names.{Names};
 ghost use Rattle.pd_arith.specs.Rows.{pair_row, arith_row};
 ghost use Rattle.pd_plain.specs.Values.{leaves, float_row, int_row};
+ghost use Rattle.pd_kind.specs.declared.kinds.Kind.TheVariants.{Arith as ArithKind, Glue as GlueKind};
 ghost use Rattle.pd_kind.specs.declared.states.State.TheVariants.{Float as FloatState, Int as IntState, Until as UntilState};
 ghost use Rattle.pd_glue.specs.Rows.{glue_heard, resumed as kind_resumed};
 ghost use Rattle.pd_plain.specs.Timed.{until_resumed};
@@ -14,7 +15,7 @@ ghost use Rattle.pd_hearing.specs.declared.briefs.Brief.TheVariants.{Bang as Ban
 ghost use Rattle.pd_hearing.specs.Worlds.{net_of, states_of};
 ghost use Rattle.pd_hearing.specs.Guards as guard;
 ghost use Rattle.pd_hearing.specs.Hearing.{heard_at as reply_at, heard_kind, box_heard, box_resumed, resumed_at, glue_table, table_name};
-ghost use Rattle.pd_hearing.specs.Briefs.{selector_of, atoms_of, said_of, again, IfHeard, IfUnheard};
+ghost use Rattle.pd_hearing.specs.Briefs.{selector_of, atoms_of, said_of, again, IfHeard, IfUnheard, is_heard, is_taken, is_value, is_answered, is_answered_in, is_answered_at, has_turn_left, has_turn, has_turn_in, has_turn_at};
 
 use pd_arith::{Binary, compute};
 use pd_grove::Node;
@@ -69,6 +70,7 @@ fn pair_hears(
     inlet: u32,
     message: &mut Brief,
 ) -> Reaction
+    ensures answered { is_heard result ≡ is_taken inlet message.old }
     ensures heard { IfHeard result (record { left = left.new; right = right.new; said = said_of result message.new } ≡ pair_row binary left.old right.old inlet (selector_of message.old) (atoms_of message.old)) }
     ensures left { IfUnheard result (left.new ≡ left.old) }
     ensures right { IfUnheard result (right.new ≡ right.old) }
@@ -99,6 +101,7 @@ fn pair_hears(
 /// `float` hears a brief message.
 #[inline(always)]
 fn float_hears(value: &mut Num, inlet: u32, message: &mut Brief) -> Reaction
+    ensures answered { is_heard result ≡ is_taken inlet message.old }
     ensures heard { IfHeard result (leaves (FloatState value.new) (said_of result message.new) ≡ float_row value.old inlet (selector_of message.old) (atoms_of message.old)) }
     ensures stays { IfUnheard result (value.new ≡ value.old) }
     ensures same { IfUnheard result (message.new ≡ message.old) }
@@ -126,6 +129,7 @@ fn float_hears(value: &mut Num, inlet: u32, message: &mut Brief) -> Reaction
 /// `int` hears a brief message.
 #[inline(always)]
 fn int_hears(value: &mut Num, inlet: u32, message: &mut Brief) -> Reaction
+    ensures answered { is_heard result ≡ is_taken inlet message.old }
     ensures heard { IfHeard result (leaves (IntState value.new) (said_of result message.new) ≡ int_row value.old inlet (selector_of message.old) (atoms_of message.old)) }
     ensures stays { IfUnheard result (value.new ≡ value.old) }
     ensures same { IfUnheard result (message.new ≡ message.old) }
@@ -157,6 +161,7 @@ fn int_hears(value: &mut Num, inlet: u32, message: &mut Brief) -> Reaction
 /// An arithmetic object hears a brief message.
 #[inline(always)]
 fn arith_hears(arith: &Arith, state: &mut State, inlet: u32, message: &mut Brief) -> Reaction
+    ensures answered { is_heard result ≡ is_answered (ArithKind arith.now) state.old inlet message.old }
     ensures heard { IfHeard result (leaves state.new (said_of result message.new) ≡ arith_row arith.now state.old inlet (selector_of message.old) (atoms_of message.old)) }
     ensures stays { IfUnheard result (state.new ≡ state.old) }
     ensures same { IfUnheard result (message.new ≡ message.old) }
@@ -179,6 +184,7 @@ fn arith_hears(arith: &Arith, state: &mut State, inlet: u32, message: &mut Brief
 #[inline(always)]
 #[tactic(auto, unfolding(pd_plain::specs::Rows::value_row))]
 fn value_hears(glue: &Glue, state: &mut State, inlet: u32, message: &mut Brief) -> Reaction
+    ensures answered { is_heard result ≡ (is_value glue.now state.old && is_taken inlet message.old) }
     ensures heard { IfHeard result (leaves state.new (said_of result message.new) ≡ value_row glue.now state.old inlet (selector_of message.old) (atoms_of message.old)) }
     ensures stays { IfUnheard result (state.new ≡ state.old) }
     ensures same { IfUnheard result (message.new ≡ message.old) }
@@ -194,6 +200,7 @@ fn value_hears(glue: &Glue, state: &mut State, inlet: u32, message: &mut Brief) 
 #[inline(always)]
 #[tactic(auto, unfolding(pd_plain::specs::Rows::plain_row))]
 fn glue_hears(glue: &Glue, state: &mut State, inlet: u32, message: &mut Brief) -> Reaction
+    ensures answered { is_heard result ≡ is_answered (GlueKind glue.now) state.old inlet message.old }
     ensures heard { (names : Names) (now : ℕ) → IfHeard result (record { state = state.new; names = names; said = said_of result message.new } ≡ glue_heard names glue.now state.old inlet (selector_of message.old) (atoms_of message.old) now None) }
     ensures small { (names : Names) → IfHeard result (guard.is_small_box names glue.now state.old ≡ true) }
     ensures bare { IfHeard result (glue_table glue.now ≡ None) }
@@ -216,6 +223,7 @@ fn glue_hears(glue: &Glue, state: &mut State, inlet: u32, message: &mut Brief) -
 /// A box of a kind hears a brief message.
 #[inline(always)]
 fn kind_hears(kind: &Kind, state: &mut State, inlet: u32, message: &mut Brief) -> Reaction
+    ensures answered { is_heard result ≡ is_answered kind.now state.old inlet message.old }
     ensures heard { (names : Names) (now : ℕ) → 2 ≤ length names → IfHeard result (record { state = state.new; names = names; said = said_of result message.new } ≡ heard_kind names kind.now state.old inlet (selector_of message.old) (atoms_of message.old) now None) }
     ensures bare { IfHeard result (table_name kind.now ≡ None) }
     ensures inner { IfHeard result (is_outlet_kind kind.now ≡ false) }
@@ -232,6 +240,7 @@ fn kind_hears(kind: &Kind, state: &mut State, inlet: u32, message: &mut Brief) -
 /// A box hears a brief message.
 #[inline(always)]
 fn box_hears(found: &mut Node, inlet: u32, message: &mut Brief) -> Reaction
+    ensures answered { is_heard result ≡ is_answered_in (Some found.old.kind) found.old.state inlet message.old }
     ensures heard { (names : Names) (now : ℕ) → 2 ≤ length names → IfHeard result (record { node = found.new; names = names; said = said_of result message.new } ≡ box_heard names found.old inlet (selector_of message.old) (atoms_of message.old) now) }
     ensures bare { IfHeard result (table_name found.old.kind ≡ None) }
     ensures inner { IfHeard result (is_outlet_kind found.old.kind ≡ false) }
@@ -249,6 +258,7 @@ fn box_hears(found: &mut Node, inlet: u32, message: &mut Brief) -> Reaction
 /// says. Other boxes, outlets of canvases among them, have heard nothing then.
 #[inline(always)]
 pub fn hear_brief(patch: &mut Patch, node: u32, inlet: u32, message: &mut Brief) -> Reaction
+    ensures answered { is_heard result ≡ is_answered_at (net_of patch.old) (states_of patch.old) node inlet message.old }
     ensures heard { (names : Names) (now : ℕ) → 2 ≤ length names → IfHeard result (record { states = states_of patch.new; names = names; said = said_of result message.new } ≡ reply_at (net_of patch.old) now (states_of patch.old) names node inlet (selector_of message.old) (atoms_of message.old)) }
     ensures inner { IfHeard result (is_outlet (kind_in ((net_of patch.old).nodes node)) ≡ false) }
     ensures stays { IfUnheard result (states_of patch.new ≡ states_of patch.old) }
@@ -265,6 +275,7 @@ pub fn hear_brief(patch: &mut Patch, node: u32, inlet: u32, message: &mut Brief)
 /// An `until` that is resumed goes on, where it runs and has a turn left: it says a bang and asks to be resumed again.
 #[inline(always)]
 fn until_goes_on(is_running: bool, count: &mut Option<u32>) -> bool
+    ensures answered { result ≡ has_turn_left is_running count.old }
     ensures goes { result ≡ true → leaves (UntilState is_running count.new) again ≡ until_resumed is_running count.old }
     ensures stays { result ≡ false → count.new ≡ count.old }
 {
@@ -285,6 +296,7 @@ fn until_goes_on(is_running: bool, count: &mut Option<u32>) -> bool
 #[inline(always)]
 #[tactic(auto, unfolding(pd_plain::specs::Rows::resumed))]
 fn glue_goes_on(glue: &Glue, state: &mut State) -> bool
+    ensures answered { result ≡ has_turn (GlueKind glue.now) state.old }
     ensures goes { result ≡ true → leaves state.new again ≡ glue_resumed glue.now state.old }
     ensures inner { result ≡ true → is_outlet_glue glue.now ≡ false }
     ensures stays { result ≡ false → state.new ≡ state.old }
@@ -299,6 +311,7 @@ fn glue_goes_on(glue: &Glue, state: &mut State) -> bool
 #[inline(always)]
 #[tactic(auto, unfolding(pd_glue::specs::Rows::resumed))]
 fn kind_goes_on(kind: &Kind, state: &mut State) -> bool
+    ensures answered { result ≡ has_turn kind.now state.old }
     ensures goes { result ≡ true → leaves state.new again ≡ kind_resumed kind.now state.old }
     ensures inner { result ≡ true → is_outlet_kind kind.now ≡ false }
     ensures stays { result ≡ false → state.new ≡ state.old }
@@ -312,6 +325,7 @@ fn kind_goes_on(kind: &Kind, state: &mut State) -> bool
 /// The same of a box.
 #[inline(always)]
 fn box_goes_on(found: &mut Node) -> bool
+    ensures answered { result ≡ has_turn_in (Some found.old.kind) found.old.state }
     ensures goes { (names : Names) → result ≡ true → record { node = found.new; names = names; said = again } ≡ box_resumed names found.old }
     ensures inner { result ≡ true → is_outlet_kind found.old.kind ≡ false }
     ensures rest { found.new ≡ with_state found.new.state found.old }
@@ -327,6 +341,7 @@ fn box_goes_on(found: &mut Node) -> bool
 /// that is so; if not, nothing changed.
 #[inline(always)]
 pub fn goes_on_at(patch: &mut Patch, node: u32) -> bool
+    ensures answered { result ≡ has_turn_at (net_of patch.old) (states_of patch.old) node }
     ensures goes { (names : Names) → result ≡ true → record { states = states_of patch.new; names = names; said = again } ≡ resumed_at (net_of patch.old) (states_of patch.old) names node }
     ensures inner { result ≡ true → is_outlet (kind_in ((net_of patch.old).nodes node)) ≡ false }
     ensures stays { result ≡ false → states_of patch.new ≡ states_of patch.old }
