@@ -17,6 +17,7 @@ use Rattle.pd_kind.specs.declared.messages.Notice.{Notice}
 use Rattle.pd_kind.specs.declared.messages.Notice.TheVariants as notice
 use Rattle.pd_kind.specs.Ports.{IsSmallGlue}
 use Rattle.pd_hearing.specs.Guards.{is_name, is_atom, are_atoms, is_few, is_message, is_table, is_small_glue, has_text, is_small_state, keeps_list, keeps_message, keeps_text, is_small_box, is_small, is_open, is_known}
+use Rattle.pd_walk.specs.Tasks.{is_near}
 use Rattle.pd_guards.specs.Order.{IsName, IsAtom, AreAtoms, IsMessage, IsTable, IsKept, HasWords, IsGlue, IsKind, IsNotice}
 
 pub true_and : (a b : Bool) → a ≡ true → b ≡ true → (a && b) ≡ true
@@ -28,6 +29,9 @@ all_true P t k (x ∷ xs) h = true_and (t x) (list_all t xs) (k x h.0) (all_true
 
 pub few_true : {A : Type 0} (xs : List A) → length xs ≤ 1024 → is_few xs ≡ true
 few_true xs h = le-leb (length xs) 1024 h
+
+pub near_true : (path : List ℕ) → length path ≤ 255 → is_near path ≡ true
+near_true path h = le-leb (length path) 255 h
 
 module _ (names : Names) where
   pub name_true : (s : ℕ) → IsName names s → is_name names s ≡ true

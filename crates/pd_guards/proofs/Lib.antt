@@ -16,6 +16,7 @@ pub mod ControlLemmas
 pub mod GuardLemmas
 pub mod HearLemmas
 pub mod SameTurns
+pub mod NearLemmas
 pub mod WalkLemmas
 pub mod NamingLemmas
 pub mod GrownLemmas

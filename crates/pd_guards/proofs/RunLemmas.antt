@@ -1,6 +1,5 @@
 -- Messages leave the values of signals that boxes keep in their range, and so does a whole delivery.
-use Rattle.std.proofs.Common.{◌≡◌, ℕ, ℤ, ◌^◌, ◌&&◌, ◌==◌, true, nat_le, List, [], ◌∷◌, Option, Some, None, IfSome, option_map, refl, sym, subst}
-use Rattle.std.specs.List.{AllByRecursion}
+use Rattle.std.proofs.Common.{ℕ, ℤ, ◌^◌, ◌&&◌, ◌==◌, true, nat_le, List, [], Option, Some, None, IfSome, option_map, refl, sym, subst}
 use Rattle.pd_atom.specs.Names.{Names}
 use Rattle.pd_atom.specs.declared.Atom.{Atom}
 use Rattle.pd_kind.specs.declared.kinds.Kind.{Kind}
@@ -11,29 +10,26 @@ use Rattle.pd_kind.specs.declared.messages.Deed.{Deed}
 use Rattle.pd_kind.specs.declared.messages.Deed.TheVariants as deed
 use Rattle.pd_kind.specs.declared.states.State.{State}
 use Rattle.pd_kind.specs.declared.states.State.TheVariants as state
-use Rattle.pd_kind.specs.Said.{Said}
 use Rattle.pd_kind.specs.Tables.{with_value}
 use Rattle.pd_glue.specs.Rows.{Hearing, tone_row, signal_row, glue_heard, heard, resumed}
 use Rattle.pd_grove.specs.Telling.{kind_in}
 use Rattle.pd_turns.specs.Turns.{World}
 use Rattle.pd_walk.specs.declared.walker.Budget.{Budget}
 use Rattle.pd_walk.specs.declared.walker.Start.{Start}
-use Rattle.pd_walk.specs.declared.walker.Start.TheVariants as start
 use Rattle.pd_hearing.specs.Worlds.{Net, Kept, set_at}
-use Rattle.pd_hearing.specs.Guards.{is_message, is_table, is_small, is_open, is_few}
-use Rattle.pd_hearing.specs.Hearing.{table_in, table_named, table_owner, heard_other, heard_by, heard_kind, heard_in, heard_with, heard_at, resumed_in, resumed_with, resumed_at, fired_at, loaded_at}
+use Rattle.pd_hearing.specs.Guards.{is_message, is_table, is_small, is_open}
+use Rattle.pd_hearing.specs.Hearing.{table_in, table_named, table_owner, heard_other, heard_by, heard_kind, heard_in, heard_with, heard_at, resumed_in, resumed_with, resumed_at}
 use Rattle.pd_hearing.specs.Deeds.{written_at, written, done}
-use Rattle.pd_walk.specs.Tasks.{Task, Deliver, Ask, Resume, Nobody, to_name, asked_for, kept_after, rules}
-use Rattle.pd_walk.specs.Outcome.{world, ran, after_deed, told_by, all_loaded, named_tasks, outcome, IsLeft}
-use Rattle.pd_guards.specs.Order.{HasFirst, IsMessage, IsSaid}
+use Rattle.pd_walk.specs.Tasks.{Task, Deliver, Ask, Resume, Nobody, kept_after, rules}
+use Rattle.pd_walk.specs.Outcome.{world, outcome, IsLeft}
+use Rattle.pd_guards.specs.Order.{HasFirst, IsMessage}
 use Rattle.pd_guards.specs.Worlds.{IsInOrder, IsTask, IsStart}
 use Rattle.pd_guards.specs.Sounds.{HasValues, HaveValues, IsSounding, sound_with}
 use Rattle.pd_guards.proofs.FactLemmas.{either}
 use Rattle.pd_guards.proofs.KeepLemmas.{plain_sounds, list_sounds, message_sounds, arith_sounds, panel_sounds, resumed_sounds}
 use Rattle.pd_guards.proofs.HeldLemmas.{row_sounds, line_sounds}
-use Rattle.pd_guards.proofs.HearLemmas.{clock_said, load_said}
-use Rattle.pd_guards.proofs.WalkLemmas.{name_in, asked_in, done_in, done_names, IsTaskAt, stays_in, others_in, follow_in}
-use Rattle.pd_guards.proofs.SameTurns.{Agree, Same, all_same}
+use Rattle.pd_guards.proofs.WalkLemmas.{name_in, asked_in, done_in, IsTaskAt, stays_in, others_in, follow_in, Delivers, outcome_ends}
+use Rattle.pd_guards.proofs.SameTurns.{Agree}
 
 abbrev Leaves : Hearing → Type 0
 Leaves h = HasValues h.state
@@ -169,39 +165,17 @@ module _ (net : Net) (now : ℕ) where
     follow = λ kept t h m. follow_in net now kept t h.order m;
   }
 
-  ran_steady : (w : World Kept) (tasks : List Task) → IsSteady w.kept → AllByRecursion (IsTask w.kept.names) tasks → IsSteady (ran net now w tasks).kept
-  ran_steady w tasks h k =
-      let s : Same IsSteady (IsTaskAt net now) w (ran net now w tasks) (ran net now w tasks) = all_same (rules net now) (rules net now) IsSteady (IsTaskAt net now) steady w tasks h k in
-      s.after.kept
-
-  told_steady : (node : ℕ) (said : Said) (w : World Kept) → IsSteady w.kept → IsSaid w.kept.names said → IsSteady (told_by net now node said w).kept
-  told_steady node said w h k =
-      let e : (done net now node said.deed w.kept).names ≡ w.kept.names = done_names net now node said.deed w.kept in
-      let tasks : AllByRecursion (IsTask (done net now node said.deed w.kept).names) (asked_for net 0 node said) =
-      subst (λ (n : Names). AllByRecursion (IsTask n) (asked_for net 0 node said)) (sym e) (asked_in w.kept.names net 0 node said k) in
-      ran_steady (after_deed net now node said w) (asked_for net 0 node said)
-      (record { order = done_in net now node said.deed w.kept h.order k.deed; values = done_sounds net now node said.deed w.kept h.values }) tasks
-
-  loaded_steady : (w : World Kept) (nodes : List ℕ) → IsSteady w.kept → IsSteady (all_loaded net now w nodes).kept
-  loaded_steady w [] h = h
-  loaded_steady w (node ∷ nodes) h =
-      let said = loaded_at net w.kept.states node in
-      loaded_steady (told_by net now node said w) nodes
-      (told_steady node said w h (load_said net now h.order.time w.kept.names h.order.first h.order.kinds w.kept.states h.order.states node))
-
-  outcome_steady : (w : World Kept) (s : Start) → IsSteady w.kept → IsStart w.kept.names s → IsSteady (outcome net now w s).kept
-  unfolding outcome
-  outcome_steady w (start.Name name message) h k =
-      let selector = message.selector in
-      let atoms = message.atoms.now in
-      ran_steady w (named_tasks net name selector atoms) h
-      (either (AllByRecursion (IsTask w.kept.names)) (is_few atoms) (to_name net 1 selector atoms name true) [] (name_in w.kept.names net 1 0 selector atoms name true k.message k.known) tt)
-  outcome_steady w (start.Clock node) h k =
-      told_steady node (fired_at net w.kept.states node) w h (clock_said net now h.order.time w.kept.names h.order.first h.order.kinds w.kept.states h.order.states node)
-  outcome_steady w (start.Loads boxes) h k = loaded_steady w boxes.now h
+  delivers : Delivers net now (rules net now) IsSteady (IsTaskAt net now)
+  delivers = record {
+    agree = steady;
+    order = λ kept h. h.order;
+    deeds = λ kept node d h k. record { order = done_in net now node d kept h.order k; values = done_sounds net now node d kept h.values };
+    asks = λ kept node said k. asked_in kept.names net 0 node said k;
+    names = λ kept selector atoms name m k. name_in kept.names net 1 0 selector atoms name true m k;
+  }
 
   pub outcome_sounds : (w : World Kept) (s : Start) → IsInOrder net now w.kept → IsStart w.kept.names s → HaveValues w.kept.states → HaveValues (outcome net now w s).kept.states
-  outcome_sounds w s h k a = (outcome_steady w s (record { order = h; values = a }) k).values
+  outcome_sounds w s h k a = (outcome_ends net now (rules net now) IsSteady (IsTaskAt net now) delivers w s (record { order = h; values = a }) k).1.values
 
   pub left_sounds : (before after : Kept) (budget rest : Budget) (s : Start) (old new : Option (List ℕ)) → IsInOrder net now before → IsStart before.names s → IsSounding (sound_with net before)
       → IsLeft after rest old new (outcome net now (world before budget []) s) → IsSounding (sound_with net after)

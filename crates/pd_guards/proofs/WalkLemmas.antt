@@ -28,24 +28,26 @@ use Rattle.pd_queue.specs.declared.queue.Asked.TheVariants as asked_as
 use Rattle.pd_queue.specs.Asking.{verb_named, asked}
 use Rattle.pd_queue.specs.Queue.{Waiting, answer_to, after_asking}
 use Rattle.pd_say.specs.Lines.{text_of, notice_line, print_line}
-use Rattle.pd_turns.specs.Turns.{World}
+use Rattle.pd_turns.specs.Turns.{Rules, World, all_finished}
 use Rattle.pd_walk.specs.declared.walker.Start.{Start}
 use Rattle.pd_walk.specs.declared.walker.Start.TheVariants as start
 use Rattle.pd_hearing.specs.Worlds.{Net, Kept}
-use Rattle.pd_hearing.specs.Guards.{are_atoms}
+use Rattle.pd_hearing.specs.Guards.{are_atoms, is_few}
 use Rattle.pd_hearing.specs.Hearing.{Reply, heard_at, resumed_at, fired_at, loaded_at, table_owner, table_named}
 use Rattle.pd_hearing.specs.Deeds.{written_at, written, done, replied}
 use Rattle.pd_walk.specs.Tasks.{Task, Deliver, Ask, Resume, Nobody, delivery, end_of, owner_told, arrival, to_owners, unless_heard, to_name, wires_from, leads_out, sent_to, sent, sends_of, is_again, again_after, asked_for, notice_text, notices_text, words_printed, printed, glue_words, print_words, is_print, canvas_text, verb_in, is_near, path_in, queue_with, answer_text, asked_text, overflow_text, is_too_deep, kept_by, kept_after, said_by_box, said_at, caused, rules}
 use Rattle.pd_walk.specs.Outcome.{ran, after_deed, told_by, all_loaded, named_tasks, outcome}
 use Rattle.pd_guards.specs.Order.{IsNumber, HasFirst, IsName, AreAtoms, IsMessage, IsKept, HasWords, IsKind, IsTarget, IsSend, IsDeed, IsNotice, IsSaid}
 use Rattle.pd_guards.specs.Worlds.{AreKept, AreKinds, IsInOrder, IsTask, IsReply, IsStart}
+use Rattle.pd_guards.specs.Near.{IsNear, AreNear, AsksNear}
 use Rattle.pd_guards.specs.Freely as free
 use Rattle.pd_guards.specs.Freely.{kept_after as free_kept, said_at as free_said, caused as free_caused, heard_at as free_at, outcome as free_outcome}
-use Rattle.pd_guards.proofs.FactLemmas.{either, all-append, all-flat, all-set}
+use Rattle.pd_guards.proofs.FactLemmas.{either, all-append, all-both, all-flat, all-set}
 use Rattle.pd_guards.proofs.MoreLemmas.{longer, first_more, name_more, message_more, kind_more}
-use Rattle.pd_guards.proofs.GuardLemmas.{few_true, name_true, atoms_true, known_true}
+use Rattle.pd_guards.proofs.GuardLemmas.{true_and, few_true, near_true, name_true, atoms_true, known_true}
 use Rattle.pd_guards.proofs.HearLemmas.{set_in, at_same, at_in, resumed_reply, clock_said, load_said}
 use Rattle.pd_guards.proofs.SameTurns.{Agree, Same, all_same}
+use Rattle.pd_guards.proofs.NearLemmas.{name_near, asked_near, caused_near}
 
 -- what a box asks for
 map_all : {A : Type 0} (names : Names) (f : A → Task) → ((x : A) → IsTask names (f x)) → (xs : List A) → AllByRecursion (IsTask names) (map f xs)
@@ -183,14 +185,18 @@ module _ (net : Net) (now node : ℕ) (kept : Kept) (h : IsInOrder net now kept)
         ap (λ (l : List ℕ). l ++ (free.printed net r.names node r.said.deed selector atoms ++ overflow_text (is_too_deep net depth node r.said))) (notices_same r.said.notices k.said.notices)
         ∙ ap (λ (l : List ℕ). notices_text r.names r.said.notices ++ (l ++ overflow_text (is_too_deep net depth node r.said))) printed_same
 
--- a canvas that is asked
-module _ (net : Net) (canvas selector : ℕ) (atoms : List Atom) (names : Names) (m : IsMessage names selector atoms) (queue : Waiting) where
+-- a canvas that is asked, where it is near
+module _ (net : Net) (canvas : ℕ) (near : IsNear net canvas) (selector : ℕ) (atoms : List Atom) (names : Names) (m : IsMessage names selector atoms) (queue : Waiting) where
   verb_same : free.verb_in names selector ≡ verb_in names selector
   verb_same = sym (ap (λ (b : Bool). cond b (verb_named (name_of names selector)) None) (name_true names selector m.known))
 
+  -- the two things that are looked at are so
+  looked_at : (is_few atoms && is_near (path_in net canvas)) ≡ true
+  looked_at = true_and (is_few atoms) (is_near (path_in net canvas)) (few_true atoms m.list.few) (near_true (path_in net canvas) near)
+
   queue_some : (o : Option Verb) → free.queue_with net canvas atoms queue o ≡ queue_with net canvas atoms queue o
   queue_some None = refl
-  queue_some (Some v) = sym (ap (λ (b : Bool). cond (b && is_near (path_in net canvas)) (after_asking (path_in net canvas) (asked v atoms) queue) queue) (few_true atoms m.list.few))
+  queue_some (Some v) = sym (ap (λ (b : Bool). cond b (after_asking (path_in net canvas) (asked v atoms) queue) queue) looked_at)
 
   pub queue_same : free.queue_with net canvas atoms queue (free.verb_in names selector) ≡ queue_with net canvas atoms queue (verb_in names selector)
   queue_same = ap (λ (o : Option Verb). free.queue_with net canvas atoms queue o) verb_same ∙ queue_some (verb_in names selector)
@@ -203,14 +209,14 @@ module _ (net : Net) (canvas selector : ℕ) (atoms : List Atom) (names : Names)
   answer_same asked_as.BadArguments = canvas_same true
   answer_same asked_as.Full = refl
 
-  text_some : (o : Option Verb) → free.asked_text net canvas selector atoms names queue o ≡ asked_text net canvas selector atoms names queue o
+  text_some : (o : Option Verb) → free.asked_text selector atoms names queue o ≡ asked_text net canvas selector atoms names queue o
   text_some None = canvas_same false
   text_some (Some v) =
-      ap (λ (l : List ℕ). cond (is_near (path_in net canvas)) l []) (answer_same (answer_to (asked v atoms) queue))
-      ∙ sym (ap (λ (b : Bool). cond (b && is_near (path_in net canvas)) (answer_text names selector (answer_to (asked v atoms) queue)) []) (few_true atoms m.list.few))
+      answer_same (answer_to (asked v atoms) queue)
+      ∙ sym (ap (λ (b : Bool). cond b (answer_text names selector (answer_to (asked v atoms) queue)) []) looked_at)
 
-  pub text_same : free.asked_text net canvas selector atoms names queue (free.verb_in names selector) ≡ asked_text net canvas selector atoms names queue (verb_in names selector)
-  text_same = ap (λ (o : Option Verb). free.asked_text net canvas selector atoms names queue o) verb_same ∙ text_some (verb_in names selector)
+  pub text_same : free.asked_text selector atoms names queue (free.verb_in names selector) ≡ asked_text net canvas selector atoms names queue (verb_in names selector)
+  text_same = ap (λ (o : Option Verb). free.asked_text selector atoms names queue o) verb_same ∙ text_some (verb_in names selector)
 
 -- the rules agree with the free ones
 module _ (net : Net) (now : ℕ) where
@@ -227,22 +233,22 @@ module _ (net : Net) (now : ℕ) where
   again_reply : (kept : Kept) → IsInOrder net now kept → (node : ℕ) → IsReply kept.names now (resumed_at net kept.states kept.names node)
   again_reply kept h node = resumed_reply net now h.time kept.names h.first h.kinds kept.states h.states node
 
-  kept_same : (kept : Kept) (t : Task) → IsInOrder net now kept → IsTaskAt kept t → free_kept net now kept t ≡ kept_after net now kept t
+  kept_same : (kept : Kept) (t : Task) → IsInOrder net now kept → IsTaskAt kept t → AsksNear net t → free_kept net now kept t ≡ kept_after net now kept t
   unfolding free_kept kept_after
-  kept_same kept (Deliver depth node inlet selector atoms) h m = ap (kept_by net now node kept) (heard_same kept h node inlet selector atoms m)
-  kept_same kept (Ask depth canvas selector atoms) h m =
-      ap (λ (q : Waiting). record { states = kept.states; clocks = kept.clocks; names = kept.names; queue = q }) (queue_same net canvas selector atoms kept.names m kept.queue)
-  kept_same kept (Resume depth node) h m = refl
-  kept_same kept (Nobody name) h m = refl
+  kept_same kept (Deliver depth node inlet selector atoms) h m near = ap (kept_by net now node kept) (heard_same kept h node inlet selector atoms m)
+  kept_same kept (Ask depth canvas selector atoms) h m near =
+      ap (λ (q : Waiting). record { states = kept.states; clocks = kept.clocks; names = kept.names; queue = q }) (queue_same net canvas near selector atoms kept.names m kept.queue)
+  kept_same kept (Resume depth node) h m near = refl
+  kept_same kept (Nobody name) h m near = refl
 
-  said_same : (kept : Kept) (t : Task) → IsInOrder net now kept → IsTaskAt kept t → free_said net now kept t ≡ said_at net now kept t
+  said_same : (kept : Kept) (t : Task) → IsInOrder net now kept → IsTaskAt kept t → AsksNear net t → free_said net now kept t ≡ said_at net now kept t
   unfolding free_said said_at
-  said_same kept (Deliver depth node inlet selector atoms) h m =
+  said_same kept (Deliver depth node inlet selector atoms) h m near =
       ap (free.said_by_box net depth node selector atoms) (heard_same kept h node inlet selector atoms m)
       ∙ says_same net now node kept h (heard_at net now kept.states kept.names node inlet selector atoms) (heard_reply kept h node inlet selector atoms m) selector atoms m depth
-  said_same kept (Ask depth canvas selector atoms) h m = text_same net canvas selector atoms kept.names m kept.queue
-  said_same kept (Resume depth node) h m = refl
-  said_same kept (Nobody name) h m = sym (ap (λ (b : Bool). cond b (free.nobody_text kept.names name) []) (name_true kept.names name m))
+  said_same kept (Ask depth canvas selector atoms) h m near = text_same net canvas near selector atoms kept.names m kept.queue
+  said_same kept (Resume depth node) h m near = refl
+  said_same kept (Nobody name) h m near = sym (ap (λ (b : Bool). cond b (free.nobody_text kept.names name) []) (name_true kept.names name m))
 
   caused_same : (kept : Kept) (t : Task) → IsInOrder net now kept → IsTaskAt kept t → free_caused net now kept t ≡ caused net now kept t
   unfolding free_caused caused
@@ -278,57 +284,139 @@ module _ (net : Net) (now : ℕ) where
   follow_in kept (Resume depth node) h m = by_follow net now node kept h (resumed_at net kept.states kept.names node) (again_reply kept h node) depth
   follow_in kept (Nobody name) h m = tt
 
-  agreed : Agree (rules net now) (free.rules net now) (IsInOrder net now) IsTaskAt
+  -- the rules themselves, and the free ones where tasks ask near canvases
+  pub agreed : Agree (rules net now) (rules net now) (IsInOrder net now) IsTaskAt
   agreed = record {
-    kept = kept_same;
-    said = said_same;
-    caused = caused_same;
-    costs = costs_same;
+    kept = λ kept t h m. refl;
+    said = λ kept t h m. refl;
+    caused = λ kept t h m. refl;
+    costs = λ t. refl;
     cut = refl;
     stays = stays_in;
     others = others_in;
     follow = follow_in;
   }
 
-  -- runs of tasks
-  abbrev pub SameWorlds : World Kept → World Kept → World Kept → Type 0
-  SameWorlds w v u = Same (IsInOrder net now) IsTaskAt w v u
+  abbrev IsNearTaskAt : Kept → Task → Type 0
+  IsNearTaskAt kept t = IsTask kept.names t × AsksNear net t
 
-  ran_same : (w : World Kept) (tasks : List Task) → IsInOrder net now w.kept → AllByRecursion (IsTask w.kept.names) tasks → SameWorlds w (ran net now w tasks) (free.ran net now w tasks)
-  ran_same w tasks h k = all_same (rules net now) (free.rules net now) (IsInOrder net now) IsTaskAt agreed w tasks h k
+  module _ (near : AreNear net) where
+    agreed_freely : Agree (rules net now) (free.rules net now) (IsInOrder net now) IsNearTaskAt
+    agreed_freely = record {
+      kept = λ kept t h m. kept_same kept t h m.0 m.1;
+      said = λ kept t h m. said_same kept t h m.0 m.1;
+      caused = λ kept t h m. caused_same kept t h m.0;
+      costs = costs_same;
+      cut = refl;
+      stays = λ kept t h m. stays_in kept t h m.0;
+      others = λ kept t h m u k. (others_in kept t h m.0 u k.0, k.1);
+      follow = λ kept t h m.
+          all-both (IsTaskAt (kept_after net now kept t)) (AsksNear net) (caused net now kept t) (follow_in kept t h m.0) (caused_near net near now kept t);
+    }
 
-  told_same : (node : ℕ) (said : Said) (w : World Kept) → IsInOrder net now w.kept → IsSaid w.kept.names said → SameWorlds w (told_by net now node said w) (free.told_by net now node said w)
-  told_same node said w h k =
+-- Rules that agree with those of messages, where the deed of a box leaves all in order, and so is each task that a box or a name begins with.
+pub record Delivers (net : Net) (now : ℕ) (q : Rules Kept Task) (I : Kept → Type 0) (J : Kept → Task → Type 0) : Type 0 where
+  pub agree : Agree (rules net now) q I J
+  pub order : (kept : Kept) → I kept → IsInOrder net now kept
+  pub deeds : (kept : Kept) (node : ℕ) (d : Deed) → I kept → IsDeed d → I (done net now node d kept)
+  pub asks : (kept : Kept) (node : ℕ) (said : Said) → IsSaid kept.names said → AllByRecursion (J kept) (asked_for net 0 node said)
+  pub names : (kept : Kept) (selector : ℕ) (atoms : List Atom) (name : ℕ) → IsMessage kept.names selector atoms → IsName kept.names name
+      → AllByRecursion (J kept) (to_name net 1 selector atoms name true)
+
+-- deliveries by rules
+module _ (net : Net) (now : ℕ) (q : Rules Kept Task) where
+  told_with : ℕ → Said → World Kept → World Kept
+  told_with node said w = all_finished q (after_deed net now node said w) (asked_for net 0 node said)
+
+  loaded_with : World Kept → List ℕ → World Kept
+  loaded_with w [] = w
+  loaded_with w (node ∷ nodes) = loaded_with (told_with node (loaded_at net w.kept.states node) w) nodes
+
+  pub outcome_with : World Kept → Start → World Kept
+  outcome_with w (start.Name name message) = all_finished q w (to_name net 1 message.selector message.atoms.now name true)
+  outcome_with w (start.Clock owner) = told_with owner (fired_at net w.kept.states owner) w
+  outcome_with w (start.Loads boxes) = loaded_with w boxes.now
+
+module _ (net : Net) (now : ℕ) (q : Rules Kept Task) (I : Kept → Type 0) (J : Kept → Task → Type 0) (d : Delivers net now q I J) where
+  -- the same world, which is in order
+  abbrev Ends : World Kept → World Kept → Type 0
+  Ends v u = (u ≡ v) × I v.kept
+
+  ran_ends : (w : World Kept) (tasks : List Task) → I w.kept → AllByRecursion (J w.kept) tasks → Ends (ran net now w tasks) (all_finished q w tasks)
+  ran_ends w tasks h k =
+      let s : Same I J w (ran net now w tasks) (all_finished q w tasks) = all_same (rules net now) q I J d.agree w tasks h k in
+      (s.same, s.after.kept)
+
+  told_ends : (node : ℕ) (said : Said) (w : World Kept) → I w.kept → IsSaid w.kept.names said → Ends (told_by net now node said w) (told_with net now q node said w)
+  unfolding told_with
+  told_ends node said w h k =
       let e : (done net now node said.deed w.kept).names ≡ w.kept.names = done_names net now node said.deed w.kept in
-      let tasks : AllByRecursion (IsTask (done net now node said.deed w.kept).names) (asked_for net 0 node said) =
-      subst (λ (n : Names). AllByRecursion (IsTask n) (asked_for net 0 node said)) (sym e) (asked_in w.kept.names net 0 node said k) in
-      let s : SameWorlds (after_deed net now node said w) (told_by net now node said w) (free.told_by net now node said w) =
-      ran_same (after_deed net now node said w) (asked_for net 0 node said) (done_in net now node said.deed w.kept h k.deed) tasks in
-      record { same = s.same; after = record { kept = s.after.kept; tasks = λ u j. s.after.tasks u (subst (λ (n : Names). IsTask n u) (sym e) j) } }
+      ran_ends (after_deed net now node said w) (asked_for net 0 node said) (d.deeds w.kept node said.deed h k.deed)
+      (d.asks (done net now node said.deed w.kept) node said (subst (λ (n : Names). IsSaid n said) (sym e) k))
 
-  loaded_same : (w : World Kept) (nodes : List ℕ) → IsInOrder net now w.kept → SameWorlds w (all_loaded net now w nodes) (free.all_loaded net now w nodes)
-  loaded_same w [] h = record { same = refl; after = record { kept = h; tasks = λ u j. j } }
-  loaded_same w (node ∷ nodes) h =
+  loaded_ends : (w : World Kept) (nodes : List ℕ) → I w.kept → Ends (all_loaded net now w nodes) (loaded_with net now q w nodes)
+  unfolding loaded_with
+  loaded_ends w [] h = (refl, h)
+  loaded_ends w (node ∷ nodes) h =
+      let o : IsInOrder net now w.kept = d.order w.kept h in
       let said = loaded_at net w.kept.states node in
-      let s : SameWorlds w (told_by net now node said w) (free.told_by net now node said w) = told_same node said w h (load_said net now h.time w.kept.names h.first h.kinds w.kept.states h.states node) in
-      let t : SameWorlds (told_by net now node said w) (all_loaded net now (told_by net now node said w) nodes) (free.all_loaded net now (told_by net now node said w) nodes) =
-      loaded_same (told_by net now node said w) nodes s.after.kept in
-      record {
-        same = ap (λ (v : World Kept). free.all_loaded net now v nodes) s.same ∙ t.same;
-        after = record { kept = t.after.kept; tasks = λ u j. t.after.tasks u (s.after.tasks u j) };
-      }
+      let one : Ends (told_by net now node said w) (told_with net now q node said w) =
+      told_ends node said w h (load_said net now o.time w.kept.names o.first o.kinds w.kept.states o.states node) in
+      let all : Ends (all_loaded net now (told_by net now node said w) nodes) (loaded_with net now q (told_by net now node said w) nodes) =
+      loaded_ends (told_by net now node said w) nodes one.1 in
+      (ap (λ (v : World Kept). loaded_with net now q v nodes) one.0 ∙ all.0, all.1)
 
-  pub outcome_same : (w : World Kept) (s : Start) → IsInOrder net now w.kept → IsStart w.kept.names s → SameWorlds w (outcome net now w s) (free_outcome net now w s)
-  unfolding outcome free_outcome
-  outcome_same w (start.Name name message) h k =
+  pub outcome_ends : (w : World Kept) (s : Start) → I w.kept → IsStart w.kept.names s → Ends (outcome net now w s) (outcome_with net now q w s)
+  unfolding outcome outcome_with
+  outcome_ends w (start.Name name message) h k =
       let selector = message.selector in
       let atoms = message.atoms.now in
-      let e : named_tasks net name selector atoms ≡ to_name net 1 selector atoms name true = ap (λ (b : Bool). cond b (to_name net 1 selector atoms name true) []) (few_true atoms k.message.list.few) in
-      let r : SameWorlds w (ran net now w (to_name net 1 selector atoms name true)) (free.ran net now w (to_name net 1 selector atoms name true)) =
-      ran_same w (to_name net 1 selector atoms name true) h (name_in w.kept.names net 1 0 selector atoms name true k.message k.known) in
-      subst (λ (l : List Task). SameWorlds w (ran net now w l) (free.ran net now w (to_name net 1 selector atoms name true))) (sym e) r
-  outcome_same w (start.Clock node) h k = told_same node (fired_at net w.kept.states node) w h (clock_said net now h.time w.kept.names h.first h.kinds w.kept.states h.states node)
-  outcome_same w (start.Loads boxes) h k = loaded_same w boxes.now h
+      let tasks : List Task = to_name net 1 selector atoms name true in
+      let e : named_tasks net name selector atoms ≡ tasks = ap (λ (b : Bool). cond b tasks []) (few_true atoms k.message.list.few) in
+      subst (λ (l : List Task). Ends (ran net now w l) (all_finished q w tasks)) (sym e) (ran_ends w tasks h (d.names w.kept selector atoms name k.message k.known))
+  outcome_ends w (start.Clock node) h k =
+      let o : IsInOrder net now w.kept = d.order w.kept h in
+      told_ends node (fired_at net w.kept.states node) w h (clock_said net now o.time w.kept.names o.first o.kinds w.kept.states o.states node)
+  outcome_ends w (start.Loads boxes) h k = loaded_ends w boxes.now h
+
+module _ (net : Net) (now : ℕ) where
+  delivers : Delivers net now (rules net now) (IsInOrder net now) (IsTaskAt net now)
+  delivers = record {
+    agree = agreed net now;
+    order = λ kept h. h;
+    deeds = λ kept node d h k. done_in net now node d kept h k;
+    asks = λ kept node said k. asked_in kept.names net 0 node said k;
+    names = λ kept selector atoms name m k. name_in kept.names net 1 0 selector atoms name true m k;
+  }
+
+  pub outcome_in : (w : World Kept) (s : Start) → IsInOrder net now w.kept → IsStart w.kept.names s → IsInOrder net now (outcome net now w s).kept
+  outcome_in w s h k = (outcome_ends net now (rules net now) (IsInOrder net now) (IsTaskAt net now) delivers w s h k).1
+
+  delivers_freely : AreNear net → Delivers net now (free.rules net now) (IsInOrder net now) (IsNearTaskAt net now)
+  delivers_freely near = record {
+    agree = agreed_freely net now near;
+    order = λ kept h. h;
+    deeds = λ kept node d h k. done_in net now node d kept h k;
+    asks = λ kept node said k. all-both (IsTaskAt net now kept) (AsksNear net) (asked_for net 0 node said) (asked_in kept.names net 0 node said k) (asked_near net near 0 node said);
+    names = λ kept selector atoms name m k.
+        all-both (IsTaskAt net now kept) (AsksNear net) (to_name net 1 selector atoms name true)
+        (name_in kept.names net 1 0 selector atoms name true m k) (name_near net near 1 selector atoms name true);
+  }
+
+  loaded_freely : (w : World Kept) (nodes : List ℕ) → free.all_loaded net now w nodes ≡ loaded_with net now (free.rules net now) w nodes
+  unfolding loaded_with told_with
+  loaded_freely w [] = refl
+  loaded_freely w (node ∷ nodes) = loaded_freely (free.told_by net now node (loaded_at net w.kept.states node) w) nodes
+
+  outcome_freely : (w : World Kept) (s : Start) → free_outcome net now w s ≡ outcome_with net now (free.rules net now) w s
+  unfolding free_outcome outcome_with told_with
+  outcome_freely w (start.Name name message) = refl
+  outcome_freely w (start.Clock owner) = refl
+  outcome_freely w (start.Loads boxes) = loaded_freely w boxes.now
+
+  pub outcome_same : (w : World Kept) (s : Start) → AreNear net → IsInOrder net now w.kept → IsStart w.kept.names s → outcome net now w s ≡ free_outcome net now w s
+  outcome_same w s near h k =
+      sym (outcome_freely w s ∙ (outcome_ends net now (free.rules net now) (IsInOrder net now) (IsNearTaskAt net now) (delivers_freely near) w s h k).0)
 
 -- at a later time
 kept_later : (names : Names) (now later : ℕ) → now ≤ later → (s : State) → IsKept names now s → IsKept names later s

@@ -1,5 +1,4 @@
--- The rules of messages where nothing is passed over: each box does with each message what its object's definition says. Only how
--- deep a canvas lies is still looked at.
+-- The rules of messages where nothing is passed over: each box does with each message what its object's definition says.
 use Rattle.std.specs.Prelude.{ℕ, ℤ, Bool, List, [], ◌∷◌, ◌++◌, Option, Some, None, true, if◌then◌else◌}
 use Rattle.std.specs.List.{flat_map}
 use Rattle.pd_atom.specs.Names.{Names, name_of}
@@ -30,7 +29,7 @@ use Rattle.pd_walk.specs.declared.walker.Start.{Start}
 use Rattle.pd_walk.specs.declared.walker.Start.TheVariants as start
 use Rattle.pd_hearing.specs.Worlds.{Net, Kept, set_at}
 use Rattle.pd_hearing.specs.Hearing.{Reply, mute, reply, table_in, table_named, resumed_at, fired_at, loaded_at}
-use Rattle.pd_walk.specs.Tasks.{Task, Deliver, Ask, Resume, Nobody, costs, asked_for, to_name, overflow_text, is_too_deep, is_print, print_words, full_text, cut_line, path_in, is_near, kept_by}
+use Rattle.pd_walk.specs.Tasks.{Task, Deliver, Ask, Resume, Nobody, costs, asked_for, to_name, overflow_text, is_too_deep, is_print, print_words, full_text, cut_line, path_in, kept_by}
 use Rattle.pd_walk.specs.Outcome.{after_deed}
 
 -- a box of a kind that keeps this hears a message, at a time and beside the table that its kind names
@@ -78,12 +77,11 @@ verb_in names selector = verb_named (name_of names selector)
 
 abbrev pub queue_with : Net → ℕ → List Atom → Waiting → Option Verb → Waiting
 queue_with net canvas atoms queue None = queue
-queue_with net canvas atoms queue (Some v) = if is_near (path_in net canvas) then after_asking (path_in net canvas) (asking.asked v atoms) queue else queue
+queue_with net canvas atoms queue (Some v) = after_asking (path_in net canvas) (asking.asked v atoms) queue
 
-abbrev pub asked_text : Net → ℕ → ℕ → List Atom → Names → Waiting → Option Verb → List ℕ
-asked_text net canvas selector atoms names queue None = text_of names (line.NoCanvasMethod selector)
-asked_text net canvas selector atoms names queue (Some v) =
-    if is_near (path_in net canvas) then answer_text names selector (answer_to (asking.asked v atoms) queue) else []
+abbrev pub asked_text : ℕ → List Atom → Names → Waiting → Option Verb → List ℕ
+asked_text selector atoms names queue None = text_of names (line.NoCanvasMethod selector)
+asked_text selector atoms names queue (Some v) = answer_text names selector (answer_to (asking.asked v atoms) queue)
 
 abbrev pub nobody_text : Names → ℕ → List ℕ
 nobody_text names name = text_of names (line.NoObject (Symbol name))
@@ -103,7 +101,7 @@ said_by_box net depth node selector atoms r =
 -- what is said at a task
 unfoldable pub said_at : Net → ℕ → Kept → Task → List ℕ
 said_at net now kept (Deliver depth node inlet selector atoms) = said_by_box net depth node selector atoms (heard_at net now kept.states kept.names node inlet selector atoms)
-said_at net now kept (Ask depth canvas selector atoms) = asked_text net canvas selector atoms kept.names kept.queue (verb_in kept.names selector)
+said_at net now kept (Ask depth canvas selector atoms) = asked_text selector atoms kept.names kept.queue (verb_in kept.names selector)
 said_at net now kept (Resume depth node) = overflow_text (is_too_deep net depth node (resumed_at net kept.states kept.names node).said)
 said_at net now kept (Nobody name) = nobody_text kept.names name
 

@@ -3,3 +3,4 @@ pub mod Worlds
 pub mod Freely
 pub mod Growing
 pub mod Sounds
+pub mod Near

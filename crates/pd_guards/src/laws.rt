@@ -19,7 +19,7 @@ ghost use Rattle.pd_library.specs.declared.answers.Answer.{Answer};
 ghost use Rattle.pd_library.specs.Files.{answer_in};
 ghost use Rattle.pd_gather.specs.Gather.{AreProper};
 ghost use Rattle.pd_tree.specs.Trees.{Tree};
-ghost use Rattle.pd_growth.specs.Steps.{Stock, beginning, gives};
+ghost use Rattle.pd_growth.specs.Steps.{Stock, Step, beginning, gives};
 ghost use Rattle.pd_growth.specs.Growth.{grown};
 ghost use Rattle.pd_patch.specs.declared.patch.Patch.{Patch};
 ghost use Rattle.pd_patch.specs.Grown.{IsFresh, IsTree};
@@ -37,6 +37,7 @@ ghost use Rattle.pd_block.specs.Blocks.{block_of};
 ghost use Rattle.pd_guards.specs.Sounds.{HasValues, HaveValues, IsSounding, sound_with};
 ghost use Rattle.pd_guards.specs.Order.{HasFirst, IsName, AreAtoms, IsMessage, IsTable, IsKept, IsKind, IsSaid, IsHeard, IsHearing};
 ghost use Rattle.pd_guards.specs.Worlds.{AreKept, AreKinds, IsReply, IsInOrder, IsStart, IsNamed, IsSent};
+ghost use Rattle.pd_guards.specs.Near.{AreNear};
 ghost use Rattle.pd_guards.specs.Growing.{AreBorn, BoxesIn, LibraryIn, StockIn, IsOfTree, HasNoOtherBlocks};
 ghost use Rattle.pd_guards.specs.Freely.{heard_by as heard_freely, outcome as free_outcome};
 
@@ -76,10 +77,11 @@ pub fn order_lasts()
     ensures { (net : Net) (now later : ℕ) (kept : Kept) → IsInOrder net now kept → now ≤ later → later ≤ 2 ^ 101 → IsInOrder net later kept }
 {}
 
-/// From a patch in order and a start in order a whole delivery is the depth-first recursion over the objects' own definitions, in which
-/// nothing is looked at and nothing passed over; and it leaves the patch in order, which is how a call of `deliver` leaves it.
+/// From a patch in order, in which the canvases that own names are near, and a start in order a whole delivery is the depth-first recursion
+/// over the objects' own definitions, in which nothing is looked at and nothing passed over. From each patch in order it leaves the
+/// patch in order, which is how a call of `deliver` leaves it.
 pub fn delivery_passes_nothing_over()
-    ensures freely { (net : Net) (now : ℕ) (w : World Kept) (s : Start) → IsInOrder net now w.kept → IsStart w.kept.names s →
+    ensures freely { (net : Net) (now : ℕ) (w : World Kept) (s : Start) → AreNear net → IsInOrder net now w.kept → IsStart w.kept.names s →
         outcome net now w s ≡ free_outcome net now w s }
     ensures order { (net : Net) (now : ℕ) (w : World Kept) (s : Start) → IsInOrder net now w.kept → IsStart w.kept.names s →
         IsInOrder net now (outcome net now w s).kept }
@@ -112,6 +114,11 @@ pub fn grown_patches_are_in_order()
         HasFirst before → IsProper before root → AreProper before files →
         (tree : IsTree p names rate (grown (answer_in files) name root (beginning before n))) → IsFresh p names name rate →
         IsOfTree p tree.tree.boxes → HasNoOtherBlocks p → IsSounding (sound_with (net_of p) (kept_of p names queue)) }
+{}
+
+/// In a patch that has just grown the canvases that own the names of receivers are near: the path to each has at most 255 numbers.
+pub fn grown_patches_are_near()
+    ensures { (p : Patch) (names : Names) (file : List ℕ) (rate : Rate) (s : Step Tree) → IsTree p names rate s → IsFresh p names file rate → AreNear (net_of p) }
 {}
 
 /// A command that is read and sends a message begins its event in order: its name and its atoms are of the table after reading, and the
