@@ -4,7 +4,7 @@ use Rattle.pd_hearing.specs.Worlds.{net_of, kept_of}
 use Rattle.pd_walk.specs.declared.relay.Rest.{Rest}
 use Rattle.pd_walk.specs.declared.relay.Saying.{Saying}
 use Rattle.pd_walk.specs.declared.walker.Budget.{Budget}
-use Rattle.pd_walk.specs.Relays.{saying_at, deeper, spent, saying_tasks, Leads, Relayed}
+use Rattle.pd_walk.specs.Relays.{saying_at, deeper, spent, saying_tasks, Relayed}
 use Rattle.pd_walk.proofs.StayLemmas.{stay-then}
 use Rattle.pd_walk.proofs.RelayLemmas.{deeper-same, given-back, one-more, more-leads, stays-so, rest-relayed, silent-relayed, says-leads, heard-by-stay, same-stay}
 use Rattle.pd_walk.proofs.relay.relay.Goals as goal
