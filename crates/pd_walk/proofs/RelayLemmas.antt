@@ -38,7 +38,7 @@ use Rattle.pd_walk.specs.Tasks.{Task, Deliver, Resume, along, end_of, kept_after
 use Rattle.pd_walk.specs.Turns.{doing}
 use Rattle.pd_walk.specs.Outcome.{world, ran, StatesStay}
 use Rattle.pd_walk.specs.Ways.{IsUnderWay}
-use Rattle.pd_walk.specs.Relays.{brief_tasks, saying_tasks, one_less, Leads, IsHeard, RestTasks, Relayed, GoesFrom, resumption}
+use Rattle.pd_walk.specs.Relays.{saying_at, deeper, spent, brief_tasks, saying_tasks, one_less, Leads, IsHeard, RestTasks, Relayed, GoesFrom, resumption}
 use Rattle.pd_walk.proofs.WayLemmas.{world_of, step}
 use Rattle.pd_walk.proofs.SendLemmas.{along_fan}
 use Rattle.pd_walk.proofs.PileLemmas.{left-agree, more-agree}
@@ -266,6 +266,31 @@ module _ (net net1 : Net) (same : net1 ≡ net) (now : ℕ) (k : Kept) (b b2 : B
       let h2 : IsHeard net (states_of mid) (states_of new) here here2 reaction.Says = subst (λ (n : Net). IsHeard n (states_of mid) (states_of new) here here2 reaction.Says) same h in
       subst (λ (x : Saying). Leads net now k b t (kept_of new names queue) (one_less b2) (saying_tasks net x)) (sym (h2.says refl))
       (heard-leads mid new here here2 reaction.Says uncut more less two timers h2 leads)
+
+-- how a box stands that is lent by its parts
+pub deeper-same : (n : ℕ) (here here2 : Saying) → here2.node ≡ here.node → here2.message ≡ here.message → here2.depth ≡ here.depth → deeper n here2 ≡ deeper n here
+deeper-same n here here2 node message depth =
+    ap (λ (x : ℕ). saying_at (here2.depth + n) x here2.message) node ∙ ap (λ (m : Brief). saying_at (here2.depth + n) here.node m) message ∙ ap (λ (d : ℕ). saying_at (d + n) here.node here.message) depth
+
+-- one delivery more is spent
+pub one-more : (n n2 : ℕ) (b : Budget) → n2 ≡ n + 1 → one_less (spent n b) ≡ spent n2 b
+one-more n n2 b is = let e : b.left - n - 1 ≡ b.left - n2 = rw is (omega arith) in ap (λ (l : ℕ). record { left = l; cut = b.cut }) e
+
+-- of those that were set aside, the ones that are left are given back
+pub given-back : (most turns : ℕ) (b lent : Budget) → turns ≤ most → most ≤ b.left → lent ≡ record { left = b.left - most; cut = b.cut }
+    → record { left = lent.left + turns; cut = lent.cut } ≡ spent (most - turns) b
+given-back most turns b lent few within is =
+    let e : b.left - most + turns ≡ b.left - (most - turns) = omega (arith, few, within) in
+    ap (λ (x : Budget). record { left = x.left + turns; cut = x.cut }) is ∙ ap (λ (l : ℕ). record { left = l; cut = b.cut }) e
+
+-- and what is said lies one deeper
+pub more-leads : (net : Net) (now : ℕ) (k k2 : Kept) (b : Budget) (t : List Task) (n n2 : ℕ) (depth node : ℕ) (m : Brief) → n2 ≡ n + 1
+    → Leads net now k b t k2 (one_less (spent n b)) (saying_tasks net (saying_at (depth + n + 1) node m))
+    → Leads net now k b t k2 (spent n2 b) (saying_tasks net (deeper n2 (saying_at depth node m)))
+more-leads net now k k2 b t n n2 depth node m is leads =
+    let d : depth + n + 1 ≡ depth + n2 = rw is (omega arith) in
+    subst (λ (x : Budget). Leads net now k b t k2 x (saying_tasks net (saying_at (depth + n2) node m))) (one-more n n2 b is)
+    (subst (λ (x : ℕ). Leads net now k b t k2 (one_less (spent n b)) (saying_tasks net (saying_at x node m))) d leads)
 
 -- what is relayed, and what stands on a pile then
 pub goes-with : (net : Net) (now : ℕ) (k k2 : Kept) (b b2 : Budget) (t tasks : List Task) (r : Rest) (pile : Pile)

@@ -1,5 +1,5 @@
 -- Brief messages that go from box to box along single wires, past the stack.
-use Rattle.std.specs.Prelude.{◌≡◌, ℕ, ◌+◌, ◌-◌, ◌≤◌, true, false, List, [], ◌∷◌, ◌++◌, length, slice_get, Option, Some, None}
+use Rattle.std.specs.Prelude.{◌≡◌, ℕ, ◌+◌, ◌-◌, ◌%◌, ◌≤◌, true, false, List, [], ◌∷◌, ◌++◌, length, slice_get, Option, Some, None}
 use Rattle.pd_atom.specs.Names.{Names}
 use Rattle.pd_kind.specs.declared.states.State.{State}
 use Rattle.pd_web.specs.declared.web.Hop.{Hop}
@@ -32,6 +32,24 @@ pub record IsRoute (web : Web) (node : ℕ) (r : Route) : Type 0 where
 -- the routes that are known are true
 pub record AreRoutes (web : Web) (routes : List Route) : Type 0 where
   pub each : (k : ℕ) (r : Route) → slice_get routes k ≡ Some r → r.is_known ≡ true → IsRoute web r.node r
+
+-- a route of a box is at hand, and true
+pub record IsAtHand (web : Web) (routes : List Route) (node : ℕ) : Type 0 where
+  pub route : Route
+  pub at : slice_get routes (node % 256) ≡ Some route
+  pub is : IsRoute web node route
+
+-- a box says a brief message, to be delivered at a depth
+abbrev pub saying_at : ℕ → ℕ → Brief → Saying
+saying_at depth node m = record { node = node; depth = depth; message = m }
+
+-- the same deeper
+abbrev pub deeper : ℕ → Saying → Saying
+deeper n s = saying_at (s.depth + n) s.node s.message
+
+-- so many deliveries less are left
+abbrev pub spent : ℕ → Budget → Budget
+spent n b = record { left = b.left - n; cut = b.cut }
 
 -- the deliveries of a brief message that a box says to its first outlet
 abbrev pub brief_tasks : Net → ℕ → ℕ → Brief → List Task
@@ -66,7 +84,7 @@ pub record IsHeard (net : Net) (old new : ℕ → Option State) (here here2 : Sa
 
 -- how a brief message goes on: not at all, or to one box
 abbrev pub Stepped : Net → (ℕ → Option State) → (ℕ → Option State) → Saying → Saying → Reaction → Type 0
-Stepped net old new here here2 reaction.Unheard = (here2 ≡ here) × (new ≡ old)
+Stepped net old new here here2 reaction.Unheard = (here2.node ≡ here.node) × ((here2.message ≡ here.message) × (new ≡ old))
 Stepped net old new here here2 r = IsHeard net old new here here2 r
 
 -- the tasks of what is left of a send

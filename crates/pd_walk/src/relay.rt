@@ -11,10 +11,10 @@ ghost use Rattle.pd_walk.specs.Tasks.{Task as Doing, Resume};
 ghost use Rattle.pd_walk.specs.Piles.{GoesAlong, IsPiled, LeftOn};
 ghost use Rattle.pd_walk.specs.Turns.{told, IsDue};
 ghost use Rattle.pd_walk.specs.Outcome.{StatesStay};
-ghost use Rattle.pd_walk.specs.Relays.{AreRoutes, saying_tasks, resumption, Stepped, Relayed, GoesFrom};
+ghost use Rattle.pd_walk.specs.Relays.{AreRoutes, saying_at, saying_tasks, resumption, Stepped, Relayed, GoesFrom};
 
 use crate::acting::DEEPEST;
-use crate::routes::{Routes, route_of};
+use crate::routes::{Routes, has_route, route_of};
 use crate::stack::{Cursor, Frame, Stack};
 use crate::steps::{Place, Task};
 use crate::walker::Budget;
@@ -39,33 +39,31 @@ pub(crate) struct Rest {
     pub(crate) message: Brief,
 }
 
-/// A brief message goes to the one box to which it leads, and what that one says comes in its place.
+/// The brief message that a box says goes to the one box to which it leads, and in the place of both come that box and what it says.
 #[inline(always)]
-fn step(patch: &mut Patch, routes: &mut Routes, here: &mut Saying) -> Reaction
-    requires depth { here.old.depth < 1000 }
+fn step(patch: &mut Patch, routes: &mut Routes, node: &mut u32, message: &mut Brief) -> Reaction
     requires routes { AreRoutes patch.old.web routes.old }
-    ensures stepped { Stepped (net_of patch.old) (states_of patch.old) (states_of patch.new) here.old here.new result }
+    ensures stepped { (depth : ℕ) → Stepped (net_of patch.old) (states_of patch.old) (states_of patch.new) (saying_at depth node.old message.old) (saying_at (depth + 1) node.new message.new) result }
     ensures routes { AreRoutes patch.new.web routes.new }
     ensures net { net_of patch.new ≡ net_of patch.old }
     ensures clocks { patch.new.timers ≡ patch.old.timers }
 {
-    let route = route_of(patch, routes, here.node);
-    if !route.is_known {
+    if !has_route(patch, routes, *node) {
         return Reaction::Unheard;
     }
-    match hear_brief(patch, route.to, route.inlet, &mut here.message) {
+    let route = route_of(routes, *node);
+    match hear_brief(patch, route.to, route.inlet, message) {
         Reaction::Unheard => Reaction::Unheard,
         Reaction::Silent => Reaction::Silent,
         Reaction::Says => {
-            here.node = route.to;
-            here.depth += 1;
+            *node = route.to;
             Reaction::Says
         }
     }
 }
 
 /// Delivers what a box says and what that causes, as long as that is one brief message along one wire. Gives what is left of the last
-/// send.
+/// send. As many deliveries as there may be are set aside first, and those that aren't made are given back, so that one count is kept.
 #[inline(always)]
 fn relay(
     patch: &mut Patch,
@@ -86,32 +84,39 @@ fn relay(
     ensures depth { IfSome result (λ r. (saying.now.depth ≤ r.depth) × (r.depth ≤ 1000)) }
     ensures states { StatesStay (states_of patch.old) (states_of patch.new) }
 {
+    let most = budget.left.min(DEEPEST - saying.depth);
+    let end = saying.depth + most;
+    budget.left -= most;
     let mut here = *saying;
-    while budget.left > 0 && here.depth < DEEPEST {
-        match step(patch, routes, &mut here) {
-            Reaction::Unheard => return rest_of(patch, &here),
+    let mut turns = most;
+    while turns > 0 {
+        match step(patch, routes, &mut here.node, &mut here.message) {
+            Reaction::Unheard => {
+                budget.left += turns;
+                return rest_of(patch, &here, end - turns);
+            }
             Reaction::Silent => {
-                budget.left -= 1;
+                budget.left += turns - 1;
                 return None;
             }
-            Reaction::Says => budget.left -= 1,
+            Reaction::Says => turns -= 1,
         }
     }
-    rest_of(patch, &here)
+    rest_of(patch, &here, end)
 }
 
-/// All of a send.
+/// All that a box says, to be delivered at a depth.
 #[inline(always)]
-fn rest_of(patch: &Patch, here: &Saying) -> Option<Rest>
+fn rest_of(patch: &Patch, here: &Saying, depth: u32) -> Option<Rest>
     ensures none { IfNone result (fan_hops patch.now.web here.now.node 0 ≡ []) }
     ensures some { IfSome result (λ r. Some r.hop ≡ slice_get (fan_hops patch.now.web here.now.node 0) 0) }
-    ensures depth { IfSome result (λ r. r.depth ≡ here.now.depth) }
+    ensures depth { IfSome result (λ r. r.depth ≡ depth) }
     ensures message { IfSome result (λ r. r.message ≡ here.now.message) }
 {
     match patch.fan_first(here.node, 0) {
         Some(hop) => Some(Rest {
             hop,
-            depth: here.depth,
+            depth,
             message: here.message,
         }),
         None => None,

@@ -3,7 +3,7 @@
 ghost use Rattle.std.specs.Prelude.{◌≡◌, ◌∷◌, [], true, false, slice_get, Some};
 ghost use Rattle.pd_web.specs.declared.web.Web.{Web};
 ghost use Rattle.pd_web.specs.Hops.{fan_hops};
-ghost use Rattle.pd_walk.specs.Relays.{IsRoute, AreRoutes};
+ghost use Rattle.pd_walk.specs.Relays.{IsRoute, AreRoutes, IsAtHand};
 
 use crate::steps::end_at;
 use pd_patch::Patch;
@@ -44,60 +44,69 @@ fn no_route() -> Route
     }
 }
 
-/// The route of a box's first outlet, where it has just one wire.
+/// Whether the route of a box's first outlet is at hand then: it is where the outlet has just one wire.
 #[inline(always)]
-pub(crate) fn route_of(patch: &Patch, routes: &mut Routes, node: u32) -> Route
+pub(crate) fn has_route(patch: &Patch, routes: &mut Routes, node: u32) -> bool
     requires { AreRoutes patch.now.web routes.old }
     ensures routes { AreRoutes patch.now.web routes.new }
-    ensures route { result.is_known ≡ true → IsRoute patch.now.web node result }
+    ensures route { result ≡ true → IsAtHand patch.now.web routes.new node }
 {
-    let route = routes[node as usize % MOST_ROUTES];
+    let route = &routes[node as usize % MOST_ROUTES];
     if route.is_known && route.node == node {
-        return route;
+        return true;
     }
     find_route(patch, routes, node)
 }
 
-/// The same, found by its wires.
+/// The route of a box that is at hand.
+#[inline(always)]
+pub(crate) fn route_of(routes: &Routes, node: u32) -> Route
+    ensures { (web : Web) → IsAtHand web routes.now node → IsRoute web node result }
+{
+    routes[node as usize % MOST_ROUTES]
+}
+
+/// Has the route of a box's first outlet at hand, found by its wires. Whether the outlet has just one wire.
 #[inline(never)]
-fn find_route(patch: &Patch, routes: &mut Routes, node: u32) -> Route
+fn find_route(patch: &Patch, routes: &mut Routes, node: u32) -> bool
     requires { AreRoutes patch.now.web routes.old }
     ensures routes { AreRoutes patch.now.web routes.new }
-    ensures route { result.is_known ≡ true → IsRoute patch.now.web node result }
+    ensures route { result ≡ true → IsAtHand patch.now.web routes.new node }
 {
     match patch.fan_first(node, 0) {
-        Some(hop) => route_along(patch, routes, node, hop),
-        None => no_route(),
+        Some(hop) => find_along(patch, routes, node, hop),
+        None => false,
     }
 }
 
 /// The same by the first wire.
-fn route_along(patch: &Patch, routes: &mut Routes, node: u32, hop: Hop) -> Route
+fn find_along(patch: &Patch, routes: &mut Routes, node: u32, hop: Hop) -> bool
     requires routes { AreRoutes patch.now.web routes.old }
     requires first { Some hop ≡ slice_get (fan_hops patch.now.web node 0) 0 }
     ensures routes { AreRoutes patch.now.web routes.new }
-    ensures route { result.is_known ≡ true → IsRoute patch.now.web node result }
+    ensures route { result ≡ true → IsAtHand patch.now.web routes.new node }
 {
     match patch.fan_next(hop) {
-        Some(_) => no_route(),
-        None => keep_route(patch, routes, node, hop),
+        Some(_) => false,
+        None => {
+            keep_route(patch, routes, node, hop);
+            true
+        }
     }
 }
 
-/// The same by the only wire. It is kept at hand.
-fn keep_route(patch: &Patch, routes: &mut Routes, node: u32, hop: Hop) -> Route
+/// Keeps at hand where the only wire of a box's first outlet leads.
+fn keep_route(patch: &Patch, routes: &mut Routes, node: u32, hop: Hop)
     requires routes { AreRoutes patch.now.web routes.old }
     requires only { fan_hops patch.now.web node 0 ≡ hop ∷ [] }
     ensures routes { AreRoutes patch.now.web routes.new }
-    ensures route { IsRoute patch.now.web node result }
+    ensures route { IsAtHand patch.now.web routes.new node }
 {
     let (to, inlet) = end_at(patch, hop);
-    let route = Route {
+    routes[node as usize % MOST_ROUTES] = Route {
         is_known: true,
         node,
         to,
         inlet,
     };
-    routes[node as usize % MOST_ROUTES] = route;
-    route
 }

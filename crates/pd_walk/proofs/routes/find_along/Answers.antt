@@ -1,6 +1,6 @@
 use Rattle.std.proofs.Common.{◌∙◌, sym}
 use Rattle.pd_walk.proofs.RelayLemmas.{only-first}
-use Rattle.pd_walk.proofs.routes.route_along.Goals as goal
+use Rattle.pd_walk.proofs.routes.find_along.Goals as goal
 
 pub keep_route-requires-clause-only : goal.keep_route-requires-clause-only
 keep_route-requires-clause-only c =
