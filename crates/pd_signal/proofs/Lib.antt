@@ -1,2 +1,3 @@
 mod LoopLemmas
 mod LineLemmas
+mod ShortLemmas

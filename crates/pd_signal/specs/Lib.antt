@@ -7,3 +7,4 @@ pub mod Tables
 pub mod Boxes
 pub mod Rows
 pub mod SharedRows
+pub mod Shorts

@@ -1,9 +1,9 @@
-use Rattle.std.proofs.Common.{arith, ◌∙◌, sym}
-use Rattle.pd_num.specs.Scale.{billionths, product_of}
-use Rattle.pd_signal.proofs.LoopLemmas.{map_ended, zip_replicate}
+use Rattle.std.proofs.Common.{arith, ◌∙◌}
+use Rattle.pd_signal.proofs.ShortLemmas.{scaled, scaled_long}
 use Rattle.pd_signal.proofs.pairs.scale_all.Goals as goal
 
-pub returns : goal.returns
-returns c =
-    map_ended (λ x. product_of billionths x c.args.factor) c.args.x.now c.loop-i.out _ c.loop-i.i (omega arith) (omega (arith, c.loop-i.invariant.len)) c.loop-i.invariant.out
-    ∙ sym (zip_replicate (product_of billionths) c.args.factor c.args.x.now 64 (omega arith))
+pub returns-then-are_short : goal.returns-then-are_short
+returns-then-are_short c = c.scale_short.ensures ∙ scaled c.args.factor c.args.x.now (omega arith) (c.are_short.ensures c.if-are_short.true)
+
+pub returns-else-is_small : goal.returns-else-is_small
+returns-else-is_small c = c.scale_long.ensures ∙ scaled_long c.args.factor c.args.x.now (omega arith)

@@ -1,7 +1,7 @@
 use Rattle.std.proofs.Common.{◌≡◌, ◌++◌, take, drop, length}
 use Rattle.pd_num.specs.Scale.{billionths, sum_of}
 use Rattle.pd_signal.specs.Samples.{zip_with}
-use Rattle.pd_mix.proofs.sums.add.Given as goal
+use Rattle.pd_mix.proofs.sums.add_limited.Given as goal
 
 abbrev pub invariant-loop-i : goal.invariant-loop-i
 invariant-loop-i l = record {

@@ -1,6 +1,6 @@
 use Rattle.std.proofs.Common.{◌≡◌, ◌++◌, take, drop, map, length}
 use Rattle.pd_num.specs.Scale.{billionths, product_of}
-use Rattle.pd_signal.proofs.pairs.scale_all.Given as goal
+use Rattle.pd_signal.proofs.pairs.scale_long.Given as goal
 
 abbrev pub invariant-loop-i : goal.invariant-loop-i
 invariant-loop-i l = record {
