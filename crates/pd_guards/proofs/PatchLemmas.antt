@@ -1,11 +1,11 @@
 -- A patch that has just grown is in order.
 use Rattle.std.proofs.Common.{◌≡◌, ◌^◌, ℕ, ℤ, zero, suc, ◌+◌, ◌-◌, ◌≤◌, inl, inr, ◌==◌, List, [], ◌∷◌, replicate, slice_get, Option, Some, None, IfSome, IsSome, is_some, unwrap_or, refl, sym, ap, subst, arith, true≢false}
+use Rattle.std.specs.Prelude.{option_and_then}
 use Rattle.std.specs.List.{AllByRecursion}
 use Rattle.std.proofs.lemmas.Bool.{cases_lt}
 use Rattle.slab.specs.Slab.{get}
 use Rattle.pd_atom.specs.Names.{Names}
 use Rattle.pd_clock.specs.declared.times.Rate.{Rate}
-use Rattle.pd_kind.specs.declared.kinds.Kind.{Kind}
 use Rattle.pd_kind.specs.declared.states.State.{State}
 use Rattle.pd_kind.specs.States.{silent_block, size_of, start_of}
 use Rattle.pd_kind.specs.Tables.{started}
@@ -16,24 +16,25 @@ use Rattle.pd_library.specs.declared.answers.Answer.{Answer}
 use Rattle.pd_library.specs.declared.answers.Answer.TheVariants.{Found}
 use Rattle.pd_library.specs.Files.{answer_in}
 use Rattle.pd_gather.specs.Gather.{IsProperAnswer, AreProper}
-use Rattle.pd_tree.specs.Trees.{Trees, Done, Leaf, Holder}
+use Rattle.pd_tree.specs.Trees.{Cell, Trees, Done, Leaf, Holder}
 use Rattle.pd_growth.specs.Steps.{Stock, numbers_up, zeros_from, beginning}
 use Rattle.pd_growth.specs.Growth.{grown}
 use Rattle.pd_grove.specs.declared.nodes.Node.{Node}
+use Rattle.pd_grove.specs.Standing.{node_seen, HasCell, NodesOf}
 use Rattle.pd_grove.specs.States.{NodesFresh}
 use Rattle.pd_grove.specs.Telling.{kind_in, state_in}
 use Rattle.pd_queue.specs.Queue.{Waiting}
 use Rattle.pd_patch.specs.declared.patch.Patch.{Patch}
 use Rattle.pd_patch.specs.Grown.{IsFresh, IsTree}
 use Rattle.pd_patch.specs.Sounds.{sound_of}
-use Rattle.pd_patch.specs.Values.{blocks_told, block_count, AreSilent}
+use Rattle.pd_patch.specs.Values.{blocks_told, block_count, AreSilent, HasNoOthers}
 use Rattle.pd_grove.specs.declared.ports.Side.TheVariants.{Outlets}
 use Rattle.pd_web.specs.Hops.{ports_told}
 use Rattle.pd_hearing.specs.Worlds.{bare, net_of, states_of, kept_of}
 use Rattle.pd_regrowth.proofs.TakeLemmas.{patch_takes}
 use Rattle.pd_guards.specs.Order.{HasFirst, IsKept, IsKind}
 use Rattle.pd_guards.specs.Worlds.{IsInOrder}
-use Rattle.pd_guards.specs.Growing.{IsBorn, AreBorn, BoxesIn, LibraryIn, StockIn, HasKind, IsOfTree, HasNoOtherBlocks}
+use Rattle.pd_guards.specs.Growing.{IsBorn, AreBorn, BoxesIn, LibraryIn, StockIn}
 use Rattle.pd_guards.specs.Sounds.{AreValues, HasValues, HaveValues, IsSounding, sound_with}
 use Rattle.pd_guards.proofs.FactLemmas.{either, all-from}
 use Rattle.pd_guards.proofs.MoreLemmas.{longer, first_more}
@@ -76,22 +77,28 @@ library_in names (f ∷ files) h s d =
     (λ e. found_in names d f.1 h.0 (some_same f.1 (Found d) e)) (library_in names files h.1 s d)
 
 -- a box of the tree
-kind_born : (names : Names) (t : Trees) (k : Kind) → AreBorn names t → HasKind t k → IsBorn names k
-kind_born names Done k h x = absurd x
-kind_born names (Leaf c rest) k h x = elim x [ inl e ↦ subst (IsBorn names) e h.0 | inr y ↦ kind_born names rest k h.1 y ]
-kind_born names (Holder c s inner rest) k h x =
-    elim x [ inl e ↦ subst (IsBorn names) e h.0 | inr y ↦ elim y [ inl z ↦ kind_born names inner k h.1 z | inr z ↦ kind_born names rest k h.2 z ] ]
+cell_born : (names : Names) (t : Trees) (x : Cell) → AreBorn names t → HasCell t x → IsBorn names x.kind
+cell_born names Done x h y = absurd y
+cell_born names (Leaf c rest) x h y = elim y [ inl e ↦ subst (λ (z : Cell). IsBorn names z.kind) e h.0 | inr z ↦ cell_born names rest x h.1 z ]
+cell_born names (Holder c s inner rest) x h y =
+    elim y [
+      | inl e ↦ subst (λ (z : Cell). IsBorn names z.kind) e h.0
+      | inr w ↦ elim w [ inl z ↦ cell_born names inner x h.1 z | inr z ↦ cell_born names rest x h.2 z ]
+    ]
 
-kind_size : (rate : Rate) (t : Trees) (k : Kind) → HasKind t k → size_of k rate ≤ sound_of rate t
-kind_size rate Done k x = absurd x
-kind_size rate (Leaf c rest) k x =
-    elim x [ inl e ↦ (let same : size_of c.kind rate ≡ size_of k rate = ap (λ (y : Kind). size_of y rate) e in omega arith) | inr y ↦ (let l : size_of k rate ≤ sound_of rate rest = kind_size rate rest k y in omega arith) ]
-kind_size rate (Holder c s inner rest) k x =
-    elim x [
-      | inl e ↦ (let same : size_of c.kind rate ≡ size_of k rate = ap (λ (y : Kind). size_of y rate) e in omega arith)
-      | inr y ↦ elim y [
-        | inl z ↦ (let l : size_of k rate ≤ sound_of rate inner = kind_size rate inner k z in omega arith)
-        | inr z ↦ (let l : size_of k rate ≤ sound_of rate rest = kind_size rate rest k z in omega arith)
+cell_size : (rate : Rate) (t : Trees) (x : Cell) → HasCell t x → size_of x.kind rate ≤ sound_of rate t
+cell_size rate Done x y = absurd y
+cell_size rate (Leaf c rest) x y =
+    elim y [
+      | inl e ↦ (let same : size_of c.kind rate ≡ size_of x.kind rate = ap (λ (z : Cell). size_of z.kind rate) e in omega arith)
+      | inr z ↦ (let l : size_of x.kind rate ≤ sound_of rate rest = cell_size rate rest x z in omega arith)
+    ]
+cell_size rate (Holder c s inner rest) x y =
+    elim y [
+      | inl e ↦ (let same : size_of c.kind rate ≡ size_of x.kind rate = ap (λ (z : Cell). size_of z.kind rate) e in omega arith)
+      | inr w ↦ elim w [
+        | inl z ↦ (let l : size_of x.kind rate ≤ sound_of rate inner = cell_size rate inner x z in omega arith)
+        | inr z ↦ (let l : size_of x.kind rate ≤ sound_of rate rest = cell_size rate rest x z in omega arith)
       ]
     ]
 
@@ -106,14 +113,20 @@ values_in : (o : Option Node) → ((n : Node) → o ≡ Some n → IfSome n.stat
 values_in None h = tt
 values_in (Some n) h = h n refl
 
--- the blocks of a row
-row_in : (o : Option (List (List ℤ))) (n : ℕ) → (IsSome o → o ≡ Some (replicate n silent_block)) → IfSome o (AllByRecursion AreValues)
-row_in None n h = tt
-row_in (Some own) n h = subst (λ (x : Option (List (List ℤ))). IfSome x (AllByRecursion AreValues)) (sym (h refl)) (all-same AreValues n silent_block silent_values)
+-- the blocks of a row, which has none where there is no box
+no_blocks : (own : List (List ℤ)) → ((i : ℕ) → slice_get own i ≡ None) → AllByRecursion AreValues own
+no_blocks own h = all-from AreValues own (λ i. subst (λ (x : Option (List ℤ)). IfSome x AreValues) (sym (h i)) tt)
 
-blocks_in : (p : Patch) → AreSilent p.grove p.web (blocks_told p) → HasNoOtherBlocks p → AllByRecursion (AllByRecursion AreValues) (blocks_told p)
-blocks_in p silent no_other =
-    all-from (AllByRecursion AreValues) (blocks_told p) (λ k. row_in (slice_get (blocks_told p) k) (block_count (ports_told p.web Outlets k)) (λ is. silent k (no_other k is)))
+row_in : (o : Option (List (List ℤ))) (node : Option Node) (n : ℕ) → (IsSome node → o ≡ Some (replicate n silent_block))
+    → ((i : ℕ) → node ≡ None → option_and_then (λ (own : List (List ℤ)). slice_get own i) o ≡ None) → IfSome o (AllByRecursion AreValues)
+row_in None node n h g = tt
+row_in (Some own) (Some x) n h g = subst (λ (y : Option (List (List ℤ))). IfSome y (AllByRecursion AreValues)) (sym (h refl)) (all-same AreValues n silent_block silent_values)
+row_in (Some own) None n h g = no_blocks own (λ i. g i refl)
+
+blocks_in : (p : Patch) → AreSilent p.grove p.web (blocks_told p) → HasNoOthers p.grove (blocks_told p) → AllByRecursion (AllByRecursion AreValues) (blocks_told p)
+blocks_in p silent no_others =
+    all-from (AllByRecursion AreValues) (blocks_told p)
+    (λ k. row_in (slice_get (blocks_told p) k) (get p.grove.nodes k) (block_count (ports_told p.web Outlets k)) (silent k) (no_others k))
 
 some_state : (names : Names) (now : ℕ) (o : Option State) (s : State) → o ≡ Some s → IsKept names now s → IfSome o (IsKept names now)
 some_state names now o s e h = subst (λ (x : Option State). IfSome x (IsKept names now)) (sym e) h
@@ -122,14 +135,14 @@ states_in : (names : Names) (now : ℕ) (o : Option Node) → ((n : Node) → o 
 states_in names now None h = tt
 states_in names now (Some n) h = h n refl
 
-module _ (p : Patch) (names : Names) (rate : Rate) (t : Trees) (fresh : NodesFresh rate 0 (get p.grove.nodes)) (born : AreBorn names t) (few : sound_of rate t ≤ 16777216) (of : IsOfTree p t) where
+module _ (p : Patch) (names : Names) (rate : Rate) (t : Trees) (fresh : NodesFresh rate 0 (get p.grove.nodes)) (born : AreBorn names t) (few : sound_of rate t ≤ 16777216) (of : NodesOf t (get p.grove.nodes)) where
   box_born : (k : ℕ) (n : Node) → get p.grove.nodes k ≡ Some n → IsBorn names n.kind
-  box_born k n e = kind_born names t n.kind born (of k n e)
+  box_born k n e = cell_born names t (node_seen n).cell born (of k n e)
 
   box_keeps : (now k : ℕ) (n : Node) → get p.grove.nodes k ≡ Some n → IfSome n.state (IsKept names now)
   box_keeps now k n e =
       let b : IsBorn names n.kind = box_born k n e in
-      let l : size_of n.kind rate ≤ sound_of rate t = kind_size rate t n.kind (of k n e) in
+      let l : size_of n.kind rate ≤ sound_of rate t = cell_size rate t (node_seen n).cell (of k n e) in
       some_state names now n.state (started (start_of n.kind rate) 0) (fresh k n e) (started_in names now (start_of n.kind rate) (b.kept now rate (omega arith)))
 
   pub planted_values : HaveValues (states_of p)
@@ -146,7 +159,7 @@ module _ (p : Patch) (names : Names) (rate : Rate) (t : Trees) (fresh : NodesFre
   }
 
 module _ (files : List (ℕ × Answer)) (name : List ℕ) (root : Page) (names0 names : Names) (n : ℕ) (rate : Rate) (p : Patch) (queue : Waiting) (first : HasFirst names0) (proper : IsProper names0 root) (library : AreProper names0 files)
-    (tree : IsTree p names rate (grown (answer_in files) name root (beginning names0 n))) (fresh : IsFresh p names name rate) (of : IsOfTree p tree.tree.boxes) where
+    (tree : IsTree p names rate (grown (answer_in files) name root (beginning names0 n))) (fresh : IsFresh p names name rate) where
   tree_born : AreBorn names tree.tree.boxes
   tree_born =
       let g = tree.given in
@@ -159,10 +172,10 @@ module _ (files : List (ℕ × Answer)) (name : List ℕ) (root : Page) (names0 
       let g = tree.given in
       let w : Stock = beginning names0 n in
       let last : HasFirst g.after.names = first_more names0 g.after.names (longer names0 g.after.names (patch_takes (answer_in files) name root w g.after tree.tree g.step).names) first in
-      planted_in p names rate tree.tree.boxes fresh.states tree_born tree.few_values of (subst HasFirst (sym g.table) last) now time queue
+      planted_in p names rate tree.tree.boxes fresh.states tree_born tree.few_values tree.of_tree (subst HasFirst (sym g.table) last) now time queue
 
   pub patch_values : HaveValues (kept_of p names queue).states
-  patch_values = planted_values p names rate tree.tree.boxes fresh.states tree_born tree.few_values of
+  patch_values = planted_values p names rate tree.tree.boxes fresh.states tree_born tree.few_values tree.of_tree
 
-  pub patch_sounds : HasNoOtherBlocks p → IsSounding (sound_with (net_of p) (kept_of p names queue))
-  patch_sounds no_other = record { states = patch_values; blocks = blocks_in p fresh.blocks no_other }
+  pub patch_sounds : IsSounding (sound_with (net_of p) (kept_of p names queue))
+  patch_sounds = record { states = patch_values; blocks = blocks_in p fresh.blocks fresh.no_others }

@@ -1,7 +1,6 @@
 -- When a document, what growth has at hand, and the boxes of a tree are in order.
-use Rattle.std.specs.Prelude.{◌≡◌, ℕ, ◌<◌, ◌≤◌, ◌^◌, ◌⊎◌, slice_get, Option, Some, IsSome}
+use Rattle.std.specs.Prelude.{◌≡◌, ℕ, ◌<◌, ◌≤◌, ◌^◌, Option, Some}
 use Rattle.std.specs.List.{AllByRecursion}
-use Rattle.slab.specs.Slab.{get}
 use Rattle.pd_atom.specs.Names.{Names}
 use Rattle.pd_clock.specs.declared.times.Rate.{Rate}
 use Rattle.pd_kind.specs.declared.kinds.Kind.{Kind}
@@ -12,9 +11,6 @@ use Rattle.pd_library.specs.declared.answers.Answer.{Answer}
 use Rattle.pd_library.specs.declared.answers.Answer.TheVariants.{Found}
 use Rattle.pd_tree.specs.Trees.{Trees, Done, Leaf, Holder}
 use Rattle.pd_growth.specs.Steps.{Stock}
-use Rattle.pd_grove.specs.declared.nodes.Node.{Node}
-use Rattle.pd_patch.specs.declared.patch.Patch.{Patch}
-use Rattle.pd_patch.specs.Values.{blocks_told}
 use Rattle.pd_guards.specs.Order.{IsNumber, HasFirst, IsList, IsKept, IsKind}
 use Rattle.pd_guards.specs.Sounds.{HasValues}
 
@@ -51,17 +47,3 @@ LibraryIn names lib = (s : ℕ) (d : Doc) → lib s ≡ Some (Found d) → Boxes
 pub record StockIn (w : Stock) : Type 0 where
   pub first : HasFirst w.names
   pub zeros : AllByRecursion (λ z. z ≤ 1000000000) w.zeros
-
--- a box of the tree is of this kind
-abbrev pub HasKind : Trees → Kind → Type 0
-HasKind Done k = ⊥
-HasKind (Leaf c rest) k = (c.kind ≡ k) ⊎ HasKind rest k
-HasKind (Holder c s inner rest) k = (c.kind ≡ k) ⊎ (HasKind inner k ⊎ HasKind rest k)
-
--- each box of the patch is of the kind of a box of the tree
-abbrev pub IsOfTree : Patch → Trees → Type 0
-IsOfTree p t = (k : ℕ) (n : Node) → get p.grove.nodes k ≡ Some n → HasKind t n.kind
-
--- each row of blocks of the patch is that of a box
-abbrev pub HasNoOtherBlocks : Patch → Type 0
-HasNoOtherBlocks p = (k : ℕ) → IsSome (slice_get (blocks_told p) k) → IsSome (get p.grove.nodes k)

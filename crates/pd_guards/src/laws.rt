@@ -38,7 +38,7 @@ ghost use Rattle.pd_guards.specs.Sounds.{HasValues, HaveValues, IsSounding, soun
 ghost use Rattle.pd_guards.specs.Order.{HasFirst, IsName, AreAtoms, IsMessage, IsTable, IsKept, IsKind, IsSaid, IsHeard, IsHearing};
 ghost use Rattle.pd_guards.specs.Worlds.{AreKept, AreKinds, IsReply, IsInOrder, IsStart, IsNamed, IsSent};
 ghost use Rattle.pd_guards.specs.Near.{AreNear};
-ghost use Rattle.pd_guards.specs.Growing.{AreBorn, BoxesIn, LibraryIn, StockIn, IsOfTree, HasNoOtherBlocks};
+ghost use Rattle.pd_guards.specs.Growing.{AreBorn, BoxesIn, LibraryIn, StockIn};
 ghost use Rattle.pd_guards.specs.Freely.{heard_by as heard_freely, outcome as free_outcome};
 
 /// A box in order that hears a message in order keeps and says what is in order again, in a table of names that goes on. Nothing is
@@ -99,21 +99,21 @@ pub fn what_grows_is_in_order()
         LibraryIn w.names lib → BoxesIn w.names p.boxes → StockIn w → grown lib name p w ≡ gives t v → AreBorn v.names t.boxes }
 {}
 
-/// A patch that has just grown is in order, where each of its boxes is of its tree: so its deliveries begin in order. The values of
-/// signals that its boxes keep are in their range, and so are those of its outlets, where each row of blocks is that of a box.
+/// A patch that has just grown is in order: so its deliveries begin in order. The values of signals that its boxes keep are in their
+/// range, and so are those of its outlets.
 pub fn grown_patches_are_in_order()
     ensures order { (files : List (ℕ × Answer)) (name : List ℕ) (root : Page) (before names : Names) (n : ℕ) (rate : Rate) (p : Patch) (now : ℕ) (queue : Waiting) →
         now ≤ 2 ^ 101 → HasFirst before → IsProper before root → AreProper before files →
-        (tree : IsTree p names rate (grown (answer_in files) name root (beginning before n))) → IsFresh p names name rate →
-        IsOfTree p tree.tree.boxes → IsInOrder (net_of p) now (kept_of p names queue) }
+        IsTree p names rate (grown (answer_in files) name root (beginning before n)) → IsFresh p names name rate →
+        IsInOrder (net_of p) now (kept_of p names queue) }
     ensures values { (files : List (ℕ × Answer)) (name : List ℕ) (root : Page) (before names : Names) (n : ℕ) (rate : Rate) (p : Patch) (queue : Waiting) →
         HasFirst before → IsProper before root → AreProper before files →
-        (tree : IsTree p names rate (grown (answer_in files) name root (beginning before n))) → IsFresh p names name rate →
-        IsOfTree p tree.tree.boxes → HaveValues (kept_of p names queue).states }
+        IsTree p names rate (grown (answer_in files) name root (beginning before n)) → IsFresh p names name rate →
+        HaveValues (kept_of p names queue).states }
     ensures sounds { (files : List (ℕ × Answer)) (name : List ℕ) (root : Page) (before names : Names) (n : ℕ) (rate : Rate) (p : Patch) (queue : Waiting) →
         HasFirst before → IsProper before root → AreProper before files →
-        (tree : IsTree p names rate (grown (answer_in files) name root (beginning before n))) → IsFresh p names name rate →
-        IsOfTree p tree.tree.boxes → HasNoOtherBlocks p → IsSounding (sound_with (net_of p) (kept_of p names queue)) }
+        IsTree p names rate (grown (answer_in files) name root (beginning before n)) → IsFresh p names name rate →
+        IsSounding (sound_with (net_of p) (kept_of p names queue)) }
 {}
 
 /// In a patch that has just grown the canvases that own the names of receivers are near: the path to each has at most 255 numbers.

@@ -1,16 +1,20 @@
 -- Blocks of boxes, one box after another.
 use Rattle.std.proofs.Common.{arith, ◌≡◌, ℕ, zero, suc, ◌+◌, ◌<◌, ◌≤◌, ℤ, Bool, true, false, List, [], ◌∷◌, ◌++◌, length, map, Option, Some, None, IsSome, refl, sym, ap, ◌∙◌, inl, inr}
-use Rattle.std.specs.Prelude.{slice_get, ◌||◌, if◌then◌else◌}
+use Rattle.std.specs.Prelude.{replicate, option_and_then, slice_get, ◌||◌, if◌then◌else◌}
 use Rattle.std.specs.List.{list_any}
 use Rattle.std.proofs.lemmas.Bool.{cases_eq, cases_lt}
-use Rattle.std.proofs.lemmas.List.{get_or_past}
+use Rattle.std.proofs.lemmas.List.{get_or_past, length-map}
+use Rattle.std.proofs.lemmas.Option.{slice_get_past}
 use Rattle.slab.specs.Slab.{Slab, get}
 use Rattle.pd_grove.specs.declared.grove.Grove.{Grove}
 use Rattle.pd_grove.specs.declared.nodes.Node.{Node}
+use Rattle.pd_kind.specs.States.{silent_block}
+use Rattle.pd_grove.specs.declared.ports.Side.TheVariants.{Outlets}
 use Rattle.pd_web.specs.declared.jacks.Jack.{Jack}
 use Rattle.pd_web.specs.declared.web.Web.{Web}
-use Rattle.pd_web.specs.Hops.{signal_in}
-use Rattle.pd_patch.specs.Values.{AreSilent, block_count, first_blocks}
+use Rattle.pd_web.specs.Hops.{ports_told, signal_in}
+use Rattle.pd_web.specs.Jacks.{jacks_in, jacks_at}
+use Rattle.pd_patch.specs.Values.{AreSilent, HasNoOthers, block_count, first_blocks}
 
 one_signal : (ports : List Jack) (i : ℕ) → signal_in (slice_get ports i) ≡ true → list_any (λ j. j.is_signal) ports ≡ true
 one_signal [] i h = absurd (cc)
@@ -76,3 +80,15 @@ live_below nodes k count end l e live = elim (cases_lt k (length nodes.slots)) [
 pub all_silent : {A : Type 0} (f : A → List (List ℤ)) (g : Grove) (w : Web) (vs : List A) (end : ℕ) → length g.nodes.slots ≤ end
     → ((k : ℕ) → k < end → slice_get (map f vs) k ≡ Some (first_blocks w k)) → AreSilent g w (map f vs)
 all_silent f g w vs end l h k live = h k (live_below g.nodes k end end l refl live)
+
+-- a key that no box has has no outlets, and so no blocks
+pub no_others : {A : Type 0} (f : A → List (List ℤ)) (g : Grove) (w : Web) (vs : List A) → ((k : ℕ) → ports_told w Outlets k ≡ jacks_at Outlets g k)
+    → ((k : ℕ) → k < length vs → slice_get (map f vs) k ≡ Some (first_blocks w k)) → HasNoOthers g (map f vs)
+no_others f g w vs ports h k outlet e =
+    let block : Option (List (List ℤ)) → Option (List ℤ) = option_and_then (λ (own : List (List ℤ)). slice_get own outlet) in
+    elim (cases_lt k (length vs)) [
+      | inl less ↦
+          let none : ports_told w Outlets k ≡ [] = ports k ∙ ap (jacks_in Outlets g) e in
+          ap block (h k less) ∙ ap (λ (own : List Jack). slice_get (replicate (block_count own) silent_block) outlet) none
+      | inr past ↦ let long : length (map f vs) ≡ length vs = length-map vs f in ap block (slice_get_past (map f vs) k (omega (arith, past, long)))
+    ]

@@ -12,7 +12,7 @@ use Rattle.pd_growth.specs.declared.growing.Stop.TheVariants as stop
 use Rattle.pd_growth.specs.Steps.{Stock, Step, gives, ends}
 use Rattle.pd_grove.specs.declared.grove.Grove.{Grove}
 use Rattle.pd_grove.specs.declared.ports.Side.{Side}
-use Rattle.pd_grove.specs.Standing.{GroveStands}
+use Rattle.pd_grove.specs.Standing.{GroveStands, NodesOf}
 use Rattle.pd_grove.specs.States.{NodesFresh}
 use Rattle.pd_grove.specs.Owning.{AreOwn}
 use Rattle.pd_grove.specs.TextOrder.{deep}
@@ -30,7 +30,7 @@ use Rattle.pd_patch.specs.declared.refusal.GrowRefusal.TheVariants.{SymbolsFull,
 use Rattle.pd_patch.specs.Numbers.{AreUnder}
 use Rattle.pd_patch.specs.Orders.{AreOrdered}
 use Rattle.pd_patch.specs.Sounds.{sound_of}
-use Rattle.pd_patch.specs.Values.{AreSilent, blocks_told}
+use Rattle.pd_patch.specs.Values.{AreSilent, HasNoOthers, blocks_told}
 use Rattle.pd_patch.specs.Wired.{IsWired}
 
 -- Each box has its ports, and the wires are those that fit: of each outlet and to each inlet, in the order of their canvas.
@@ -45,7 +45,7 @@ pub record AreLaid (g : Grove) (w : Web) : Type 0 where
 
 -- What a patch has whose tree was just planted: boxes that lie in one canvas each; its wires; under each name its owners, in text order;
 -- the signal order of each canvas; each box's number; no clock, and room for one of each box; and of each box the first state and,
--- where it has signal outlets, a silent block for each outlet.
+-- where it has signal outlets, a silent block for each outlet. No key but a box's has a block.
 pub record IsFresh (p : Patch) (names : Names) (file : List ℕ) (rate : Rate) : Type 0 where
   pub own : AreOwn (get p.grove.nodes) (get p.grove.boards)
   pub wires : AreLaid p.grove p.web
@@ -57,6 +57,7 @@ pub record IsFresh (p : Patch) (names : Names) (file : List ℕ) (rate : Rate) :
   pub room : (k : ℕ) → IsSome (get p.grove.nodes k) → k < p.timers.end
   pub states : NodesFresh rate 0 (get p.grove.nodes)
   pub blocks : AreSilent p.grove p.web (blocks_told p)
+  pub no_others : HasNoOthers p.grove (blocks_told p)
   pub same_rate : p.rate ≡ rate
 
 -- growth gives a tree, with these names after it
@@ -65,12 +66,13 @@ pub record Gives (s : Step Tree) (names : Names) (t : Tree) : Type 0 where
   pub step : s ≡ gives t after
   pub table : names ≡ after.names
 
--- The tree stands that growth gives, with its wires. With the root at most 256 canvases lie in one another. No more wires fit, and no more
--- sound is in it, than there may be.
+-- The tree stands that growth gives, with its wires, and each box is one of that tree. With the root at most 256 canvases lie in one
+-- another. No more wires fit, and no more sound is in it, than there may be.
 pub record IsTree (p : Patch) (names : Names) (rate : Rate) (s : Step Tree) : Type 0 where
   pub tree : Tree
   pub given : Gives s names tree
   pub stands : GroveStands p.grove tree.sheet tree.boxes
+  pub of_tree : NodesOf tree.boxes (get p.grove.nodes)
   pub shallow : deep tree.boxes + 1 ≤ 256
   pub wired : IsWired p.grove p.web tree
   pub few_wires : wires_fitting tree.sheet tree.boxes ≤ 65536

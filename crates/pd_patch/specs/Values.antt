@@ -43,6 +43,10 @@ first_blocks w node = replicate (block_count (ports_told w Outlets node)) silent
 abbrev pub AreSilent : Grove → Web → Blocks → Type 0
 AreSilent g w blocks = (k : ℕ) → IsSome (get g.nodes k) → slice_get blocks k ≡ Some (first_blocks w k)
 
+-- no key but a box's has a block
+abbrev pub HasNoOthers : Grove → Blocks → Type 0
+HasNoOthers g blocks = (k outlet : ℕ) → get g.nodes k ≡ None → block_at blocks k outlet ≡ None
+
 abbrev pub chain_by : Option Listing → List ℕ
 chain_by None = []
 chain_by (Some o) = o.chain

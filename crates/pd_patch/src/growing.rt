@@ -2,6 +2,7 @@
 
 ghost use Rattle.std.specs.Prelude.{◌≡◌, length, IfOk, IfErr};
 ghost use Rattle.std.specs.List.{AllByRecursion};
+ghost use Rattle.slab.specs.Slab.{get};
 ghost use Rattle.pd_atom.specs.Names.{Extends};
 ghost use Rattle.pd_kind.specs.Ports.{IsSmallKind};
 ghost use Rattle.pd_canvas.specs.Pages.{elements_of};
@@ -11,7 +12,7 @@ ghost use Rattle.pd_gather.specs.Gather.{AreProper};
 ghost use Rattle.pd_growth.specs.Steps.{beginning};
 ghost use Rattle.pd_growth.specs.Growth.{grown};
 ghost use Rattle.pd_tree.specs.Trees.{Trees, width, stands_of, stands_in};
-ghost use Rattle.pd_grove.specs.Standing.{GroveStands};
+ghost use Rattle.pd_grove.specs.Standing.{GroveStands, NodesOf};
 ghost use Rattle.pd_web.specs.Jacks.{KindsSmall};
 ghost use Rattle.pd_grove.specs.TextOrder.{keys_in_order};
 ghost use Rattle.pd_patch.specs.Report.{notices_in, loads_among};
@@ -91,6 +92,7 @@ fn plant_whole(
     requires small { AllByRecursion (λ r. IsSmallKind r.kind) rows.items }
     ensures table { symbols.new ≡ symbols.old }
     ensures stands { (t : Trees) → stands_in rows.items ≡ stands_of t → width t ≡ count → IfOk result (λ r. GroveStands r.0.grove sheet t) }
+    ensures of_tree { (t : Trees) → stands_in rows.items ≡ stands_of t → IfOk result (λ r. NodesOf t (get r.0.grove.nodes)) }
     ensures fresh { IfOk result (λ r. IsFresh r.0 symbols.old name.now rate) }
     ensures notices { IfOk result (λ r. r.1.notices.items ≡ notices_in r.0.grove r.0.web r.0.orders.items) }
     ensures loads { IfOk result (λ r. r.1.fresh.items ≡ loads_among r.0.grove (keys_in_order r.0.grove)) }

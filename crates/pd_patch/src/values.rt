@@ -1,11 +1,11 @@
 //! The blocks that signal outlets give, and what a block of samples asks of a patch.
 
-ghost use Rattle.std.specs.Prelude.{◌≡◌, ◌+◌, ◌≤◌, ℕ, Some, length, slice_get, slice_set, map, replicate, is_some, IsTrue, IfOk};
+ghost use Rattle.std.specs.Prelude.{◌≡◌, ◌+◌, ◌<◌, ◌≤◌, ℕ, Some, length, slice_get, slice_set, map, replicate, is_some, IsTrue, IfOk};
 ghost use Rattle.std.specs.Option.{option_copied};
 ghost use Rattle.pd_kind.specs.States.{silent_block};
 ghost use Rattle.pd_grove.specs.declared.ports.Side.TheVariants.{Outlets};
 ghost use Rattle.pd_web.specs.Hops.{feed_hops, ports_told};
-ghost use Rattle.pd_patch.specs.Values.{blocks_told, block_at, block_count, with_block, with_silence, chain_in, stuck_in, AreSilent, SilentRest};
+ghost use Rattle.pd_patch.specs.Values.{blocks_told, block_at, block_count, first_blocks, with_block, with_silence, chain_in, stuck_in, AreSilent, SilentRest};
 
 use crate::numbers::box_end;
 use crate::patch::Patch;
@@ -19,7 +19,8 @@ pub(crate) type Blocks = Vec<[Sig; 64]>;
 
 /// The first blocks of each box, by its key. Under a key that isn't there stand any blocks.
 pub(crate) fn values_of(alloc: Global, grove: &Grove, web: &Web) -> Result<Vec<Blocks>, AllocError>
-    ensures { IfOk result (λ values. AreSilent grove.now web.now (map (λ b. b.items) values.items)) }
+    ensures silent { IfOk result (λ values. AreSilent grove.now web.now (map (λ b. b.items) values.items)) }
+    ensures rows { IfOk result (λ values. (k : ℕ) → k < length values.items → slice_get (map (λ b. b.items) values.items) k ≡ Some (first_blocks web.now k)) }
 {
     let end = box_end(grove)?;
     let mut values = Vec::new(alloc);

@@ -1,7 +1,8 @@
 use Rattle.std.proofs.Common.{refl, subst}
 use Rattle.slab.specs.Slab.{get}
 use Rattle.pd_grove.specs.States.{NodesFresh}
-use Rattle.pd_patch.proofs.BlockLemmas.{live_below}
+use Rattle.pd_grove.specs.declared.ports.Side.TheVariants.{Outlets}
+use Rattle.pd_patch.proofs.BlockLemmas.{live_below, no_others}
 use Rattle.pd_patch.proofs.WiredLemmas.{own_canvas}
 use Rattle.pd_patch.proofs.growing.plant_whole.Goals as goal
 
@@ -18,6 +19,7 @@ returns-clause-fresh c =
       clocks = c.in_ok-timers.ensures.clocks;
       room = λ k live. live_below nodes k c.in_ok-box_end.field-0 c.in_ok-timers.timers.end c.in_ok-box_end.ensures c.in_ok-timers.ensures.end live;
       states = subst (λ n. NodesFresh c.args.rate n (get nodes)) c.of_units.ensures c.in_ok-grove.ensures.fresh;
-      blocks = c.in_ok-values.ensures;
+      blocks = c.in_ok-values.ensures.silent;
+      no_others = no_others (λ b. b.items) c.in_ok-grove.grove c.in_ok-web.web c.in_ok-values.values.items (c.in_ok-web.ensures.ports Outlets) c.in_ok-values.ensures.rows;
       same_rate = refl;
     }

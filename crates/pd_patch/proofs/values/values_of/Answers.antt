@@ -21,9 +21,14 @@ loop-key-preserved c =
           (blocks_more (λ b. b.items) w values blocks key count made c.loop-key.invariant.each);
     }
 
-pub returns : goal.returns
-returns c =
+pub returns-clause-silent : goal.returns-clause-silent
+returns-clause-silent c =
     let g = c.args.grove.now in
     let end : length g.nodes.slots ≤ c.in_ok-end.end = c.in_ok-end.ensures in
     let past = c.loop-key-test.false in
     all_silent (λ b. b.items) g c.args.web.now c.loop-key.values.items c.loop-key.key (omega (arith, end, past)) c.loop-key.invariant.each
+
+pub returns-clause-rows : goal.returns-clause-rows
+returns-clause-rows c = λ k less.
+    let count = c.loop-key.invariant.count in
+    c.loop-key.invariant.each k (omega (arith, less, count))
