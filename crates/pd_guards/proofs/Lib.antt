@@ -27,3 +27,4 @@ pub mod BlockLemmas
 pub mod KeepLemmas
 pub mod HeldLemmas
 pub mod RunLemmas
+pub mod ToldLemmas

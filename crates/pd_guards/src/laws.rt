@@ -1,5 +1,5 @@
 //! Laws of what boxes hear, and of whole deliveries.
-ghost use Rattle.std.specs.Prelude.{◌≡◌, ◌+◌, ◌≤◌, ◌^◌, ℕ, ℤ, true, List, [], Option, Some, IfSome};
+ghost use Rattle.std.specs.Prelude.{◌≡◌, ◌+◌, ◌≤◌, ◌^◌, ℕ, ℤ, true, List, [], length, Option, Some, IfSome};
 ghost use Rattle.std.specs.List.{list_all};
 ghost use Rattle.pd_atom.specs.Names.{Names};
 ghost use Rattle.pd_atom.specs.declared.Atom.{Atom};
@@ -23,6 +23,9 @@ ghost use Rattle.pd_growth.specs.Steps.{Stock, Step, beginning, gives};
 ghost use Rattle.pd_growth.specs.Growth.{grown};
 ghost use Rattle.pd_patch.specs.declared.patch.Patch.{Patch};
 ghost use Rattle.pd_patch.specs.Grown.{IsFresh, IsTree};
+ghost use Rattle.pd_patch.specs.Telling.{order_in};
+ghost use Rattle.pd_order.specs.Listing.{Listing};
+ghost use Rattle.pd_grove.specs.Telling.{reached};
 ghost use Rattle.pd_queue.specs.Queue.{Waiting};
 ghost use Rattle.pd_turns.specs.Turns.{World};
 ghost use Rattle.pd_walk.specs.declared.walker.Start.{Start};
@@ -119,6 +122,14 @@ pub fn grown_patches_are_in_order()
 /// In a patch that has just grown the canvases that own the names of receivers are near: the path to each has at most 255 numbers.
 pub fn grown_patches_are_near()
     ensures { (p : Patch) (names : Names) (file : List ℕ) (rate : Rate) (s : Step Tree) → IsTree p names rate s → IsFresh p names file rate → AreNear (net_of p) }
+{}
+
+/// In a patch that has just grown the signal order of each canvas to which a path leads has at most 16,384 boxes, those that are stuck too.
+pub fn orders_are_short()
+    ensures { (lib : ℕ → Option Answer) (name : List ℕ) (root : Page) (before names : Names) (n : ℕ) (rate : Rate) (p : Patch) →
+        IsTree p names rate (grown lib name root (beginning before n)) → IsFresh p names name rate →
+        (path : List ℕ) (c : ℕ) (o : Listing) → reached p.grove (Some p.grove.root) path ≡ Some c → order_in p.orders.items c ≡ Some o →
+        length o.chain + length o.stuck ≤ 16384 }
 {}
 
 /// A command that is read and sends a message begins its event in order: its name and its atoms are of the table after reading, and the

@@ -1,13 +1,14 @@
 -- What growth takes: the `$0` numbers of what it gives, and as much room as that has boxes.
-use Rattle.std.proofs.Common.{◌≡◌, ℕ, zero, suc, ◌+◌, Bool, true, false, List, [], ◌∷◌, ◌++◌, Option, Some, None, if◌then◌else◌, refl, sym, ap, ◌∙◌, subst, arith, append_assoc, append-nil}
+use Rattle.std.proofs.Common.{◌≡◌, ℕ, zero, suc, ◌+◌, ◌≤◌, Bool, true, false, List, [], ◌∷◌, ◌++◌, Option, Some, None, if◌then◌else◌, refl, sym, ap, ◌∙◌, subst, arith, append_assoc, append-nil}
 use Rattle.std.specs.Prelude.{drop}
+use Rattle.pd_atom.specs.Names.{Names}
 use Rattle.pd_atom.specs.declared.Atom.{Atom}
 use Rattle.pd_kind.specs.declared.kinds.Kind.TheVariants as kind
 use Rattle.pd_kind.specs.Naming.{arguments_of}
 use Rattle.pd_canvas.specs.Pages.{Head, Page, Entry, elements_of}
 use Rattle.pd_library.specs.declared.answers.Answer.{Answer}
 use Rattle.pd_tree.specs.Trees.{Trees, Done, Leaf, Holder, Tree, join, weight, sheet_of, own_zeros, zeros_in, zeros_of}
-use Rattle.pd_growth.specs.Steps.{Stock, gives, ◌>>=◌, numbered, named_step, brought, text_expanded}
+use Rattle.pd_growth.specs.Steps.{Stock, beginning, gives, ◌>>=◌, numbered, named_step, brought, text_expanded}
 use Rattle.pd_growth.specs.Making.{Around, Making, Plain, Subpatch, File, is_expanded}
 use Rattle.pd_growth.specs.Growth.{Inner, cell_of, canvas_grown, receiver_bytes, receiver_named, brought_if, receiver_brought, around_instance, box_made, own_text, box_grown, boxes_grown, page_grown, without_ending, around_root, grown}
 use Rattle.pd_regrowth.specs.Regrowth.{Takes, inner_of}
@@ -185,3 +186,9 @@ patch_takes lib name p w v t h =
     (takes_number w g.start v g.own (zeros_in g.boxes) (weight g.boxes) (numbered_takes w g.start g.own g.own_is)
     (takes_then g.start g.named v (zeros_in g.boxes) (weight g.boxes) (brought_takes (receiver_bytes name) g.start g.named tt g.name_is)
     (page_takes lib (without_ending name) 255 (around_root g.own) p g.named v g.boxes g.boxes_is)))
+
+pub patch_small : (lib : ℕ → Option Answer) (name : List ℕ) (p : Page) (names : Names) (n : ℕ) (v : Stock) (t : Tree)
+    → grown lib name p (beginning names n) ≡ gives t v → weight t.boxes ≤ 16384
+patch_small lib name p names n v t h =
+    let room : 16384 ≡ weight t.boxes + v.room = (patch_takes lib name p (beginning names n) v t h).room in
+    omega (arith, room)

@@ -7,7 +7,7 @@ ghost use Rattle.pd_library.specs.declared.answers.Answer.{Answer};
 ghost use Rattle.pd_tree.specs.Trees.{Tree, Trees, document_boxes, document_in, weight, zeros_in, zeros_of};
 ghost use Rattle.pd_tree.specs.Ports.{trimmed_tree};
 ghost use Rattle.pd_growth.specs.Making.{Around};
-ghost use Rattle.pd_growth.specs.Steps.{Stock, gives};
+ghost use Rattle.pd_growth.specs.Steps.{Stock, beginning, gives};
 ghost use Rattle.pd_growth.specs.Growth.{box_grown, boxes_grown, page_grown, grown};
 ghost use Rattle.pd_regrowth.specs.Regrowth.{Takes, GivesAgain, inner_of};
 ghost use Rattle.pd_regrowth.specs.Rewiring.{AreAlike, IsTreeAlike, own_trimmed_tree};
@@ -23,6 +23,12 @@ pub fn growth_takes()
         page_grown lib root left a p w ≡ gives t v → Takes w (zeros_in t) (weight t) v }
     ensures patch { (lib : ℕ → Option Answer) (name : List ℕ) (p : Page) (w v : Stock) (t : Tree) →
         grown lib name p w ≡ gives t v → Takes w (zeros_of t) (weight t.boxes) v }
+{}
+
+/// A patch has at most 16,384 boxes, those inside others too: growth begins with so much room.
+pub fn patches_are_small()
+    ensures { (lib : ℕ → Option Answer) (name : List ℕ) (p : Page) (names : Names) (n : ℕ) (v : Stock) (t : Tree) →
+        grown lib name p (beginning names n) ≡ gives t v → weight t.boxes ≤ 16384 }
 {}
 
 /// What grew grows again, for each library that answers so too, in each table of names that goes on, with the same `$0`

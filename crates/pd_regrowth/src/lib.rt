@@ -5,5 +5,5 @@ mod laws;
 
 pub use laws::{
     document_stays, grown_texts_are_known, growth_is_local, growth_takes, longer_tables_suit,
-    patches_grow_again, sound_documents_suit, trimming_laws, wires_are_unseen,
+    patches_are_small, patches_grow_again, sound_documents_suit, trimming_laws, wires_are_unseen,
 };
