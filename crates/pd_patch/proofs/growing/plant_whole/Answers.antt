@@ -23,6 +23,3 @@ returns-clause-fresh c =
       no_others = no_others (λ b. b.items) c.in_ok-grove.grove c.in_ok-web.web c.in_ok-values.values.items (c.in_ok-web.ensures.ports Outlets) c.in_ok-values.ensures.rows;
       same_rate = refl;
     }
-
-pub returns-clause-of_tree : goal.returns-clause-of_tree
-returns-clause-of_tree c = λ t h. c.in_ok-grove.ensures.of_tree t h
