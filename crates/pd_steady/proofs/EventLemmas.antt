@@ -1,0 +1,103 @@
+-- An event that begins in order passes nothing over, and leaves the stage steady.
+use Rattle.std.proofs.Common.{◌≡◌, ◌≤◌, ◌+◌, ◌^◌, ℕ, List, refl, sym, ap, subst, ◌∙◌}
+use Rattle.pd_atom.specs.Names.{Names}
+use Rattle.pd_atom.specs.declared.Atom.{Atom}
+use Rattle.pd_kind.specs.Forming.{cut_atoms}
+use Rattle.pd_turns.specs.Turns.{World}
+use Rattle.pd_walk.specs.declared.walker.Start.{Start}
+use Rattle.pd_walk.specs.declared.walker.Start.TheVariants as start
+use Rattle.pd_walk.specs.Outcome.{outcome}
+use Rattle.pd_hearing.specs.Worlds.{Net, Kept}
+use Rattle.pd_block.specs.Nets.{Net as BlockNet, Sound}
+use Rattle.pd_block.specs.Blocks.{block_of}
+use Rattle.pd_guards.specs.Order.{HasFirst, IsName, AreAtoms}
+use Rattle.pd_guards.specs.Worlds.{AreKept, IsInOrder, IsStart, IsNamed}
+use Rattle.pd_guards.specs.Sounds.{HaveValues, IsSounding}
+use Rattle.pd_guards.specs.Freely.{outcome as free_outcome}
+use Rattle.pd_engine.specs.Stages.{Stage, Passage}
+use Rattle.pd_engine.specs.Messages.{message_in}
+use Rattle.pd_engine.specs.Events as engine
+use Rattle.pd_engine.specs.Events.{Beginning, Message, Firing, Loading, begun, delivered, after_deliveries, event}
+use Rattle.pd_steady.specs.Freely.{deliveries, event_freely}
+use Rattle.pd_steady.specs.Steady.{IsSteady}
+
+-- what the laws of pd_guards say
+pub record Guards : Type 0 where
+  pub freely : (net : Net) (now : ℕ) (w : World Kept) (s : Start) → IsInOrder net now w.kept → IsStart w.kept.names s → outcome net now w s ≡ free_outcome net now w s
+  pub order : (net : Net) (now : ℕ) (w : World Kept) (s : Start) → IsInOrder net now w.kept → IsStart w.kept.names s → IsInOrder net now (outcome net now w s).kept
+  pub values : (net : Net) (now : ℕ) (w : World Kept) (s : Start) → IsInOrder net now w.kept → IsStart w.kept.names s → HaveValues w.kept.states
+      → HaveValues (outcome net now w s).kept.states
+  pub lasts : (net : Net) (now later : ℕ) (kept : Kept) → IsInOrder net now kept → now ≤ later → later ≤ 2 ^ 101 → IsInOrder net later kept
+  pub keeps : (net : BlockNet) (names : Names) (now later start : ℕ) (s : Sound) → now ≤ later → start + 64000000000 ≤ later → AreKept names now s.states → IsSounding s
+      → AreKept names later (block_of net s start).sound.states
+  pub sounds : (net : BlockNet) (names : Names) (now start : ℕ) (s : Sound) → AreKept names now s.states → IsSounding s → IsSounding (block_of net s start).sound
+  pub begins : (names : Names) (name : ℕ) (atoms : List Atom) → HasFirst names → IsName names name → AreAtoms names atoms
+      → IsNamed names name (message_in atoms).selector (cut_atoms (message_in atoms).atoms)
+
+-- what begins deliveries, as pd_walk is told it
+abbrev pub start_of : Beginning → Start
+start_of (Message name selector atoms) = start.Name name (record { selector = selector; atoms = record { ref_ptr = (0, 0); now = atoms } })
+start_of (Firing owner) = start.Clock owner
+start_of (Loading boxes) = start.Loads (record { ref_ptr = (0, 0); now = boxes })
+
+-- it begins in order
+abbrev pub Begins : Names → Beginning → Type 0
+Begins names (Message name selector atoms) = IsNamed names name selector atoms
+Begins names (Firing owner) = Unit {0}
+Begins names (Loading boxes) = Unit {0}
+
+starts : (names : Names) (b : Beginning) → Begins names b → IsStart names (start_of b)
+starts names (Message name selector atoms) h = h
+starts names (Firing owner) h = tt
+starts names (Loading boxes) h = tt
+
+module _ (net : Net) (now : ℕ) (w : World Kept) where
+  outcome_is : (b : Beginning) → outcome net now w (start_of b) ≡ engine.deliveries net now w b
+  unfolding outcome
+  outcome_is (Message name selector atoms) = refl
+  outcome_is (Firing owner) = refl
+  outcome_is (Loading boxes) = refl
+
+  free_is : (b : Beginning) → free_outcome net now w (start_of b) ≡ deliveries net now w b
+  unfolding free_outcome
+  free_is (Message name selector atoms) = refl
+  free_is (Firing owner) = refl
+  free_is (Loading boxes) = refl
+
+-- deliveries come to this world, freely too, and all is in order in it
+record IsDelivered (net : Net) (now : ℕ) (v u : World Kept) : Type 0 where
+  same : u ≡ v
+  order : IsInOrder net now v.kept
+  values : HaveValues v.kept.states
+
+deliver : (g : Guards) (net : Net) (now : ℕ) (w v u : World Kept) (st : Start) → outcome net now w st ≡ v → free_outcome net now w st ≡ u → IsInOrder net now w.kept
+    → HaveValues w.kept.states → IsStart w.kept.names st → IsDelivered net now v u
+deliver g net now w v u st is free h a k = record {
+  same = sym free ∙ sym (g.freely net now w st h k) ∙ is;
+  order = subst (λ (x : World Kept). IsInOrder net now x.kept) is (g.order net now w st h k);
+  values = subst (λ (x : World Kept). HaveValues x.kept.states) is (g.values net now w st h k a);
+}
+
+-- a part of a run is the same freely, and leads to a steady stage
+pub record IsFree (most : ℕ) (p q : Passage) : Type 0 where
+  pub same : q ≡ p
+  pub steady : IsSteady most p.stage
+
+-- an event that comes to this world, and freely to that one
+after_free : (most : ℕ) (s : Stage) (v u : World Kept) → IsSteady most s → IsDelivered s.net s.time v u → IsFree most (after_deliveries s v) (after_deliveries s u)
+after_free most s v u h d = record {
+  same = ap (λ (w : World Kept). after_deliveries s w) d.same;
+  steady = record {
+    time = h.time;
+    order = record { time = d.order.time; first = d.order.first; kinds = d.order.kinds; states = d.order.states };
+    values = record { states = d.values; blocks = h.values.blocks };
+    block = h.block;
+  };
+}
+
+pub event_free : (g : Guards) (most : ℕ) (s : Stage) (b : Beginning) → IsSteady most s → Begins s.names b → IsFree most (event s b) (event_freely s b)
+unfolding event event_freely
+event_free g most s b h k =
+    after_free most s (delivered s b) (deliveries s.net s.time (begun s) b) h
+    (deliver g s.net s.time (begun s) (delivered s b) (deliveries s.net s.time (begun s) b) (start_of b) (outcome_is s.net s.time (begun s) b) (free_is s.net s.time (begun s) b)
+    h.order h.values.states (starts s.names b k))

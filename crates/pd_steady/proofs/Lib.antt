@@ -1,0 +1,4 @@
+pub mod OwnLemmas
+pub mod EventLemmas
+pub mod TimeLemmas
+pub mod RunLemmas

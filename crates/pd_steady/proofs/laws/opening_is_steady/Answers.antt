@@ -1,0 +1,29 @@
+use Rattle.std.proofs.Common.{[]}
+use Rattle.pd_steady.proofs.RunLemmas.{opened_free, at_first}
+use Rattle.pd_steady.proofs.laws.opening_is_steady.Goals as goal
+
+pub returns-clause-steady : goal.returns-clause-steady
+returns-clause-steady c = λ holds name rate d names table p most x. (opened_free (record {
+  freely = c.delivery_passes_nothing_over.ensures.freely;
+  order = c.delivery_passes_nothing_over.ensures.order;
+  values = c.messages_keep_values.ensures.delivery;
+  lasts = c.order_lasts.ensures;
+  keeps = c.blocks_stay_in_order.ensures.kept;
+  sounds = c.blocks_stay_in_order.ensures.sounds;
+  begins = λ names name atoms first n h. c.commands_begin_in_order.ensures.message names name atoms first n h;
+}) most p table
+    (c.grown_patches_are_in_order.ensures.order x.grows.files.files name d x.grows.files.names table 1001 rate p 0 [] at_first x.first x.proper x.found x.grows.tree x.grows.fresh x.boxes)
+    (c.grown_patches_are_in_order.ensures.sounds x.grows.files.files name d x.grows.files.names table 1001 rate p [] x.first x.proper x.found x.grows.tree x.grows.fresh x.boxes x.blocks)).steady
+
+pub returns-clause-freely : goal.returns-clause-freely
+returns-clause-freely c = λ holds name rate d names table p x. (opened_free (record {
+  freely = c.delivery_passes_nothing_over.ensures.freely;
+  order = c.delivery_passes_nothing_over.ensures.order;
+  values = c.messages_keep_values.ensures.delivery;
+  lasts = c.order_lasts.ensures;
+  keeps = c.blocks_stay_in_order.ensures.kept;
+  sounds = c.blocks_stay_in_order.ensures.sounds;
+  begins = λ names name atoms first n h. c.commands_begin_in_order.ensures.message names name atoms first n h;
+}) 0 p table
+    (c.grown_patches_are_in_order.ensures.order x.grows.files.files name d x.grows.files.names table 1001 rate p 0 [] at_first x.first x.proper x.found x.grows.tree x.grows.fresh x.boxes)
+    (c.grown_patches_are_in_order.ensures.sounds x.grows.files.files name d x.grows.files.names table 1001 rate p [] x.first x.proper x.found x.grows.tree x.grows.fresh x.boxes x.blocks)).same

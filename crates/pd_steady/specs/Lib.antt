@@ -1,0 +1,5 @@
+pub mod Runs
+pub mod Freely
+pub mod Steady
+pub mod Steps
+pub mod Opening

@@ -1,0 +1,23 @@
+-- When a stage of a run is steady, and a command in order at it.
+use Rattle.std.specs.Prelude.{ℕ, ◌≤◌}
+use Rattle.pd_atom.specs.Names.{Names}
+use Rattle.pd_script.specs.declared.commands.Command.{Command}
+use Rattle.pd_script.specs.declared.commands.Command.TheVariants as command
+use Rattle.pd_guards.specs.Order.{IsName, AreAtoms}
+use Rattle.pd_guards.specs.Worlds.{IsInOrder}
+use Rattle.pd_guards.specs.Sounds.{IsSounding}
+use Rattle.pd_engine.specs.Stages.{Stage, kept_at}
+use Rattle.pd_engine.specs.Times.{block_units, sound_at}
+
+-- The time is at most so much; the patch is in order at it; the values of signals are in their range; and the next block ends no earlier
+-- than the first one.
+pub record IsSteady (most : ℕ) (s : Stage) : Type 0 where
+  pub time : s.time ≤ most
+  pub order : IsInOrder s.net s.time (kept_at s)
+  pub values : IsSounding (sound_at s)
+  pub block : block_units ≤ s.block_end
+
+-- the name and the atoms of a message that is sent are of the table, and its numbers in their range
+abbrev pub IsCommand : Names → Command → Type 0
+IsCommand names (command.Send name atoms) = IsName names name × AreAtoms names atoms
+IsCommand names c = Unit {0}

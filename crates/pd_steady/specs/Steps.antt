@@ -1,0 +1,39 @@
+-- The steps of a run, one after another.
+use Rattle.std.specs.Prelude.{ℕ, ◌≤◌, List, [], ◌∷◌}
+use Rattle.pd_atom.specs.Names.{Names, Extends}
+use Rattle.pd_script.specs.declared.commands.Command.{Command}
+use Rattle.pd_patch.specs.declared.patch.Patch.{Patch}
+use Rattle.pd_engine.specs.Stages.{Stage, Passage, with_names, still, followed_by}
+use Rattle.pd_engine.specs.Events as engine
+use Rattle.pd_steady.specs.Runs.{Events, commanded_by, advanced_by, finished_by, opened_by}
+use Rattle.pd_steady.specs.Steady.{IsCommand}
+
+-- a step of a run: a command, names that are read, or time
+pub data Step : Type 0 where
+  Does : Command → Step
+  Learns : Names → Step
+  Comes : (to : ℕ) → Step
+
+abbrev pub step_by : Events → Step → Stage → Passage
+step_by event (Does c) s = commanded_by event c s
+step_by event (Learns names) s = still (with_names s names)
+step_by event (Comes to) s = advanced_by event to s
+
+abbrev pub steps_by : Events → List Step → Stage → Passage
+steps_by event [] s = still s
+steps_by event (x ∷ xs) s = followed_by (step_by event x s) (steps_by event xs)
+
+-- a command is in order, a table of names goes on, and a time is at most so much
+abbrev pub IsStep : ℕ → Step → Stage → Type 0
+IsStep most (Does c) s = IsCommand s.names c
+IsStep most (Learns names) s = Extends s.names names
+IsStep most (Comes to) s = to ≤ most
+
+-- each is so where the run has come to
+abbrev pub AreSteps : ℕ → List Step → Stage → Type 0
+AreSteps most [] s = Unit {0}
+AreSteps most (x ∷ xs) s = IsStep most x s × AreSteps most xs (step_by engine.event x s).stage
+
+-- a run from where a patch opens to its end
+abbrev pub run_by : Events → Patch → Names → List Step → Passage
+run_by event p names steps = followed_by (followed_by (opened_by event p names) (steps_by event steps)) (finished_by event)
