@@ -3,3 +3,4 @@ pub mod TokenLemmas
 pub mod AtomLemmas
 pub mod StepLemmas
 pub mod EditLemmas
+pub mod OriginLemmas

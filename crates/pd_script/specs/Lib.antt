@@ -8,3 +8,4 @@ pub mod Edits
 pub mod Scripts
 pub mod Room
 pub mod Tables
+pub mod Origins
