@@ -4,8 +4,9 @@ use Rattle.std.specs.Prelude.{◌≡◌, ◌⊎◌, ℕ, List, [], Option, Resul
 use Rattle.pd_io.specs.Rows.{held_at}
 use Rattle.pd_io.specs.Stream.{TookPart}
 use Rattle.pd_io.specs.declared.files.FileRow.{FileRow}
-use Rattle.pd_atom.specs.Names.{Names, first_names}
+use Rattle.pd_atom.specs.Names.{Names, IsTable, first_names}
 use Rattle.pd_canvas.specs.Pages.{Page}
+use Rattle.pd_canvas.specs.Proper.{IsProper}
 use Rattle.pd_clock.specs.declared.times.Rate.{Rate}
 use Rattle.pd_doc.specs.declared.refusal.DocRefusal.{DocRefusal}
 use Rattle.pd_doc.specs.Reading.{document_of}
@@ -18,7 +19,7 @@ use Rattle.pd_growth.specs.Growth.{grown}
 use Rattle.pd_gather.specs.declared.fetching.Fetch.{Fetch}
 use Rattle.pd_gather.specs.declared.fetching.Fetch.TheVariants as fetch
 use Rattle.pd_gather.specs.Fetching.{given}
-use Rattle.pd_gather.specs.Gather.{Known, Gathered, Full, known, Gathers}
+use Rattle.pd_gather.specs.Gather.{Known, Gathered, Full, known, Gathers, AreProper}
 use Rattle.pd_grove.specs.TextOrder.{keys_in_order}
 use Rattle.pd_patch.specs.declared.patch.Patch.{Patch}
 use Rattle.pd_patch.specs.Grown.{IsFresh, IsTree, Ends, HasManyWires, HasMuchSound}
@@ -67,10 +68,14 @@ Files = List (ℕ × Answer)
 abbrev pub GathersAll : Option (List FileRow) → List ℕ → Page → Names → Known → Type 0
 GathersAll holds name d names k = Gathers holds name d (known [] names) (Gathered k)
 
--- A document with its names grows into this patch, with these names.
+-- A document with its names grows into this patch, with these names. The document and the files that were gathered are proper in the table
+-- of names that gathering left.
 pub record Grows (holds : Option (List FileRow)) (name : List ℕ) (rate : Rate) (d : Page) (names : Names) (p : Patch) (names' : Names) : Type 0 where
   pub files : Known
   pub gathers : GathersAll holds name d names files
+  pub table : IsTable files.names
+  pub proper : IsProper files.names d
+  pub found : AreProper files.names files.files
   pub tree : IsTree p names' rate (growth_of name d files)
   pub fresh : IsFresh p names' name rate
 

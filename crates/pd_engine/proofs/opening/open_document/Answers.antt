@@ -12,6 +12,9 @@ returns-clause-opens g c =
     let grows : Grows (g.H.Shelf.holds c.args.shelf.now) c.args.name.now c.args.rate c.args.doc.root c.args.symbols c.in_ok-patch.patch c.grow_all.new.symbols = record {
       files = known c.gather_all.new.library c.gather_all.new.symbols;
       gathers = c.in_ok-gather_all.ensures.gathers;
+      table = c.len-names-2.ensures.table;
+      proper = c.proper_extended.ensures c.args.symbols c.gather_all.new.symbols c.args.doc.root c.gather_all.ensures.extends c.len-names.ensures.table c.len-names-2.ensures.table c.requires;
+      found = c.gather_all.ensures.found;
       tree = c.in_ok-patch.ensures.tree;
       fresh = c.in_ok-patch.ensures.fresh;
     } in
@@ -24,6 +27,9 @@ returns-clause-refused g c =
     let grows : Grows (g.H.Shelf.holds c.args.shelf.now) c.args.name.now c.args.rate c.args.doc.root c.args.symbols c.in_ok-patch.patch c.grow_all.new.symbols = record {
       files = known c.gather_all.new.library c.gather_all.new.symbols;
       gathers = c.in_ok-gather_all.ensures.gathers;
+      table = c.len-names-2.ensures.table;
+      proper = c.proper_extended.ensures c.args.symbols c.gather_all.new.symbols c.args.doc.root c.gather_all.ensures.extends c.len-names.ensures.table c.len-names-2.ensures.table c.requires;
+      found = c.gather_all.ensures.found;
       tree = c.in_ok-patch.ensures.tree;
       fresh = c.in_ok-patch.ensures.fresh;
     } in
