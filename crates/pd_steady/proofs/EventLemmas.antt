@@ -11,6 +11,7 @@ use Rattle.pd_hearing.specs.Worlds.{Net, Kept}
 use Rattle.pd_block.specs.Nets.{Net as BlockNet, Sound}
 use Rattle.pd_block.specs.Blocks.{block_of}
 use Rattle.pd_guards.specs.Order.{HasFirst, IsName, AreAtoms}
+use Rattle.pd_guards.specs.Near.{AreNear}
 use Rattle.pd_guards.specs.Worlds.{AreKept, IsInOrder, IsStart, IsNamed}
 use Rattle.pd_guards.specs.Sounds.{HaveValues, IsSounding}
 use Rattle.pd_guards.specs.Freely.{outcome as free_outcome}
@@ -23,7 +24,7 @@ use Rattle.pd_steady.specs.Steady.{IsSteady}
 
 -- what the laws of pd_guards say
 pub record Guards : Type 0 where
-  pub freely : (net : Net) (now : ℕ) (w : World Kept) (s : Start) → IsInOrder net now w.kept → IsStart w.kept.names s → outcome net now w s ≡ free_outcome net now w s
+  pub freely : (net : Net) (now : ℕ) (w : World Kept) (s : Start) → AreNear net → IsInOrder net now w.kept → IsStart w.kept.names s → outcome net now w s ≡ free_outcome net now w s
   pub order : (net : Net) (now : ℕ) (w : World Kept) (s : Start) → IsInOrder net now w.kept → IsStart w.kept.names s → IsInOrder net now (outcome net now w s).kept
   pub values : (net : Net) (now : ℕ) (w : World Kept) (s : Start) → IsInOrder net now w.kept → IsStart w.kept.names s → HaveValues w.kept.states
       → HaveValues (outcome net now w s).kept.states
@@ -70,10 +71,10 @@ record IsDelivered (net : Net) (now : ℕ) (v u : World Kept) : Type 0 where
   order : IsInOrder net now v.kept
   values : HaveValues v.kept.states
 
-deliver : (g : Guards) (net : Net) (now : ℕ) (w v u : World Kept) (st : Start) → outcome net now w st ≡ v → free_outcome net now w st ≡ u → IsInOrder net now w.kept
+deliver : (g : Guards) (net : Net) (now : ℕ) (w v u : World Kept) (st : Start) → outcome net now w st ≡ v → free_outcome net now w st ≡ u → AreNear net → IsInOrder net now w.kept
     → HaveValues w.kept.states → IsStart w.kept.names st → IsDelivered net now v u
-deliver g net now w v u st is free h a k = record {
-  same = sym free ∙ sym (g.freely net now w st h k) ∙ is;
+deliver g net now w v u st is free near h a k = record {
+  same = sym free ∙ sym (g.freely net now w st near h k) ∙ is;
   order = subst (λ (x : World Kept). IsInOrder net now x.kept) is (g.order net now w st h k);
   values = subst (λ (x : World Kept). HaveValues x.kept.states) is (g.values net now w st h k a);
 }
@@ -89,6 +90,7 @@ after_free most s v u h d = record {
   same = ap (λ (w : World Kept). after_deliveries s w) d.same;
   steady = record {
     time = h.time;
+    near = h.near;
     order = record { time = d.order.time; first = d.order.first; kinds = d.order.kinds; states = d.order.states };
     values = record { states = d.values; blocks = h.values.blocks };
     block = h.block;
@@ -100,4 +102,4 @@ unfolding event event_freely
 event_free g most s b h k =
     after_free most s (delivered s b) (deliveries s.net s.time (begun s) b) h
     (deliver g s.net s.time (begun s) (delivered s b) (deliveries s.net s.time (begun s) b) (start_of b) (outcome_is s.net s.time (begun s) b) (free_is s.net s.time (begun s) b)
-    h.order h.values.states (starts s.names b k))
+    h.near h.order h.values.states (starts s.names b k))

@@ -1,6 +1,7 @@
 -- Commands, names, opening and whole runs: nothing is passed over, and the stage stays steady.
-use Rattle.std.proofs.Common.{◌≡◌, ◌≤◌, ◌+◌, ◌^◌, ℕ, List, [], ◌∷◌, length, refl, sym, ap, subst, ◌∙◌, arith}
-use Rattle.pd_atom.specs.Names.{Names, Extends}
+use Rattle.std.proofs.Common.{◌≡◌, ◌≤◌, ◌+◌, ◌^◌, ℕ, List, [], ◌∷◌, length, take, refl, sym, ap, subst, ◌∙◌, arith}
+use Rattle.std.proofs.lemmas.List.{length-take}
+use Rattle.pd_atom.specs.Names.{Names, IsTable, Extends}
 use Rattle.pd_kind.specs.Forming.{cut_atoms}
 use Rattle.pd_script.specs.declared.commands.Command.{Command}
 use Rattle.pd_script.specs.declared.commands.Command.TheVariants as command
@@ -9,7 +10,8 @@ use Rattle.pd_grove.specs.Telling.{kind_in}
 use Rattle.pd_patch.specs.declared.patch.Patch.{Patch}
 use Rattle.pd_patch.specs.Report.{notices_in, loads_among}
 use Rattle.pd_hearing.specs.Worlds.{net_of, kept_of}
-use Rattle.pd_guards.specs.Order.{IsKept, IsKind}
+use Rattle.pd_guards.specs.Order.{HasFirst, IsKept, IsKind}
+use Rattle.pd_guards.specs.Near.{AreNear}
 use Rattle.pd_guards.specs.Worlds.{IsInOrder}
 use Rattle.pd_guards.specs.Sounds.{IsSounding, sound_with}
 use Rattle.pd_guards.proofs.FactLemmas.{some-weaker}
@@ -61,6 +63,7 @@ named_steady most s names h e =
     let l : length s.names ≤ length names = longer s.names names e in
     record {
       time = h.time;
+      near = h.near;
       order = record {
         time = h.order.time;
         first = first_more s.names names l h.order.first;
@@ -72,23 +75,28 @@ named_steady most s names h e =
     }
 
 -- where a patch opens, at first
-first_steady : (most : ℕ) (p : Patch) (table : Names) → IsInOrder (net_of p) 0 (kept_of p table []) → IsSounding (sound_with (net_of p) (kept_of p table [])) → IsSteady most (first_stage p table)
-first_steady most p table o v = record {
+first_steady : (most : ℕ) (p : Patch) (table : Names) → AreNear (net_of p) → IsInOrder (net_of p) 0 (kept_of p table []) → IsSounding (sound_with (net_of p) (kept_of p table [])) → IsSteady most (first_stage p table)
+first_steady most p table near o v = record {
   time = early most;
+  near = near;
   order = record { time = o.time; first = o.first; kinds = o.kinds; states = o.states };
   values = record { states = v.states; blocks = v.blocks };
   block = first_end;
 }
 
-pub opened_free : (g : Guards) (most : ℕ) (p : Patch) (table : Names) → IsInOrder (net_of p) 0 (kept_of p table []) → IsSounding (sound_with (net_of p) (kept_of p table []))
+pub opened_free : (g : Guards) (most : ℕ) (p : Patch) (table : Names) → AreNear (net_of p) → IsInOrder (net_of p) 0 (kept_of p table []) → IsSounding (sound_with (net_of p) (kept_of p table []))
     → IsFree most (opened p table) (opened_by event_freely p table)
-opened_free g most p table o v =
+opened_free g most p table near o v =
     let s : Stage = first_stage p table in
     let b : Beginning = Loading (loads_among p.grove (keys_in_order p.grove)) in
-    said_free most s (remarks_text table p (notices_in p.grove p.web p.orders.items)) (event s b) (event_freely s b) (event_free g most s b (first_steady most p table o v) tt)
+    said_free most s (remarks_text table p (notices_in p.grove p.web p.orders.items)) (event s b) (event_freely s b) (event_free g most s b (first_steady most p table near o v) tt)
 
 pub at_first : 0 ≤ 2 ^ 101
 at_first = early (2 ^ 101)
+
+-- a table has its first names
+pub first_names_in : (names : Names) → IsTable names → HasFirst names
+first_names_in names h = let six : length (take 6 names) ≡ 6 = ap length h.begins in omega (arith, six, length-take 6 names)
 
 -- steps
 module _ (g : Guards) (most : ℕ) (top : most ≤ 2 ^ 101) where
@@ -107,10 +115,10 @@ module _ (g : Guards) (most : ℕ) (top : most ≤ 2 ^ 101) where
       followed most (step_by event x s) (step_by event_freely x s) (steps_by event xs) (steps_by event_freely xs) a (steps_free xs (step_by event x s).stage a.steady k.1)
 
 -- whole runs
-pub run_free : (g : Guards) (p : Patch) (table : Names) (most : ℕ) (xs : List Step) → IsInOrder (net_of p) 0 (kept_of p table []) → IsSounding (sound_with (net_of p) (kept_of p table []))
+pub run_free : (g : Guards) (p : Patch) (table : Names) (most : ℕ) (xs : List Step) → AreNear (net_of p) → IsInOrder (net_of p) 0 (kept_of p table []) → IsSounding (sound_with (net_of p) (kept_of p table []))
     → most + block_units ≤ 2 ^ 101 → AreSteps most xs (opened p table).stage → run_by event_freely p table xs ≡ run_by event p table xs
-run_free g p table most xs first sounds top k =
-    let o : IsFree most (opened_by event p table) (opened_by event_freely p table) = opened_free g most p table first sounds in
+run_free g p table most xs near first sounds top k =
+    let o : IsFree most (opened_by event p table) (opened_by event_freely p table) = opened_free g most p table near first sounds in
     let s : Stage = (opened p table).stage in
     let a : IsFree most (steps_by event xs s) (steps_by event_freely xs s) = steps_free g most (room_left most top) xs s o.steady k in
     let b : IsFree most (followed_by (opened_by event p table) (steps_by event xs)) (followed_by (opened_by event_freely p table) (steps_by event_freely xs)) =

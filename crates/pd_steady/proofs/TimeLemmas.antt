@@ -60,7 +60,7 @@ later_end : (n : ℕ) → block_units ≤ n → block_units ≤ min (n + block_u
 later_end n l = omega arith
 
 pub steady_longer : (most more : ℕ) (s : Stage) → most ≤ more → IsSteady most s → IsSteady more s
-steady_longer most more s l h = record { time = within s.time most more h.time l; order = h.order; values = h.values; block = h.block }
+steady_longer most more s l h = record { time = within s.time most more h.time l; near = h.near; order = h.order; values = h.values; block = h.block }
 
 pub followed : (most : ℕ) (p q : Passage) (next free : Stage → Passage) → IsFree most p q → IsFree most (next p.stage) (free p.stage) → IsFree most (followed_by p next) (followed_by q free)
 followed most p q next free a b = record { same = ap (λ (x : Passage). followed_by x free) a.same ∙ ap (λ (x : Passage). joined p x) b.same; steady = b.steady }
@@ -77,6 +77,7 @@ module _ (g : Guards) (most : ℕ) (top : most ≤ 2 ^ 101) where
       let o : IsInOrder s.net (max s.time c.time) (kept_at s) = later s c.time l h in
       record {
         time = greatest s.time c.time most h.time l;
+        near = h.near;
         order = record { time = o.time; first = o.first; kinds = o.kinds; states = o.states };
         values = h.values;
         block = h.block;
@@ -87,6 +88,7 @@ module _ (g : Guards) (most : ℕ) (top : most ≤ 2 ^ 101) where
       let o : IsInOrder s.net (max s.time to) (kept_at s) = later s to l h in
       record {
         time = greatest s.time to most h.time l;
+        near = h.near;
         order = record { time = o.time; first = o.first; kinds = o.kinds; states = o.states };
         values = h.values;
         block = h.block;
@@ -118,6 +120,7 @@ module _ (g : Guards) (most : ℕ) (top : most ≤ 2 ^ 101) where
       let start : ℕ = s.block_end - block_units in
       record {
         time = greatest s.time s.block_end most h.time l;
+        near = h.near;
         order = record {
           time = o.time;
           first = o.first;

@@ -2,4 +2,3 @@ pub mod Runs
 pub mod Freely
 pub mod Steady
 pub mod Steps
-pub mod Opening

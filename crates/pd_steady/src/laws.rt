@@ -10,11 +10,10 @@ ghost use Rattle.pd_engine.specs.Stages.{Stage, with_names};
 ghost use Rattle.pd_engine.specs.Events.{event};
 ghost use Rattle.pd_engine.specs.Times.{block_units, advanced, finished};
 ghost use Rattle.pd_engine.specs.Commands.{commanded};
-ghost use Rattle.pd_engine.specs.Opening.{opened};
+ghost use Rattle.pd_engine.specs.Opening.{Grows, opened};
 ghost use Rattle.pd_steady.specs.Runs.{commanded_by, advanced_by, finished_by, opened_by};
 ghost use Rattle.pd_steady.specs.Freely.{event_freely};
 ghost use Rattle.pd_steady.specs.Steady.{IsSteady, IsCommand};
-ghost use Rattle.pd_steady.specs.Opening.{GrowsInOrder};
 ghost use Rattle.pd_steady.specs.Steps.{Step, AreSteps, steps_by, run_by};
 
 /// With pd_engine's own events the definitions of a run are pd_engine's.
@@ -60,12 +59,12 @@ pub fn names_stay_steady()
     ensures { (most : ℕ) (s : Stage) (names : Names) → IsSteady most s → Extends s.names names → IsSteady most (with_names s names) }
 {}
 
-/// Where a patch opens that grew from proper documents, the stage is steady, and nothing is passed over in its load event.
+/// Where a patch opens, the stage is steady, and nothing is passed over in its load event.
 pub fn opening_is_steady()
     ensures steady { (holds : Option (List FileRow)) (name : List ℕ) (rate : Rate) (d : Page) (names table : Names) (p : Patch) (most : ℕ) →
-        GrowsInOrder holds name rate d names p table → IsSteady most (opened p table).stage }
+        Grows holds name rate d names p table → IsSteady most (opened p table).stage }
     ensures freely { (holds : Option (List FileRow)) (name : List ℕ) (rate : Rate) (d : Page) (names table : Names) (p : Patch) →
-        GrowsInOrder holds name rate d names p table → opened_by event_freely p table ≡ opened p table }
+        Grows holds name rate d names p table → opened_by event_freely p table ≡ opened p table }
 {
     pd_guards::delivery_passes_nothing_over();
     pd_guards::messages_keep_values();
@@ -73,17 +72,18 @@ pub fn opening_is_steady()
     pd_guards::blocks_stay_in_order();
     pd_guards::commands_begin_in_order();
     pd_guards::grown_patches_are_in_order();
+    pd_guards::grown_patches_are_near();
 }
 
 /// From a steady stage a run stays steady along any commands in order, names that are read and times, and nothing is passed over in it.
-/// So in a whole run, from where a patch opens that grew from proper documents to its end, nothing is ever passed over.
+/// So in a whole run, from where a patch opens to its end, nothing is ever passed over.
 pub fn runs_pass_nothing_over()
     ensures steady { (most : ℕ) (steps : List Step) (s : Stage) → most ≤ 2 ^ 101 → IsSteady most s → AreSteps most steps s →
         IsSteady most (steps_by event steps s).stage }
     ensures freely { (most : ℕ) (steps : List Step) (s : Stage) → most ≤ 2 ^ 101 → IsSteady most s → AreSteps most steps s →
         steps_by event_freely steps s ≡ steps_by event steps s }
     ensures whole { (holds : Option (List FileRow)) (name : List ℕ) (rate : Rate) (d : Page) (names table : Names) (p : Patch) (most : ℕ)
-        (steps : List Step) → GrowsInOrder holds name rate d names p table → most + block_units ≤ 2 ^ 101 →
+        (steps : List Step) → Grows holds name rate d names p table → most + block_units ≤ 2 ^ 101 →
         AreSteps most steps (opened p table).stage → run_by event_freely p table steps ≡ run_by event p table steps }
 {
     pd_guards::delivery_passes_nothing_over();
@@ -92,4 +92,5 @@ pub fn runs_pass_nothing_over()
     pd_guards::blocks_stay_in_order();
     pd_guards::commands_begin_in_order();
     pd_guards::grown_patches_are_in_order();
+    pd_guards::grown_patches_are_near();
 }

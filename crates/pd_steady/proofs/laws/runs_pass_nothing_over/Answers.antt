@@ -1,5 +1,6 @@
 use Rattle.std.proofs.Common.{[]}
-use Rattle.pd_steady.proofs.RunLemmas.{steps_free, run_free, at_first}
+use Rattle.pd_engine.specs.Opening.{growth_of}
+use Rattle.pd_steady.proofs.RunLemmas.{steps_free, run_free, at_first, first_names_in}
 use Rattle.pd_steady.proofs.laws.runs_pass_nothing_over.Goals as goal
 
 pub returns-clause-steady : goal.returns-clause-steady
@@ -34,5 +35,6 @@ returns-clause-whole c = λ holds name rate d names table p most xs x top k. run
   sounds = c.blocks_stay_in_order.ensures.sounds;
   begins = λ names name atoms first n h. c.commands_begin_in_order.ensures.message names name atoms first n h;
 }) p table most xs
-    (c.grown_patches_are_in_order.ensures.order x.grows.files.files name d x.grows.files.names table 1001 rate p 0 [] at_first x.first x.proper x.found x.grows.tree x.grows.fresh x.boxes)
-    (c.grown_patches_are_in_order.ensures.sounds x.grows.files.files name d x.grows.files.names table 1001 rate p [] x.first x.proper x.found x.grows.tree x.grows.fresh x.boxes x.blocks) top k
+    (c.grown_patches_are_near.ensures p table name rate (growth_of name d x.files) x.tree x.fresh)
+    (c.grown_patches_are_in_order.ensures.order x.files.files name d x.files.names table 1001 rate p 0 [] at_first (first_names_in x.files.names x.table) x.proper x.found x.tree x.fresh)
+    (c.grown_patches_are_in_order.ensures.sounds x.files.files name d x.files.names table 1001 rate p [] (first_names_in x.files.names x.table) x.proper x.found x.tree x.fresh) top k
