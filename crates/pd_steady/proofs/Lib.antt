@@ -2,3 +2,4 @@ pub mod OwnLemmas
 pub mod EventLemmas
 pub mod TimeLemmas
 pub mod RunLemmas
+mod ToldLemmas

@@ -2,3 +2,4 @@ pub mod Runs
 pub mod Freely
 pub mod Steady
 pub mod Steps
+pub mod Told

@@ -1,19 +1,22 @@
 //! Laws of whole runs.
-ghost use Rattle.std.specs.Prelude.{◌≡◌, ◌+◌, ◌≤◌, ◌^◌, ℕ, List, Option};
+ghost use Rattle.std.specs.Prelude.{◌≡◌, ◌+◌, ◌≤◌, ◌^◌, ℕ, List, Option, Some, option_and_then};
 ghost use Rattle.pd_io.specs.declared.files.FileRow.{FileRow};
 ghost use Rattle.pd_atom.specs.Names.{Names, Extends};
 ghost use Rattle.pd_canvas.specs.Pages.{Page};
 ghost use Rattle.pd_clock.specs.declared.times.Rate.{Rate};
+ghost use Rattle.pd_order.specs.Listing.{Listing};
 ghost use Rattle.pd_patch.specs.declared.patch.Patch.{Patch};
+ghost use Rattle.pd_patch.specs.Telling.{order_in};
 ghost use Rattle.pd_script.specs.declared.commands.Command.{Command};
 ghost use Rattle.pd_engine.specs.Stages.{Stage, with_names};
 ghost use Rattle.pd_engine.specs.Events.{event};
-ghost use Rattle.pd_engine.specs.Times.{block_units, advanced, finished};
-ghost use Rattle.pd_engine.specs.Commands.{commanded};
+ghost use Rattle.pd_engine.specs.Times.{IsStageOf, block_units, advanced, finished};
+ghost use Rattle.pd_engine.specs.Commands.{commanded, led_to};
 ghost use Rattle.pd_engine.specs.Opening.{Grows, opened};
 ghost use Rattle.pd_steady.specs.Runs.{commanded_by, advanced_by, finished_by, opened_by};
 ghost use Rattle.pd_steady.specs.Freely.{event_freely};
 ghost use Rattle.pd_steady.specs.Steady.{IsSteady, IsCommand};
+ghost use Rattle.pd_steady.specs.Told.{TellsAll};
 ghost use Rattle.pd_steady.specs.Steps.{Step, AreSteps, steps_by, run_by};
 
 /// With pd_engine's own events the definitions of a run are pd_engine's.
@@ -93,4 +96,13 @@ pub fn runs_pass_nothing_over()
     pd_guards::commands_begin_in_order();
     pd_guards::grown_patches_are_in_order();
     pd_guards::grown_patches_are_near();
+}
+
+/// In a run the two lines of a canvas's order tell all its boxes: there are never more than a line has room for.
+pub fn lines_tell_all_boxes()
+    ensures { (holds : Option (List FileRow)) (name : List ℕ) (rate : Rate) (d : Page) (names table : Names) (p : Patch) (s : Stage)
+        (path : List ℕ) (o : Listing) → Grows holds name rate d names p table → IsStageOf p s →
+        option_and_then (λ c. order_in s.net.orders.items c) (led_to s.net (Some s.net.root) path) ≡ Some o → TellsAll s.net o }
+{
+    pd_guards::orders_are_short();
 }
