@@ -11,9 +11,9 @@ use Rattle.pd_hearing.specs.Worlds.{Net, net_of}
 use Rattle.pd_block.specs.Nets as block
 use Rattle.pd_engine.specs.Stages.{Stage}
 use Rattle.pd_engine.specs.Times.{IsStageOf, block_net}
-use Rattle.pd_engine.specs.Commands.{most_boxes, step_to, led_to, numbers_told}
+use Rattle.pd_engine.specs.Commands.{most_boxes, step_to, led_to}
 use Rattle.pd_engine.proofs.ShowLemmas.{led_is}
-use Rattle.pd_steady.specs.Told.{all_numbers, TellsAll}
+use Rattle.pd_steady.specs.Told.{TellsAll}
 
 -- what messages leave as it is, with these blocks
 abbrev with_blocks : block.Net → Blocks → Net
