@@ -1,0 +1,41 @@
+//! Laws of the sizes of what boxes keep.
+ghost use Rattle.std.specs.Prelude.{◌≡◌, ◌≤◌, ◌^◌, ℕ, ℤ, true, List, length, Option, Some};
+ghost use Rattle.pd_atom.specs.Names.{Names};
+ghost use Rattle.pd_clock.specs.declared.times.Rate.{Rate};
+ghost use Rattle.pd_kind.specs.declared.kinds.Kind.{Kind};
+ghost use Rattle.pd_kind.specs.declared.states.Ramps.{Ramps};
+ghost use Rattle.pd_kind.specs.declared.states.State.{State};
+ghost use Rattle.pd_kind.specs.declared.states.State.TheVariants.{Vline};
+ghost use Rattle.pd_kind.specs.Ports.{ports_of};
+ghost use Rattle.pd_kind.specs.States.{size_of, start_of};
+ghost use Rattle.pd_kind.specs.Tables.{started, shared_of, with_shared};
+ghost use Rattle.pd_signal.specs.Rows.{run_of};
+ghost use Rattle.pd_turn.specs.Rows.{ran, silent_outs, signal_ran, vline_ran, vline_if, is_fitting};
+ghost use Rattle.pd_turn.specs.Pairs.{line_at, with_values, pair_of};
+ghost use Rattle.pd_grove.specs.States.{NodesFresh};
+ghost use Rattle.slab.specs.Slab.{get};
+ghost use Rattle.pd_patch.specs.declared.patch.Patch.{Patch};
+ghost use Rattle.pd_block.specs.Nets.{states_of};
+ghost use Rattle.pd_guards.specs.Order.{IsKept};
+ghost use Rattle.pd_sized.specs.Sizes.{HasSizes, HaveSizes, HasSmallBoxes, LooksAt};
+
+/// What a box keeps when it is made has its sizes, where it counts at most 2^32 values. So does what all boxes keep of a patch whose boxes
+/// were just made.
+pub fn what_is_made_has_sizes()
+    ensures made { (k : Kind) (rate : Rate) (now : ℕ) → size_of k rate ≤ 2 ^ 32 → HasSizes (started (start_of k rate) now) }
+    ensures grown { (p : Patch) (rate : Rate) (now : ℕ) → NodesFresh rate now (get p.grove.nodes) → HasSmallBoxes p rate → HaveSizes (states_of p) }
+{}
+
+/// A box that keeps what has its sizes does in a block what its object's row says, and isn't passed over. A `vline~` in order at the start
+/// of a block runs in it. Beside a box that it looks at, whose values have their size, a box takes that one's values.
+pub fn turns_are_whole()
+    ensures own { (k : Kind) (s : State) (ins : List (List ℤ)) → HasSizes s →
+        let r = run_of k s ins (silent_outs (ports_of k).signal_outlets) in signal_ran k s ins ≡ ran r.state r.outs }
+    ensures line { (names : Names) (r : Ramps) (start : ℕ) → start ≤ 2 ^ 101 → IsKept names start (Vline r) →
+        vline_ran start (Vline r) ≡ vline_if true start (Vline r) }
+    ensures fits { (k : Kind) (other : State) (values : List ℤ) → LooksAt k other → HasSizes other → shared_of other ≡ Some values →
+        is_fitting k (length values) (line_at other) ≡ true }
+    ensures pair { (k : Kind) (s other : State) (ins : List (List ℤ)) (values : List ℤ) → LooksAt k other → HasSizes other → shared_of other ≡ Some values →
+        let r = with_values k s ins (line_at other) values in
+        let both = pair_of k s ins other in (both.ran ≡ r.ran) × (both.other ≡ with_shared other r.values) }
+{}

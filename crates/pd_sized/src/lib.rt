@@ -1,0 +1,6 @@
+//! Laws of sizes: what boxes keep always has the sizes with which it was made, so that each box's turn in a block is whole.
+#![tactic(auto)]
+
+mod laws;
+
+pub use laws::{turns_are_whole, what_is_made_has_sizes};
