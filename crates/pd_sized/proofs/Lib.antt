@@ -1,2 +1,5 @@
 pub mod StartLemmas
 pub mod TurnLemmas
+pub mod KeepLemmas
+pub mod HeldLemmas
+pub mod RunLemmas

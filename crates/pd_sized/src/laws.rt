@@ -1,11 +1,13 @@
 //! Laws of the sizes of what boxes keep.
-ghost use Rattle.std.specs.Prelude.{◌≡◌, ◌≤◌, ◌^◌, ℕ, ℤ, true, List, length, Option, Some};
+ghost use Rattle.std.specs.Prelude.{◌≡◌, ◌≤◌, ◌^◌, ℕ, ℤ, true, List, [], length, Option, Some};
 ghost use Rattle.pd_atom.specs.Names.{Names};
+ghost use Rattle.pd_atom.specs.declared.Atom.{Atom};
 ghost use Rattle.pd_clock.specs.declared.times.Rate.{Rate};
 ghost use Rattle.pd_kind.specs.declared.kinds.Kind.{Kind};
 ghost use Rattle.pd_kind.specs.declared.states.Ramps.{Ramps};
 ghost use Rattle.pd_kind.specs.declared.states.State.{State};
 ghost use Rattle.pd_kind.specs.declared.states.State.TheVariants.{Vline};
+ghost use Rattle.pd_kind.specs.declared.messages.Deed.{Deed};
 ghost use Rattle.pd_kind.specs.Ports.{ports_of};
 ghost use Rattle.pd_kind.specs.States.{size_of, start_of};
 ghost use Rattle.pd_kind.specs.Tables.{started, shared_of, with_shared};
@@ -15,6 +17,14 @@ ghost use Rattle.pd_turn.specs.Pairs.{line_at, with_values, pair_of};
 ghost use Rattle.pd_grove.specs.States.{NodesFresh};
 ghost use Rattle.slab.specs.Slab.{get};
 ghost use Rattle.pd_patch.specs.declared.patch.Patch.{Patch};
+ghost use Rattle.pd_glue.specs.Rows.{resumed};
+ghost use Rattle.pd_turns.specs.Turns.{World};
+ghost use Rattle.pd_hearing.specs.Worlds.{Net, Kept};
+ghost use Rattle.pd_hearing.specs.Hearing.{heard_kind, heard_at, resumed_at};
+ghost use Rattle.pd_hearing.specs.Deeds.{done};
+ghost use Rattle.pd_walk.specs.declared.walker.Start.{Start};
+ghost use Rattle.pd_walk.specs.declared.walker.Budget.{Budget};
+ghost use Rattle.pd_walk.specs.Outcome.{outcome, world, IsLeft};
 ghost use Rattle.pd_block.specs.Nets.{states_of};
 ghost use Rattle.pd_guards.specs.Order.{IsKept};
 ghost use Rattle.pd_sized.specs.Sizes.{HasSizes, HaveSizes, HasSmallBoxes, LooksAt};
@@ -38,4 +48,19 @@ pub fn turns_are_whole()
     ensures pair { (k : Kind) (s other : State) (ins : List (List ℤ)) (values : List ℤ) → LooksAt k other → HasSizes other → shared_of other ≡ Some values →
         let r = with_values k s ins (line_at other) values in
         let both = pair_of k s ins other in (both.ran ≡ r.ran) × (both.other ≡ with_shared other r.values) }
+{}
+
+/// Messages leave the sizes of what boxes keep as they were: each that a box hears, its being resumed, a value that is written into a
+/// table, and so a whole delivery, whatever begins it.
+pub fn messages_keep_sizes()
+    ensures hearing { (names : Names) (k : Kind) (s : State) (inlet selector : ℕ) (atoms : List Atom) (now : ℕ) (table : Option (List ℤ)) →
+        HasSizes s → HasSizes (heard_kind names k s inlet selector atoms now table).state }
+    ensures again { (k : Kind) (s : State) → HasSizes s → HasSizes (resumed k s).state }
+    ensures boxes { (net : Net) (now : ℕ) (names : Names) (states : ℕ → Option State) (node inlet selector : ℕ) (atoms : List Atom) →
+        HaveSizes states → HaveSizes (heard_at net now states names node inlet selector atoms).states }
+    ensures boxes_again { (net : Net) (names : Names) (states : ℕ → Option State) (node : ℕ) → HaveSizes states → HaveSizes (resumed_at net states names node).states }
+    ensures deed { (net : Net) (now node : ℕ) (d : Deed) (kept : Kept) → HaveSizes kept.states → HaveSizes (done net now node d kept).states }
+    ensures delivery { (net : Net) (now : ℕ) (w : World Kept) (s : Start) → HaveSizes w.kept.states → HaveSizes (outcome net now w s).kept.states }
+    ensures left { (net : Net) (now : ℕ) (before after : Kept) (budget rest : Budget) (s : Start) (old new : Option (List ℕ)) →
+        HaveSizes before.states → IsLeft after rest old new (outcome net now (world before budget []) s) → HaveSizes after.states }
 {}

@@ -3,4 +3,4 @@
 
 mod laws;
 
-pub use laws::{turns_are_whole, what_is_made_has_sizes};
+pub use laws::{messages_keep_sizes, turns_are_whole, what_is_made_has_sizes};
