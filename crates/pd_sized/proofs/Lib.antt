@@ -3,3 +3,5 @@ pub mod TurnLemmas
 pub mod KeepLemmas
 pub mod HeldLemmas
 pub mod RunLemmas
+pub mod LengthLemmas
+pub mod BlockLemmas

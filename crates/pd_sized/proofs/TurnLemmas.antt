@@ -26,15 +26,15 @@ line_whole names r start time h =
     ap (λ (b : Bool). vline_if b start (state.Vline r)) (true_and (nat_le start (2 ^ 101)) (nat_le r.end start) (le-leb start (2 ^ 101) time) (le-leb r.end start h))
 
 -- both of two tests
-first_true : (a b : Bool) → (a && b) ≡ true → a ≡ true
+pub first_true : (a b : Bool) → (a && b) ≡ true → a ≡ true
 first_true true b h = refl
 first_true false b h = h
 
-second_true : (a b : Bool) → (a && b) ≡ true → b ≡ true
+pub second_true : (a b : Bool) → (a && b) ≡ true → b ≡ true
 second_true true b h = h
 second_true false b h = absurd (true≢false (sym h))
 
-some_same : (a b : List ℤ) → Some a ≡ Some b → a ≡ b
+pub some_same : (a b : List ℤ) → Some a ≡ Some b → a ≡ b
 some_same a b e = ap (λ (o : Option (List ℤ)). unwrap_or o a) e
 
 ring_fits : (count next : ℕ) → (nat_le 64 count && (nat_le count 4294967296 && nat_lt next count)) ≡ true → (nat_le 64 count && nat_lt next count) ≡ true

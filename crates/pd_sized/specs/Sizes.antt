@@ -1,5 +1,6 @@
 -- When what boxes keep has the sizes with which it was made, and which boxes look at which others.
-use Rattle.std.specs.Prelude.{◌≡◌, ℕ, ◌≤◌, ◌^◌, true, Option, Some, IfSome}
+use Rattle.std.specs.Prelude.{◌≡◌, ℕ, ℤ, ◌≤◌, ◌^◌, true, List, length, Option, Some, IfSome}
+use Rattle.std.specs.List.{AllByRecursion}
 use Rattle.slab.specs.Slab.{get}
 use Rattle.pd_clock.specs.declared.times.Rate.{Rate}
 use Rattle.pd_kind.specs.declared.kinds.Kind.{Kind}
@@ -12,6 +13,7 @@ use Rattle.pd_kind.specs.States.{size_of}
 use Rattle.pd_grove.specs.declared.nodes.Node.{Node}
 use Rattle.pd_patch.specs.declared.patch.Patch.{Patch}
 use Rattle.pd_turn.specs.Rows.{is_sized}
+use Rattle.pd_block.specs.Nets.{Sound}
 
 -- A delay line has room for a block, and its next place is in it; a bus and a sum have 64 values.
 abbrev pub HasSizes : State → Type 0
@@ -35,3 +37,12 @@ LooksAtSignal g s = ⊥
 abbrev pub LooksAt : Kind → State → Type 0
 LooksAt (kind.Signal g) s = LooksAtSignal g s
 LooksAt k s = ⊥
+
+-- a block has 64 values
+abbrev pub IsBlock : List ℤ → Type 0
+IsBlock block = length block ≡ 64
+
+-- all boxes, and the blocks of their outlets
+pub record IsWhole (s : Sound) : Type 0 where
+  pub states : HaveSizes s.states
+  pub blocks : AllByRecursion (AllByRecursion IsBlock) s.blocks

@@ -25,9 +25,10 @@ ghost use Rattle.pd_hearing.specs.Deeds.{done};
 ghost use Rattle.pd_walk.specs.declared.walker.Start.{Start};
 ghost use Rattle.pd_walk.specs.declared.walker.Budget.{Budget};
 ghost use Rattle.pd_walk.specs.Outcome.{outcome, world, IsLeft};
-ghost use Rattle.pd_block.specs.Nets.{states_of};
+ghost use Rattle.pd_block.specs.Nets.{Net as BlockNet, Sound, states_of};
+ghost use Rattle.pd_block.specs.Blocks.{block_of};
 ghost use Rattle.pd_guards.specs.Order.{IsKept};
-ghost use Rattle.pd_sized.specs.Sizes.{HasSizes, HaveSizes, HasSmallBoxes, LooksAt};
+ghost use Rattle.pd_sized.specs.Sizes.{HasSizes, HaveSizes, HasSmallBoxes, LooksAt, IsWhole};
 
 /// What a box keeps when it is made has its sizes, where it counts at most 2^32 values. So does what all boxes keep of a patch whose boxes
 /// were just made.
@@ -63,4 +64,9 @@ pub fn messages_keep_sizes()
     ensures delivery { (net : Net) (now : ℕ) (w : World Kept) (s : Start) → HaveSizes w.kept.states → HaveSizes (outcome net now w s).kept.states }
     ensures left { (net : Net) (now : ℕ) (before after : Kept) (budget rest : Budget) (s : Start) (old new : Option (List ℕ)) →
         HaveSizes before.states → IsLeft after rest old new (outcome net now (world before budget []) s) → HaveSizes after.states }
+{}
+
+/// A block leaves the sizes of what the boxes keep as they were, and 64 values in each block of an outlet, where each had so many.
+pub fn blocks_keep_sizes()
+    ensures { (net : BlockNet) (start : ℕ) (s : Sound) → IsWhole s → IsWhole (block_of net s start).sound }
 {}
