@@ -5,3 +5,5 @@ pub mod HeldLemmas
 pub mod RunLemmas
 pub mod LengthLemmas
 pub mod BlockLemmas
+pub mod FreshLemmas
+pub mod OwnerLemmas

@@ -1,5 +1,5 @@
 //! Laws of the sizes of what boxes keep.
-ghost use Rattle.std.specs.Prelude.{◌≡◌, ◌≤◌, ◌^◌, ℕ, ℤ, true, List, [], length, Option, Some};
+ghost use Rattle.std.specs.Prelude.{◌≡◌, ◌≤◌, ◌^◌, ℕ, ℤ, true, List, [], length, Option, Some, IfSome};
 ghost use Rattle.pd_atom.specs.Names.{Names};
 ghost use Rattle.pd_atom.specs.declared.Atom.{Atom};
 ghost use Rattle.pd_clock.specs.declared.times.Rate.{Rate};
@@ -15,8 +15,11 @@ ghost use Rattle.pd_signal.specs.Rows.{run_of};
 ghost use Rattle.pd_turn.specs.Rows.{ran, silent_outs, signal_ran, vline_ran, vline_if, is_fitting};
 ghost use Rattle.pd_turn.specs.Pairs.{line_at, with_values, pair_of};
 ghost use Rattle.pd_grove.specs.States.{NodesFresh};
+ghost use Rattle.pd_grove.specs.Telling.{kind_in};
 ghost use Rattle.slab.specs.Slab.{get};
 ghost use Rattle.pd_patch.specs.declared.patch.Patch.{Patch};
+ghost use Rattle.pd_patch.specs.Grown.{IsFresh};
+ghost use Rattle.pd_patch.specs.Values.{AreSilent, blocks_told};
 ghost use Rattle.pd_glue.specs.Rows.{resumed};
 ghost use Rattle.pd_turns.specs.Turns.{World};
 ghost use Rattle.pd_hearing.specs.Worlds.{Net, Kept};
@@ -25,16 +28,18 @@ ghost use Rattle.pd_hearing.specs.Deeds.{done};
 ghost use Rattle.pd_walk.specs.declared.walker.Start.{Start};
 ghost use Rattle.pd_walk.specs.declared.walker.Budget.{Budget};
 ghost use Rattle.pd_walk.specs.Outcome.{outcome, world, IsLeft};
-ghost use Rattle.pd_block.specs.Nets.{Net as BlockNet, Sound, states_of};
-ghost use Rattle.pd_block.specs.Blocks.{block_of};
+ghost use Rattle.pd_block.specs.Nets.{Net as BlockNet, Sound, states_of, sound_of};
+ghost use Rattle.pd_block.specs.Blocks.{block_of, owner_of};
 ghost use Rattle.pd_guards.specs.Order.{IsKept};
-ghost use Rattle.pd_sized.specs.Sizes.{HasSizes, HaveSizes, HasSmallBoxes, LooksAt, IsWhole};
+ghost use Rattle.pd_sized.specs.Sizes.{HasSizes, HaveSizes, HasSmallBoxes, LooksAt, IsWhole, HasNoOtherBlocks, Serves};
 
 /// What a box keeps when it is made has its sizes, where it counts at most 2^32 values. So does what all boxes keep of a patch whose boxes
-/// were just made.
+/// were just made; and each block of its outlets has 64 values, where boxes have silent ones and there are no others.
 pub fn what_is_made_has_sizes()
     ensures made { (k : Kind) (rate : Rate) (now : ℕ) → size_of k rate ≤ 2 ^ 32 → HasSizes (started (start_of k rate) now) }
     ensures grown { (p : Patch) (rate : Rate) (now : ℕ) → NodesFresh rate now (get p.grove.nodes) → HasSmallBoxes p rate → HaveSizes (states_of p) }
+    ensures whole { (p : Patch) (rate : Rate) (now : ℕ) → NodesFresh rate now (get p.grove.nodes) → HasSmallBoxes p rate →
+        AreSilent p.grove p.web (blocks_told p) → HasNoOtherBlocks p → IsWhole (sound_of p) }
 {}
 
 /// A box that keeps what has its sizes does in a block what its object's row says, and isn't passed over. A `vline~` in order at the start
@@ -69,4 +74,12 @@ pub fn messages_keep_sizes()
 /// A block leaves the sizes of what the boxes keep as they were, and 64 values in each block of an outlet, where each had so many.
 pub fn blocks_keep_sizes()
     ensures { (net : BlockNet) (start : ℕ) (s : Sound) → IsWhole s → IsWhole (block_of net s start).sound }
+{}
+
+/// In a patch that has just grown the first owner of the name that a box looks for is a box that has what it looks for, and keeps it.
+pub fn owners_serve()
+    ensures kind { (p : Patch) (names : Names) (file : List ℕ) (rate : Rate) (k : Kind) (o : ℕ) → IsFresh p names file rate →
+        owner_of p.names k ≡ Some o → IfSome (kind_in (get p.grove.nodes o)) (Serves k) }
+    ensures state { (p : Patch) (names : Names) (file : List ℕ) (rate : Rate) (k : Kind) (o : ℕ) → IsFresh p names file rate →
+        owner_of p.names k ≡ Some o → IfSome (states_of p o) (LooksAt k) }
 {}

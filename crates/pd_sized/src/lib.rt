@@ -3,4 +3,6 @@
 
 mod laws;
 
-pub use laws::{blocks_keep_sizes, messages_keep_sizes, turns_are_whole, what_is_made_has_sizes};
+pub use laws::{
+    blocks_keep_sizes, messages_keep_sizes, owners_serve, turns_are_whole, what_is_made_has_sizes,
+};
