@@ -1,5 +1,5 @@
 -- When what boxes keep has the sizes with which it was made, and which boxes look at which others.
-use Rattle.std.specs.Prelude.{◌≡◌, ℕ, ℤ, ◌≤◌, ◌^◌, true, List, length, Option, Some, None, IfSome}
+use Rattle.std.specs.Prelude.{◌≡◌, ℕ, ℤ, ◌≤◌, ◌^◌, true, List, length, Option, Some, IfSome}
 use Rattle.std.specs.List.{AllByRecursion}
 use Rattle.slab.specs.Slab.{get}
 use Rattle.pd_clock.specs.declared.times.Rate.{Rate}
@@ -12,7 +12,6 @@ use Rattle.pd_kind.specs.declared.states.State.TheVariants as state
 use Rattle.pd_kind.specs.States.{size_of}
 use Rattle.pd_grove.specs.declared.nodes.Node.{Node}
 use Rattle.pd_patch.specs.declared.patch.Patch.{Patch}
-use Rattle.pd_patch.specs.Values.{block_at, blocks_told}
 use Rattle.pd_turn.specs.Rows.{is_sized}
 use Rattle.pd_block.specs.Nets.{Sound}
 
@@ -47,10 +46,6 @@ IsBlock block = length block ≡ 64
 pub record IsWhole (s : Sound) : Type 0 where
   pub states : HaveSizes s.states
   pub blocks : AllByRecursion (AllByRecursion IsBlock) s.blocks
-
--- where there is no box, there are no blocks
-abbrev pub HasNoOtherBlocks : Patch → Type 0
-HasNoOtherBlocks p = (k outlet : ℕ) → get p.grove.nodes k ≡ None → block_at (blocks_told p) k outlet ≡ None
 
 -- the kind of the other box: a `send~` for a `receive~`, a `catch~` for a `throw~`, and a `delwrite~` for a `delread~`
 abbrev pub ServesSignal : Signal → Signal → Type 0

@@ -18,8 +18,9 @@ ghost use Rattle.pd_grove.specs.States.{NodesFresh};
 ghost use Rattle.pd_grove.specs.Telling.{kind_in};
 ghost use Rattle.slab.specs.Slab.{get};
 ghost use Rattle.pd_patch.specs.declared.patch.Patch.{Patch};
-ghost use Rattle.pd_patch.specs.Grown.{IsFresh};
-ghost use Rattle.pd_patch.specs.Values.{AreSilent, blocks_told};
+ghost use Rattle.pd_patch.specs.Grown.{IsTree, IsFresh};
+ghost use Rattle.pd_growth.specs.Steps.{Step};
+ghost use Rattle.pd_tree.specs.Trees.{Tree};
 ghost use Rattle.pd_glue.specs.Rows.{resumed};
 ghost use Rattle.pd_turns.specs.Turns.{World};
 ghost use Rattle.pd_hearing.specs.Worlds.{Net, Kept};
@@ -31,15 +32,14 @@ ghost use Rattle.pd_walk.specs.Outcome.{outcome, world, IsLeft};
 ghost use Rattle.pd_block.specs.Nets.{Net as BlockNet, Sound, states_of, sound_of};
 ghost use Rattle.pd_block.specs.Blocks.{block_of, owner_of};
 ghost use Rattle.pd_guards.specs.Order.{IsKept};
-ghost use Rattle.pd_sized.specs.Sizes.{HasSizes, HaveSizes, HasSmallBoxes, LooksAt, IsWhole, HasNoOtherBlocks, Serves};
+ghost use Rattle.pd_sized.specs.Sizes.{HasSizes, HaveSizes, HasSmallBoxes, LooksAt, IsWhole, Serves};
 
 /// What a box keeps when it is made has its sizes, where it counts at most 2^32 values. So does what all boxes keep of a patch whose boxes
-/// were just made; and each block of its outlets has 64 values, where boxes have silent ones and there are no others.
+/// were just made. In a patch that has just grown all boxes keep what has its sizes, and each block of an outlet has 64 values.
 pub fn what_is_made_has_sizes()
     ensures made { (k : Kind) (rate : Rate) (now : ℕ) → size_of k rate ≤ 2 ^ 32 → HasSizes (started (start_of k rate) now) }
     ensures grown { (p : Patch) (rate : Rate) (now : ℕ) → NodesFresh rate now (get p.grove.nodes) → HasSmallBoxes p rate → HaveSizes (states_of p) }
-    ensures whole { (p : Patch) (rate : Rate) (now : ℕ) → NodesFresh rate now (get p.grove.nodes) → HasSmallBoxes p rate →
-        AreSilent p.grove p.web (blocks_told p) → HasNoOtherBlocks p → IsWhole (sound_of p) }
+    ensures patches { (p : Patch) (names : Names) (file : List ℕ) (rate : Rate) (s : Step Tree) → IsTree p names rate s → IsFresh p names file rate → IsWhole (sound_of p) }
 {}
 
 /// A box that keeps what has its sizes does in a block what its object's row says, and isn't passed over. A `vline~` in order at the start
