@@ -1,5 +1,5 @@
 -- A patch that was just made has its sizes, and each block of an outlet has 64 values.
-use Rattle.std.proofs.Common.{◌≡◌, ◌≤◌, ◌+◌, ◌^◌, ℕ, ℤ, List, inl, inr, replicate, slice_get, Option, Some, None, IfSome, IsSome, option_and_then, refl, sym, ap, subst, arith}
+use Rattle.std.proofs.Common.{◌≡◌, ◌≤◌, ◌^◌, ℕ, ℤ, List, inl, inr, replicate, slice_get, Option, Some, None, IfSome, IsSome, option_and_then, refl, sym, ap, subst, arith}
 use Rattle.std.specs.List.{AllByRecursion}
 use Rattle.slab.specs.Slab.{get}
 use Rattle.pd_clock.specs.declared.times.Rate.{Rate}
