@@ -15,6 +15,7 @@ use Rattle.pd_guards.specs.Near.{AreNear}
 use Rattle.pd_guards.specs.Worlds.{AreKept, IsInOrder, IsStart, IsNamed}
 use Rattle.pd_guards.specs.Sounds.{HaveValues, IsSounding}
 use Rattle.pd_guards.specs.Freely.{outcome as free_outcome}
+use Rattle.pd_sized.specs.Sizes.{HaveSizes, IsWhole}
 use Rattle.pd_engine.specs.Stages.{Stage, Passage}
 use Rattle.pd_engine.specs.Messages.{message_in}
 use Rattle.pd_engine.specs.Events as engine
@@ -28,6 +29,8 @@ pub record Guards : Type 0 where
   pub order : (net : Net) (now : ℕ) (w : World Kept) (s : Start) → IsInOrder net now w.kept → IsStart w.kept.names s → IsInOrder net now (outcome net now w s).kept
   pub values : (net : Net) (now : ℕ) (w : World Kept) (s : Start) → IsInOrder net now w.kept → IsStart w.kept.names s → HaveValues w.kept.states
       → HaveValues (outcome net now w s).kept.states
+  pub sizes : (net : Net) (now : ℕ) (w : World Kept) (s : Start) → HaveSizes w.kept.states → HaveSizes (outcome net now w s).kept.states
+  pub wholes : (net : BlockNet) (start : ℕ) (s : Sound) → IsWhole s → IsWhole (block_of net s start).sound
   pub lasts : (net : Net) (now later : ℕ) (kept : Kept) → IsInOrder net now kept → now ≤ later → later ≤ 2 ^ 101 → IsInOrder net later kept
   pub keeps : (net : BlockNet) (names : Names) (now later start : ℕ) (s : Sound) → now ≤ later → start + 64000000000 ≤ later → AreKept names now s.states → IsSounding s
       → AreKept names later (block_of net s start).sound.states
@@ -70,13 +73,15 @@ record IsDelivered (net : Net) (now : ℕ) (v u : World Kept) : Type 0 where
   same : u ≡ v
   order : IsInOrder net now v.kept
   values : HaveValues v.kept.states
+  sizes : HaveSizes v.kept.states
 
 deliver : (g : Guards) (net : Net) (now : ℕ) (w v u : World Kept) (st : Start) → outcome net now w st ≡ v → free_outcome net now w st ≡ u → AreNear net → IsInOrder net now w.kept
-    → HaveValues w.kept.states → IsStart w.kept.names st → IsDelivered net now v u
-deliver g net now w v u st is free near h a k = record {
+    → HaveValues w.kept.states → HaveSizes w.kept.states → IsStart w.kept.names st → IsDelivered net now v u
+deliver g net now w v u st is free near h a z k = record {
   same = sym free ∙ sym (g.freely net now w st near h k) ∙ is;
   order = subst (λ (x : World Kept). IsInOrder net now x.kept) is (g.order net now w st h k);
   values = subst (λ (x : World Kept). HaveValues x.kept.states) is (g.values net now w st h k a);
+  sizes = subst (λ (x : World Kept). HaveSizes x.kept.states) is (g.sizes net now w st z);
 }
 
 -- a part of a run is the same freely, and leads to a steady stage
@@ -93,6 +98,7 @@ after_free most s v u h d = record {
     near = h.near;
     order = record { time = d.order.time; first = d.order.first; kinds = d.order.kinds; states = d.order.states };
     values = record { states = d.values; blocks = h.values.blocks };
+    whole = record { states = d.sizes; blocks = h.whole.blocks };
     block = h.block;
   };
 }
@@ -102,4 +108,4 @@ unfolding event event_freely
 event_free g most s b h k =
     after_free most s (delivered s b) (deliveries s.net s.time (begun s) b) h
     (deliver g s.net s.time (begun s) (delivered s b) (deliveries s.net s.time (begun s) b) (start_of b) (outcome_is s.net s.time (begun s) b) (free_is s.net s.time (begun s) b)
-    h.near h.order h.values.states (starts s.names b k))
+    h.near h.order h.values.states h.whole.states (starts s.names b k))

@@ -14,6 +14,8 @@ use Rattle.pd_guards.specs.Order.{HasFirst, IsKept, IsKind}
 use Rattle.pd_guards.specs.Near.{AreNear}
 use Rattle.pd_guards.specs.Worlds.{IsInOrder}
 use Rattle.pd_guards.specs.Sounds.{IsSounding, sound_with}
+use Rattle.pd_block.specs.Nets.{sound_of}
+use Rattle.pd_sized.specs.Sizes.{IsWhole}
 use Rattle.pd_guards.proofs.FactLemmas.{some-weaker}
 use Rattle.pd_guards.proofs.MoreLemmas.{longer, first_more, kind_more, kept_more}
 use Rattle.pd_engine.specs.Stages.{Stage, Passage, with_names, saying, joined, followed_by}
@@ -71,25 +73,27 @@ named_steady most s names h e =
         states = λ k. some-weaker (IsKept s.names s.time) (IsKept names s.time) (kept_more s.names names l s.time) (s.states k) (h.order.states k);
       };
       values = h.values;
+      whole = h.whole;
       block = h.block;
     }
 
 -- where a patch opens, at first
-first_steady : (most : ℕ) (p : Patch) (table : Names) → AreNear (net_of p) → IsInOrder (net_of p) 0 (kept_of p table []) → IsSounding (sound_with (net_of p) (kept_of p table [])) → IsSteady most (first_stage p table)
-first_steady most p table near o v = record {
+first_steady : (most : ℕ) (p : Patch) (table : Names) → AreNear (net_of p) → IsInOrder (net_of p) 0 (kept_of p table []) → IsSounding (sound_with (net_of p) (kept_of p table [])) → IsWhole (sound_of p) → IsSteady most (first_stage p table)
+first_steady most p table near o v w = record {
   time = early most;
   near = near;
   order = record { time = o.time; first = o.first; kinds = o.kinds; states = o.states };
   values = record { states = v.states; blocks = v.blocks };
+  whole = record { states = w.states; blocks = w.blocks };
   block = first_end;
 }
 
-pub opened_free : (g : Guards) (most : ℕ) (p : Patch) (table : Names) → AreNear (net_of p) → IsInOrder (net_of p) 0 (kept_of p table []) → IsSounding (sound_with (net_of p) (kept_of p table []))
+pub opened_free : (g : Guards) (most : ℕ) (p : Patch) (table : Names) → AreNear (net_of p) → IsInOrder (net_of p) 0 (kept_of p table []) → IsSounding (sound_with (net_of p) (kept_of p table [])) → IsWhole (sound_of p)
     → IsFree most (opened p table) (opened_by event_freely p table)
-opened_free g most p table near o v =
+opened_free g most p table near o v w =
     let s : Stage = first_stage p table in
     let b : Beginning = Loading (loads_among p.grove (keys_in_order p.grove)) in
-    said_free most s (remarks_text table p (notices_in p.grove p.web p.orders.items)) (event s b) (event_freely s b) (event_free g most s b (first_steady most p table near o v) tt)
+    said_free most s (remarks_text table p (notices_in p.grove p.web p.orders.items)) (event s b) (event_freely s b) (event_free g most s b (first_steady most p table near o v w) tt)
 
 pub at_first : 0 ≤ 2 ^ 101
 at_first = early (2 ^ 101)
@@ -115,10 +119,10 @@ module _ (g : Guards) (most : ℕ) (top : most ≤ 2 ^ 101) where
       followed most (step_by event x s) (step_by event_freely x s) (steps_by event xs) (steps_by event_freely xs) a (steps_free xs (step_by event x s).stage a.steady k.1)
 
 -- whole runs
-pub run_free : (g : Guards) (p : Patch) (table : Names) (most : ℕ) (xs : List Step) → AreNear (net_of p) → IsInOrder (net_of p) 0 (kept_of p table []) → IsSounding (sound_with (net_of p) (kept_of p table []))
+pub run_free : (g : Guards) (p : Patch) (table : Names) (most : ℕ) (xs : List Step) → AreNear (net_of p) → IsInOrder (net_of p) 0 (kept_of p table []) → IsSounding (sound_with (net_of p) (kept_of p table [])) → IsWhole (sound_of p)
     → most + block_units ≤ 2 ^ 101 → AreSteps most xs (opened p table).stage → run_by event_freely p table xs ≡ run_by event p table xs
-run_free g p table most xs near first sounds top k =
-    let o : IsFree most (opened_by event p table) (opened_by event_freely p table) = opened_free g most p table near first sounds in
+run_free g p table most xs near first sounds whole top k =
+    let o : IsFree most (opened_by event p table) (opened_by event_freely p table) = opened_free g most p table near first sounds whole in
     let s : Stage = (opened p table).stage in
     let a : IsFree most (steps_by event xs s) (steps_by event_freely xs s) = steps_free g most (room_left most top) xs s o.steady k in
     let b : IsFree most (followed_by (opened_by event p table) (steps_by event xs)) (followed_by (opened_by event_freely p table) (steps_by event_freely xs)) =

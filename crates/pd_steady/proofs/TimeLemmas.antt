@@ -9,6 +9,7 @@ use Rattle.pd_guards.proofs.FactLemmas.{either_by}
 use Rattle.pd_engine.specs.Stages.{Stage, Passage, kept_at, still, joined, followed_by}
 use Rattle.pd_engine.specs.Events.{Firing, event}
 use Rattle.pd_engine.specs.Times.{block_units, most_fired, first_clock, if_below, next_clock, taken_off, with_taken, with_fired, fires, fires_or_not, fires_below, clocks_fire, block_net, sound_at, block_sounds, block_runs, blocks_run, with_time, time_is, comes_to, advanced, finished}
+use Rattle.pd_sized.specs.Sizes.{IsWhole}
 use Rattle.pd_steady.specs.Runs.{fires_by, fires_or_not_by, fires_below_by, clocks_fire_by, block_runs_by, blocks_run_by, comes_to_by, advanced_by, finished_by}
 use Rattle.pd_steady.specs.Freely.{event_freely}
 use Rattle.pd_steady.specs.Steady.{IsSteady}
@@ -60,7 +61,7 @@ later_end : (n : ℕ) → block_units ≤ n → block_units ≤ min (n + block_u
 later_end n l = omega arith
 
 pub steady_longer : (most more : ℕ) (s : Stage) → most ≤ more → IsSteady most s → IsSteady more s
-steady_longer most more s l h = record { time = within s.time most more h.time l; near = h.near; order = h.order; values = h.values; block = h.block }
+steady_longer most more s l h = record { time = within s.time most more h.time l; near = h.near; order = h.order; values = h.values; whole = h.whole; block = h.block }
 
 pub followed : (most : ℕ) (p q : Passage) (next free : Stage → Passage) → IsFree most p q → IsFree most (next p.stage) (free p.stage) → IsFree most (followed_by p next) (followed_by q free)
 followed most p q next free a b = record { same = ap (λ (x : Passage). followed_by x free) a.same ∙ ap (λ (x : Passage). joined p x) b.same; steady = b.steady }
@@ -80,6 +81,7 @@ module _ (g : Guards) (most : ℕ) (top : most ≤ 2 ^ 101) where
         near = h.near;
         order = record { time = o.time; first = o.first; kinds = o.kinds; states = o.states };
         values = h.values;
+        whole = h.whole;
         block = h.block;
       }
 
@@ -91,6 +93,7 @@ module _ (g : Guards) (most : ℕ) (top : most ≤ 2 ^ 101) where
         near = h.near;
         order = record { time = o.time; first = o.first; kinds = o.kinds; states = o.states };
         values = h.values;
+        whole = h.whole;
         block = h.block;
       }
 
@@ -129,6 +132,8 @@ module _ (g : Guards) (most : ℕ) (top : most ≤ 2 ^ 101) where
         };
         values = let v : IsSounding (block_of (block_net s) (sound_at s) start).sound = g.sounds (block_net s) s.names s.time start (sound_at s) h.order.states h.values in
             record { states = v.states; blocks = v.blocks };
+        whole = let w : IsWhole (block_of (block_net s) (sound_at s) start).sound = g.wholes (block_net s) start (sound_at s) h.whole in
+            record { states = w.states; blocks = w.blocks };
         block = later_end s.block_end h.block;
       }
 

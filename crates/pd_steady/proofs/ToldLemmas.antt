@@ -1,5 +1,5 @@
 -- In a run the lines of each order tell all its boxes.
-use Rattle.std.proofs.Common.{◌≡◌, ◌≤◌, ◌+◌, ℕ, List, [], ◌∷◌, length, take, map, Option, Some, None, refl, sym, ap, subst, ◌∙◌, arith}
+use Rattle.std.proofs.Common.{◌≡◌, ◌≤◌, ◌+◌, ℕ, List, [], ◌∷◌, length, map, Option, Some, None, refl, sym, ap, subst, ◌∙◌, arith}
 use Rattle.std.specs.Prelude.{option_and_then}
 use Rattle.std.proofs.lemmas.List.{take_all}
 use Rattle.pd_order.specs.Listing.{Listing}
@@ -10,10 +10,10 @@ use Rattle.pd_patch.specs.Values.{Blocks}
 use Rattle.pd_hearing.specs.Worlds.{Net, net_of}
 use Rattle.pd_block.specs.Nets as block
 use Rattle.pd_engine.specs.Stages.{Stage}
-use Rattle.pd_engine.specs.Times.{IsStageOf, block_net}
-use Rattle.pd_engine.specs.Commands.{most_boxes, step_to, led_to, numbers_told}
+use Rattle.pd_engine.specs.Times.{IsStageOf}
+use Rattle.pd_engine.specs.Commands.{most_boxes, step_to, led_to}
 use Rattle.pd_engine.proofs.ShowLemmas.{led_is}
-use Rattle.pd_steady.specs.Told.{all_numbers, TellsAll}
+use Rattle.pd_steady.specs.Told.{TellsAll}
 
 -- what messages leave as it is, with these blocks
 abbrev with_blocks : block.Net → Blocks → Net

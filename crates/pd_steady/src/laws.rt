@@ -36,6 +36,8 @@ pub fn commands_stay_steady()
     pd_guards::delivery_passes_nothing_over();
     pd_guards::messages_keep_values();
     pd_guards::order_lasts();
+    pd_sized::messages_keep_sizes();
+    pd_sized::blocks_keep_sizes();
     pd_guards::blocks_stay_in_order();
     pd_guards::commands_begin_in_order();
 }
@@ -53,6 +55,8 @@ pub fn time_stays_steady()
     pd_guards::delivery_passes_nothing_over();
     pd_guards::messages_keep_values();
     pd_guards::order_lasts();
+    pd_sized::messages_keep_sizes();
+    pd_sized::blocks_keep_sizes();
     pd_guards::blocks_stay_in_order();
     pd_guards::commands_begin_in_order();
 }
@@ -72,10 +76,13 @@ pub fn opening_is_steady()
     pd_guards::delivery_passes_nothing_over();
     pd_guards::messages_keep_values();
     pd_guards::order_lasts();
+    pd_sized::messages_keep_sizes();
+    pd_sized::blocks_keep_sizes();
     pd_guards::blocks_stay_in_order();
     pd_guards::commands_begin_in_order();
     pd_guards::grown_patches_are_in_order();
     pd_guards::grown_patches_are_near();
+    pd_sized::what_is_made_has_sizes();
 }
 
 /// From a steady stage a run stays steady along any commands in order, names that are read and times, and nothing is passed over in it.
@@ -92,10 +99,13 @@ pub fn runs_pass_nothing_over()
     pd_guards::delivery_passes_nothing_over();
     pd_guards::messages_keep_values();
     pd_guards::order_lasts();
+    pd_sized::messages_keep_sizes();
+    pd_sized::blocks_keep_sizes();
     pd_guards::blocks_stay_in_order();
     pd_guards::commands_begin_in_order();
     pd_guards::grown_patches_are_in_order();
     pd_guards::grown_patches_are_near();
+    pd_sized::what_is_made_has_sizes();
 }
 
 /// In a run the two lines of a canvas's order tell all its boxes: there are never more than a line has room for.

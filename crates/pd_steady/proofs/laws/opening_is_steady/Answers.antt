@@ -8,6 +8,8 @@ returns-clause-steady c = λ holds name rate d names table p most x. (opened_fre
   freely = c.delivery_passes_nothing_over.ensures.freely;
   order = c.delivery_passes_nothing_over.ensures.order;
   values = c.messages_keep_values.ensures.delivery;
+  sizes = c.messages_keep_sizes.ensures.delivery;
+  wholes = c.blocks_keep_sizes.ensures;
   lasts = c.order_lasts.ensures;
   keeps = c.blocks_stay_in_order.ensures.kept;
   sounds = c.blocks_stay_in_order.ensures.sounds;
@@ -15,13 +17,16 @@ returns-clause-steady c = λ holds name rate d names table p most x. (opened_fre
 }) most p table
     (c.grown_patches_are_near.ensures p table name rate (growth_of name d x.files) x.tree x.fresh)
     (c.grown_patches_are_in_order.ensures.order x.files.files name d x.files.names table 1001 rate p 0 [] at_first (first_names_in x.files.names x.table) x.proper x.found x.tree x.fresh)
-    (c.grown_patches_are_in_order.ensures.sounds x.files.files name d x.files.names table 1001 rate p [] (first_names_in x.files.names x.table) x.proper x.found x.tree x.fresh)).steady
+    (c.grown_patches_are_in_order.ensures.sounds x.files.files name d x.files.names table 1001 rate p [] (first_names_in x.files.names x.table) x.proper x.found x.tree x.fresh)
+    (c.what_is_made_has_sizes.ensures.patches p table name rate (growth_of name d x.files) x.tree x.fresh)).steady
 
 pub returns-clause-freely : goal.returns-clause-freely
 returns-clause-freely c = λ holds name rate d names table p x. (opened_free (record {
   freely = c.delivery_passes_nothing_over.ensures.freely;
   order = c.delivery_passes_nothing_over.ensures.order;
   values = c.messages_keep_values.ensures.delivery;
+  sizes = c.messages_keep_sizes.ensures.delivery;
+  wholes = c.blocks_keep_sizes.ensures;
   lasts = c.order_lasts.ensures;
   keeps = c.blocks_stay_in_order.ensures.kept;
   sounds = c.blocks_stay_in_order.ensures.sounds;
@@ -29,4 +34,5 @@ returns-clause-freely c = λ holds name rate d names table p x. (opened_free (re
 }) 0 p table
     (c.grown_patches_are_near.ensures p table name rate (growth_of name d x.files) x.tree x.fresh)
     (c.grown_patches_are_in_order.ensures.order x.files.files name d x.files.names table 1001 rate p 0 [] at_first (first_names_in x.files.names x.table) x.proper x.found x.tree x.fresh)
-    (c.grown_patches_are_in_order.ensures.sounds x.files.files name d x.files.names table 1001 rate p [] (first_names_in x.files.names x.table) x.proper x.found x.tree x.fresh)).same
+    (c.grown_patches_are_in_order.ensures.sounds x.files.files name d x.files.names table 1001 rate p [] (first_names_in x.files.names x.table) x.proper x.found x.tree x.fresh)
+    (c.what_is_made_has_sizes.ensures.patches p table name rate (growth_of name d x.files) x.tree x.fresh)).same

@@ -1,0 +1,9 @@
+pub mod StartLemmas
+pub mod TurnLemmas
+pub mod KeepLemmas
+pub mod HeldLemmas
+pub mod RunLemmas
+pub mod LengthLemmas
+pub mod BlockLemmas
+pub mod FreshLemmas
+pub mod OwnerLemmas

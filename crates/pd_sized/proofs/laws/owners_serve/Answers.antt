@@ -1,0 +1,8 @@
+use Rattle.pd_sized.proofs.OwnerLemmas.{owner_serves, owner_looks}
+use Rattle.pd_sized.proofs.laws.owners_serve.Goals as goal
+
+pub returns-clause-kind : goal.returns-clause-kind
+returns-clause-kind c = λ p names file rate k o fresh e. owner_serves p names file rate fresh k o e
+
+pub returns-clause-state : goal.returns-clause-state
+returns-clause-state c = λ p names file rate k o fresh e. owner_looks p names file rate fresh k o e
