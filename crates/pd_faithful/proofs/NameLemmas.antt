@@ -127,6 +127,7 @@ module _ (g : Guards) (most : ℕ) (top : most ≤ 2 ^ 101) where
         near = h.near;
         order = record { time = o.time; first = o.first; kinds = o.kinds; states = o.states };
         values = h.values;
+        whole = h.whole;
         block = h.block;
       }
 

@@ -31,6 +31,8 @@ pub fn scripts_are_steps()
     pd_guards::delivery_passes_nothing_over();
     pd_guards::messages_keep_values();
     pd_guards::order_lasts();
+    pd_sized::messages_keep_sizes();
+    pd_sized::blocks_keep_sizes();
     pd_guards::blocks_stay_in_order();
     pd_guards::commands_begin_in_order();
     pd_script::tables_go_on();
@@ -49,6 +51,8 @@ pub fn scripts_pass_nothing_over()
     pd_guards::delivery_passes_nothing_over();
     pd_guards::messages_keep_values();
     pd_guards::order_lasts();
+    pd_sized::messages_keep_sizes();
+    pd_sized::blocks_keep_sizes();
     pd_guards::blocks_stay_in_order();
     pd_guards::commands_begin_in_order();
     pd_script::tables_go_on();
@@ -64,6 +68,8 @@ pub fn play_passes_nothing_over()
     pd_guards::delivery_passes_nothing_over();
     pd_guards::messages_keep_values();
     pd_guards::order_lasts();
+    pd_sized::messages_keep_sizes();
+    pd_sized::blocks_keep_sizes();
     pd_guards::blocks_stay_in_order();
     pd_guards::commands_begin_in_order();
     pd_script::tables_go_on();
