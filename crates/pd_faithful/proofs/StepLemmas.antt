@@ -66,12 +66,12 @@ module _ (laws : Laws) where
   time_first p run h k = part_first (Comes (p.time * p.rate)) p.stage (reached p) run (reached_own p) (in_time p h) k
 
   -- what a record says, and the rest of the run
-  module _ (rest : Point → Run) (then : (q : Point) → IsSteadyAt q → IsStepped most_units q.stage (rest q)) where
+  module _ (rest : Point → Run) (goes : (q : Point) → IsSteadyAt q → IsStepped most_units q.stage (rest q)) where
     said_stepped : (s : Script) (p : Point) → IsSteadyAt p → IsSaid p.stage.names s → IsStepped most_units p.stage (said_run s p rest)
     said_stepped (script.Run c) p h k =
         let r : Stage = (reached p).stage in
         let q : Point = at_stage p (commanded c r).stage in
-        let on : IsStepped most_units q.stage (rest q) = then q (record { stage = (carried_free laws p c h k).steady; rate = h.rate; time = h.time }) in
+        let on : IsStepped most_units q.stage (rest q) = goes q (record { stage = (carried_free laws p c h k).steady; rate = h.rate; time = h.time }) in
         let does : IsStepped most_units r (behind (commanded c r) (rest q)) = part_first (Does c) r (commanded c r) (rest q) (commanded_own c r) (reached_command laws p c h k) on in
         subst (λ (x : Run). IsStepped most_units p.stage x) (sym (behind_assoc (reached p) (commanded c r) (rest q))) (time_first p (behind (commanded c r) (rest q)) h does)
     said_stepped script.End p h k = time_first p (done (reached p).stage) h (done_stepped (reached p).stage)
@@ -85,22 +85,22 @@ module _ (laws : Laws) where
     read_stepped p tokens (Some r) is h =
         let time : ℕ = p.time + millionths r.0 in
         let q : Point = at_stage p (with_names p.stage r.2) in
-        let goes : Extends p.stage.names r.2 = (laws.reads p.stage.names r.2 tokens r.0 r.1 is).0 in
-        learns_first p.stage r.2 (if nat_lt most_time time then bad q else said_run r.1 (at_time q time) rest) goes
+        let more : Extends p.stage.names r.2 = (laws.reads p.stage.names r.2 tokens r.0 r.1 is).0 in
+        learns_first p.stage r.2 (if nat_lt most_time time then bad q else said_run r.1 (at_time q time) rest) more
         (either_stepped (nat_lt most_time time) q.stage (bad q) (said_run r.1 (at_time q time) rest) (bad_stepped q)
         (λ n. let k : IsRead laws (at_time q time) r.1 = read_at laws p tokens r.0 r.1 r.2 time h is (ltb-false most_time time n) in said_stepped r.1 (at_time q time) k.steady k.said))
 
     record_stepped : (text : List ℕ) (p : Point) → IsSteadyAt p → IsStepped most_units p.stage (record_run text p rest)
     unfolding record_run
     record_stepped text p h =
-        either_stepped (length text == 0) p.stage (rest p) (read_run (command_of p.stage.names (tokens_of text)) p rest) (then p h)
+        either_stepped (length text == 0) p.stage (rest p) (read_run (command_of p.stage.names (tokens_of text)) p rest) (goes p h)
         (λ n. read_stepped p (tokens_of text) (command_of p.stage.names (tokens_of text)) refl h)
 
   records_stepped : (last : Point → Run) → ((q : Point) → IsSteadyAt q → IsStepped most_units q.stage (last q)) → (texts : List (List ℕ)) (p : Point) → IsSteadyAt p
       → IsStepped most_units p.stage (records_run texts last p)
-  records_stepped last then [] p h = then p h
-  records_stepped last then (text ∷ texts) p h =
-      record_stepped (records_run texts last) (λ q k. records_stepped last then texts q k) text (counted p) (record { stage = h.stage; rate = h.rate; time = h.time })
+  records_stepped last goes [] p h = goes p h
+  records_stepped last goes (text ∷ texts) p h =
+      record_stepped (records_run texts last) (λ q k. records_stepped last goes texts q k) text (counted p) (record { stage = h.stage; rate = h.rate; time = h.time })
 
   last_stepped : (ending : Ending) (v : Fed) (p : Point) → IsStepped most_units p.stage (end_run ending v p)
   unfolding end_run
