@@ -1,5 +1,5 @@
 -- From a steady point nothing is passed over in the run of a script.
-use Rattle.std.proofs.Common.{◌≡◌, ◌≤◌, ◌+◌, ◌*◌, ◌^◌, ℕ, ℤ, List, length, Some, sym, ap, ◌∙◌, arith}
+use Rattle.std.proofs.Common.{◌≡◌, ◌≤◌, ◌+◌, ◌*◌, ◌^◌, ℕ, ℤ, List, length, Some, ap, arith}
 use Rattle.std.proofs.lemmas.Nat.{mul-le}
 use Rattle.pd_atom.specs.Names.{Names, Extends}
 use Rattle.pd_atom.specs.declared.Atom.{Atom}
@@ -13,15 +13,15 @@ use Rattle.pd_script.specs.declared.commands.Script.TheVariants as script
 use Rattle.pd_guards.specs.Worlds.{IsSent}
 use Rattle.pd_guards.proofs.MoreLemmas.{name_more, atoms_more}
 use Rattle.pd_engine.specs.Stages.{Stage, Passage, with_names}
-use Rattle.pd_engine.specs.Times.{block_units, finished}
+use Rattle.pd_engine.specs.Times.{block_units}
 use Rattle.pd_engine.specs.Commands.{commanded}
-use Rattle.pd_steady.specs.Runs.{commanded_by, finished_by}
+use Rattle.pd_steady.specs.Runs.{commanded_by}
 use Rattle.pd_steady.specs.Freely.{event_freely}
 use Rattle.pd_steady.specs.Steady.{IsSteady, IsCommand}
 use Rattle.pd_steady.proofs.EventLemmas.{Guards, IsFree}
 use Rattle.pd_steady.proofs.TimeLemmas.{advanced_free, finished_free}
 use Rattle.pd_steady.proofs.RunLemmas.{commanded_free, named_steady}
-use Rattle.pd_play.specs.Runs.{Point, Run, Ending, most_time, at_stage, at_time, counted, reached, done, carried_out, run_of}
+use Rattle.pd_play.specs.Runs.{Point, Ending, most_time, at_stage, at_time, reached, done, run_of}
 use Rattle.pd_play.specs.declared.status.Status.TheVariants.{Done}
 use Rattle.pd_faithful.specs.Scripts.{reached_by, done_by, run_of_by}
 use Rattle.pd_faithful.specs.Points.{most_units, IsSteadyAt}

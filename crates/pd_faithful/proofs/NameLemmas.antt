@@ -1,5 +1,5 @@
 -- No name of the table is lost as time goes on.
-use Rattle.std.proofs.Common.{◌≡◌, ◌<◌, ◌≤◌, ◌+◌, ◌-◌, ◌^◌, ℕ, zero, suc, max, Bool, true, false, nat_lt, nat_le, if◌then◌else◌, List, length, Option, Some, None, IfSome, refl, sym, subst, arith}
+use Rattle.std.proofs.Common.{◌≡◌, ◌<◌, ◌≤◌, ◌+◌, ◌-◌, ◌^◌, ℕ, zero, suc, max, Bool, true, false, nat_lt, nat_le, if◌then◌else◌, length, Option, Some, None, IfSome, refl, sym, subst, arith}
 use Rattle.std.proofs.lemmas.Bool.{leb-true, ltb-true}
 use Rattle.pd_atom.specs.Names.{Names}
 use Rattle.pd_clock.specs.Queue.{Clock}

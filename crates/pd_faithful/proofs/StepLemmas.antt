@@ -1,5 +1,5 @@
 -- The run of a script is steps, one after another.
-use Rattle.std.proofs.Common.{◌≡◌, ◌≤◌, ◌+◌, ◌*◌, ◌==◌, ℕ, ℤ, Bool, true, false, nat_lt, if◌then◌else◌, List, [], ◌∷◌, length, Option, Some, None, refl, sym, ap, subst, ◌∙◌}
+use Rattle.std.proofs.Common.{◌≡◌, ◌+◌, ◌*◌, ◌==◌, ℕ, ℤ, Bool, true, false, nat_lt, if◌then◌else◌, List, [], ◌∷◌, length, Option, Some, None, refl, sym, ap, subst, ◌∙◌}
 use Rattle.std.proofs.lemmas.Bool.{ltb-false}
 use Rattle.pd_atom.specs.Names.{Names, Extends}
 use Rattle.pd_feed.specs.Script.{Script as Text}
@@ -7,24 +7,19 @@ use Rattle.pd_feed.specs.declared.feed.Fed.{Fed}
 use Rattle.pd_feed.specs.declared.feed.Fed.TheVariants as fed
 use Rattle.pd_script.specs.Tokens.{tokens_of}
 use Rattle.pd_script.specs.Scripts.{command_of}
-use Rattle.pd_script.specs.declared.commands.Command.{Command}
 use Rattle.pd_script.specs.declared.commands.Script.{Script}
 use Rattle.pd_script.specs.declared.commands.Script.TheVariants as script
-use Rattle.pd_engine.specs.Stages.{Stage, Passage, with_names, still, joined, followed_by}
+use Rattle.pd_engine.specs.Stages.{Stage, Passage, with_names, joined}
 use Rattle.pd_engine.specs.Events.{event}
-use Rattle.pd_engine.specs.Times.{finished}
 use Rattle.pd_engine.specs.Commands.{commanded}
 use Rattle.pd_engine.proofs.PassageLemmas.{joined_assoc}
-use Rattle.pd_steady.specs.Runs.{finished_by}
-use Rattle.pd_steady.specs.Steady.{IsCommand}
-use Rattle.pd_steady.specs.Steps.{Step, Does, Learns, Comes, IsStep, AreSteps, step_by, steps_by}
+use Rattle.pd_steady.specs.Steps.{Step, Does, Learns, Comes, IsStep, step_by, steps_by}
 use Rattle.pd_steady.proofs.OwnLemmas.{commanded_own, finished_own}
-use Rattle.pd_play.specs.Runs.{Point, Run, Ending, Whole, Broken, most_time, at_stage, at_time, counted, ended, bad, behind, goes_on, millionths, reached, done, end_reached, carried_out, said_run, read_run, record_run, records_run, end_run, run_of}
-use Rattle.pd_play.specs.declared.status.Status.{Status}
-use Rattle.pd_play.specs.declared.status.Status.TheVariants.{Done, ScriptBad, ReadFault}
+use Rattle.pd_play.specs.Runs.{Point, Run, Ending, Whole, Broken, most_time, at_stage, at_time, counted, ended, bad, behind, millionths, reached, done, said_run, read_run, record_run, records_run, end_run, run_of}
+use Rattle.pd_play.specs.declared.status.Status.TheVariants.{ReadFault}
 use Rattle.pd_faithful.specs.Points.{most_units, IsSteadyAt, ended_by, IsStepped}
 use Rattle.pd_faithful.proofs.RecordLemmas.{reached_own}
-use Rattle.pd_faithful.proofs.FreeLemmas.{Laws, IsSaid, IsRead, read_at, in_time, reached_free, reached_command, carried_free}
+use Rattle.pd_faithful.proofs.FreeLemmas.{Laws, IsSaid, IsRead, read_at, in_time, reached_command, carried_free}
 
 -- nothing more happens
 bad_stepped : (p : Point) → IsStepped most_units p.stage (bad p)

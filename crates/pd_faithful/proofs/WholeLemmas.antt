@@ -1,5 +1,5 @@
 -- A patch opens at a steady point, and from there nothing is passed over.
-use Rattle.std.proofs.Common.{◌≡◌, ◌≤◌, ◌+◌, ℕ, List, [], ◌++◌, Option, refl, sym, ap, subst, ◌∙◌, arith}
+use Rattle.std.proofs.Common.{◌≡◌, ◌≤◌, ℕ, List, [], Option, refl, sym, ap, subst, ◌∙◌, arith}
 use Rattle.pd_io.specs.Stream.{grown}
 use Rattle.pd_io.specs.declared.files.FileRow.{FileRow}
 use Rattle.pd_atom.specs.Names.{Names}
@@ -10,7 +10,7 @@ use Rattle.pd_clock.specs.Rates.{samples}
 use Rattle.pd_feed.specs.Script.{Script as Text, script_of}
 use Rattle.pd_patch.specs.declared.patch.Patch.{Patch}
 use Rattle.pd_say.proofs.GatheringLemmas.{printed_nothing}
-use Rattle.pd_engine.specs.Stages.{Stage, Passage, saying, joined}
+use Rattle.pd_engine.specs.Stages.{Stage, Passage, saying}
 use Rattle.pd_engine.specs.Events.{event}
 use Rattle.pd_engine.specs.Opening.{Files, Grows, OpensFile, opened}
 use Rattle.pd_engine.proofs.PassageLemmas.{joined_assoc}
@@ -18,7 +18,7 @@ use Rattle.pd_steady.specs.Runs.{opened_by}
 use Rattle.pd_steady.specs.Freely.{event_freely}
 use Rattle.pd_steady.specs.Steady.{IsSteady}
 use Rattle.pd_play.specs.Ending.{status_line}
-use Rattle.pd_play.specs.Runs.{Point, Run, Ending, most_time, behind, run_of}
+use Rattle.pd_play.specs.Runs.{Run, Ending, most_time, behind, run_of}
 use Rattle.pd_play.specs.Playing.{Plays}
 use Rattle.pd_play.specs.Patches.{start, with_line, Tells, PlaysOpened}
 use Rattle.pd_play.specs.declared.status.Status.{Status}
