@@ -1,0 +1,127 @@
+-- From a steady point nothing is passed over in the run of a script.
+use Rattle.std.proofs.Common.{◌≡◌, ◌≤◌, ◌+◌, ◌*◌, ◌^◌, ℕ, ℤ, List, length, Some, ap, arith}
+use Rattle.std.proofs.lemmas.Nat.{mul-le}
+use Rattle.pd_atom.specs.Names.{Names, Extends}
+use Rattle.pd_atom.specs.declared.Atom.{Atom}
+use Rattle.pd_feed.specs.Script.{Script as Text}
+use Rattle.pd_script.specs.Origins.{CommandFrom, ScriptFrom}
+use Rattle.pd_script.specs.Scripts.{send_of, command_of}
+use Rattle.pd_script.specs.declared.commands.Command.{Command}
+use Rattle.pd_script.specs.declared.commands.Command.TheVariants as command
+use Rattle.pd_script.specs.declared.commands.Script.{Script}
+use Rattle.pd_script.specs.declared.commands.Script.TheVariants as script
+use Rattle.pd_guards.specs.Worlds.{IsSent}
+use Rattle.pd_guards.proofs.MoreLemmas.{name_more, atoms_more}
+use Rattle.pd_engine.specs.Stages.{Stage, Passage, with_names}
+use Rattle.pd_engine.specs.Times.{block_units}
+use Rattle.pd_engine.specs.Commands.{commanded}
+use Rattle.pd_steady.specs.Runs.{commanded_by}
+use Rattle.pd_steady.specs.Freely.{event_freely}
+use Rattle.pd_steady.specs.Steady.{IsSteady, IsCommand}
+use Rattle.pd_steady.proofs.EventLemmas.{Guards, IsFree}
+use Rattle.pd_steady.proofs.TimeLemmas.{advanced_free, finished_free}
+use Rattle.pd_steady.proofs.RunLemmas.{commanded_free, named_steady}
+use Rattle.pd_play.specs.Runs.{Point, Ending, most_time, at_stage, at_time, reached, done, run_of}
+use Rattle.pd_play.specs.declared.status.Status.TheVariants.{Done}
+use Rattle.pd_faithful.specs.Scripts.{reached_by, done_by, run_of_by}
+use Rattle.pd_faithful.specs.Points.{most_units, IsSteadyAt}
+use Rattle.pd_faithful.proofs.NameLemmas.{advanced_names}
+use Rattle.pd_faithful.proofs.RecordLemmas.{SaidSame, Agrees, carried_same, end_same, run_same}
+
+-- what the laws of the crates below say
+pub record Laws : Type 0 where
+  pub guards : Guards
+  pub reads : (names after : Names) (tokens : List (List ℕ)) (ms : ℤ) (s : Script) → command_of names tokens ≡ Some (ms, s, after) → Extends names after × ScriptFrom names after s
+  pub sends : (names after : Names) (tokens : List (List ℕ)) (name : ℕ) (atoms : List Atom) → send_of names tokens ≡ Some (command.Send name atoms, after) → IsSent names after name atoms
+
+-- numbers apart, since tactics read all that is in scope
+pub block_more : most_units + block_units ≤ 2 ^ 101
+block_more = omega arith
+
+less : (n m limit : ℕ) → n + m ≤ limit → n ≤ limit
+less n m limit l = omega arith
+
+pub in_range : most_units ≤ 2 ^ 101
+in_range = less most_units block_units (2 ^ 101) block_more
+
+pub in_time : (p : Point) → IsSteadyAt p → p.time * p.rate ≤ most_units
+in_time p h = mul-le p.time p.rate most_time 96000 h.time h.rate
+
+-- a command that is in order in a table is so in a longer one
+pub command_more : (old new : Names) → length old ≤ length new → (c : Command) → IsCommand old c → IsCommand new c
+command_more old new l (command.Send name atoms) h = (name_more old new l name h.0, atoms_more old new l atoms h.1)
+command_more old new l (command.Edit place edit) h = tt
+command_more old new l (command.Save document) h = tt
+command_more old new l (command.Show path) h = tt
+command_more old new l command.Undo h = tt
+command_more old new l command.Redo h = tt
+
+-- what a record says is in order
+abbrev pub IsSaid : Names → Script → Type 0
+IsSaid names (script.Run c) = IsCommand names c
+IsSaid names script.End = Unit {0}
+
+module _ (laws : Laws) where
+  command_read : (names after : Names) (c : Command) → CommandFrom names after c → IsCommand after c
+  command_read names after (command.Send name atoms) h = let s : IsSent names after name atoms = laws.sends names after h.0 name atoms h.1 in (s.known, s.atoms_known)
+  command_read names after (command.Edit place edit) h = tt
+  command_read names after (command.Save document) h = tt
+  command_read names after (command.Show path) h = tt
+  command_read names after command.Undo h = tt
+  command_read names after command.Redo h = tt
+
+  said_read : (names after : Names) (s : Script) → ScriptFrom names after s → IsSaid after s
+  said_read names after (script.Run c) h = command_read names after c h
+  said_read names after script.End h = tt
+
+  -- the point after a record was read, and what it says there
+  pub record IsRead (p : Point) (s : Script) : Type 0 where
+    pub steady : IsSteadyAt p
+    pub said : IsSaid p.stage.names s
+
+  pub read_at : (p : Point) (tokens : List (List ℕ)) (z : ℤ) (s : Script) (names : Names) (time : ℕ) → IsSteadyAt p → command_of p.stage.names tokens ≡ Some (z, s, names) → time ≤ most_time
+      → IsRead (at_time (at_stage p (with_names p.stage names)) time) s
+  read_at p tokens z s names time h is l =
+      let r : Extends p.stage.names names × ScriptFrom p.stage.names names s = laws.reads p.stage.names names tokens z s is in
+      record {
+        steady = record { stage = named_steady most_units p.stage names h.stage r.0; rate = h.rate; time = l };
+        said = said_read p.stage.names names s r.1;
+      }
+
+  -- the script's time is reached
+  pub reached_free : (p : Point) → IsSteadyAt p → IsFree most_units (reached p) (reached_by event_freely p)
+  unfolding reached
+  reached_free p h = advanced_free laws.guards most_units in_range (p.time * p.rate) p.stage (in_time p h) h.stage
+
+  pub reached_command : (p : Point) (c : Command) → IsSteadyAt p → IsCommand p.stage.names c → IsCommand (reached p).stage.names c
+  unfolding reached
+  reached_command p c h k =
+      command_more p.stage.names (reached p).stage.names (advanced_names laws.guards most_units in_range (p.time * p.rate) p.stage (in_time p h) h.stage) c k
+
+  -- a command is carried out
+  pub carried_free : (p : Point) (c : Command) → IsSteadyAt p → IsCommand p.stage.names c → IsFree most_units (commanded c (reached p).stage) (commanded_by event_freely c (reached p).stage)
+  carried_free p c h k = commanded_free laws.guards most_units c (reached p).stage (reached_free p h).steady (reached_command p c h k)
+
+  -- the run comes to its end
+  done_free : (s : Stage) → IsSteady most_units s → done_by event_freely s ≡ done s
+  unfolding done
+  done_free s h = ap (λ (x : Passage). record { status = Done; passage = x }) (finished_free laws.guards most_units s block_more h).same
+
+  said_free : (s : Script) (p : Point) → IsSteadyAt p → IsSaid p.stage.names s → SaidSame event_freely IsSteadyAt s p
+  said_free (script.Run c) p h k =
+      let a : IsFree most_units (commanded c (reached p).stage) (commanded_by event_freely c (reached p).stage) = carried_free p c h k in
+      (carried_same event_freely c p (reached_free p h).same a.same, record { stage = a.steady; rate = h.rate; time = h.time })
+  said_free script.End p h k = let a : IsFree most_units (reached p) (reached_by event_freely p) = reached_free p h in end_same event_freely p a.same (done_free (reached p).stage a.steady)
+
+  free_says : (s : Script) (p : Point) → IsRead p s → SaidSame event_freely IsSteadyAt s p
+  free_says s p r = said_free s p r.steady r.said
+
+  free_agrees : Agrees event_freely IsSteadyAt
+  free_agrees = record {
+    counts = λ p h. record { stage = h.stage; rate = h.rate; time = h.time };
+    ends = λ p h. done_free p.stage h.stage;
+    says = λ p tokens z s names time h is l. free_says s (at_time (at_stage p (with_names p.stage names)) time) (read_at p tokens z s names time h is l);
+  }
+
+  pub run_free : (ending : Ending) (text : Text) (p : Point) → IsSteadyAt p → run_of_by event_freely ending text p ≡ run_of ending text p
+  run_free ending text p h = run_same event_freely IsSteadyAt free_agrees ending text p h

@@ -1,0 +1,5 @@
+pub mod NameLemmas
+pub mod RecordLemmas
+pub mod FreeLemmas
+pub mod StepLemmas
+pub mod WholeLemmas

@@ -1,0 +1,183 @@
+-- No name of the table is lost as time goes on.
+use Rattle.std.proofs.Common.{◌≡◌, ◌<◌, ◌≤◌, ◌+◌, ◌-◌, ◌^◌, ℕ, zero, suc, max, Bool, true, false, nat_lt, nat_le, if◌then◌else◌, length, Option, Some, None, IfSome, refl, sym, subst, arith}
+use Rattle.std.proofs.lemmas.Bool.{leb-true, ltb-true}
+use Rattle.pd_atom.specs.Names.{Names}
+use Rattle.pd_clock.specs.Queue.{Clock}
+use Rattle.pd_turns.specs.Turns.{World}
+use Rattle.pd_hearing.specs.Worlds.{Net, Kept}
+use Rattle.pd_hearing.specs.Deeds.{done}
+use Rattle.pd_walk.specs.declared.walker.Start.{Start}
+use Rattle.pd_walk.specs.declared.walker.Start.TheVariants as start
+use Rattle.pd_walk.specs.Tasks.{Task, Nobody, kept_after, rules}
+use Rattle.pd_walk.specs.Outcome.{outcome}
+use Rattle.pd_guards.specs.Order.{IsName}
+use Rattle.pd_guards.specs.Worlds.{IsInOrder, IsTask, IsStart}
+use Rattle.pd_guards.proofs.FactLemmas.{either_by}
+use Rattle.pd_guards.proofs.SameTurns.{Agree}
+use Rattle.pd_guards.proofs.WalkLemmas.{name_in, asked_in, done_in, done_names, IsTaskAt, stays_in, others_in, follow_in, Delivers, outcome_ends}
+use Rattle.pd_engine.specs.Stages.{Stage, Passage, kept_at, still, followed_by}
+use Rattle.pd_engine.specs.Events.{Firing, begun, event}
+use Rattle.pd_engine.specs.Times.{most_fired, first_clock, if_below, next_clock, taken_off, with_taken, with_fired, fires, fires_or_not, fires_below, clocks_fire, block_sounds, block_runs, blocks_run, advanced}
+use Rattle.pd_steady.specs.Steady.{IsSteady}
+use Rattle.pd_steady.proofs.EventLemmas.{Guards, event_free}
+use Rattle.pd_steady.proofs.TimeLemmas.{block_free}
+
+-- numbers apart, since tactics read all that is in scope
+within : (a b c : ℕ) → a ≤ b → b ≤ c → a ≤ c
+within a b c h k = omega arith
+
+below : (a b c : ℕ) → a < b → b ≤ c → a ≤ c
+below a b c h k = omega arith
+
+greatest : (a b most : ℕ) → a ≤ most → b ≤ most → max a b ≤ most
+greatest a b most h k = omega arith
+
+no_less : (a b : ℕ) → a ≤ max a b
+no_less a b = omega arith
+
+same : (n : ℕ) → n ≤ n
+same n = omega arith
+
+last_below : (n : ℕ) → n < suc n
+last_below n = omega arith
+
+next_to : (n m : ℕ) → n < m → suc n ≤ m
+next_to n m l = omega arith
+
+least : (m : ℕ) → zero ≤ m
+least m = omega arith
+
+covers : (n m : ℕ) → ((k : ℕ) → k < n → k < m) → n ≤ m
+covers zero m h = least m
+covers (suc n) m h = next_to n m (h n (last_below n))
+
+-- deliveries
+module _ (net : Net) (now : ℕ) (names : Names) where
+  -- all is in order, and each name of a table is there
+  record Holds (kept : Kept) : Type 0 where
+    order : IsInOrder net now kept
+    known : (name : ℕ) → IsName names name → IsName kept.names name
+
+  task_holds : (kept : Kept) (t : Task) → Holds kept → IsTask kept.names t → Holds (kept_after net now kept t)
+  task_holds kept t h m = record {
+    order = stays_in net now kept t h.order m;
+    known = λ name k. others_in net now kept t h.order m (Nobody name) (h.known name k);
+  }
+
+  deed_holds : (kept : Kept) (after : Kept) → IsInOrder net now after → after.names ≡ kept.names → Holds kept → Holds after
+  deed_holds kept after o e h = record { order = o; known = λ name k. subst (λ (n : Names). IsName n name) (sym e) (h.known name k) }
+
+  agree : Agree (rules net now) (rules net now) Holds (IsTaskAt net now)
+  agree = record {
+    kept = λ kept t h m. refl;
+    said = λ kept t h m. refl;
+    caused = λ kept t h m. refl;
+    costs = λ t. refl;
+    cut = refl;
+    stays = task_holds;
+    others = λ kept t h m. others_in net now kept t h.order m;
+    follow = λ kept t h m. follow_in net now kept t h.order m;
+  }
+
+  delivers : Delivers net now (rules net now) Holds (IsTaskAt net now)
+  delivers = record {
+    agree = agree;
+    order = λ kept h. h.order;
+    deeds = λ kept node d h k. deed_holds kept (done net now node d kept) (done_in net now node d kept h.order k) (done_names net now node d kept) h;
+    asks = λ kept node said k. asked_in kept.names net 0 node said k;
+    names = λ kept selector atoms name m k. name_in kept.names net 1 0 selector atoms name true m k;
+  }
+
+outcome_names : (net : Net) (now : ℕ) (w : World Kept) (s : Start) → IsInOrder net now w.kept → IsStart w.kept.names s → length w.kept.names ≤ length (outcome net now w s).kept.names
+outcome_names net now w s h k =
+    let e : Holds net now w.kept.names (outcome net now w s).kept =
+    (outcome_ends net now (rules net now) (Holds net now w.kept.names) (IsTaskAt net now) (delivers net now w.kept.names) w s (record { order = h; known = λ name j. j }) k).1 in
+    covers (length w.kept.names) (length (outcome net now w s).kept.names) e.known
+
+fired_names : (s : Stage) (owner : ℕ) → IsInOrder s.net s.time (kept_at s) → length s.names ≤ length (event s (Firing owner)).stage.names
+unfolding event outcome
+fired_names s owner h = outcome_names s.net s.time (begun s) (start.Clock owner) h tt
+
+-- a clock that is next is below the limit
+below_limit : (limit : ℕ) (o : Option Clock) → IfSome (if_below limit o) (λ (c : Clock). c.time < limit)
+below_limit limit None = tt
+below_limit limit (Some c) =
+    either_by (λ (o : Option Clock). IfSome o (λ (d : Clock). d.time < limit)) (nat_lt c.time limit) (Some c) None (λ e. ltb-true c.time limit e) (λ e. tt)
+
+-- a stage to which a part of a run leads is steady, and no name is lost on the way
+record Keeps (most : ℕ) (s r : Stage) : Type 0 where
+  steady : IsSteady most r
+  names : length s.names ≤ length r.names
+
+module _ (g : Guards) (most : ℕ) (top : most ≤ 2 ^ 101) where
+  here : (s : Stage) → IsSteady most s → Keeps most s s
+  here s h = record { steady = h; names = same (length s.names) }
+
+  onward : (s r t : Stage) → Keeps most s r → Keeps most r t → Keeps most s t
+  onward s r t a b = record { steady = b.steady; names = within (length s.names) (length r.names) (length t.names) a.names b.names }
+
+  -- clocks
+  fired_steady : (s : Stage) (c : Clock) → c.time ≤ most → IsSteady most s → IsSteady most (with_fired (with_taken s (taken_off s.clocks)) c.time)
+  fired_steady s c l h =
+      let time : max s.time c.time ≤ most = greatest s.time c.time most h.time l in
+      let o : IsInOrder s.net (max s.time c.time) (kept_at s) =
+      g.lasts s.net s.time (max s.time c.time) (kept_at s) h.order (no_less s.time c.time) (within (max s.time c.time) most (2 ^ 101) time top) in
+      record {
+        time = time;
+        near = h.near;
+        order = record { time = o.time; first = o.first; kinds = o.kinds; states = o.states };
+        values = h.values;
+        whole = h.whole;
+        block = h.block;
+      }
+
+  fires_keep : (s : Stage) (c : Clock) → c.time ≤ most → IsSteady most s → Keeps most s (fires s c).stage
+  fires_keep s c l h =
+      let r : Stage = with_fired (with_taken s (taken_off s.clocks)) c.time in
+      let k : IsSteady most r = fired_steady s c l h in
+      record { steady = (event_free g most r (Firing c.owner) k tt).steady; names = fired_names r c.owner k.order }
+
+  clock_keeps : (s : Stage) (rest : Stage → Passage) (limit : ℕ) (o : Option Clock) → limit ≤ most → IfSome o (λ (c : Clock). c.time < limit)
+      → ((r : Stage) → IsSteady most r → Keeps most r (rest r).stage) → IsSteady most s → Keeps most s (fires_or_not s rest o).stage
+  clock_keeps s rest limit None l low f h = here s h
+  clock_keeps s rest limit (Some c) l low f h =
+      let a : Keeps most s (fires s c).stage = fires_keep s c (below c.time limit most low l) h in
+      onward s (fires s c).stage (rest (fires s c).stage).stage a (f (fires s c).stage a.steady)
+
+  clocks_keep : (n limit : ℕ) (s : Stage) → limit ≤ most → IsSteady most s → Keeps most s (fires_below n limit s).stage
+  unfolding fires_below
+  clocks_keep zero limit s l h = here s h
+  clocks_keep (suc n) limit s l h =
+      clock_keeps s (fires_below n limit) limit (next_clock limit s.clocks) l (below_limit limit (first_clock s.clocks)) (λ r k. clocks_keep n limit r l k) h
+
+  -- blocks
+  sounds_names : (s r : Stage) → length s.names ≤ length r.names → length s.names ≤ length (block_sounds r).stage.names
+  unfolding block_sounds
+  sounds_names s r l = l
+
+  block_keeps : (s : Stage) → s.block_end ≤ most → IsSteady most s → Keeps most s (block_runs s).stage
+  block_keeps s l h = record {
+    steady = (block_free g most top s l h).steady;
+    names = sounds_names s (clocks_fire s.block_end s).stage (clocks_keep (most_fired - s.fired) s.block_end s l h).names;
+  }
+
+  if_keeps : (b : Bool) (s : Stage) (p q : Passage) → (b ≡ true → Keeps most s p.stage) → Keeps most s q.stage → Keeps most s (if b then p else q).stage
+  if_keeps true s p q f k = f refl
+  if_keeps false s p q f k = k
+
+  blocks_keep : (n to : ℕ) (s : Stage) → to ≤ most → IsSteady most s → Keeps most s (blocks_run n to s).stage
+  unfolding blocks_run
+  blocks_keep zero to s l h = here s h
+  blocks_keep (suc n) to s l h =
+      if_keeps (nat_le s.block_end to) s (followed_by (block_runs s) (blocks_run n to)) (still s)
+      (λ e. let a : Keeps most s (block_runs s).stage = block_keeps s (within s.block_end to most (leb-true s.block_end to e) l) h in
+      onward s (block_runs s).stage (blocks_run n to (block_runs s).stage).stage a (blocks_keep n to (block_runs s).stage l a.steady))
+      (here s h)
+
+  -- to a time
+  pub advanced_names : (to : ℕ) (s : Stage) → to ≤ most → IsSteady most s → length s.names ≤ length (advanced to s).stage.names
+  advanced_names to s l h =
+      let r : Stage = (blocks_run (to + 1) to s).stage in
+      let a : Keeps most s r = blocks_keep (to + 1) to s l h in
+      let b : Keeps most r (clocks_fire to r).stage = clocks_keep (most_fired - r.fired) to r l a.steady in
+      within (length s.names) (length r.names) (length (clocks_fire to r).stage.names) a.names b.names

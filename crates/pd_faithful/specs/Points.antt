@@ -1,0 +1,31 @@
+-- From which points a script passes nothing over, and the steps of its run.
+use Rattle.std.specs.Prelude.{◌≡◌, ℕ, ◌≤◌, ◌*◌, List}
+use Rattle.pd_engine.specs.Stages.{Stage, Passage, still, followed_by}
+use Rattle.pd_engine.specs.Events as engine
+use Rattle.pd_steady.specs.Runs.{Events, finished_by}
+use Rattle.pd_steady.specs.Steady.{IsSteady}
+use Rattle.pd_steady.specs.Steps.{Step, AreSteps, steps_by}
+use Rattle.pd_play.specs.Runs.{Point, Run, most_time}
+use Rattle.pd_play.specs.declared.status.Status.{Status}
+use Rattle.pd_play.specs.declared.status.Status.TheVariants.{Done}
+
+-- the longest time of a script in units, where a second has 96,000 samples
+abbrev pub most_units : ℕ
+most_units = most_time * 96000
+
+-- The stage is steady; a second has at most 96,000 samples; and the script's time is at most the longest one.
+pub record IsSteadyAt (p : Point) : Type 0 where
+  pub stage : IsSteady most_units p.stage
+  pub rate : p.rate ≤ 96000
+  pub time : p.time ≤ most_time
+
+-- a run that has come to its end runs the block that began; another one does nothing more
+abbrev pub ended_by : Events → Status → Stage → Passage
+ended_by event Done s = finished_by event s
+ended_by event status s = still s
+
+-- a run from a stage is so many steps, one after another and each in order where the run has come to, and then its end
+pub record IsStepped (most : ℕ) (s : Stage) (run : Run) : Type 0 where
+  pub steps : List Step
+  pub are : AreSteps most steps s
+  pub same : run.passage ≡ followed_by (steps_by engine.event steps s) (ended_by engine.event run.status)

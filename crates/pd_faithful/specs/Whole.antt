@@ -1,0 +1,30 @@
+-- A patch that was played with nothing passed over.
+use Rattle.std.specs.Prelude.{ℕ, List, Option, Ok}
+use Rattle.pd_io.specs.declared.files.FileRow.{FileRow}
+use Rattle.pd_atom.specs.Names.{Names, first_names}
+use Rattle.pd_canvas.specs.Pages.{Page}
+use Rattle.pd_clock.specs.declared.times.Rate.{Rate}
+use Rattle.pd_clock.specs.Rates.{samples}
+use Rattle.pd_feed.specs.Script.{script_of}
+use Rattle.pd_patch.specs.declared.patch.Patch.{Patch}
+use Rattle.pd_engine.specs.Opening.{Reads, Grows}
+use Rattle.pd_steady.specs.Freely.{event_freely}
+use Rattle.pd_play.specs.Runs.{Ending}
+use Rattle.pd_play.specs.Patches.{Tells, IsScript}
+use Rattle.pd_play.specs.declared.status.Status.{Status}
+use Rattle.pd_faithful.specs.Scripts.{played_by}
+
+-- The file of the name reads as a document, and this grows into a patch. All lines and samples, from where the patch opens through the line
+-- that tells of the status, are those of the run of the script in which each box does with each message what its object's definition says.
+pub record PlaysFreely (holds : Option (List FileRow)) (name : List ℕ) (rate : Rate) (status : Status) (left left' : Option (List ℕ)) (read read' : ℕ)
+    (lines lines' pcm pcm' : Option (List ℕ)) : Type 0 where
+  pub document : Page
+  pub names : Names
+  pub reads : Reads holds name first_names (Ok (document, names))
+  pub patch : Patch
+  pub table : Names
+  pub grows : Grows holds name rate document names patch table
+  pub ending : Ending
+  pub bytes : List ℕ
+  pub is_script : IsScript ending bytes left left' read read'
+  pub tells : Tells name (played_by event_freely patch table (samples rate) ending (script_of 0 0 bytes)) status lines lines' pcm pcm'
