@@ -47,7 +47,7 @@ other=none
 command -v pd >/dev/null && other=theirs
 printf '%-8s %14s %14s %8s\n' voices pdplay pd times
 for count in 10 100 1000; do
-  length=$((200000 / count))
+  length=$((2000000 / count))
   prepare "$count" 1
   read -r idle other_idle < <(in_turn ours "$other")
   prepare "$count" "$length"
