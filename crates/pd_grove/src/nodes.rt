@@ -14,13 +14,13 @@ use slab::Slab;
 /// The state is away while a box hears or runs.
 #[derive(Debug, Drop)]
 pub struct Node {
+    pub inner: Option<u32>,
+    pub state: Option<State>,
+    pub kind: Kind,
     pub board: u32,
+    pub fault: Option<Fault>,
     pub element: Element,
     pub text: Atoms,
-    pub kind: Kind,
-    pub fault: Option<Fault>,
-    pub state: Option<State>,
-    pub inner: Option<u32>,
 }
 
 /// Puts a box under a new key.
