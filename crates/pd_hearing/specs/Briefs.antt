@@ -15,6 +15,8 @@ use Rattle.pd_kind.specs.Said.{Said, silent, sends_only, send_to, bang_to}
 use Rattle.pd_kind.specs.declared.messages.Deed.TheVariants.{Again}
 use Rattle.pd_grove.specs.Telling.{kind_in}
 use Rattle.pd_hearing.specs.Worlds.{Net}
+use Rattle.pd_hearing.specs.declared.briefs.Asked.{Asked}
+use Rattle.pd_hearing.specs.declared.briefs.Asked.TheVariants as asked
 use Rattle.pd_hearing.specs.declared.briefs.Brief.{Brief}
 use Rattle.pd_hearing.specs.declared.briefs.Brief.TheVariants as brief
 use Rattle.pd_hearing.specs.declared.briefs.Reaction.{Reaction}
@@ -92,6 +94,21 @@ is_answered_in k s inlet m = false
 -- the same of the box of a key
 abbrev pub is_answered_at : Net → (ℕ → Option State) → ℕ → ℕ → Brief → Bool
 is_answered_at net states node inlet m = is_answered_in (kind_in (net.nodes node)) (states node) inlet m
+
+-- the kinds to which most brief messages go: `float`, and the operations, as `+`
+abbrev pub is_common : Kind → Bool
+is_common (kind.Glue (glue.Float w z)) = true
+is_common (kind.Arith (arith.Operation o z)) = true
+is_common k = false
+
+-- the boxes of a kind are asked
+abbrev pub is_asked : Asked → Kind → Bool
+is_asked asked.All k = true
+is_asked asked.Common k = is_common k
+
+abbrev pub is_asked_in : Asked → Option Kind → Bool
+is_asked_in a (Some k) = is_asked a k
+is_asked_in a None = false
 
 -- an `until` has a turn left: it runs, and its count isn't 0
 abbrev pub has_turn_left : Bool → Option ℕ → Bool

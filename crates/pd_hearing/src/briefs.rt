@@ -2,7 +2,7 @@
 
 ghost use Rattle.std.specs.Prelude.{◌≡◌, ◌≤◌, ◌&&◌, ℕ, true, false, length, None, IfSome, IfNone};
 ghost use Rattle.pd_atom.specs.Names.{Names};
-ghost use Rattle.pd_arith.specs.Rows.{pair_row, arith_row};
+ghost use Rattle.pd_arith.specs.Rows.{binary_of, pair_row, arith_row};
 ghost use Rattle.pd_plain.specs.Values.{leaves, float_row, int_row};
 ghost use Rattle.pd_kind.specs.declared.kinds.Kind.TheVariants.{Arith as ArithKind, Glue as GlueKind};
 ghost use Rattle.pd_kind.specs.declared.states.State.TheVariants.{Float as FloatState, Int as IntState, Until as UntilState};
@@ -15,11 +15,11 @@ ghost use Rattle.pd_hearing.specs.declared.briefs.Brief.TheVariants.{Bang as Ban
 ghost use Rattle.pd_hearing.specs.Worlds.{net_of, states_of};
 ghost use Rattle.pd_hearing.specs.Guards as guard;
 ghost use Rattle.pd_hearing.specs.Hearing.{heard_at as reply_at, heard_kind, box_heard, box_resumed, resumed_at, glue_table, table_name};
-ghost use Rattle.pd_hearing.specs.Briefs.{selector_of, atoms_of, said_of, again, IfHeard, IfUnheard, is_heard, is_taken, is_value, is_answered, is_answered_in, is_answered_at, has_turn_left, has_turn, has_turn_in, has_turn_at};
+ghost use Rattle.pd_hearing.specs.Briefs.{selector_of, atoms_of, said_of, again, IfHeard, IfUnheard, is_heard, is_taken, is_value, is_answered, is_answered_in, is_answered_at, is_asked, is_asked_in, has_turn_left, has_turn, has_turn_in, has_turn_at};
 
 use pd_arith::{Binary, compute};
 use pd_grove::Node;
-use pd_kind::{Arith, Glue, Kind, Side, State};
+use pd_kind::{Arith, Glue, Kind, Operation, Side, State};
 use pd_num::Num;
 use pd_patch::Patch;
 
@@ -39,6 +39,13 @@ pub enum Reaction {
     Silent,
     /// It says a brief message to its first outlet.
     Says,
+}
+
+/// Which boxes are asked: those to which most brief messages go, a `float` or an operation as `+`, or all.
+#[derive(Clone, Copy, Debug, PartialEq, Eq, Drop)]
+pub enum Asked {
+    Common,
+    All,
 }
 
 /// The number of a brief message; `None` for a bang.
@@ -61,6 +68,25 @@ fn float_of(number: Num) -> Brief
     Brief::Float(number)
 }
 
+/// What an object computes of its two numbers, out of the way of the sum.
+#[inline(never)]
+fn computed(binary: Binary, left: Num, right: Num) -> Num
+    ensures { result ≡ binary_of binary left right }
+{
+    compute(binary, left, right)
+}
+
+/// What an object computes of its two numbers. A sum needs no call.
+#[inline(always)]
+fn value_of(binary: Binary, left: Num, right: Num) -> Num
+    ensures { result ≡ binary_of binary left right }
+{
+    match binary {
+        Binary::Operation(Operation::Add) => left.add(right),
+        _ => computed(binary, left, right),
+    }
+}
+
 /// An object with two inlets hears a brief message, in whose place comes what it says.
 #[inline(always)]
 fn pair_hears(
@@ -80,7 +106,7 @@ fn pair_hears(
         Some(number) => {
             if inlet == 0 {
                 *left = number;
-                *message = float_of(compute(binary, number, *right));
+                *message = float_of(value_of(binary, number, *right));
                 Reaction::Says
             } else {
                 *right = number;
@@ -89,7 +115,7 @@ fn pair_hears(
         }
         None => {
             if inlet == 0 {
-                *message = float_of(compute(binary, *left, *right));
+                *message = float_of(value_of(binary, *left, *right));
                 Reaction::Says
             } else {
                 Reaction::Unheard
@@ -220,10 +246,61 @@ fn glue_hears(glue: &Glue, state: &mut State, inlet: u32, message: &mut Brief) -
     }
 }
 
-/// A box of a kind hears a brief message.
+/// An arithmetic object hears a brief message, where it is asked.
 #[inline(always)]
-fn kind_hears(kind: &Kind, state: &mut State, inlet: u32, message: &mut Brief) -> Reaction
-    ensures answered { is_heard result ≡ is_answered kind.now state.old inlet message.old }
+fn asked_arith_hears(
+    asked: Asked,
+    arith: &Arith,
+    state: &mut State,
+    inlet: u32,
+    message: &mut Brief,
+) -> Reaction
+    ensures answered { is_heard result ≡ (is_asked asked (ArithKind arith.now) && is_answered (ArithKind arith.now) state.old inlet message.old) }
+    ensures heard { IfHeard result (leaves state.new (said_of result message.new) ≡ arith_row arith.now state.old inlet (selector_of message.old) (atoms_of message.old)) }
+    ensures stays { IfUnheard result (state.new ≡ state.old) }
+    ensures same { IfUnheard result (message.new ≡ message.old) }
+{
+    match (asked, arith) {
+        (Asked::All, _) => arith_hears(arith, state, inlet, message),
+        (Asked::Common, Arith::Operation { .. }) => arith_hears(arith, state, inlet, message),
+        (Asked::Common, _) => Reaction::Unheard,
+    }
+}
+
+/// One of the other control objects hears a brief message, where it is asked.
+#[inline(always)]
+fn asked_glue_hears(
+    asked: Asked,
+    glue: &Glue,
+    state: &mut State,
+    inlet: u32,
+    message: &mut Brief,
+) -> Reaction
+    ensures answered { is_heard result ≡ (is_asked asked (GlueKind glue.now) && is_answered (GlueKind glue.now) state.old inlet message.old) }
+    ensures heard { (names : Names) (now : ℕ) → IfHeard result (record { state = state.new; names = names; said = said_of result message.new } ≡ glue_heard names glue.now state.old inlet (selector_of message.old) (atoms_of message.old) now None) }
+    ensures small { (names : Names) → IfHeard result (guard.is_small_box names glue.now state.old ≡ true) }
+    ensures bare { IfHeard result (glue_table glue.now ≡ None) }
+    ensures inner { IfHeard result (is_outlet_glue glue.now ≡ false) }
+    ensures stays { IfUnheard result (state.new ≡ state.old) }
+    ensures same { IfUnheard result (message.new ≡ message.old) }
+{
+    match (asked, glue) {
+        (Asked::All, _) => glue_hears(glue, state, inlet, message),
+        (Asked::Common, Glue::Float { .. }) => glue_hears(glue, state, inlet, message),
+        (Asked::Common, _) => Reaction::Unheard,
+    }
+}
+
+/// A box of a kind hears a brief message, where it is asked.
+#[inline(always)]
+fn kind_hears(
+    asked: Asked,
+    kind: &Kind,
+    state: &mut State,
+    inlet: u32,
+    message: &mut Brief,
+) -> Reaction
+    ensures answered { is_heard result ≡ (is_asked asked kind.now && is_answered kind.now state.old inlet message.old) }
     ensures heard { (names : Names) (now : ℕ) → 2 ≤ length names → IfHeard result (record { state = state.new; names = names; said = said_of result message.new } ≡ heard_kind names kind.now state.old inlet (selector_of message.old) (atoms_of message.old) now None) }
     ensures bare { IfHeard result (table_name kind.now ≡ None) }
     ensures inner { IfHeard result (is_outlet_kind kind.now ≡ false) }
@@ -231,16 +308,16 @@ fn kind_hears(kind: &Kind, state: &mut State, inlet: u32, message: &mut Brief) -
     ensures same { IfUnheard result (message.new ≡ message.old) }
 {
     match kind {
-        Kind::Arith(arith) => arith_hears(arith, state, inlet, message),
-        Kind::Glue(glue) => glue_hears(glue, state, inlet, message),
+        Kind::Arith(arith) => asked_arith_hears(asked, arith, state, inlet, message),
+        Kind::Glue(glue) => asked_glue_hears(asked, glue, state, inlet, message),
         _ => Reaction::Unheard,
     }
 }
 
-/// A box hears a brief message.
+/// A box hears a brief message, where it is asked.
 #[inline(always)]
-fn box_hears(found: &mut Node, inlet: u32, message: &mut Brief) -> Reaction
-    ensures answered { is_heard result ≡ is_answered_in (Some found.old.kind) found.old.state inlet message.old }
+fn box_hears(asked: Asked, found: &mut Node, inlet: u32, message: &mut Brief) -> Reaction
+    ensures answered { is_heard result ≡ (is_asked_in asked (Some found.old.kind) && is_answered_in (Some found.old.kind) found.old.state inlet message.old) }
     ensures heard { (names : Names) (now : ℕ) → 2 ≤ length names → IfHeard result (record { node = found.new; names = names; said = said_of result message.new } ≡ box_heard names found.old inlet (selector_of message.old) (atoms_of message.old) now) }
     ensures bare { IfHeard result (table_name found.old.kind ≡ None) }
     ensures inner { IfHeard result (is_outlet_kind found.old.kind ≡ false) }
@@ -249,16 +326,22 @@ fn box_hears(found: &mut Node, inlet: u32, message: &mut Brief) -> Reaction
     ensures same { IfUnheard result (message.new ≡ message.old) }
 {
     match &mut found.state {
-        Some(state) => kind_hears(&found.kind, state, inlet, message),
+        Some(state) => kind_hears(asked, &found.kind, state, inlet, message),
         None => Reaction::Unheard,
     }
 }
 
-/// A box hears a brief message, where it is known to say nothing more than one to its first outlet; in the message's place comes what it
-/// says. Other boxes, outlets of canvases among them, have heard nothing then.
+/// A box that is asked hears a brief message, where it is known to say nothing more than one to its first outlet; in the message's place
+/// comes what it says. Other boxes, outlets of canvases among them, have heard nothing then.
 #[inline(always)]
-pub fn hear_brief(patch: &mut Patch, node: u32, inlet: u32, message: &mut Brief) -> Reaction
-    ensures answered { is_heard result ≡ is_answered_at (net_of patch.old) (states_of patch.old) node inlet message.old }
+pub fn hear_brief(
+    patch: &mut Patch,
+    asked: Asked,
+    node: u32,
+    inlet: u32,
+    message: &mut Brief,
+) -> Reaction
+    ensures answered { is_heard result ≡ (is_asked_in asked (kind_in ((net_of patch.old).nodes node)) && is_answered_at (net_of patch.old) (states_of patch.old) node inlet message.old) }
     ensures heard { (names : Names) (now : ℕ) → 2 ≤ length names → IfHeard result (record { states = states_of patch.new; names = names; said = said_of result message.new } ≡ reply_at (net_of patch.old) now (states_of patch.old) names node inlet (selector_of message.old) (atoms_of message.old)) }
     ensures inner { IfHeard result (is_outlet (kind_in ((net_of patch.old).nodes node)) ≡ false) }
     ensures stays { IfUnheard result (states_of patch.new ≡ states_of patch.old) }
@@ -267,7 +350,7 @@ pub fn hear_brief(patch: &mut Patch, node: u32, inlet: u32, message: &mut Brief)
     ensures clocks { patch.new.timers ≡ patch.old.timers }
 {
     match patch.node_mut(node) {
-        Some(found) => box_hears(found, inlet, message),
+        Some(found) => box_hears(asked, found, inlet, message),
         None => Reaction::Unheard,
     }
 }

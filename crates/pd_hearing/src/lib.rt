@@ -8,7 +8,7 @@ mod hearing;
 mod known;
 mod small;
 
-pub use briefs::{Brief, Reaction, goes_on_at, hear_brief};
+pub use briefs::{Asked, Brief, Reaction, goes_on_at, hear_brief};
 pub use deeds::do_deed;
 pub use hearing::{fire_at, hear_at, load_at, resume_at};
 pub use known::{are_known, is_known, is_name};

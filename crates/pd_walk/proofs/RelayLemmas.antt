@@ -38,7 +38,8 @@ use Rattle.pd_walk.specs.Tasks.{Task, Deliver, Resume, along, end_of, kept_after
 use Rattle.pd_walk.specs.Turns.{doing}
 use Rattle.pd_walk.specs.Outcome.{world, ran, StatesStay}
 use Rattle.pd_walk.specs.Ways.{IsUnderWay}
-use Rattle.pd_walk.specs.Relays.{saying_at, deeper, spent, brief_tasks, saying_tasks, one_less, Leads, IsHeard, RestTasks, Relayed, GoesFrom, resumption}
+use Rattle.pd_walk.specs.declared.routes.Route.{Route}
+use Rattle.pd_walk.specs.Relays.{saying_at, deeper, spent, brief_tasks, saying_tasks, one_less, Leads, IsRoute, IsHeard, Stepped, RestTasks, Relayed, GoesFrom, resumption}
 use Rattle.pd_walk.proofs.WayLemmas.{world_of, step}
 use Rattle.pd_walk.proofs.SendLemmas.{along_fan}
 use Rattle.pd_walk.proofs.PileLemmas.{left-agree, more-agree}
@@ -56,6 +57,31 @@ only-first (y ∷ []) x e f = let g : x ≡ y = some-inj e in rw g refl
     some-inj : {A : Type 0} {a b : A} → Some a ≡ Some b → a ≡ b
     some-inj e = cc
 only-first (y ∷ (z ∷ xs)) x e f = cc
+
+-- a box has heard what came along a route
+pub heard-along : (net : Net) (old new : ℕ → Option State) (here here2 : Saying) (r : Reaction) (route : Route) → IsRoute net.web here.node route
+    → is_outlet (kind_in (net.nodes route.to)) ≡ false
+    → ((names : Names) (now : ℕ) → 2 ≤ length names → record { states = new; names = names; said = said_of r here2.message }
+    ≡ heard_at net now old names route.to route.inlet (selector_of here.message) (atoms_of here.message))
+    → (r ≡ reaction.Says → here2 ≡ saying_at (here.depth + 1) route.to here2.message)
+    → IsHeard net old new here here2 r
+heard-along net old new here here2 r route is inner heard says = record {
+  hop = is.hop;
+  only = is.only;
+  inner = subst (λ (k : ℕ). is_outlet (kind_in (net.nodes k)) ≡ false) is.to inner;
+  heard = λ names now two. heard names now two
+      ∙ (ap (λ (k : ℕ). heard_at net now old names k route.inlet (selector_of here.message) (atoms_of here.message)) is.to
+      ∙ ap (λ (i : ℕ). heard_at net now old names (end_of net.web is.hop).0 i (selector_of here.message) (atoms_of here.message)) is.inlet);
+  says = λ e. says e ∙ ap (λ (k : ℕ). saying_at (here.depth + 1) k here2.message) is.to;
+}
+
+-- what goes on from where nothing has changed goes on from there
+pub stepped-on : (net net2 : Net) (old old2 new : ℕ → Option State) (here here2 there : Saying) (r : Reaction) → net2 ≡ net → old2 ≡ old → here2 ≡ here
+    → Stepped net2 old2 new here2 there r → Stepped net old new here there r
+stepped-on net net2 old old2 new here here2 there r same kept is stepped =
+    subst (λ (n : Net). Stepped n old new here there r) same
+    (subst (λ (o : ℕ → Option State). Stepped net2 o new here there r) kept
+    (subst (λ (h : Saying). Stepped net2 old2 new h there r) is stepped))
 
 -- a box that is no outlet sends along its own wires, and never leads out
 own-wires : (net : Net) (node outlet : ℕ) → is_outlet (kind_in (net.nodes node)) ≡ false → wires_from net node outlet ≡ fan_hops net.web node outlet

@@ -1,5 +1,5 @@
 -- Brief messages that go from box to box along single wires, past the stack.
-use Rattle.std.specs.Prelude.{◌≡◌, ℕ, ◌+◌, ◌-◌, ◌%◌, ◌≤◌, true, false, List, [], ◌∷◌, ◌++◌, length, slice_get, Option, Some, None}
+use Rattle.std.specs.Prelude.{◌≡◌, ℕ, ◌+◌, ◌-◌, ◌%◌, ◌<◌, ◌≤◌, ◌^◌, true, false, List, [], ◌∷◌, ◌++◌, length, slice_get, Option, Some, None}
 use Rattle.pd_atom.specs.Names.{Names}
 use Rattle.pd_kind.specs.declared.states.State.{State}
 use Rattle.pd_web.specs.declared.web.Hop.{Hop}
@@ -29,9 +29,9 @@ pub record IsRoute (web : Web) (node : ℕ) (r : Route) : Type 0 where
   pub to : r.to ≡ (end_of web hop).0
   pub inlet : r.inlet ≡ (end_of web hop).1
 
--- the routes that are known are true
+-- the routes that are known are true: those under the key of a box, which is below 2^32
 pub record AreRoutes (web : Web) (routes : List Route) : Type 0 where
-  pub each : (k : ℕ) (r : Route) → slice_get routes k ≡ Some r → r.is_known ≡ true → IsRoute web r.node r
+  pub each : (k : ℕ) (r : Route) → slice_get routes k ≡ Some r → r.node < 2 ^ 32 → IsRoute web r.node r
 
 -- a route of a box is at hand, and true
 pub record IsAtHand (web : Web) (routes : List Route) (node : ℕ) : Type 0 where

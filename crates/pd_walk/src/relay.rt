@@ -11,15 +11,15 @@ ghost use Rattle.pd_walk.specs.Tasks.{Task as Doing, Resume};
 ghost use Rattle.pd_walk.specs.Piles.{GoesAlong, IsPiled, LeftOn};
 ghost use Rattle.pd_walk.specs.Turns.{told, IsDue};
 ghost use Rattle.pd_walk.specs.Outcome.{StatesStay};
-ghost use Rattle.pd_walk.specs.Relays.{AreRoutes, saying_at, saying_tasks, resumption, Stepped, Relayed, GoesFrom};
+ghost use Rattle.pd_walk.specs.Relays.{AreRoutes, IsAtHand, saying_at, saying_tasks, resumption, Stepped, Relayed, GoesFrom};
 
 use crate::acting::DEEPEST;
-use crate::routes::{Routes, has_route, route_of};
+use crate::routes::{Routes, has_route, is_at_hand, route_of};
 use crate::stack::{Cursor, Frame, Stack};
 use crate::steps::{Place, Task};
 use crate::walker::Budget;
 use pd_atom::{Atom, Sym, Symbols};
-use pd_hearing::{Brief, Reaction, goes_on_at, hear_brief};
+use pd_hearing::{Asked, Brief, Reaction, goes_on_at, hear_brief};
 use pd_patch::Patch;
 use pd_web::Hop;
 
@@ -39,6 +39,90 @@ pub(crate) struct Rest {
     pub(crate) message: Brief,
 }
 
+/// The brief message that a box says goes to the one box to which it leads, by a route that is at hand, where that box is asked; in the
+/// place of both come that box and what it says.
+#[inline(always)]
+fn step_along(
+    patch: &mut Patch,
+    routes: &Routes,
+    asked: Asked,
+    node: &mut u32,
+    message: &mut Brief,
+) -> Reaction
+    requires route { IsAtHand patch.old.web routes.now node.old }
+    ensures stepped { (depth : ℕ) → Stepped (net_of patch.old) (states_of patch.old) (states_of patch.new) (saying_at depth node.old message.old) (saying_at (depth + 1) node.new message.new) result }
+    ensures net { net_of patch.new ≡ net_of patch.old }
+    ensures clocks { patch.new.timers ≡ patch.old.timers }
+{
+    let route = route_of(routes, *node);
+    match hear_brief(patch, asked, route.to, route.inlet, message) {
+        Reaction::Unheard => Reaction::Unheard,
+        Reaction::Silent => Reaction::Silent,
+        Reaction::Says => {
+            *node = route.to;
+            Reaction::Says
+        }
+    }
+}
+
+/// The same by any route to any box, out of the way of those to which most messages go.
+#[inline(never)]
+fn step_anew(
+    patch: &mut Patch,
+    routes: &mut Routes,
+    node: &mut u32,
+    message: &mut Brief,
+) -> Reaction
+    requires routes { AreRoutes patch.old.web routes.old }
+    ensures stepped { (depth : ℕ) → Stepped (net_of patch.old) (states_of patch.old) (states_of patch.new) (saying_at depth node.old message.old) (saying_at (depth + 1) node.new message.new) result }
+    ensures routes { AreRoutes patch.new.web routes.new }
+    ensures net { net_of patch.new ≡ net_of patch.old }
+    ensures clocks { patch.new.timers ≡ patch.old.timers }
+{
+    if has_route(patch, routes, *node) {
+        step_along(patch, routes, Asked::All, node, message)
+    } else {
+        Reaction::Unheard
+    }
+}
+
+/// The same on copies, so that the box and the message that a loop holds need no place in memory.
+#[inline(always)]
+fn step_apart(
+    patch: &mut Patch,
+    routes: &mut Routes,
+    node: &mut u32,
+    message: &mut Brief,
+) -> Reaction
+    requires routes { AreRoutes patch.old.web routes.old }
+    ensures stepped { (depth : ℕ) → Stepped (net_of patch.old) (states_of patch.old) (states_of patch.new) (saying_at depth node.old message.old) (saying_at (depth + 1) node.new message.new) result }
+    ensures routes { AreRoutes patch.new.web routes.new }
+    ensures net { net_of patch.new ≡ net_of patch.old }
+    ensures clocks { patch.new.timers ≡ patch.old.timers }
+{
+    let mut to = *node;
+    let mut said = *message;
+    let reaction = step_anew(patch, routes, &mut to, &mut said);
+    *node = to;
+    *message = said;
+    reaction
+}
+
+/// The brief message that a box says goes to a box to which most messages go, by a route that is at hand.
+#[inline(always)]
+fn step_at_hand(patch: &mut Patch, routes: &Routes, node: &mut u32, message: &mut Brief) -> Reaction
+    requires routes { AreRoutes patch.old.web routes.now }
+    ensures stepped { (depth : ℕ) → Stepped (net_of patch.old) (states_of patch.old) (states_of patch.new) (saying_at depth node.old message.old) (saying_at (depth + 1) node.new message.new) result }
+    ensures net { net_of patch.new ≡ net_of patch.old }
+    ensures clocks { patch.new.timers ≡ patch.old.timers }
+{
+    if is_at_hand(routes, *node) {
+        step_along(patch, routes, Asked::Common, node, message)
+    } else {
+        Reaction::Unheard
+    }
+}
+
 /// The brief message that a box says goes to the one box to which it leads, and in the place of both come that box and what it says.
 #[inline(always)]
 fn step(patch: &mut Patch, routes: &mut Routes, node: &mut u32, message: &mut Brief) -> Reaction
@@ -48,17 +132,10 @@ fn step(patch: &mut Patch, routes: &mut Routes, node: &mut u32, message: &mut Br
     ensures net { net_of patch.new ≡ net_of patch.old }
     ensures clocks { patch.new.timers ≡ patch.old.timers }
 {
-    if !has_route(patch, routes, *node) {
-        return Reaction::Unheard;
-    }
-    let route = route_of(routes, *node);
-    match hear_brief(patch, route.to, route.inlet, message) {
-        Reaction::Unheard => Reaction::Unheard,
+    match step_at_hand(patch, routes, node, message) {
+        Reaction::Unheard => step_apart(patch, routes, node, message),
         Reaction::Silent => Reaction::Silent,
-        Reaction::Says => {
-            *node = route.to;
-            Reaction::Says
-        }
+        Reaction::Says => Reaction::Says,
     }
 }
 
@@ -326,7 +403,7 @@ fn hear_task(
         return false;
     };
     let mut message = found;
-    match hear_brief(patch, node, inlet, &mut message) {
+    match hear_brief(patch, Asked::All, node, inlet, &mut message) {
         Reaction::Unheard => false,
         Reaction::Silent => {
             budget.left -= 1;

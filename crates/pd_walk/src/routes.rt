@@ -1,6 +1,6 @@
 //! Routes: where the only wire of a box's first outlet leads.
 
-ghost use Rattle.std.specs.Prelude.{◌≡◌, ◌∷◌, [], true, false, slice_get, Some};
+ghost use Rattle.std.specs.Prelude.{◌≡◌, ◌≤◌, ◌^◌, ◌∷◌, [], true, slice_get, Some};
 ghost use Rattle.pd_web.specs.declared.web.Web.{Web};
 ghost use Rattle.pd_web.specs.Hops.{fan_hops};
 ghost use Rattle.pd_walk.specs.Relays.{IsRoute, AreRoutes, IsAtHand};
@@ -12,11 +12,13 @@ use pd_web::Hop;
 /// How many routes are kept at hand.
 const MOST_ROUTES: usize = 256;
 
-/// Where the only wire of a box's first outlet leads, where that is known.
+/// Above the keys of all boxes.
+const NO_BOX: u64 = 1 << 32;
+
+/// Where the only wire of a box's first outlet leads, by the key of the box. With a key that no box has none is known.
 #[derive(Clone, Copy, Drop)]
 pub(crate) struct Route {
-    pub(crate) is_known: bool,
-    pub(crate) node: u32,
+    pub(crate) node: u64,
     pub(crate) to: u32,
     pub(crate) inlet: u32,
 }
@@ -34,14 +36,21 @@ pub(crate) fn no_routes() -> Routes
 /// No route is known.
 #[inline(always)]
 fn no_route() -> Route
-    ensures { result.is_known ≡ false }
+    ensures { 2 ^ 32 ≤ result.node }
 {
     Route {
-        is_known: false,
-        node: 0,
+        node: NO_BOX,
         to: 0,
         inlet: 0,
     }
+}
+
+/// Whether the route of a box's first outlet is at hand.
+#[inline(always)]
+pub(crate) fn is_at_hand(routes: &Routes, node: u32) -> bool
+    ensures { (web : Web) → AreRoutes web routes.now → result ≡ true → IsAtHand web routes.now node }
+{
+    routes[node as usize % MOST_ROUTES].node == u64::from(node)
 }
 
 /// Whether the route of a box's first outlet is at hand then: it is where the outlet has just one wire.
@@ -51,8 +60,7 @@ pub(crate) fn has_route(patch: &Patch, routes: &mut Routes, node: u32) -> bool
     ensures routes { AreRoutes patch.now.web routes.new }
     ensures route { result ≡ true → IsAtHand patch.now.web routes.new node }
 {
-    let route = &routes[node as usize % MOST_ROUTES];
-    if route.is_known && route.node == node {
+    if is_at_hand(routes, node) {
         return true;
     }
     find_route(patch, routes, node)
@@ -104,8 +112,7 @@ fn keep_route(patch: &Patch, routes: &mut Routes, node: u32, hop: Hop)
 {
     let (to, inlet) = end_at(patch, hop);
     routes[node as usize % MOST_ROUTES] = Route {
-        is_known: true,
-        node,
+        node: u64::from(node),
         to,
         inlet,
     };

@@ -11,7 +11,7 @@ placed (y ∷ ys) (suc i) x less = placed ys i x (omega arith)
 
 pub returns-clause-route : goal.returns-clause-route
 returns-clause-route c =
-    let r : Route = record { is_known = true; node = c.args.node; to = c.end_at-to.result.0; inlet = c.end_at-to.result.1 } in
+    let r : Route = record { node = c.from.result; to = c.end_at-to.result.0; inlet = c.end_at-to.result.1 } in
     record {
       route = r;
       at = placed c.args.routes.now (c.args.node % 256) r (rw c.told-routes (omega arith));

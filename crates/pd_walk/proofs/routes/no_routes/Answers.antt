@@ -1,7 +1,6 @@
-use Rattle.std.proofs.Common.{◌≡◌, ℕ, zero, suc, replicate, sym, ◌∙◌, ap}
+use Rattle.std.proofs.Common.{arith, ◌≡◌, ℕ, zero, suc, replicate, ap}
 use Rattle.std.specs.Prelude.{Some}
 use Rattle.std.specs.List.{slice_get}
-use Rattle.std.proofs.lemmas.Bool.{false≢true}
 use Rattle.pd_walk.specs.declared.routes.Route.{Route}
 use Rattle.pd_walk.proofs.routes.no_routes.Goals as goal
 
@@ -14,5 +13,5 @@ same-each (suc n) x (suc k) r e = same-each n x k r e
 
 pub returns : goal.returns
 returns c = λ web. record {
-  each = λ k r at known. absurd (false≢true (sym c.no_route.ensures ∙ sym (ap (λ (x : Route). x.is_known) (same-each 256 c.no_route.result k r at)) ∙ known));
+  each = λ k r at known. let same : r.node ≡ c.no_route.result.node = ap (λ (x : Route). x.node) (same-each 256 c.no_route.result k r at) in absurd (omega (arith, known, same, c.no_route.ensures));
 }
