@@ -17,7 +17,7 @@ use std::alloc::{AllocError, Global};
 /// The blocks of the outlets of a box.
 pub(crate) type Blocks = Vec<[Sig; 64]>;
 
-/// The first blocks of each box, by its key. Under a key that isn't there stand any blocks.
+/// The first blocks of each box, by its key: none under a key that isn't there.
 pub(crate) fn values_of(alloc: Global, grove: &Grove, web: &Web) -> Result<Vec<Blocks>, AllocError>
     ensures silent { IfOk result (λ values. AreSilent grove.now web.now (map (λ b. b.items) values.items)) }
     ensures rows { IfOk result (λ values. (k : ℕ) → k < length values.items → slice_get (map (λ b. b.items) values.items) k ≡ Some (first_blocks web.now k)) }
