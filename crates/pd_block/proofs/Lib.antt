@@ -6,3 +6,4 @@ pub mod InletLemmas
 pub mod BoxLemmas
 pub mod LentLemmas
 pub mod PortLemmas
+pub mod UnfedLemmas

@@ -1,15 +1,17 @@
 -- What comes to a box, and what that makes of it where it stands.
-use Rattle.std.specs.Prelude.{◌≡◌, ⊤, ℕ, ℤ, List, take, Option, Some, None}
+use Rattle.std.specs.Prelude.{◌≡◌, ⊤, ℕ, ℤ, Bool, true, false, List, [], ◌∷◌, take, slice_get, Option, Some, None, IsSome}
 use Rattle.pd_kind.specs.declared.kinds.Kind.{Kind}
 use Rattle.pd_kind.specs.declared.states.State.{State}
 use Rattle.pd_kind.specs.States.{silent_block}
 use Rattle.pd_grove.specs.declared.nodes.Node.{Node}
-use Rattle.pd_grove.specs.Telling.{with_state}
+use Rattle.pd_grove.specs.Telling.{state_in, with_state}
 use Rattle.pd_patch.specs.Values.{Blocks}
 use Rattle.pd_turn.specs.declared.sizes.Few.{Few}
+use Rattle.pd_turn.specs.Held.{held_block}
 use Rattle.pd_turn.specs.Sizes.{few_of}
-use Rattle.pd_turn.specs.Rows.{Ran, still, own_ran}
+use Rattle.pd_turn.specs.Rows.{Ran, still, is_osc, own_ran}
 use Rattle.pd_web.specs.declared.web.Web.{Web}
+use Rattle.pd_web.specs.Hops.{feed_hops}
 use Rattle.pd_block.specs.Inlets.{inlet_blocks}
 use Rattle.pd_block.specs.Nets.{set_at}
 
@@ -57,3 +59,18 @@ given_by states node r = record { states = set_at states node r.node.state; bloc
 abbrev pub given_at : ℕ → (ℕ → Option State) → ℕ → Option Node → List (List ℤ) → Given
 given_at start states node None ins = record { states = states; block = silent_block }
 given_at start states node (Some n) ins = given_by states node (box_given start n ins)
+
+abbrev pub is_osc_in : Option Node → Bool
+is_osc_in None = false
+is_osc_in (Some n) = is_osc n.kind
+
+-- a box is an oscillator, it has what it keeps, and no wire comes to its inlet
+pub record IsUnfed (web : Web) (node : ℕ) (o : Option Node) : Type 0 where
+  pub osc : is_osc_in o ≡ true
+  pub there : IsSome (state_in o)
+  pub unfed : slice_get (feed_hops web node 0) 0 ≡ None
+
+-- what comes to its inlet then
+abbrev pub held_blocks : Option State → List (List ℤ)
+held_blocks None = []
+held_blocks (Some st) = held_block st ∷ []

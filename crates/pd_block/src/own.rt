@@ -1,15 +1,15 @@
 //! Boxes that need nothing of another box, and `tabread~`.
 
-ghost use Rattle.std.specs.Prelude.{◌≡◌, ◌↔◌, ◌∷◌, [], true, Some, IsSome, slice_index_or};
+ghost use Rattle.std.specs.Prelude.{◌≡◌, ◌↔◌, ◌∷◌, [], ℕ, true, Some, IsSome, slice_index_or};
 ghost use Rattle.slab.specs.Slab.{get};
 ghost use Rattle.pd_grove.specs.Telling.{kind_in, state_in};
 ghost use Rattle.pd_patch.specs.Values.{blocks_told};
 ghost use Rattle.pd_patch.specs.Walking.{table_named};
 ghost use Rattle.pd_kind.specs.States.{silent_block};
 ghost use Rattle.pd_turn.specs.Sizes.{few_of};
-ghost use Rattle.pd_turn.specs.Rows.{ran};
+ghost use Rattle.pd_turn.specs.Rows.{is_osc as is_oscillator, ran};
 ghost use Rattle.pd_block.specs.Nets.{net_of, sound_of, states_of, kind_at};
-ghost use Rattle.pd_block.specs.Given.{AreBrought, few_brought, given_at, box_given, few_given};
+ghost use Rattle.pd_block.specs.Given.{AreBrought, IsUnfed, is_osc_in, held_blocks, few_brought, given_at, box_given, few_given};
 ghost use Rattle.pd_block.specs.Blocks.{own_by, table_by, table_in, table_with, table_told, values_in};
 
 use crate::inlets::take_inlets;
@@ -20,7 +20,7 @@ use pd_grove::Node;
 use pd_kind::{Kind, State};
 use pd_num::{Num, Sig};
 use pd_patch::Patch;
-use pd_turn::{few_ports, table_name};
+use pd_turn::{few_ports, is_osc, table_name};
 
 /// A box that needs nothing of another box runs. It stays in its place meanwhile.
 pub(crate) fn run_own(
@@ -33,10 +33,55 @@ pub(crate) fn run_own(
     ensures net { net_of patch.new ≡ net_of patch.old }
     ensures sound { sound_of patch.new ≡ own_by (net_of patch.old) start (sound_of patch.old) node (kind_at (net_of patch.old) node) (states_of patch.old node) }
 {
-    if bring(patch, node, ins) {
+    if is_unfed(patch, node) {
+        silence_outlet(outs);
+        run_unfed(patch, node, outs);
+        put_outlet(patch, node, outs);
+    } else if bring(patch, node, ins) {
         silence_outlet(outs);
         run_lent(patch, node, start, ins, outs);
         put_outlet(patch, node, outs);
+    }
+}
+
+/// Whether a box is an oscillator that has what it keeps, and that no wire feeds.
+fn is_unfed(patch: &Patch, node: u32) -> bool
+    ensures { result ≡ true → IsUnfed patch.now.web node (get patch.now.grove.nodes node) }
+{
+    match patch.node(node) {
+        Some(found) => is_unfed_box(patch, node, found),
+        None => false,
+    }
+}
+
+fn is_unfed_box(patch: &Patch, node: u32, found: &Node) -> bool
+    ensures { result ≡ true → IsUnfed patch.now.web node (Some found.now) }
+{
+    is_osc(&found.kind) && found.state.is_some() && patch.feed_first(node, 0).is_none()
+}
+
+/// An oscillator runs at the frequency that its inlet holds, where it stands.
+fn run_unfed(patch: &mut Patch, node: u32, outs: &mut [[Sig; 64]; 1])
+    requires osc { is_osc_in (get patch.old.grove.nodes node) ≡ true }
+    requires silent { outs.old ≡ silent_block ∷ [] }
+    ensures net { net_of patch.new ≡ net_of patch.old }
+    ensures values { patch.new.values ≡ patch.old.values }
+    ensures ran { (start : ℕ) → record { states = states_of patch.new; block = slice_index_or outs.new 0 silent_block }
+        ≡ given_at start (states_of patch.old) node (get patch.old.grove.nodes node) (held_blocks (states_of patch.old node)) }
+{
+    match patch.node_mut(node) {
+        Some(found) => run_unfed_box(found, outs),
+        None => {}
+    }
+}
+
+fn run_unfed_box(found: &mut Node, outs: &mut [[Sig; 64]; 1])
+    requires osc { is_oscillator found.old.kind ≡ true }
+    requires silent { outs.old ≡ silent_block ∷ [] }
+    ensures { (start : ℕ) → record { node = found.new; block = slice_index_or outs.new 0 silent_block } ≡ box_given start found.old (held_blocks found.old.state) }
+{
+    if let Some(state) = &mut found.state {
+        pd_turn::run_unfed(&found.kind, state, outs);
     }
 }
 

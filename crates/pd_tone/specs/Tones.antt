@@ -1,5 +1,5 @@
 -- The phases of the oscillators and the numbers of `noise~`, one after another.
-use Rattle.std.specs.Prelude.{ℕ, zero, suc, ℤ, pos, ◌+ℤ◌, ◌-ℤ◌, ◌*ℤ◌, ◌+◌, ◌*◌, ◌/◌, ◌%◌, ◌^◌, int_div, unsigned_abs, List, [], ◌∷◌}
+use Rattle.std.specs.Prelude.{ℕ, zero, suc, ℤ, pos, ◌+ℤ◌, ◌-ℤ◌, ◌*ℤ◌, ◌+◌, ◌*◌, ◌/◌, ◌%◌, ◌^◌, int_div, unsigned_abs, List, [], ◌∷◌, replicate}
 use Rattle.std.specs.Int.{int_rem_euclid}
 use Rattle.pd_clock.specs.declared.times.Rate.{Rate}
 use Rattle.pd_clock.specs.Rates.{samples}
@@ -21,6 +21,10 @@ phases m p (x ∷ xs) = p ∷ phases m (moved m p x) xs
 abbrev pub phase_after : ℕ → ℕ → List ℤ → ℕ
 phase_after m p [] = p
 phase_after m p (x ∷ xs) = phase_after m (moved m p x) xs
+
+-- the same number in each sample of a block
+unfoldable pub steady_block : ℤ → List ℤ
+steady_block step = replicate 64 step
 
 -- the share of the circle that lies before a phase, in billionths, where a second has so many samples
 abbrev pub share : ℕ → ℕ → ℤ

@@ -3,7 +3,7 @@
 ghost use Rattle.std.specs.Prelude.{◌≡◌, ◌<◌, ◌≤◌, ◌+◌, ◌*◌, ◌/◌, ◌%◌, ◌^◌, ◌-ℤ◌, ◌*ℤ◌, pos, int_div, map, replicate, IfSome};
 ghost use Rattle.pd_num.specs.Scale.{billionths, IsInRange};
 ghost use Rattle.pd_tone.specs.Cosine.{cosine as cosine_of};
-ghost use Rattle.pd_tone.specs.Tones.{circle as circle_of, phases, phase_after, share, next_seed as seed_after_this, seeds, seed_after, noise as noise_of};
+ghost use Rattle.pd_tone.specs.Tones.{circle as circle_of, phases, phase_after, steady_block, share, next_seed as seed_after_this, seeds, seed_after, noise as noise_of};
 ghost use Rattle.pd_clock.specs.Rates.{samples as samples_of};
 
 use crate::cosine::{cosine, cosine_at, cosine_within};
@@ -209,6 +209,36 @@ pub(crate) fn osc(rate: Rate, phase: &mut u64, input: &[Sig; 64], output: &mut [
         Rate::R48000 => osc_at(23_437_500_000, phase, input, output),
         Rate::R88200 => osc_at(43_066_406_250, phase, input, output),
         Rate::R96000 => osc_at(46_875_000_000, phase, input, output),
+    }
+}
+
+/// Steps of one size from any phase.
+#[inline(always)]
+fn osc_steady_at(part: u64, phase: &mut u64, step: Sig, output: &mut [Sig; 64])
+    requires part { 0 < part }
+    requires small { part ≤ 46875000000 }
+    ensures phase { phase.new ≡ phase_after (part * 2048) phase.old (replicate 64 step) }
+    ensures samples { output.new ≡ map (cosine_of (part * 2048)) (phases (part * 2048) phase.old (replicate 64 step)) }
+{
+    if part * 2048 <= *phase {
+        osc_beyond(part, phase, &[step; 64], output);
+    } else {
+        osc_steady(part, phase, step, output);
+    }
+}
+
+/// The samples of `osc~` at one frequency, without a look at each sample of its inlet.
+#[inline(never)]
+#[tactic(auto, unfolding(crate::specs::Tones::steady_block))]
+pub(crate) fn osc_steadily(rate: Rate, phase: &mut u64, step: Sig, output: &mut [Sig; 64])
+    ensures phase { phase.new ≡ phase_after (circle_of rate) phase.old (steady_block step) }
+    ensures samples { output.new ≡ map (cosine_of (circle_of rate)) (phases (circle_of rate) phase.old (steady_block step)) }
+{
+    match rate {
+        Rate::R44100 => osc_steady_at(21_533_203_125, phase, step, output),
+        Rate::R48000 => osc_steady_at(23_437_500_000, phase, step, output),
+        Rate::R88200 => osc_steady_at(43_066_406_250, phase, step, output),
+        Rate::R96000 => osc_steady_at(46_875_000_000, phase, step, output),
     }
 }
 

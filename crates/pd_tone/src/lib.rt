@@ -8,4 +8,4 @@ mod kernels;
 mod phases;
 mod rows;
 
-pub use rows::run;
+pub use rows::{run, run_steady};

@@ -1,5 +1,6 @@
 -- The numbers that signal inlets hold: the last that came to each.
-use Rattle.std.specs.Prelude.{ℕ, zero, suc, ℤ, pos, slice_index_or}
+use Rattle.std.specs.Prelude.{ℕ, zero, suc, ℤ, pos, List, replicate, slice_index_or}
+use Rattle.pd_num.specs.Scale.{signal_of}
 use Rattle.pd_kind.specs.declared.states.State.{State}
 use Rattle.pd_kind.specs.declared.states.State.TheVariants as state
 
@@ -32,3 +33,7 @@ held_later _ i = pos 0
 abbrev pub held_of : State → ℕ → ℤ
 held_of s zero = held_first s
 held_of s (suc i) = held_later s (suc i)
+
+-- the number that the first inlet holds, in each sample of a block
+unfoldable pub held_block : State → List ℤ
+held_block s = replicate 64 (signal_of (held_of s 0))

@@ -5,6 +5,7 @@ use Rattle.pd_kind.specs.declared.kinds.Kind.{Kind}
 use Rattle.pd_kind.specs.declared.kinds.Kind.TheVariants as kind
 use Rattle.pd_kind.specs.declared.kinds.Signal.{Signal}
 use Rattle.pd_kind.specs.declared.kinds.Signal.TheVariants as signal
+use Rattle.pd_kind.specs.declared.kinds.Tone.TheVariants as tone
 use Rattle.pd_kind.specs.declared.states.State.{State}
 use Rattle.pd_kind.specs.declared.states.State.TheVariants as state
 use Rattle.pd_kind.specs.declared.tables.Line.{Line}
@@ -88,6 +89,11 @@ signal_ran k s ins =
 
 abbrev pub tone_ran : Kind → State → List (List ℤ) → Ran
 tone_ran k s ins = ran (row k s ins (silent_block ∷ [])).state (row k s ins (silent_block ∷ [])).outs
+
+-- boxes of a kind are oscillators
+abbrev pub is_osc : Kind → Bool
+is_osc (kind.Tone (tone.Osc hertz)) = true
+is_osc k = false
 
 -- the table that a `tabread~` names
 abbrev pub table_name : Kind → Option ℕ

@@ -12,7 +12,7 @@ mod tables;
 
 pub use beside::{run_pair, run_silent, start_line};
 pub use held::held_in;
-pub use own::run_own;
+pub use own::{is_osc, run_own, run_unfed};
 pub use sizes::{Few, few_ports};
 pub use sorts::{Manner, manner_of};
 pub use tables::{run_table, table_name};

@@ -1,14 +1,16 @@
 //! Boxes that need nothing of another box.
 
-ghost use Rattle.std.specs.Prelude.{◌≡◌, ◌≤◌, ◌^◌, ◌∷◌, [], take, length};
+ghost use Rattle.std.specs.Prelude.{◌≡◌, ◌≤◌, ◌^◌, ◌∷◌, [], ℕ, true, take, length};
 ghost use Rattle.pd_kind.specs.States.{silent_block};
 ghost use Rattle.pd_turn.specs.Sizes.{ArePorts};
 ghost use Rattle.pd_vline.specs.Taken.{CanRun, left_by_run, state_at};
-ghost use Rattle.pd_turn.specs.Rows.{own_ran, vline_ran, values_from, ran, signal_ran};
+ghost use Rattle.pd_turn.specs.Held.{held_block};
+ghost use Rattle.pd_turn.specs.Rows.{is_osc as is_oscillator, own_ran, vline_ran, values_from, ran, signal_ran};
 
+use crate::held::held_in;
 use crate::sizes::{Few, is_sized, may_run};
 use pd_clock::Time;
-use pd_kind::{Kind, State};
+use pd_kind::{Kind, State, Tone};
 use pd_num::Sig;
 
 /// A box that needs nothing of another box runs for the block that starts at a time. The ports are those of its kind, and its outlet
@@ -73,4 +75,22 @@ fn run_signal(
         let ins = &ins[..few.inlets];
         pd_signal::run(kind, state, ins, &mut outs[..few.outlets]);
     }
+}
+
+/// Whether boxes of a kind are oscillators, whose one inlet takes a frequency.
+pub fn is_osc(kind: &Kind) -> bool
+    ensures { result ≡ is_oscillator kind.now }
+{
+    matches!(kind, Kind::Tone(Tone::Osc { .. }))
+}
+
+/// An oscillator that no wire feeds runs for a block, whenever that starts: its frequency is the number that its inlet holds, which
+/// isn't written into each sample of a block first. Its outlet is silent before.
+pub fn run_unfed(kind: &Kind, state: &mut State, outs: &mut [[Sig; 64]; 1])
+    requires osc { is_oscillator kind.now ≡ true }
+    requires silent { outs.old ≡ silent_block ∷ [] }
+    ensures { (start : ℕ) → ran state.new outs.new ≡ own_ran start kind.now state.old (held_block state.old ∷ []) }
+{
+    let step = Sig::of_num(held_in(state, 0));
+    pd_tone::run_steady(kind, state, step, outs);
 }
