@@ -1,4 +1,4 @@
--- What comes to an oscillator that no wire feeds is the number that its inlet holds, in each sample.
+-- What comes to an `osc~` that no wire feeds is the number that its inlet holds, in each sample.
 use Rattle.std.proofs.Common.{◌≡◌, ◌≤◌, ℕ, ℤ, true, List, [], ◌∷◌, length, take, refl, sym, ◌∙◌, ap, arith}
 use Rattle.std.proofs.lemmas.Bool.{false≢true}
 use Rattle.std.proofs.lemmas.List.{take_all}
@@ -66,7 +66,7 @@ pub held_brought : (web : Web) (blocks : Blocks) (node : ℕ) (o : Option Node) 
 held_brought web blocks node None h = absurd (false≢true h.osc)
 held_brought web blocks node (Some n) h = state_held web blocks node n.kind n.state h.osc h.there h.unfed
 
--- an oscillator has run where it stands
+-- an `osc~` has run where it stands
 pub held_states : (p : Patch) (node start : ℕ) (n n2 : Node) (block : List ℤ) → get p.grove.nodes node ≡ Some n
     → record { node = n2; block = block } ≡ box_given start n (held_blocks n.state)
     → record { states = states_of (with_box p node n2); block = block } ≡ given_at start (states_of p) node (get p.grove.nodes node) (held_blocks (states_of p node))

@@ -60,17 +60,18 @@ abbrev pub given_at : ℕ → (ℕ → Option State) → ℕ → Option Node →
 given_at start states node None ins = record { states = states; block = silent_block }
 given_at start states node (Some n) ins = given_by states node (box_given start n ins)
 
+-- whether a box is there and is an `osc~`
 abbrev pub is_osc_in : Option Node → Bool
 is_osc_in None = false
 is_osc_in (Some n) = is_osc n.kind
 
--- a box is an oscillator, it has what it keeps, and no wire comes to its inlet
+-- a box is an `osc~`, it has what it keeps, and no wire comes to its inlet
 pub record IsUnfed (web : Web) (node : ℕ) (o : Option Node) : Type 0 where
   pub osc : is_osc_in o ≡ true
   pub there : IsSome (state_in o)
   pub unfed : slice_get (feed_hops web node 0) 0 ≡ None
 
--- what comes to its inlet then
+-- what comes to its inlet then: the number that this holds, in each sample
 abbrev pub held_blocks : Option State → List (List ℤ)
 held_blocks None = []
 held_blocks (Some st) = held_block st ∷ []

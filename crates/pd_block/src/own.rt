@@ -44,7 +44,7 @@ pub(crate) fn run_own(
     }
 }
 
-/// Whether a box is an oscillator that has what it keeps, and that no wire feeds.
+/// Whether a box is an `osc~` that has what it keeps, and that no wire feeds.
 fn is_unfed(patch: &Patch, node: u32) -> bool
     ensures { result ≡ true → IsUnfed patch.now.web node (get patch.now.grove.nodes node) }
 {
@@ -60,7 +60,7 @@ fn is_unfed_box(patch: &Patch, node: u32, found: &Node) -> bool
     is_osc(&found.kind) && found.state.is_some() && patch.feed_first(node, 0).is_none()
 }
 
-/// An oscillator runs at the frequency that its inlet holds, where it stands.
+/// An `osc~` runs at the frequency that its inlet holds, where it stands.
 fn run_unfed(patch: &mut Patch, node: u32, outs: &mut [[Sig; 64]; 1])
     requires osc { is_osc_in (get patch.old.grove.nodes node) ≡ true }
     requires silent { outs.old ≡ silent_block ∷ [] }

@@ -1,4 +1,4 @@
--- An oscillator runs at the number that its inlet holds.
+-- An `osc~` runs at the number that its inlet holds.
 use Rattle.std.proofs.Common.{◌≡◌, ℕ, ℤ, true, List, [], ◌∷◌, replicate, refl, ap, ◌∙◌}
 use Rattle.std.proofs.lemmas.Bool.{false≢true}
 use Rattle.pd_num.specs.Scale.{signal_of}

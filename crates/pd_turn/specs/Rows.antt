@@ -90,7 +90,7 @@ signal_ran k s ins =
 abbrev pub tone_ran : Kind → State → List (List ℤ) → Ran
 tone_ran k s ins = ran (row k s ins (silent_block ∷ [])).state (row k s ins (silent_block ∷ [])).outs
 
--- boxes of a kind are oscillators
+-- whether boxes of a kind are `osc~`
 abbrev pub is_osc : Kind → Bool
 is_osc (kind.Tone (tone.Osc hertz)) = true
 is_osc k = false

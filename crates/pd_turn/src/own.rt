@@ -77,14 +77,14 @@ fn run_signal(
     }
 }
 
-/// Whether boxes of a kind are oscillators, whose one inlet takes a frequency.
+/// Whether boxes of a kind are `osc~`.
 pub fn is_osc(kind: &Kind) -> bool
     ensures { result ≡ is_oscillator kind.now }
 {
     matches!(kind, Kind::Tone(Tone::Osc { .. }))
 }
 
-/// An oscillator that no wire feeds runs for a block, whenever that starts: its frequency is the number that its inlet holds, which
+/// An `osc~` that no wire feeds runs for a block, whenever that starts: its frequency is the number that its inlet holds, which
 /// isn't written into each sample of a block first. Its outlet is silent before.
 pub fn run_unfed(kind: &Kind, state: &mut State, outs: &mut [[Sig; 64]; 1])
     requires osc { is_oscillator kind.now ≡ true }
