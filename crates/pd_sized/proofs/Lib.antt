@@ -7,3 +7,9 @@ pub mod LengthLemmas
 pub mod BlockLemmas
 pub mod FreshLemmas
 pub mod OwnerLemmas
+pub mod AlikeLemmas
+pub mod AlikeHeldLemmas
+pub mod AlikeRunLemmas
+pub mod AlikeTurnLemmas
+pub mod AlikeBlockLemmas
+pub mod ServeLemmas

@@ -1,5 +1,5 @@
 -- When what boxes keep has the sizes with which it was made, and which boxes look at which others.
-use Rattle.std.specs.Prelude.{◌≡◌, ℕ, ℤ, ◌≤◌, ◌^◌, true, List, length, Option, Some, IfSome}
+use Rattle.std.specs.Prelude.{◌≡◌, ℕ, ℤ, ◌≤◌, ◌^◌, true, List, length, Option, Some, IfSome, IsSome}
 use Rattle.std.specs.List.{AllByRecursion}
 use Rattle.slab.specs.Slab.{get}
 use Rattle.pd_clock.specs.declared.times.Rate.{Rate}
@@ -37,6 +37,10 @@ LooksAtSignal g s = ⊥
 abbrev pub LooksAt : Kind → State → Type 0
 LooksAt (kind.Signal g) s = LooksAtSignal g s
 LooksAt k s = ⊥
+
+-- it finds that: another box keeps something, and this is what it looks at
+abbrev pub Finds : Kind → Option State → Type 0
+Finds k o = IsSome o × IfSome o (LooksAt k)
 
 -- a block has 64 values
 abbrev pub IsBlock : List ℤ → Type 0

@@ -32,7 +32,8 @@ ghost use Rattle.pd_walk.specs.Outcome.{outcome, world, IsLeft};
 ghost use Rattle.pd_block.specs.Nets.{Net as BlockNet, Sound, states_of, sound_of};
 ghost use Rattle.pd_block.specs.Blocks.{block_of, owner_of};
 ghost use Rattle.pd_guards.specs.Order.{IsKept};
-ghost use Rattle.pd_sized.specs.Sizes.{HasSizes, HaveSizes, HasSmallBoxes, LooksAt, IsWhole, Serves};
+ghost use Rattle.pd_sized.specs.Alike.{IsAlike, AreAlike};
+ghost use Rattle.pd_sized.specs.Sizes.{HasSizes, HaveSizes, HasSmallBoxes, LooksAt, Finds, IsWhole, Serves};
 
 /// What a box keeps when it is made has its sizes, where it counts at most 2^32 values. So does what all boxes keep of a patch whose boxes
 /// were just made. In a patch that has just grown all boxes keep what has its sizes, and each block of an outlet has 64 values.
@@ -76,10 +77,33 @@ pub fn blocks_keep_sizes()
     ensures { (net : BlockNet) (start : ℕ) (s : Sound) → IsWhole s → IsWhole (block_of net s start).sound }
 {}
 
-/// In a patch that has just grown the first owner of the name that a box looks for is a box that has what it looks for, and keeps it.
+/// Messages leave what boxes keep of the same objects: each that a box hears, its being resumed, a value that is written into a table,
+/// and so a whole delivery, whatever begins it.
+pub fn messages_keep_objects()
+    ensures hearing { (names : Names) (k : Kind) (s : State) (inlet selector : ℕ) (atoms : List Atom) (now : ℕ) (table : Option (List ℤ)) →
+        IsAlike s (heard_kind names k s inlet selector atoms now table).state }
+    ensures again { (k : Kind) (s : State) → IsAlike s (resumed k s).state }
+    ensures boxes { (net : Net) (now : ℕ) (names : Names) (states : ℕ → Option State) (node inlet selector : ℕ) (atoms : List Atom) →
+        AreAlike states (heard_at net now states names node inlet selector atoms).states }
+    ensures boxes_again { (net : Net) (names : Names) (states : ℕ → Option State) (node : ℕ) → AreAlike states (resumed_at net states names node).states }
+    ensures deed { (net : Net) (now node : ℕ) (d : Deed) (kept : Kept) → AreAlike kept.states (done net now node d kept).states }
+    ensures delivery { (net : Net) (now : ℕ) (w : World Kept) (s : Start) → AreAlike w.kept.states (outcome net now w s).kept.states }
+    ensures left { (net : Net) (now : ℕ) (before after : Kept) (budget rest : Budget) (s : Start) (old new : Option (List ℕ)) →
+        IsLeft after rest old new (outcome net now (world before budget []) s) → AreAlike before.states after.states }
+{}
+
+/// A block leaves what boxes keep of the same objects, whatever they keep.
+pub fn blocks_keep_objects()
+    ensures { (net : BlockNet) (start : ℕ) (s : Sound) → AreAlike s.states (block_of net s start).sound.states }
+{}
+
+/// In a patch that has just grown the first owner of the name that a box looks for is a box that has what it looks for, and keeps it. It
+/// goes on keeping it as long as what boxes keep is of the same objects.
 pub fn owners_serve()
     ensures kind { (p : Patch) (names : Names) (file : List ℕ) (rate : Rate) (k : Kind) (o : ℕ) → IsFresh p names file rate →
         owner_of p.names k ≡ Some o → IfSome (kind_in (get p.grove.nodes o)) (Serves k) }
     ensures state { (p : Patch) (names : Names) (file : List ℕ) (rate : Rate) (k : Kind) (o : ℕ) → IsFresh p names file rate →
         owner_of p.names k ≡ Some o → IfSome (states_of p o) (LooksAt k) }
+    ensures lasts { (p : Patch) (names : Names) (file : List ℕ) (rate : Rate) (k : Kind) (o : ℕ) (states : ℕ → Option State) → IsFresh p names file rate →
+        owner_of p.names k ≡ Some o → AreAlike (states_of p) states → Finds k (states o) }
 {}
