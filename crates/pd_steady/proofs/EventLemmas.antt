@@ -56,7 +56,7 @@ starts names (Firing owner) h = tt
 starts names (Loading boxes) h = tt
 
 module _ (net : Net) (now : ℕ) (w : World Kept) where
-  outcome_is : (b : Beginning) → outcome net now w (start_of b) ≡ engine.deliveries net now w b
+  pub outcome_is : (b : Beginning) → outcome net now w (start_of b) ≡ engine.deliveries net now w b
   unfolding outcome
   outcome_is (Message name selector atoms) = refl
   outcome_is (Firing owner) = refl

@@ -3,3 +3,5 @@ pub mod EventLemmas
 pub mod TimeLemmas
 pub mod RunLemmas
 mod ToldLemmas
+mod LoopLemmas
+mod LastLemmas

@@ -3,3 +3,4 @@ pub mod Freely
 pub mod Steady
 pub mod Steps
 pub mod Told
+pub mod Serving

@@ -1,13 +1,17 @@
 //! Laws of whole runs.
 ghost use Rattle.std.specs.Prelude.{◌≡◌, ◌+◌, ◌≤◌, ◌^◌, ℕ, List, Option, Some, option_and_then};
+ghost use Rattle.std.specs.List.{AllByRecursion};
 ghost use Rattle.pd_io.specs.declared.files.FileRow.{FileRow};
 ghost use Rattle.pd_atom.specs.Names.{Names, Extends};
 ghost use Rattle.pd_canvas.specs.Pages.{Page};
 ghost use Rattle.pd_clock.specs.declared.times.Rate.{Rate};
 ghost use Rattle.pd_order.specs.Listing.{Listing};
 ghost use Rattle.pd_patch.specs.declared.patch.Patch.{Patch};
+ghost use Rattle.pd_patch.specs.Report.{notices_in};
 ghost use Rattle.pd_patch.specs.Telling.{order_in};
 ghost use Rattle.pd_script.specs.declared.commands.Command.{Command};
+ghost use Rattle.pd_hearing.specs.Worlds.{states_of};
+ghost use Rattle.pd_sized.specs.Alike.{AreAlike};
 ghost use Rattle.pd_engine.specs.Stages.{Stage, with_names};
 ghost use Rattle.pd_engine.specs.Events.{event};
 ghost use Rattle.pd_engine.specs.Times.{IsStageOf, block_units, advanced, finished};
@@ -16,7 +20,8 @@ ghost use Rattle.pd_engine.specs.Opening.{Grows, opened};
 ghost use Rattle.pd_steady.specs.Runs.{commanded_by, advanced_by, finished_by, opened_by};
 ghost use Rattle.pd_steady.specs.Freely.{event_freely};
 ghost use Rattle.pd_steady.specs.Steady.{IsSteady, IsCommand};
-ghost use Rattle.pd_steady.specs.Told.{TellsAll};
+ghost use Rattle.pd_steady.specs.Serving.{OwnersServe};
+ghost use Rattle.pd_steady.specs.Told.{TellsAll, TellsLoop};
 ghost use Rattle.pd_steady.specs.Steps.{Step, AreSteps, steps_by, run_by};
 
 /// With pd_engine's own events the definitions of a run are pd_engine's.
@@ -115,4 +120,24 @@ pub fn lines_tell_all_boxes()
         option_and_then (λ c. order_in s.net.orders.items c) (led_to s.net (Some s.net.root) path) ≡ Some o → TellsAll s.net o }
 {
     pd_guards::orders_are_short();
+}
+
+/// Where a patch opens, the line of each signal loop tells all boxes of the loop: there are never more than a line has room for.
+pub fn loops_tell_all_boxes()
+    ensures { (holds : Option (List FileRow)) (name : List ℕ) (rate : Rate) (d : Page) (names table : Names) (p : Patch) →
+        Grows holds name rate d names p table → AllByRecursion (TellsLoop p) (notices_in p.grove p.web p.orders.items) }
+{
+    pd_guards::orders_are_short();
+}
+
+/// In a run, from where a patch opens through any commands, names and times, and to its end, each box keeps what is of the same objects as
+/// what it kept at first. So the first owner of the name that a box looks for always keeps what that box looks for.
+pub fn owners_go_on()
+    ensures alike { (p : Patch) (names : Names) (steps : List Step) → AreAlike (states_of p) (steps_by event steps (opened p names).stage).stage.states }
+    ensures steps { (holds : Option (List FileRow)) (name : List ℕ) (rate : Rate) (d : Page) (names table : Names) (p : Patch) (steps : List Step) →
+        Grows holds name rate d names p table → OwnersServe (steps_by event steps (opened p table).stage).stage }
+    ensures end { (holds : Option (List FileRow)) (name : List ℕ) (rate : Rate) (d : Page) (names table : Names) (p : Patch) (steps : List Step) →
+        Grows holds name rate d names p table → OwnersServe (run_by event p table steps).stage }
+{
+    pd_sized::owners_serve();
 }

@@ -4,6 +4,6 @@
 mod laws;
 
 pub use laws::{
-    commands_stay_steady, lines_tell_all_boxes, names_stay_steady, opening_is_steady,
-    runs_are_by_events, runs_pass_nothing_over, time_stays_steady,
+    commands_stay_steady, lines_tell_all_boxes, loops_tell_all_boxes, names_stay_steady,
+    opening_is_steady, owners_go_on, runs_are_by_events, runs_pass_nothing_over, time_stays_steady,
 };
