@@ -9,10 +9,11 @@
 #   name       the same, from `until` to `f` by `send` and `receive`
 #   chain      through a chain that makes 1,000 boxes in all
 #
-# Beside it stands the same loop in Pd (`pd -nogui -batch`), where `pd` is installed. Build the program first, by ./play.
+# Beside it stands the same loop in Pd (`pd -nogui -batch`), where `pd` is installed, and how many times its time ours is, by the least times of
+# nine runs and by those in the middle. The runs of the two take turns. Build the program first, by ./play, or name another one in PDPLAY.
 set -u
 top=$(cd "$(dirname "$0")/.." && pwd) || exit 2
-program=$top/crates/pdplay/out/pdplay
+program=${PDPLAY:-$top/crates/pdplay/out/pdplay}
 [ -x "$program" ] || { echo "bench: build the program first: ./play examples/hello/main.pd" >&2; exit 2; }
 events=${1:-50}
 folder=$(mktemp -d)
@@ -43,7 +44,21 @@ chain() {
   echo "#X connect $(($1 + 997)) 0 $(($1 + 998)) 1;"
 }
 
-printf '%-10s %12s %12s\n' loop pdplay pd
+# The same loop in Pd, whose first box has the number 6 there, with so many events.
+pd_patch() {
+  echo "#N canvas 0 0 400 300 12; #X obj 0 0 loadbang; #X obj 0 0 t b b; #X msg 0 0 $2; #X obj 0 0 until; #X msg 0 0 $3; #X msg 0 0 \; pd quit;"
+  $1 6
+  echo "#X connect 0 0 1 0; #X connect 1 1 2 0; #X connect 2 0 3 0; #X connect 3 0 4 0; #X connect 4 0 6 0; #X connect 1 0 5 0;"
+}
+
+# Runs of the two programs, over the script and the patches of the moment.
+ours() { "$program" main.pd; }
+theirs() { pd -nogui -noprefs -batch -open loop.pd; }
+none() { :; }
+
+other=none
+command -v pd >/dev/null && other=theirs
+printf '%-10s %12s %12s %8s %8s\n' loop pdplay pd times middle
 for loop in flat subpatch name chain; do
   case $loop in
     flat) steps=4 ;;
@@ -54,20 +69,15 @@ for loop in flat subpatch name chain; do
   turns=$((999990 / steps))
   { echo "#N canvas 0 0 400 300 12; #X obj 0 0 r go;"; $loop 1; echo "#X connect 0 0 1 0;"; } >main.pd
   : >script
-  idle=$(seconds "$program" main.pd)
+  pd_patch $loop 0 $turns >loop.pd
+  read -r -a idle < <(in_turn 9 ours "$other")
   for ((i = 0; i < events; i++)); do echo "0 send go $turns;"; done >script
-  ours=$(seconds "$program" main.pd)
-  theirs=-
-  if command -v pd >/dev/null; then
-    {
-      echo "#N canvas 0 0 400 300 12; #X obj 0 0 loadbang; #X obj 0 0 t b b; #X msg 0 0 $events; #X obj 0 0 until; #X msg 0 0 $turns; #X msg 0 0 \; pd quit;"
-      $loop 6
-      echo "#X connect 0 0 1 0; #X connect 1 1 2 0; #X connect 2 0 3 0; #X connect 3 0 4 0; #X connect 4 0 6 0; #X connect 1 0 5 0;"
-    } >loop.pd
-    sed "s/#X msg 0 0 $events;/#X msg 0 0 0;/" loop.pd >idle.pd
-    theirs=$(awk -v a="$(seconds pd -nogui -noprefs -batch -open loop.pd)" -v b="$(seconds pd -nogui -noprefs -batch -open idle.pd)" \
-      -v n=$((events * turns * steps)) 'BEGIN { printf "%.1f ns", (a - b) * 1e9 / n }')
-  fi
-  awk -v l=$loop -v a="$ours" -v b="$idle" -v n=$((events * turns * steps)) -v t="$theirs" \
-    'BEGIN { printf "%-10s %9.1f ns %12s\n", l, (a - b) * 1e9 / n, t }'
+  pd_patch $loop "$events" $turns >loop.pd
+  read -r -a whole < <(in_turn 9 ours "$other")
+  awk -v l=$loop -v n=$((events * turns * steps)) -v o="$other" -v a="${whole[*]}" -v b="${idle[*]}" 'BEGIN {
+    split(a, w, " "); split(b, i, " ")
+    for (k = 1; k <= 4; k++) t[k] = (w[k] - i[k]) * 1e9 / n
+    if (o == "none") printf "%-10s %9.1f ns %12s %8s %8s\n", l, t[1], "-", "-", "-"
+    else printf "%-10s %9.1f ns %9.1f ns %8.1f %8.1f\n", l, t[1], t[2], t[1] / t[2], t[3] / t[4]
+  }'
 done

@@ -5,24 +5,19 @@ once() {
   { TIMEFORMAT='%U %S'; time "$@" >/dev/null 2>&1 </dev/stdin; } 2>&1 <"$folder/script" | awk '{ print $1 + $2 }'
 }
 
-# The lesser of two numbers, of which the first may be missing.
-lesser() {
-  awk -v a="$1" -v b="$2" 'BEGIN { print (a == "" || b < a) ? b : a }'
-}
-
-# The least of three runs.
-seconds() {
-  local i best=
-  for i in 1 2 3; do best=$(lesser "$best" "$(once "$@")"); done
-  echo "$best"
-}
-
-# Two commands, given as the names of functions: the least of nine runs of each. They take turns, so that both meet the same machine.
+# Two commands, given as the names of functions, in an odd number $1 of turns, so that both meet the same machine: the least times of the two,
+# and then the times in the middle.
 in_turn() {
-  local i one= other=
-  for i in 1 2 3 4 5 6 7 8 9; do
-    one=$(lesser "$one" "$(once "$1")")
-    other=$(lesser "$other" "$(once "$2")")
+  local i
+  : >"$folder/one" && : >"$folder/other"
+  for ((i = 0; i < $1; i++)); do
+    once "$2" >>"$folder/one"
+    once "$3" >>"$folder/other"
   done
-  echo "$one $other"
+  echo "$(ranked 1 one) $(ranked 1 other) $(ranked $((($1 + 1) / 2)) one) $(ranked $((($1 + 1) / 2)) other)"
+}
+
+# The time of a rank in a file of times.
+ranked() {
+  sort -n "$folder/$2" | sed -n "$1p"
 }

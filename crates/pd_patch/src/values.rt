@@ -48,7 +48,7 @@ fn blocks_at(web: &Web, node: u32) -> u32
 fn silent_blocks(alloc: Global, count: u32) -> Result<Blocks, AllocError>
     ensures { IfOk result (λ blocks. blocks.items ≡ replicate count silent_block) }
 {
-    let mut blocks = Vec::new(alloc);
+    let mut blocks = Vec::with_capacity(alloc, count as usize)?;
     for _ in 0..count {
         blocks.push([Sig::default(); 64])?;
     }
