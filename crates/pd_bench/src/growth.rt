@@ -8,7 +8,7 @@ ghost use Rattle.pd_gather.specs.Gather.{AreProper};
 use crate::benchmark::Measures;
 use crate::patches::{Filling, Size, full, groups};
 use crate::timing::{Nanos, RUNS, Stopwatch};
-use anyhow::{Result, ensure};
+use anyhow::{Result, bail, ensure};
 use pd_atom::Symbols;
 use pd_clock::Rate;
 use pd_doc::{Doc, proper_extended, read};
@@ -53,7 +53,9 @@ fn gather_all<H: Shelf>(
     ensures found { AreProper symbols.new library.new }
     ensures extends { Extends symbols.old symbols.new }
 {
-    library.gather(doc, NAME, shelf, symbols)?;
+    if let Err(refusal) = library.gather(doc, NAME, shelf, symbols) {
+        bail!("{refusal}");
+    }
     Ok(())
 }
 
