@@ -8,7 +8,7 @@
 # nothing else slowed the machine. Build the program first, by ./play, or name another one in PDPLAY.
 set -u
 top=$(cd "$(dirname "$0")/.." && pwd) || exit 2
-program=${PDPLAY:-$top/crates/pdplay/out/pdplay}
+program=$(readlink -f "${PDPLAY:-$top/crates/pdplay/out/pdplay}")
 [ -x "$program" ] || { echo "bench: build the program first: ./play examples/hello/main.pd" >&2; exit 2; }
 folder=$(mktemp -d)
 trap 'rm -rf "$folder"' EXIT
