@@ -3,12 +3,12 @@ use Rattle.std.specs.Prelude.{ℕ, ℤ, pos, neg_ℤ, ◌*ℤ◌, ◌==◌, Bool
 use Rattle.std.specs.Int.{int_min, int_max, int_div_euclid, int_rem_euclid}
 use Rattle.std.specs.Ordering.{int_eq}
 use Rattle.pd_num.specs.Scale.{millionths, sum_of, difference_of, product_of, quotient_of, whole_of}
-use Rattle.pd_kind.specs.declared.kinds.Operation.{Operation}
-use Rattle.pd_kind.specs.declared.kinds.Operation.TheVariants as operation
-use Rattle.pd_kind.specs.declared.kinds.Comparison.{Comparison}
-use Rattle.pd_kind.specs.declared.kinds.Comparison.TheVariants as comparison
-use Rattle.pd_kind.specs.declared.kinds.Division.{Division}
-use Rattle.pd_kind.specs.declared.kinds.Division.TheVariants as division
+use Rattle.pd_object.specs.declared.kinds.Operation.{Operation}
+use Rattle.pd_object.specs.declared.kinds.Operation.TheVariants as operation
+use Rattle.pd_object.specs.declared.kinds.Comparison.{Comparison}
+use Rattle.pd_object.specs.declared.kinds.Comparison.TheVariants as comparison
+use Rattle.pd_object.specs.declared.kinds.Division.{Division}
+use Rattle.pd_object.specs.declared.kinds.Division.TheVariants as division
 
 abbrev pub operation_of : Operation → ℤ → ℤ → ℤ
 operation_of operation.Add a b = sum_of millionths a b

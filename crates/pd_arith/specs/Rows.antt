@@ -1,19 +1,19 @@
 -- What the arithmetic objects do with a message.
 use Rattle.std.specs.Prelude.{ℕ, ℤ, pos, ◌==◌, Bool, int_lt, unsigned_abs, List, [], ◌∷◌, if◌then◌else◌}
 use Rattle.pd_atom.specs.declared.Atom.{Atom}
-use Rattle.pd_kind.specs.declared.kinds.Arith.{Arith}
-use Rattle.pd_kind.specs.declared.kinds.Arith.TheVariants as arith
-use Rattle.pd_kind.specs.declared.kinds.Kind.{Kind}
-use Rattle.pd_kind.specs.declared.kinds.Kind.TheVariants as kind
-use Rattle.pd_kind.specs.declared.kinds.Operation.{Operation}
-use Rattle.pd_kind.specs.declared.kinds.Comparison.{Comparison}
-use Rattle.pd_kind.specs.declared.kinds.Division.{Division}
-use Rattle.pd_kind.specs.declared.kinds.Function.{Function}
-use Rattle.pd_kind.specs.declared.kinds.Function.TheVariants as function
+use Rattle.pd_object.specs.declared.kinds.Arith.{Arith}
+use Rattle.pd_object.specs.declared.kinds.Arith.TheVariants as arith
+use Rattle.pd_object.specs.declared.kinds.Kind.{Kind}
+use Rattle.pd_object.specs.declared.kinds.Kind.TheVariants as kind
+use Rattle.pd_object.specs.declared.kinds.Operation.{Operation}
+use Rattle.pd_object.specs.declared.kinds.Comparison.{Comparison}
+use Rattle.pd_object.specs.declared.kinds.Division.{Division}
+use Rattle.pd_object.specs.declared.kinds.Function.{Function}
+use Rattle.pd_object.specs.declared.kinds.Function.TheVariants as function
 use Rattle.pd_kind.specs.declared.messages.Sort.{Sort}
 use Rattle.pd_kind.specs.declared.messages.Sort.TheVariants as sort
-use Rattle.pd_kind.specs.declared.row_names.Row.{Row}
-use Rattle.pd_kind.specs.declared.row_names.Row.TheVariants as row
+use Rattle.pd_object.specs.declared.row_names.Row.{Row}
+use Rattle.pd_object.specs.declared.row_names.Row.TheVariants as row
 use Rattle.pd_kind.specs.declared.states.State.{State}
 use Rattle.pd_kind.specs.declared.states.State.TheVariants as state
 use Rattle.pd_kind.specs.Messages.{sort_of}

@@ -1,8 +1,8 @@
 -- Kinds of boxes that can be made.
 use Rattle.std.specs.Prelude.{◌≡◌, ℕ, ℤ, true, List, length}
 use Rattle.pd_atom.specs.Names.{Names}
-use Rattle.pd_kind.specs.declared.kinds.Kind.{Kind}
-use Rattle.pd_kind.specs.Ports.{IsSmallKind}
+use Rattle.pd_object.specs.declared.kinds.Kind.{Kind}
+use Rattle.pd_object.specs.Ports.{IsSmallKind}
 use Rattle.pd_glue.specs.Rows.{HasTexts}
 use Rattle.pd_signal.specs.SharedRows.{Fits}
 

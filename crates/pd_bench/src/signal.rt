@@ -1,7 +1,7 @@
 //! The signal objects: how long a sample takes, on values of ordinary size.
 
 ghost use Rattle.std.specs.Prelude.{◌≡◌, length};
-ghost use Rattle.pd_kind.specs.Ports.{ports_of};
+ghost use Rattle.pd_object.specs.Ports.{ports_of};
 ghost use Rattle.pd_signal.specs.Boxes.{HasBlocks, IsSized};
 ghost use Rattle.pd_bench.specs.Boxes.{IsBeside};
 

@@ -5,15 +5,15 @@ use Rattle.pd_atom.specs.declared.Atom.TheVariants as atom
 use Rattle.pd_atom.specs.Names.{Names, name_of, longest}
 use Rattle.pd_name.specs.declared.Class.{Class}
 use Rattle.pd_name.specs.declared.Class.TheVariants.{Receiver, Table, Catch, Bus, Delay}
-use Rattle.pd_kind.specs.declared.kinds.Kind.{Kind}
-use Rattle.pd_kind.specs.declared.kinds.Kind.TheVariants as kind
-use Rattle.pd_kind.specs.declared.kinds.Glue.{Glue}
-use Rattle.pd_kind.specs.declared.kinds.Glue.TheVariants as glue
-use Rattle.pd_kind.specs.declared.kinds.Signal.{Signal}
-use Rattle.pd_kind.specs.declared.kinds.Signal.TheVariants as signal
-use Rattle.pd_kind.specs.declared.kinds.Panel.{Panel}
-use Rattle.pd_kind.specs.declared.kinds.Panel.TheVariants as panel
-use Rattle.pd_kind.specs.Naming.{name_at}
+use Rattle.pd_object.specs.declared.kinds.Kind.{Kind}
+use Rattle.pd_object.specs.declared.kinds.Kind.TheVariants as kind
+use Rattle.pd_object.specs.declared.kinds.Glue.{Glue}
+use Rattle.pd_object.specs.declared.kinds.Glue.TheVariants as glue
+use Rattle.pd_object.specs.declared.kinds.Signal.{Signal}
+use Rattle.pd_object.specs.declared.kinds.Signal.TheVariants as signal
+use Rattle.pd_object.specs.declared.kinds.Panel.{Panel}
+use Rattle.pd_object.specs.declared.kinds.Panel.TheVariants as panel
+use Rattle.pd_naming.specs.Naming.{name_at}
 use Rattle.pd_tree.specs.Trees.{Cell}
 use Rattle.pd_grove.specs.TextOrder.{is_sub}
 

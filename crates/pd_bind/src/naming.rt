@@ -1,7 +1,7 @@
 //! Which name a box owns.
 
 ghost use Rattle.std.specs.Prelude.{◌≡◌};
-ghost use Rattle.pd_kind.specs.Naming.{name_at as name_at_place};
+ghost use Rattle.pd_naming.specs.Naming.{name_at as name_at_place};
 ghost use Rattle.pd_grove.specs.Standing.{node_seen};
 ghost use Rattle.pd_bind.specs.Naming.{owned, unless_dash as unless_dash_of, receive_name as receive_name_of, glue_owned, signal_owned, panel_owned, first_symbol as first_symbol_of, symbol_after_pd as symbol_after_pd_of, subpatch_symbol as subpatch_symbol_of, canvas_owned, owned_by};
 

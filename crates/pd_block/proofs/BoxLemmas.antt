@@ -4,7 +4,7 @@ use Rattle.std.proofs.lemmas.Bool.{false≢true}
 use Rattle.std.proofs.lemmas.Option.{none-some}
 use Rattle.std.specs.Prelude.{Option, Some, None, option_map, option_and_then, slice_get, slice_index_or, IsSome}
 use Rattle.slab.specs.Slab.{get}
-use Rattle.pd_kind.specs.declared.kinds.Kind.{Kind}
+use Rattle.pd_object.specs.declared.kinds.Kind.{Kind}
 use Rattle.pd_kind.specs.declared.states.State.{State}
 use Rattle.pd_kind.specs.States.{silent_block}
 use Rattle.pd_kind.specs.Tables.{table_of}

@@ -5,9 +5,9 @@ use Rattle.std.proofs.lemmas.List.{take_all}
 use Rattle.std.proofs.lemmas.Option.{none-some}
 use Rattle.std.specs.Prelude.{Option, Some, None, IsSome, slice_get}
 use Rattle.slab.specs.Slab.{get}
-use Rattle.pd_kind.specs.declared.kinds.Kind.{Kind}
-use Rattle.pd_kind.specs.declared.kinds.Kind.TheVariants as kind
-use Rattle.pd_kind.specs.declared.kinds.Tone.TheVariants as tone
+use Rattle.pd_object.specs.declared.kinds.Kind.{Kind}
+use Rattle.pd_object.specs.declared.kinds.Kind.TheVariants as kind
+use Rattle.pd_object.specs.declared.kinds.Tone.TheVariants as tone
 use Rattle.pd_kind.specs.declared.states.State.{State}
 use Rattle.pd_grove.specs.declared.nodes.Node.{Node}
 use Rattle.pd_grove.specs.Telling.{state_in}

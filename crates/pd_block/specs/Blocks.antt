@@ -1,11 +1,11 @@
 -- A block of samples of a whole patch.
 use Rattle.std.specs.Prelude.{ℕ, zero, suc, ℤ, pos, nat_le, nat_lt, List, [], ◌∷◌, length, slice_get, slice_set, slice_index_or, Option, Some, None, option_map, option_and_then, if◌then◌else◌}
 use Rattle.pd_num.specs.Scale.{billionths, sum_of}
-use Rattle.pd_kind.specs.declared.kinds.Channel.{Channel}
-use Rattle.pd_kind.specs.declared.kinds.Channel.TheVariants.{Left, Right, Neither}
-use Rattle.pd_kind.specs.declared.kinds.Kind.{Kind}
-use Rattle.pd_kind.specs.declared.kinds.Kind.TheVariants as kind
-use Rattle.pd_kind.specs.declared.kinds.Signal.TheVariants as signal
+use Rattle.pd_object.specs.declared.kinds.Channel.{Channel}
+use Rattle.pd_object.specs.declared.kinds.Channel.TheVariants.{Left, Right, Neither}
+use Rattle.pd_object.specs.declared.kinds.Kind.{Kind}
+use Rattle.pd_object.specs.declared.kinds.Kind.TheVariants as kind
+use Rattle.pd_object.specs.declared.kinds.Signal.TheVariants as signal
 use Rattle.pd_kind.specs.declared.states.State.{State}
 use Rattle.pd_kind.specs.States.{silent_block}
 use Rattle.pd_kind.specs.Tables.{table_of, block_begun}

@@ -1,6 +1,6 @@
 -- What comes to a box, and what that makes of it where it stands.
 use Rattle.std.specs.Prelude.{◌≡◌, ⊤, ℕ, ℤ, Bool, true, false, List, [], ◌∷◌, take, slice_get, Option, Some, None, IsSome}
-use Rattle.pd_kind.specs.declared.kinds.Kind.{Kind}
+use Rattle.pd_object.specs.declared.kinds.Kind.{Kind}
 use Rattle.pd_kind.specs.declared.states.State.{State}
 use Rattle.pd_kind.specs.States.{silent_block}
 use Rattle.pd_grove.specs.declared.nodes.Node.{Node}

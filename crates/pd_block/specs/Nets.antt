@@ -6,7 +6,7 @@ use Rattle.slab.specs.Slab.{get}
 use Rattle.slab.specs.Slab.{Slab}
 use Rattle.pd_clock.specs.declared.times.Rate.{Rate}
 use Rattle.pd_clock.specs.Queue.{Clock}
-use Rattle.pd_kind.specs.declared.kinds.Kind.{Kind}
+use Rattle.pd_object.specs.declared.kinds.Kind.{Kind}
 use Rattle.pd_kind.specs.declared.states.State.{State}
 use Rattle.pd_name.specs.Rows.{Row}
 use Rattle.pd_order.specs.Listing.{Listing}

@@ -3,7 +3,7 @@
 ghost use Rattle.std.specs.Prelude.{◌≡◌, true, IfOk};
 ghost use Rattle.std.specs.List.{All};
 ghost use Rattle.pd_atom.specs.Atoms.{IsOf};
-ghost use Rattle.pd_kind.specs.Ports.{IsSmallNamed};
+ghost use Rattle.pd_object.specs.Ports.{IsSmallNamed};
 
 use anyhow::{Result, bail, ensure};
 use pd_atom::{Atom, SymbolRefusal, Symbols, read_token};

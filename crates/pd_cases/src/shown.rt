@@ -1,6 +1,6 @@
 //! How what a text names is shown.
 
-ghost use Rattle.pd_kind.specs.Ports.{IsSmallNamed};
+ghost use Rattle.pd_object.specs.Ports.{IsSmallNamed};
 
 use anyhow::Result;
 use pd_clock::Rate;

@@ -1,17 +1,17 @@
 -- Of no kind do more ports carry signals than there are.
 use Rattle.std.proofs.Common.{ℕ, ◌+◌, ◌≤◌, ℤ, Bool, true, false, cond, ◌==◌, length, Option, Some, None, le_refl, lit≤, arith}
-use Rattle.pd_kind.specs.declared.kinds.Kind.{Kind}
-use Rattle.pd_kind.specs.declared.kinds.Kind.TheVariants as kind
-use Rattle.pd_kind.specs.declared.kinds.Arith.{Arith}
-use Rattle.pd_kind.specs.declared.kinds.Arith.TheVariants as arith
-use Rattle.pd_kind.specs.declared.kinds.Glue.{Glue}
-use Rattle.pd_kind.specs.declared.kinds.Glue.TheVariants as glue
-use Rattle.pd_kind.specs.declared.kinds.Side.TheVariants as side
-use Rattle.pd_kind.specs.declared.kinds.Tone.{Tone}
-use Rattle.pd_kind.specs.declared.kinds.Tone.TheVariants as tone
-use Rattle.pd_kind.specs.declared.kinds.Signal.{Signal}
-use Rattle.pd_kind.specs.declared.kinds.Signal.TheVariants as signal
-use Rattle.pd_kind.specs.Ports.{Ports, ports_of, control, sounding, arith_ports, choice_ports, send_inlets_of, glue_ports, tone_ports, operation_ports_of, signal_ports}
+use Rattle.pd_object.specs.declared.kinds.Kind.{Kind}
+use Rattle.pd_object.specs.declared.kinds.Kind.TheVariants as kind
+use Rattle.pd_object.specs.declared.kinds.Arith.{Arith}
+use Rattle.pd_object.specs.declared.kinds.Arith.TheVariants as arith
+use Rattle.pd_object.specs.declared.kinds.Glue.{Glue}
+use Rattle.pd_object.specs.declared.kinds.Glue.TheVariants as glue
+use Rattle.pd_object.specs.declared.kinds.Side.TheVariants as side
+use Rattle.pd_object.specs.declared.kinds.Tone.{Tone}
+use Rattle.pd_object.specs.declared.kinds.Tone.TheVariants as tone
+use Rattle.pd_object.specs.declared.kinds.Signal.{Signal}
+use Rattle.pd_object.specs.declared.kinds.Signal.TheVariants as signal
+use Rattle.pd_object.specs.Ports.{Ports, ports_of, control, sounding, arith_ports, choice_ports, send_inlets_of, glue_ports, tone_ports, operation_ports_of, signal_ports}
 
 -- no more ports carry signals than there are
 pub record IsSound (p : Ports) : Type 0 where

@@ -1,8 +1,8 @@
 -- The ports of a kind, counted up.
 use Rattle.std.proofs.Common.{◌≡◌, ℕ, zero, suc, ◌+◌, ◌-◌, ◌≤◌, Bool, true, false, nat_lt, [], ◌∷◌, ◌++◌, replicate, refl, sym, ap, ◌∙◌, add-one, add-zero, add-suc, lt-ltb, le-ltb, append_assoc, append-nil, arith}
 use Rattle.std.proofs.lemmas.List.{replicate_more}
-use Rattle.pd_kind.specs.declared.kinds.Kind.{Kind}
-use Rattle.pd_kind.specs.Ports.{ports_of}
+use Rattle.pd_object.specs.declared.kinds.Kind.{Kind}
+use Rattle.pd_object.specs.Ports.{ports_of}
 use Rattle.pd_tree.specs.Ports.{signals, sockets_of}
 use Rattle.pd_fit.specs.Seeing.{marks}
 use Rattle.pd_fit.proofs.KindPorts.{ports_sound}

@@ -1,6 +1,6 @@
 -- The ports among the boxes of a tree.
 use Rattle.std.proofs.Common.{◌≡◌, ℕ, ℤ, ◌+◌, Bool, true, false, cond, int_lt, List, [], ◌∷◌, map, Option, Some, None, refl, sym, ap, ◌∙◌}
-use Rattle.pd_kind.specs.declared.kinds.Kind.{Kind}
+use Rattle.pd_object.specs.declared.kinds.Kind.{Kind}
 use Rattle.pd_tree.specs.Trees.{Cell, Trees, Done, Leaf, Holder}
 use Rattle.pd_tree.specs.Ports.{PortBox, Sockets, with_port, port_boxes, placed, by_x, inlet_signal, outlet_signal, sockets_of, sockets_around, sockets_in}
 use Rattle.pd_fit.specs.declared.ports.Side.{Side}

@@ -1,7 +1,7 @@
 //! Boxes as wires see them.
 
 ghost use Rattle.std.specs.Prelude.{◌≡◌, IfOk};
-ghost use Rattle.pd_kind.specs.Ports.{IsSmallKind};
+ghost use Rattle.pd_object.specs.Ports.{IsSmallKind};
 ghost use Rattle.pd_tree.specs.Ports.{is_made};
 ghost use Rattle.pd_tree.specs.Trees.{stand_of};
 ghost use Rattle.pd_fit.specs.Seeing.{view_of, views_of, leaf_view, holder_view, marks};

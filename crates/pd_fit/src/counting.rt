@@ -2,7 +2,7 @@
 
 ghost use Rattle.std.specs.Prelude.{◌≡◌, ◌-◌, ◌++◌, [], nat_lt, take, drop, Some, None, OnOk, IfOk};
 ghost use Rattle.std.specs.List.{AllByRecursion};
-ghost use Rattle.pd_kind.specs.Ports.{IsSmallKind};
+ghost use Rattle.pd_object.specs.Ports.{IsSmallKind};
 ghost use Rattle.pd_tree.specs.Trees.{Trees, stand_of, stands_of, stands_in};
 ghost use Rattle.pd_fit.specs.Fitting.{wires_fitting};
 ghost use Rattle.pd_fit.specs.Seeing.{views_of};

@@ -4,9 +4,9 @@ use Rattle.std.specs.Prelude.{drop}
 use Rattle.pd_atom.specs.declared.Atom.{Atom}
 use Rattle.pd_atom.specs.declared.SymbolRefusal.{SymbolRefusal}
 use Rattle.pd_atom.specs.Names.{Names, interned, longest, name_of}
-use Rattle.pd_kind.specs.declared.kinds.Named.{Named}
-use Rattle.pd_kind.specs.declared.kinds.Named.TheVariants as named
-use Rattle.pd_kind.specs.Naming.{arguments_of, named_by}
+use Rattle.pd_object.specs.declared.kinds.Named.{Named}
+use Rattle.pd_object.specs.declared.kinds.Named.TheVariants as named
+use Rattle.pd_naming.specs.Naming.{arguments_of, named_by}
 use Rattle.pd_canvas.specs.Pages.{Shape, Obj, Msg, Comment, FloatBox, SymbolBox, Sub, Array, Other, Head, Page, Entry, elements_of}
 use Rattle.pd_library.specs.declared.answers.Answer.{Answer}
 use Rattle.pd_library.specs.declared.answers.Answer.TheVariants.{Found, Absent, Bad}

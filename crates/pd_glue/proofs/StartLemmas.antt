@@ -3,11 +3,11 @@ use Rattle.std.proofs.Common.{◌≤◌, subst, sym}
 use Rattle.std.proofs.lemmas.List.{length-map}
 use Rattle.pd_atom.specs.Names.{Names}
 use Rattle.pd_clock.specs.declared.times.Rate.{Rate}
-use Rattle.pd_kind.specs.declared.kinds.Glue.{Glue}
-use Rattle.pd_kind.specs.declared.kinds.Glue.TheVariants as glue
-use Rattle.pd_kind.specs.declared.kinds.Kind.{Kind}
-use Rattle.pd_kind.specs.declared.kinds.Kind.TheVariants as kind
-use Rattle.pd_kind.specs.Ports.{IsSmallGlue, IsSmallKind}
+use Rattle.pd_object.specs.declared.kinds.Glue.{Glue}
+use Rattle.pd_object.specs.declared.kinds.Glue.TheVariants as glue
+use Rattle.pd_object.specs.declared.kinds.Kind.{Kind}
+use Rattle.pd_object.specs.declared.kinds.Kind.TheVariants as kind
+use Rattle.pd_object.specs.Ports.{IsSmallGlue, IsSmallKind}
 use Rattle.pd_kind.specs.States.{glue_start, slot_start, start_of}
 use Rattle.pd_plain.specs.Rows.{HasText}
 use Rattle.pd_glue.specs.Rows.{KeepsList, KeepsText, IsSmallBox, IsSmall, HasTextOf, HasTexts}

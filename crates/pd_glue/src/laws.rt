@@ -2,8 +2,8 @@
 
 ghost use Rattle.pd_atom.specs.Names.{Names};
 ghost use Rattle.pd_clock.specs.declared.times.Rate.{Rate};
-ghost use Rattle.pd_kind.specs.declared.kinds.Kind.{Kind};
-ghost use Rattle.pd_kind.specs.Ports.{IsSmallKind};
+ghost use Rattle.pd_object.specs.declared.kinds.Kind.{Kind};
+ghost use Rattle.pd_object.specs.Ports.{IsSmallKind};
 ghost use Rattle.pd_kind.specs.States.{start_of};
 ghost use Rattle.pd_glue.specs.Rows.{HasTexts, IsSmall};
 

@@ -5,7 +5,7 @@ use Rattle.std.proofs.lemmas.Bool.{cases_eq}
 use Rattle.std.proofs.lemmas.Option.{same_Some, none-some}
 use Rattle.std.proofs.lemmas.List.{length-map}
 use Rattle.pd_clock.specs.declared.times.Rate.{Rate}
-use Rattle.pd_kind.specs.Ports.{IsSmallKind}
+use Rattle.pd_object.specs.Ports.{IsSmallKind}
 use Rattle.pd_kind.specs.States.{start_of}
 use Rattle.pd_kind.specs.Tables.{started}
 use Rattle.pd_tree.specs.Trees.{stand_of, stands_in}

@@ -5,7 +5,7 @@ ghost use Rattle.slab.specs.Slab.{get, ContainsKey, HasRoomFor};
 ghost use Rattle.pd_tree.specs.Trees.{Trees, Stand, width, stands_of};
 ghost use Rattle.pd_grove.specs.Standing.{HasCell, NodesOf, depth_of, board_room};
 ghost use Rattle.pd_grove.specs.Planting.{seeds_in, SeedsOf, AreRoomy, IsRoomy, stands_ready, seed_stand, HaveRoom, Keeps, Plants, PlantsInside, one};
-ghost use Rattle.pd_kind.specs.Ports.{IsSmallKind};
+ghost use Rattle.pd_object.specs.Ports.{IsSmallKind};
 ghost use Rattle.pd_tree.specs.declared.rows.Sheet.{Sheet};
 ghost use Rattle.pd_clock.specs.declared.times.Rate.{Rate};
 ghost use Rattle.pd_grove.specs.States.{IsFresh, AreFresh, NodesFresh, SeedsSmall, NodesSmall};

@@ -1,7 +1,7 @@
 //! Boxes that are ready to be planted: all that they will need is there.
 
 ghost use Rattle.std.specs.Prelude.{◌≡◌, ◌∷◌, [], MatchOption, IfOk};
-ghost use Rattle.pd_kind.specs.Ports.{IsSmallKind};
+ghost use Rattle.pd_object.specs.Ports.{IsSmallKind};
 ghost use Rattle.pd_tree.specs.Trees.{stands_in};
 ghost use Rattle.pd_grove.specs.Planting.{seeds_in, stands_ready, IsRoomy, AreRoomy};
 ghost use Rattle.pd_grove.specs.States.{AreSmall, IsFresh, AreFresh, SeedsSmall};

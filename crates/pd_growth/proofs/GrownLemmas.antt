@@ -3,7 +3,7 @@ use Rattle.std.proofs.Common.{◌≡◌, ℕ, List, [], ◌∷◌, Option, refl,
 use Rattle.pd_atom.specs.Names.{Names}
 use Rattle.pd_canvas.specs.Pages.{Page}
 use Rattle.pd_library.specs.declared.answers.Answer.{Answer}
-use Rattle.pd_kind.specs.Ports.{IsSmallKind}
+use Rattle.pd_object.specs.Ports.{IsSmallKind}
 use Rattle.std.specs.List.{AllByRecursion}
 use Rattle.pd_tree.specs.declared.rows.Row.{Row}
 use Rattle.pd_tree.specs.Trees.{Tree, sheet_of}

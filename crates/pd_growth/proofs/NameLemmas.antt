@@ -6,11 +6,11 @@ use Rattle.pd_atom.specs.declared.Atom.{Atom}
 use Rattle.pd_atom.specs.declared.Atom.TheVariants as atom
 use Rattle.pd_atom.specs.Names.{Names, name_of}
 use Rattle.pd_atom.specs.Atoms.{IsOf}
-use Rattle.pd_kind.specs.declared.kinds.Kind.{Kind}
-use Rattle.pd_kind.specs.declared.kinds.Named.{Named}
-use Rattle.pd_kind.specs.declared.kinds.Named.TheVariants as named
-use Rattle.pd_kind.specs.Ports.{IsSmallNamed}
-use Rattle.pd_kind.specs.Naming.{named_by, object_named, kind_or_abstraction, begins_foreign, word_kind}
+use Rattle.pd_object.specs.declared.kinds.Kind.{Kind}
+use Rattle.pd_object.specs.declared.kinds.Named.{Named}
+use Rattle.pd_object.specs.declared.kinds.Named.TheVariants as named
+use Rattle.pd_object.specs.Ports.{IsSmallNamed}
+use Rattle.pd_naming.specs.Naming.{named_by, object_named, kind_or_abstraction, begins_foreign, word_kind}
 use Rattle.pd_growth.specs.Growing.{NameSuits}
 
 -- an abstraction of this name, or a kind

@@ -7,8 +7,8 @@ use Rattle.pd_canvas.specs.declared.tree.Element.{Element}
 use Rattle.pd_canvas.specs.Pages.{Head, Page, Entry, elements_of}
 use Rattle.pd_canvas.specs.Views.{entry_of, entries_of}
 use Rattle.pd_library.specs.declared.answers.Answer.{Answer}
-use Rattle.pd_kind.specs.declared.kinds.Kind.{Kind}
-use Rattle.pd_kind.specs.declared.kinds.Kind.TheVariants as kind
+use Rattle.pd_object.specs.declared.kinds.Kind.{Kind}
+use Rattle.pd_object.specs.declared.kinds.Kind.TheVariants as kind
 use Rattle.pd_tree.specs.declared.rows.Fault.{Fault}
 use Rattle.pd_tree.specs.declared.rows.Row.{Row}
 use Rattle.pd_tree.specs.declared.rows.Sheet.{Sheet}

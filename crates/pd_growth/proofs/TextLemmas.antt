@@ -12,7 +12,7 @@ use Rattle.pd_atom.specs.declared.SymbolRefusal.TheVariants.{Full}
 use Rattle.pd_atom.specs.Names.{Names, Extends, Outcome, given, refused, answer_map, outcome_map}
 use Rattle.pd_atom.specs.Atoms.{IsOf}
 use Rattle.pd_atom.specs.Expansion.{expanded}
-use Rattle.pd_kind.specs.Naming.{is_argument, arguments_of}
+use Rattle.pd_naming.specs.Naming.{is_argument, arguments_of}
 use Rattle.pd_growth.specs.declared.growing.Stop.{Stop}
 use Rattle.pd_growth.specs.declared.growing.Stop.TheVariants.{SymbolsFull, TooManyBoxes, Lacks, NoMemory}
 use Rattle.pd_growth.specs.Steps.{outcome_after, outcome_then, text_expanded}

@@ -9,7 +9,7 @@ use Rattle.pd_tree.specs.Trees.{Tree, Trees, Done, Stand, width, stands_of, stan
 use Rattle.pd_tree.specs.declared.rows.Sheet.{Sheet}
 use Rattle.pd_canvas.specs.Pages.{Head, Entry}
 use Rattle.pd_atom.specs.declared.Atom.{Atom}
-use Rattle.pd_kind.specs.declared.kinds.Kind.TheVariants as kind
+use Rattle.pd_object.specs.declared.kinds.Kind.TheVariants as kind
 use Rattle.pd_growth.specs.declared.growing.Stop.{Stop}
 use Rattle.pd_growth.specs.declared.growing.Stop.TheVariants.{SymbolsFull, TooManyBoxes, Lacks, NoMemory}
 use Rattle.pd_growth.specs.declared.documents.Grown.{Grown}
@@ -18,9 +18,9 @@ use Rattle.pd_growth.specs.declared.scope.Scope.{Scope}
 use Rattle.pd_growth.specs.declared.scope.Setting.{Setting}
 use Rattle.pd_growth.specs.declared.making.Made.{Made}
 use Rattle.pd_growth.specs.declared.making.Made.TheVariants as made
-use Rattle.pd_kind.specs.declared.kinds.Named.{Named}
-use Rattle.pd_kind.specs.declared.kinds.Named.TheVariants as named
-use Rattle.pd_kind.specs.Ports.{IsSmallKind}
+use Rattle.pd_object.specs.declared.kinds.Named.{Named}
+use Rattle.pd_object.specs.declared.kinds.Named.TheVariants as named
+use Rattle.pd_object.specs.Ports.{IsSmallKind}
 use Rattle.pd_canvas.specs.Proper.{levels}
 use Rattle.pd_library.specs.Files.{answer_in}
 use Rattle.pd_growth.specs.Steps.{Stock, Step, gives, ends, goes_on, zeros_from}

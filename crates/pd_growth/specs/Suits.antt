@@ -4,7 +4,7 @@ use Rattle.std.specs.List.{All}
 use Rattle.pd_atom.specs.Names.{Names}
 use Rattle.pd_atom.specs.Atoms.{IsOf}
 use Rattle.pd_atom.specs.declared.Atom.{Atom}
-use Rattle.pd_kind.specs.Ports.{IsSmallKind}
+use Rattle.pd_object.specs.Ports.{IsSmallKind}
 use Rattle.pd_canvas.specs.Pages.{Boxes, End, Box, Page, Entry, weight}
 use Rattle.pd_canvas.specs.Proper.{levels, levels_of}
 use Rattle.pd_library.specs.declared.answers.Answer.{Answer}

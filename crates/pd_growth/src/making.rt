@@ -13,10 +13,10 @@ ghost use Rattle.pd_growth.specs.Growing.{Tells, around_of, lib_of, making_of, S
 ghost use Rattle.pd_growth.specs.Suits.{TextSuits, FilesSuit, AnswerSuits, PageSuits};
 ghost use Rattle.pd_atom.specs.Names.{Names};
 ghost use Rattle.pd_atom.specs.Atoms.{IsOf};
-ghost use Rattle.pd_kind.specs.Naming.{named_by};
-ghost use Rattle.pd_kind.specs.declared.kinds.Kind.TheVariants as kind;
-ghost use Rattle.pd_kind.specs.declared.kinds.Glue.TheVariants as glue_of;
-ghost use Rattle.pd_kind.specs.Ports.{IsSmallKind};
+ghost use Rattle.pd_naming.specs.Naming.{named_by};
+ghost use Rattle.pd_object.specs.declared.kinds.Kind.TheVariants as kind;
+ghost use Rattle.pd_object.specs.declared.kinds.Glue.TheVariants as glue_of;
+ghost use Rattle.pd_object.specs.Ports.{IsSmallKind};
 
 use crate::growing::Stop;
 use crate::scope::{Scope, Setting};

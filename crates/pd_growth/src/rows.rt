@@ -3,8 +3,8 @@
 ghost use Rattle.std.specs.Prelude.{◌≡◌, ◌≤◌, ◌++◌, ◌∷◌, [], None, Some, length, IfOk};
 ghost use Rattle.std.specs.List.{AllByRecursion};
 ghost use Rattle.pd_atom.specs.Names.{Names};
-ghost use Rattle.pd_kind.specs.Ports.{IsSmallKind};
-ghost use Rattle.pd_kind.specs.declared.kinds.Kind.TheVariants as kind_of;
+ghost use Rattle.pd_object.specs.Ports.{IsSmallKind};
+ghost use Rattle.pd_object.specs.declared.kinds.Kind.TheVariants as kind_of;
 ghost use Rattle.pd_canvas.specs.Pages.{elements_of};
 ghost use Rattle.pd_canvas.specs.Views.{shape_of, entry_of};
 ghost use Rattle.pd_tree.specs.Trees.{Leaf, Done, Stand, stands_of, stands_in, stand_of, sheet_of};

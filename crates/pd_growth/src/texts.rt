@@ -5,7 +5,7 @@ ghost use Rattle.std.specs.List.{All};
 ghost use Rattle.pd_atom.specs.Names.{Extends, name_of, outcome_map};
 ghost use Rattle.pd_atom.specs.Atoms.{IsOf};
 ghost use Rattle.pd_atom.specs.Expansion.{expanded};
-ghost use Rattle.pd_kind.specs.Naming.{is_argument as counts, arguments_of};
+ghost use Rattle.pd_naming.specs.Naming.{is_argument as counts, arguments_of};
 ghost use Rattle.pd_canvas.specs.Views.{shape_of, entry_of};
 ghost use Rattle.pd_growth.specs.Steps.{Stock, outcome_then, text_expanded, with_names, brought};
 ghost use Rattle.pd_growth.specs.Making.{is_expanded};

@@ -6,22 +6,22 @@ use Rattle.pd_num.specs.Scale.{saturated}
 use Rattle.std.specs.Prelude.{int_div, int_lt}
 use Rattle.pd_atom.specs.Names.{Names}
 use Rattle.pd_atom.specs.declared.Atom.{Atom}
-use Rattle.pd_kind.specs.declared.kinds.Arith.{Arith}
-use Rattle.pd_kind.specs.declared.kinds.Arith.TheVariants as arith_kind
-use Rattle.pd_kind.specs.declared.kinds.Kind.{Kind}
-use Rattle.pd_kind.specs.declared.kinds.Kind.TheVariants as kind
-use Rattle.pd_kind.specs.declared.kinds.Operation.{Operation}
-use Rattle.pd_kind.specs.declared.kinds.Operation.TheVariants as operation
-use Rattle.pd_kind.specs.declared.kinds.Comparison.{Comparison}
-use Rattle.pd_kind.specs.declared.kinds.Comparison.TheVariants as comparison
-use Rattle.pd_kind.specs.declared.kinds.Division.{Division}
-use Rattle.pd_kind.specs.declared.kinds.Division.TheVariants as division
-use Rattle.pd_kind.specs.declared.kinds.Function.{Function}
-use Rattle.pd_kind.specs.declared.kinds.Function.TheVariants as function
+use Rattle.pd_object.specs.declared.kinds.Arith.{Arith}
+use Rattle.pd_object.specs.declared.kinds.Arith.TheVariants as arith_kind
+use Rattle.pd_object.specs.declared.kinds.Kind.{Kind}
+use Rattle.pd_object.specs.declared.kinds.Kind.TheVariants as kind
+use Rattle.pd_object.specs.declared.kinds.Operation.{Operation}
+use Rattle.pd_object.specs.declared.kinds.Operation.TheVariants as operation
+use Rattle.pd_object.specs.declared.kinds.Comparison.{Comparison}
+use Rattle.pd_object.specs.declared.kinds.Comparison.TheVariants as comparison
+use Rattle.pd_object.specs.declared.kinds.Division.{Division}
+use Rattle.pd_object.specs.declared.kinds.Division.TheVariants as division
+use Rattle.pd_object.specs.declared.kinds.Function.{Function}
+use Rattle.pd_object.specs.declared.kinds.Function.TheVariants as function
 use Rattle.pd_kind.specs.declared.messages.Sort.{Sort}
 use Rattle.pd_kind.specs.declared.messages.Sort.TheVariants as sort
-use Rattle.pd_kind.specs.declared.row_names.Row.{Row}
-use Rattle.pd_kind.specs.declared.row_names.Row.TheVariants as row
+use Rattle.pd_object.specs.declared.row_names.Row.{Row}
+use Rattle.pd_object.specs.declared.row_names.Row.TheVariants as row
 use Rattle.pd_kind.specs.declared.states.State.{State}
 use Rattle.pd_kind.specs.declared.states.State.TheVariants as state
 use Rattle.pd_kind.specs.Messages.{sort_of}

@@ -5,7 +5,7 @@ use Rattle.std.specs.List.{AllByRecursion}
 use Rattle.pd_atom.specs.Names.{Names}
 use Rattle.pd_atom.specs.declared.Atom.{Atom}
 use Rattle.pd_atom.specs.declared.Atom.TheVariants as atom
-use Rattle.pd_kind.specs.declared.row_names.Row.{Row}
+use Rattle.pd_object.specs.declared.row_names.Row.{Row}
 use Rattle.pd_kind.specs.declared.messages.Sort.{Sort}
 use Rattle.pd_kind.specs.declared.messages.Sort.TheVariants as sort
 use Rattle.pd_kind.specs.declared.messages.Target.{Target}
@@ -13,7 +13,7 @@ use Rattle.pd_kind.specs.declared.messages.Target.TheVariants as target
 use Rattle.pd_kind.specs.declared.messages.Notice.TheVariants.{MessageCut}
 use Rattle.pd_kind.specs.declared.states.State.{State}
 use Rattle.pd_kind.specs.Messages.{float_sort, symbol_sort, sort_of}
-use Rattle.pd_kind.specs.Naming.{number_or}
+use Rattle.pd_naming.specs.Naming.{number_or}
 use Rattle.pd_kind.specs.Hearing.{sort_of_atom, first_sort, told, stored}
 use Rattle.pd_kind.specs.Rows.{Send}
 use Rattle.pd_kind.specs.Said.{silent, sends_only, send_to, bang_to, number_to, symbol_to, deaf}

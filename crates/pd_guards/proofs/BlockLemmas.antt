@@ -3,18 +3,18 @@ use Rattle.std.proofs.Common.{ℕ, ℤ, pos, zero, suc, ◌+◌, ◌*◌, ◌≤
 use Rattle.std.specs.List.{AllByRecursion, range_with_len}
 use Rattle.pd_num.specs.Scale.{signal_of}
 use Rattle.pd_atom.specs.Names.{Names}
-use Rattle.pd_kind.specs.declared.kinds.Kind.{Kind}
-use Rattle.pd_kind.specs.declared.kinds.Kind.TheVariants as kind
-use Rattle.pd_kind.specs.declared.kinds.Signal.{Signal}
-use Rattle.pd_kind.specs.declared.kinds.Signal.TheVariants as signal
-use Rattle.pd_kind.specs.declared.kinds.SignalOperation.{SignalOperation}
-use Rattle.pd_kind.specs.declared.kinds.SignalFunction.{SignalFunction}
-use Rattle.pd_kind.specs.declared.kinds.Tone.{Tone}
-use Rattle.pd_kind.specs.declared.kinds.Tone.TheVariants as tone
+use Rattle.pd_object.specs.declared.kinds.Kind.{Kind}
+use Rattle.pd_object.specs.declared.kinds.Kind.TheVariants as kind
+use Rattle.pd_object.specs.declared.kinds.Signal.{Signal}
+use Rattle.pd_object.specs.declared.kinds.Signal.TheVariants as signal
+use Rattle.pd_object.specs.declared.kinds.SignalOperation.{SignalOperation}
+use Rattle.pd_object.specs.declared.kinds.SignalFunction.{SignalFunction}
+use Rattle.pd_object.specs.declared.kinds.Tone.{Tone}
+use Rattle.pd_object.specs.declared.kinds.Tone.TheVariants as tone
 use Rattle.pd_kind.specs.declared.states.State.{State}
 use Rattle.pd_kind.specs.declared.states.State.TheVariants as state
 use Rattle.pd_kind.specs.declared.tables.Line.{Line}
-use Rattle.pd_kind.specs.Ports.{ports_of}
+use Rattle.pd_object.specs.Ports.{ports_of}
 use Rattle.pd_kind.specs.States.{silent_block}
 use Rattle.pd_kind.specs.Tables.{table_of, shared_of, with_shared, block_begun}
 use Rattle.pd_tone.specs.Tones.{circle, phases}

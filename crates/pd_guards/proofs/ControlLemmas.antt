@@ -2,10 +2,10 @@
 use Rattle.std.proofs.Common.{ℕ, ℤ, List, Option, IfSome}
 use Rattle.pd_atom.specs.Names.{Names}
 use Rattle.pd_atom.specs.declared.Atom.{Atom}
-use Rattle.pd_kind.specs.declared.kinds.Kind.{Kind}
-use Rattle.pd_kind.specs.declared.kinds.Kind.TheVariants as kind
-use Rattle.pd_kind.specs.declared.kinds.Glue.{Glue}
-use Rattle.pd_kind.specs.declared.kinds.Glue.TheVariants as glue
+use Rattle.pd_object.specs.declared.kinds.Kind.{Kind}
+use Rattle.pd_object.specs.declared.kinds.Kind.TheVariants as kind
+use Rattle.pd_object.specs.declared.kinds.Glue.{Glue}
+use Rattle.pd_object.specs.declared.kinds.Glue.TheVariants as glue
 use Rattle.pd_kind.specs.declared.states.State.{State}
 use Rattle.pd_kind.specs.Hearing.{Heard}
 use Rattle.pd_glue.specs.Rows.{with_names, quiet, tone_row, signal_row, glue_heard, heard, fired, resumed}

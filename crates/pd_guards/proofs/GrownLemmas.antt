@@ -7,12 +7,12 @@ use Rattle.pd_atom.specs.declared.SymbolRefusal.{SymbolRefusal}
 use Rattle.pd_atom.specs.Names.{Names, Extends, Outcome, given, name_of}
 use Rattle.pd_atom.specs.Expansion.{expanded}
 use Rattle.pd_atom.proofs.LawLemmas.{settled_number}
-use Rattle.pd_kind.specs.declared.kinds.Kind.{Kind}
-use Rattle.pd_kind.specs.declared.kinds.Kind.TheVariants as kind
-use Rattle.pd_kind.specs.declared.kinds.Named.{Named}
-use Rattle.pd_kind.specs.declared.kinds.Named.TheVariants as named
+use Rattle.pd_object.specs.declared.kinds.Kind.{Kind}
+use Rattle.pd_object.specs.declared.kinds.Kind.TheVariants as kind
+use Rattle.pd_object.specs.declared.kinds.Named.{Named}
+use Rattle.pd_object.specs.declared.kinds.Named.TheVariants as named
 use Rattle.pd_kind.specs.States.{start_of}
-use Rattle.pd_kind.specs.Naming.{arguments_of, named_by}
+use Rattle.pd_naming.specs.Naming.{arguments_of, named_by}
 use Rattle.pd_canvas.specs.Pages.{Shape, Obj, Msg, Comment, FloatBox, SymbolBox, Sub, Array, Other, Head, Boxes, End, Box, Page, Entry, listed, elements_of}
 use Rattle.pd_canvas.specs.Proper.{IsReady, AreReady, FitsForm, IsHead, AreBoxes, levels}
 use Rattle.pd_library.specs.declared.answers.Answer.{Answer}

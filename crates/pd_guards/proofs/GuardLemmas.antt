@@ -7,15 +7,15 @@ use Rattle.pd_atom.specs.Atoms.{IsOf}
 use Rattle.pd_atom.specs.declared.Atom.{Atom}
 use Rattle.pd_atom.specs.declared.Atom.TheVariants as atom
 use Rattle.pd_atom.proofs.NameLemmas.{lt_true}
-use Rattle.pd_kind.specs.declared.kinds.Kind.{Kind}
-use Rattle.pd_kind.specs.declared.kinds.Kind.TheVariants as kind
-use Rattle.pd_kind.specs.declared.kinds.Glue.{Glue}
-use Rattle.pd_kind.specs.declared.kinds.Glue.TheVariants as glue
+use Rattle.pd_object.specs.declared.kinds.Kind.{Kind}
+use Rattle.pd_object.specs.declared.kinds.Kind.TheVariants as kind
+use Rattle.pd_object.specs.declared.kinds.Glue.{Glue}
+use Rattle.pd_object.specs.declared.kinds.Glue.TheVariants as glue
 use Rattle.pd_kind.specs.declared.states.State.{State}
 use Rattle.pd_kind.specs.declared.states.State.TheVariants as state
 use Rattle.pd_kind.specs.declared.messages.Notice.{Notice}
 use Rattle.pd_kind.specs.declared.messages.Notice.TheVariants as notice
-use Rattle.pd_kind.specs.Ports.{IsSmallGlue}
+use Rattle.pd_object.specs.Ports.{IsSmallGlue}
 use Rattle.pd_hearing.specs.Guards.{is_name, is_atom, are_atoms, is_few, is_message, is_table, is_small_glue, has_text, is_small_state, keeps_list, keeps_message, keeps_text, is_small_box, is_small, is_open, is_known}
 use Rattle.pd_walk.specs.Tasks.{is_near}
 use Rattle.pd_guards.specs.Order.{IsName, IsAtom, AreAtoms, IsMessage, IsTable, IsKept, HasWords, IsGlue, IsKind, IsNotice}

@@ -9,11 +9,11 @@ use Rattle.pd_clock.specs.declared.times.Rate.{Rate}
 use Rattle.pd_clock.specs.declared.times.Rate.TheVariants.{R44100, R48000, R88200, R96000}
 use Rattle.pd_clock.specs.Rates.{samples}
 use Rattle.pd_kind.specs.Books.{with_times}
-use Rattle.pd_kind.specs.declared.kinds.Kind.{Kind}
-use Rattle.pd_kind.specs.declared.kinds.Kind.TheVariants as kind
+use Rattle.pd_object.specs.declared.kinds.Kind.{Kind}
+use Rattle.pd_object.specs.declared.kinds.Kind.TheVariants as kind
 use Rattle.pd_kind.specs.declared.messages.Sort.{Sort}
 use Rattle.pd_kind.specs.declared.messages.Sort.TheVariants as sort
-use Rattle.pd_kind.specs.declared.row_names.SignalRow.{SignalRow}
+use Rattle.pd_object.specs.declared.row_names.SignalRow.{SignalRow}
 use Rattle.pd_kind.specs.declared.states.Ramp.{Ramp}
 use Rattle.pd_kind.specs.declared.states.Ramps.{Ramps}
 use Rattle.pd_kind.specs.declared.states.Slope.{Slope}

@@ -2,12 +2,12 @@
 use Rattle.std.proofs.Common.{◌≤◌, ℤ, ℕ, zero, suc, pos, ◌==◌, nat_lt, List, codes, bytes_eq, arith}
 use Rattle.pd_atom.specs.Names.{Names, name_of}
 use Rattle.pd_atom.specs.declared.Atom.{Atom}
-use Rattle.pd_kind.specs.declared.kinds.Kind.{Kind}
-use Rattle.pd_kind.specs.declared.kinds.Kind.TheVariants as kind
+use Rattle.pd_object.specs.declared.kinds.Kind.{Kind}
+use Rattle.pd_object.specs.declared.kinds.Kind.TheVariants as kind
 use Rattle.pd_kind.specs.declared.messages.Sort.{Sort}
 use Rattle.pd_kind.specs.declared.messages.Sort.TheVariants as sort
-use Rattle.pd_kind.specs.declared.row_names.Row.TheVariants.{Sounding}
-use Rattle.pd_kind.specs.declared.row_names.SignalRow.TheVariants as row
+use Rattle.pd_object.specs.declared.row_names.Row.TheVariants.{Sounding}
+use Rattle.pd_object.specs.declared.row_names.SignalRow.TheVariants as row
 use Rattle.pd_kind.specs.declared.states.Ramp.{Ramp}
 use Rattle.pd_kind.specs.declared.states.Ramps.{Ramps}
 use Rattle.pd_kind.specs.declared.states.State.{State}

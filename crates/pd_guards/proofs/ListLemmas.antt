@@ -5,17 +5,17 @@ use Rattle.std.specs.List.{AllByRecursion}
 use Rattle.pd_atom.specs.Names.{Names}
 use Rattle.pd_atom.specs.declared.Atom.{Atom}
 use Rattle.pd_atom.specs.declared.Atom.TheVariants as atom
-use Rattle.pd_kind.specs.declared.kinds.Glue.{Glue}
-use Rattle.pd_kind.specs.declared.kinds.Glue.TheVariants as glue
-use Rattle.pd_kind.specs.declared.kinds.Slot.{Slot}
-use Rattle.pd_kind.specs.declared.kinds.Slot.TheVariants as slot
-use Rattle.pd_kind.specs.declared.kinds.Trigger.{Trigger}
-use Rattle.pd_kind.specs.declared.kinds.Trigger.TheVariants as trigger
+use Rattle.pd_object.specs.declared.kinds.Glue.{Glue}
+use Rattle.pd_object.specs.declared.kinds.Glue.TheVariants as glue
+use Rattle.pd_object.specs.declared.kinds.Slot.{Slot}
+use Rattle.pd_object.specs.declared.kinds.Slot.TheVariants as slot
+use Rattle.pd_object.specs.declared.kinds.Trigger.{Trigger}
+use Rattle.pd_object.specs.declared.kinds.Trigger.TheVariants as trigger
 use Rattle.pd_kind.specs.declared.messages.Sort.{Sort}
 use Rattle.pd_kind.specs.declared.messages.Sort.TheVariants as sort
 use Rattle.pd_kind.specs.declared.messages.Target.TheVariants as target
-use Rattle.pd_kind.specs.declared.row_names.Row.{Row}
-use Rattle.pd_kind.specs.declared.row_names.Row.TheVariants as row
+use Rattle.pd_object.specs.declared.row_names.Row.{Row}
+use Rattle.pd_object.specs.declared.row_names.Row.TheVariants as row
 use Rattle.pd_kind.specs.declared.states.State.{State}
 use Rattle.pd_kind.specs.declared.states.State.TheVariants as state
 use Rattle.pd_kind.specs.Forming.{float_in, list_send, message_send, cut_atoms, atoms_with_selector}

@@ -4,12 +4,12 @@ use Rattle.pd_atom.specs.Names.{Names, Extends}
 use Rattle.pd_atom.specs.Atoms.{IsOf}
 use Rattle.pd_atom.specs.declared.Atom.{Atom}
 use Rattle.pd_atom.specs.declared.Atom.TheVariants as atom
-use Rattle.pd_kind.specs.declared.kinds.Kind.{Kind}
-use Rattle.pd_kind.specs.declared.kinds.Kind.TheVariants as kind
-use Rattle.pd_kind.specs.declared.kinds.Glue.{Glue}
-use Rattle.pd_kind.specs.declared.kinds.Glue.TheVariants as glue
-use Rattle.pd_kind.specs.declared.kinds.Panel.{Panel}
-use Rattle.pd_kind.specs.declared.kinds.Panel.TheVariants as panel
+use Rattle.pd_object.specs.declared.kinds.Kind.{Kind}
+use Rattle.pd_object.specs.declared.kinds.Kind.TheVariants as kind
+use Rattle.pd_object.specs.declared.kinds.Glue.{Glue}
+use Rattle.pd_object.specs.declared.kinds.Glue.TheVariants as glue
+use Rattle.pd_object.specs.declared.kinds.Panel.{Panel}
+use Rattle.pd_object.specs.declared.kinds.Panel.TheVariants as panel
 use Rattle.pd_kind.specs.declared.states.State.{State}
 use Rattle.pd_kind.specs.declared.states.State.TheVariants as state
 use Rattle.pd_kind.specs.declared.messages.Target.{Target}

@@ -1,38 +1,38 @@
 -- The kind that a text names is in order, and so is what a box of it keeps at first.
 use Rattle.std.proofs.Common.{◌≡◌, ℕ, ℤ, pos, zero, suc, ◌+◌, ◌<◌, ◌≤◌, ◌^◌, Bool, cond, ◌==◌, List, [], ◌∷◌, length, map, replicate, slice_get, Option, Some, None, IfSome, option_map, codes, bytes_eq, subst, arith, rules}
 use Rattle.std.proofs.lemmas.List.{length-replicate, length-map}
-use Rattle.pd_kind.specs.declared.kinds.Spelling.{Spelling}
-use Rattle.pd_kind.specs.declared.kinds.Spelling.TheVariants.{Whole, Short}
+use Rattle.pd_object.specs.declared.kinds.Spelling.{Spelling}
+use Rattle.pd_object.specs.declared.kinds.Spelling.TheVariants.{Whole, Short}
 use Rattle.std.specs.List.{filter}
 use Rattle.std.specs.List.{AllByRecursion}
 use Rattle.pd_atom.specs.Names.{Names, name_of}
 use Rattle.pd_atom.specs.declared.Atom.{Atom}
 use Rattle.pd_atom.specs.declared.Atom.TheVariants as atom
 use Rattle.pd_clock.specs.declared.times.Rate.{Rate}
-use Rattle.pd_kind.specs.declared.kinds.Kind.{Kind}
-use Rattle.pd_kind.specs.declared.kinds.Kind.TheVariants as kind
-use Rattle.pd_kind.specs.declared.kinds.Named.{Named}
-use Rattle.pd_kind.specs.declared.kinds.Named.TheVariants as named
-use Rattle.pd_kind.specs.declared.kinds.Arith.{Arith}
-use Rattle.pd_kind.specs.declared.kinds.Arith.TheVariants as arith
-use Rattle.pd_kind.specs.declared.kinds.Glue.{Glue}
-use Rattle.pd_kind.specs.declared.kinds.Glue.TheVariants as glue
-use Rattle.pd_kind.specs.declared.kinds.Slot.{Slot}
-use Rattle.pd_kind.specs.declared.kinds.Slot.TheVariants as slot
-use Rattle.pd_kind.specs.declared.kinds.Trigger.TheVariants as trigger
-use Rattle.pd_kind.specs.declared.kinds.Tone.{Tone}
-use Rattle.pd_kind.specs.declared.kinds.Tone.TheVariants as tone
-use Rattle.pd_kind.specs.declared.kinds.Signal.{Signal}
-use Rattle.pd_kind.specs.declared.kinds.Signal.TheVariants as signal
-use Rattle.pd_kind.specs.declared.kinds.Panel.{Panel}
-use Rattle.pd_kind.specs.declared.kinds.Panel.TheVariants as panel
+use Rattle.pd_object.specs.declared.kinds.Kind.{Kind}
+use Rattle.pd_object.specs.declared.kinds.Kind.TheVariants as kind
+use Rattle.pd_object.specs.declared.kinds.Named.{Named}
+use Rattle.pd_object.specs.declared.kinds.Named.TheVariants as named
+use Rattle.pd_object.specs.declared.kinds.Arith.{Arith}
+use Rattle.pd_object.specs.declared.kinds.Arith.TheVariants as arith
+use Rattle.pd_object.specs.declared.kinds.Glue.{Glue}
+use Rattle.pd_object.specs.declared.kinds.Glue.TheVariants as glue
+use Rattle.pd_object.specs.declared.kinds.Slot.{Slot}
+use Rattle.pd_object.specs.declared.kinds.Slot.TheVariants as slot
+use Rattle.pd_object.specs.declared.kinds.Trigger.TheVariants as trigger
+use Rattle.pd_object.specs.declared.kinds.Tone.{Tone}
+use Rattle.pd_object.specs.declared.kinds.Tone.TheVariants as tone
+use Rattle.pd_object.specs.declared.kinds.Signal.{Signal}
+use Rattle.pd_object.specs.declared.kinds.Signal.TheVariants as signal
+use Rattle.pd_object.specs.declared.kinds.Panel.{Panel}
+use Rattle.pd_object.specs.declared.kinds.Panel.TheVariants as panel
 use Rattle.pd_kind.specs.declared.messages.Sort.TheVariants as sort
 use Rattle.pd_kind.specs.declared.states.State.{State}
 use Rattle.pd_kind.specs.declared.states.State.TheVariants as state
-use Rattle.pd_kind.specs.Ports.{IsSmallGlue}
+use Rattle.pd_object.specs.Ports.{IsSmallGlue}
 use Rattle.pd_kind.specs.Tables.{started}
 use Rattle.pd_kind.specs.States.{table_size, slot_start, or_one, or_zero, line_length, arith_start, glue_start, tone_start, signal_start, panel_start, glue_size}
-use Rattle.pd_kind.specs.Naming.{first_of, is_argument, arguments_of, number_at, name_at, symbol_in, operation_named, comparison_named, division_named, arith_named, plain_named, timed_named, or_symbol, addressed_named, trigger_letter, first_letter, trigger_of, slot_of, or_default, triggers_of, slots_of, choices_of, listed_named, tone_named, number_in, first_number, mixed_named, shaped_named, shared_named, signal_named, unless_empty, panel_name, panel_named, glue_named, sounding_kind, control_kind, simple_kind, listed_kind, is_whole_text, word_kind, kind_or_abstraction, begins_foreign, list_of_word, list_of, list_named, object_named, named_by, channels_of}
+use Rattle.pd_naming.specs.Naming.{first_of, is_argument, arguments_of, number_at, name_at, symbol_in, operation_named, comparison_named, division_named, arith_named, plain_named, timed_named, or_symbol, addressed_named, trigger_letter, first_letter, trigger_of, slot_of, or_default, triggers_of, slots_of, choices_of, listed_named, tone_named, number_in, first_number, mixed_named, shaped_named, shared_named, signal_named, unless_empty, panel_name, panel_named, glue_named, sounding_kind, control_kind, simple_kind, listed_kind, is_whole_text, word_kind, kind_or_abstraction, begins_foreign, list_of_word, list_of, list_named, object_named, named_by, channels_of}
 use Rattle.pd_guards.specs.Order.{IsNumber, HasFirst, IsName, IsAtom, AreAtoms, IsList, IsTable, IsKept, IsConstant, HasWords, IsGlue, IsPanel}
 use Rattle.pd_guards.specs.Growing.{IsBorn}
 use Rattle.pd_guards.specs.Sounds.{IsValue, HasValues}

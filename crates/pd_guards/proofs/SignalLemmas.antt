@@ -8,10 +8,10 @@ use Rattle.pd_num.specs.Scale.{billionths, saturated, signal_of, sum_of, product
 use Rattle.pd_clock.specs.declared.times.Rate.{Rate}
 use Rattle.pd_clock.specs.declared.times.Rate.TheVariants.{R44100, R48000, R88200, R96000}
 use Rattle.pd_clock.specs.Rates.{samples}
-use Rattle.pd_kind.specs.declared.kinds.SignalOperation.{SignalOperation}
-use Rattle.pd_kind.specs.declared.kinds.SignalOperation.TheVariants as operation
-use Rattle.pd_kind.specs.declared.kinds.SignalFunction.{SignalFunction}
-use Rattle.pd_kind.specs.declared.kinds.SignalFunction.TheVariants as function
+use Rattle.pd_object.specs.declared.kinds.SignalOperation.{SignalOperation}
+use Rattle.pd_object.specs.declared.kinds.SignalOperation.TheVariants as operation
+use Rattle.pd_object.specs.declared.kinds.SignalFunction.{SignalFunction}
+use Rattle.pd_object.specs.declared.kinds.SignalFunction.TheVariants as function
 use Rattle.pd_kind.specs.declared.states.Ramp.{Ramp}
 use Rattle.pd_kind.specs.declared.states.Slope.{Slope}
 use Rattle.pd_kind.specs.States.{silent_block}

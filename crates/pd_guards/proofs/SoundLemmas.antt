@@ -6,8 +6,8 @@ use Rattle.pd_atom.specs.declared.Atom.{Atom}
 use Rattle.pd_atom.specs.declared.Atom.TheVariants as atom
 use Rattle.pd_kind.specs.declared.messages.Sort.{Sort}
 use Rattle.pd_kind.specs.declared.messages.Sort.TheVariants as sort
-use Rattle.pd_kind.specs.declared.row_names.Row.TheVariants.{Sounding}
-use Rattle.pd_kind.specs.declared.row_names.SignalRow.{SignalRow}
+use Rattle.pd_object.specs.declared.row_names.Row.TheVariants.{Sounding}
+use Rattle.pd_object.specs.declared.row_names.SignalRow.{SignalRow}
 use Rattle.pd_kind.specs.declared.states.State.{State}
 use Rattle.pd_kind.specs.declared.states.State.TheVariants as state
 use Rattle.pd_kind.specs.Hearing.{first_sort}

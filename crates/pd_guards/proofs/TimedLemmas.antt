@@ -10,7 +10,7 @@ use Rattle.pd_kind.specs.declared.messages.Deed.TheVariants as deed
 use Rattle.pd_kind.specs.declared.messages.Sort.{Sort}
 use Rattle.pd_kind.specs.declared.messages.Sort.TheVariants as sort
 use Rattle.pd_kind.specs.declared.messages.Target.TheVariants as target
-use Rattle.pd_kind.specs.declared.row_names.Row.TheVariants as row
+use Rattle.pd_object.specs.declared.row_names.Row.TheVariants as row
 use Rattle.pd_kind.specs.Messages.{sort_of}
 use Rattle.pd_kind.specs.Rows.{Send}
 use Rattle.pd_kind.specs.Said.{bang_to}

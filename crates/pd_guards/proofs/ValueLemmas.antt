@@ -9,9 +9,9 @@ use Rattle.pd_atom.specs.declared.Atom.TheVariants as atom
 use Rattle.pd_kind.specs.declared.messages.Sort.{Sort}
 use Rattle.pd_kind.specs.declared.messages.Sort.TheVariants as sort
 use Rattle.pd_kind.specs.declared.messages.Target.TheVariants as target
-use Rattle.pd_kind.specs.declared.row_names.Row.TheVariants as row
+use Rattle.pd_object.specs.declared.row_names.Row.TheVariants as row
 use Rattle.pd_kind.specs.Messages.{sort_of}
-use Rattle.pd_kind.specs.Naming.{symbol_in, name_at}
+use Rattle.pd_naming.specs.Naming.{symbol_in, name_at}
 use Rattle.pd_kind.specs.Said.{send_to, number_to}
 use Rattle.pd_kind.specs.Hearing.{first_sort, stored}
 use Rattle.pd_plain.specs.Values.{float_hot, float_cold, float_row, int_hot, int_cold, int_row, symbol_hot, symbol_cold, symbol_row, moses_outlet, moses_hot, moses_cold, moses_row, spigot_cold, spigot_row, swapped, swap_hot, swap_cold, swap_row, changed, change_set, change_other, change_hot, change_row, to_name, shown, unless_dash, box_send_name, float_box_set, float_box_other, float_box_hot, float_box_row, symbol_box_set, symbol_box_other, symbol_box_hot, symbol_box_row, send_cold, send_row, is_called}

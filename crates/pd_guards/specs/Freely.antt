@@ -4,8 +4,8 @@ use Rattle.std.specs.List.{flat_map}
 use Rattle.pd_atom.specs.Names.{Names, name_of}
 use Rattle.pd_atom.specs.declared.Atom.{Atom}
 use Rattle.pd_atom.specs.declared.Atom.TheVariants.{Symbol}
-use Rattle.pd_kind.specs.declared.kinds.Kind.{Kind}
-use Rattle.pd_kind.specs.declared.kinds.Kind.TheVariants as kind
+use Rattle.pd_object.specs.declared.kinds.Kind.{Kind}
+use Rattle.pd_object.specs.declared.kinds.Kind.TheVariants as kind
 use Rattle.pd_kind.specs.declared.messages.Deed.{Deed}
 use Rattle.pd_kind.specs.declared.messages.Notice.{Notice}
 use Rattle.pd_kind.specs.declared.states.State.{State}

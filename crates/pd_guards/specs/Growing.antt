@@ -3,7 +3,7 @@ use Rattle.std.specs.Prelude.{◌≡◌, ℕ, ◌<◌, ◌≤◌, ◌^◌, Optio
 use Rattle.std.specs.List.{AllByRecursion}
 use Rattle.pd_atom.specs.Names.{Names}
 use Rattle.pd_clock.specs.declared.times.Rate.{Rate}
-use Rattle.pd_kind.specs.declared.kinds.Kind.{Kind}
+use Rattle.pd_object.specs.declared.kinds.Kind.{Kind}
 use Rattle.pd_kind.specs.States.{size_of, start_of}
 use Rattle.pd_canvas.specs.declared.tree.Doc.{Doc}
 use Rattle.pd_canvas.specs.Pages.{Shape, Array, Head, Boxes, End, Box}

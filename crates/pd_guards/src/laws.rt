@@ -3,7 +3,7 @@ ghost use Rattle.std.specs.Prelude.{◌≡◌, ◌+◌, ◌≤◌, ◌^◌, ℕ,
 ghost use Rattle.std.specs.List.{list_all};
 ghost use Rattle.pd_atom.specs.Names.{Names};
 ghost use Rattle.pd_atom.specs.declared.Atom.{Atom};
-ghost use Rattle.pd_kind.specs.declared.kinds.Kind.{Kind};
+ghost use Rattle.pd_object.specs.declared.kinds.Kind.{Kind};
 ghost use Rattle.pd_kind.specs.declared.states.State.{State};
 ghost use Rattle.pd_kind.specs.Said.{Said};
 ghost use Rattle.pd_kind.specs.declared.messages.Deed.{Deed};

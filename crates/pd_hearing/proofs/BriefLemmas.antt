@@ -7,10 +7,10 @@ use Rattle.pd_atom.specs.declared.Atom.{Atom}
 use Rattle.pd_kind.specs.Said.{Said}
 use Rattle.pd_grove.specs.declared.nodes.Node.{Node}
 use Rattle.pd_grove.specs.Telling.{with_state}
-use Rattle.pd_kind.specs.declared.kinds.Kind.{Kind}
-use Rattle.pd_kind.specs.declared.kinds.Kind.TheVariants as kind
-use Rattle.pd_kind.specs.declared.kinds.Arith.{Arith}
-use Rattle.pd_kind.specs.declared.kinds.Glue.{Glue}
+use Rattle.pd_object.specs.declared.kinds.Kind.{Kind}
+use Rattle.pd_object.specs.declared.kinds.Kind.TheVariants as kind
+use Rattle.pd_object.specs.declared.kinds.Arith.{Arith}
+use Rattle.pd_object.specs.declared.kinds.Glue.{Glue}
 use Rattle.pd_kind.specs.declared.states.State.{State}
 use Rattle.pd_arith.specs.Rows.{arith_row}
 use Rattle.pd_arith.specs.Rows as arith

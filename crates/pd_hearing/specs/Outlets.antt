@@ -1,11 +1,11 @@
 -- Boxes that are outlets of their canvas.
 use Rattle.std.specs.Prelude.{Bool, true, false, Option, Some}
-use Rattle.pd_kind.specs.declared.kinds.Kind.{Kind}
-use Rattle.pd_kind.specs.declared.kinds.Kind.TheVariants as kind
-use Rattle.pd_kind.specs.declared.kinds.Glue.{Glue}
-use Rattle.pd_kind.specs.declared.kinds.Glue.TheVariants as glue
-use Rattle.pd_kind.specs.declared.kinds.Side.{Side}
-use Rattle.pd_kind.specs.declared.kinds.Side.TheVariants as side
+use Rattle.pd_object.specs.declared.kinds.Kind.{Kind}
+use Rattle.pd_object.specs.declared.kinds.Kind.TheVariants as kind
+use Rattle.pd_object.specs.declared.kinds.Glue.{Glue}
+use Rattle.pd_object.specs.declared.kinds.Glue.TheVariants as glue
+use Rattle.pd_object.specs.declared.kinds.Side.{Side}
+use Rattle.pd_object.specs.declared.kinds.Side.TheVariants as side
 
 abbrev pub is_outlet_side : Side → Bool
 is_outlet_side side.Outlet = true

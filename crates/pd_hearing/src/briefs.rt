@@ -4,7 +4,7 @@ ghost use Rattle.std.specs.Prelude.{◌≡◌, ◌≤◌, ◌&&◌, ℕ, true, f
 ghost use Rattle.pd_atom.specs.Names.{Names};
 ghost use Rattle.pd_arith.specs.Rows.{binary_of, pair_row, arith_row};
 ghost use Rattle.pd_plain.specs.Values.{leaves, float_row, int_row};
-ghost use Rattle.pd_kind.specs.declared.kinds.Kind.TheVariants.{Arith as ArithKind, Glue as GlueKind};
+ghost use Rattle.pd_object.specs.declared.kinds.Kind.TheVariants.{Arith as ArithKind, Glue as GlueKind};
 ghost use Rattle.pd_kind.specs.declared.states.State.TheVariants.{Float as FloatState, Int as IntState, Until as UntilState};
 ghost use Rattle.pd_glue.specs.Rows.{glue_heard, resumed as kind_resumed};
 ghost use Rattle.pd_plain.specs.Timed.{until_resumed};

@@ -3,7 +3,7 @@
 ghost use Rattle.std.specs.Prelude.{◌≡◌, ◌≤◌, true, length};
 ghost use Rattle.std.specs.List.{All};
 ghost use Rattle.pd_atom.specs.Atoms.{IsOf};
-ghost use Rattle.pd_kind.specs.Ports.{IsSmallGlue};
+ghost use Rattle.pd_object.specs.Ports.{IsSmallGlue};
 ghost use Rattle.pd_list.specs.Rows.{IsSmallState};
 ghost use Rattle.pd_plain.specs.Rows.{HasText};
 ghost use Rattle.pd_message.specs.Rows.{KeepsText as KeepsMessage};

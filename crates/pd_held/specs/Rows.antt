@@ -5,10 +5,10 @@ use Rattle.pd_atom.specs.declared.Atom.{Atom}
 use Rattle.pd_atom.specs.Names.{Names, name_of}
 use Rattle.pd_kind.specs.declared.messages.Sort.{Sort}
 use Rattle.pd_kind.specs.declared.messages.Sort.TheVariants as sort
-use Rattle.pd_kind.specs.declared.row_names.Row.{Row}
-use Rattle.pd_kind.specs.declared.row_names.Row.TheVariants.{Sounding}
-use Rattle.pd_kind.specs.declared.row_names.SignalRow.{SignalRow}
-use Rattle.pd_kind.specs.declared.row_names.SignalRow.TheVariants as row
+use Rattle.pd_object.specs.declared.row_names.Row.{Row}
+use Rattle.pd_object.specs.declared.row_names.Row.TheVariants.{Sounding}
+use Rattle.pd_object.specs.declared.row_names.SignalRow.{SignalRow}
+use Rattle.pd_object.specs.declared.row_names.SignalRow.TheVariants as row
 use Rattle.pd_kind.specs.declared.states.State.{State}
 use Rattle.pd_kind.specs.declared.states.State.TheVariants as state
 use Rattle.pd_kind.specs.Messages.{sort_of}

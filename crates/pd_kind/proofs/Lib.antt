@@ -1,3 +1,1 @@
 mod SendLemmas
-mod ArgumentLemmas
-mod ListLemmas

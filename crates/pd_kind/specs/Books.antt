@@ -1,5 +1,5 @@
 -- The ramps of a `vline~`, and how they change.
-use Rattle.std.specs.Prelude.{ℕ, ℤ, pos, ◌+◌, ◌≤◌, ◌≤ℤ◌, List, [], ◌∷◌, ◌++◌, take, drop, Option, IfSome}
+use Rattle.std.specs.Prelude.{ℕ, ℤ, pos, ◌+◌, ◌≤◌, ◌≤ℤ◌, [], ◌∷◌, ◌++◌, take, drop, Option, IfSome}
 use Rattle.std.specs.List.{All}
 use Rattle.pd_kind.specs.declared.states.Ramp.{Ramp}
 use Rattle.pd_kind.specs.declared.states.Ramps.{Ramps}

@@ -2,7 +2,7 @@
 use Rattle.std.specs.Prelude.{ℕ, ℤ, pos, false, ◌≡◌, ◌<◌, ◌≤◌, ◌*◌, ◌^◌, length, List, [], None}
 use Rattle.pd_clock.specs.declared.times.Rate.TheVariants.{R44100}
 use Rattle.pd_clock.specs.Rates.{samples}
-use Rattle.pd_kind.specs.declared.kinds.Kind.{Kind}
+use Rattle.pd_object.specs.declared.kinds.Kind.{Kind}
 use Rattle.pd_kind.specs.declared.states.State.{State}
 use Rattle.pd_kind.specs.declared.states.State.TheVariants as state
 use Rattle.pd_kind.specs.States.{start_of}

@@ -5,7 +5,7 @@ use Rattle.pd_atom.specs.declared.Atom.TheVariants as atom
 use Rattle.pd_kind.specs.declared.messages.Sort.{Sort}
 use Rattle.pd_kind.specs.declared.messages.Sort.TheVariants as sort
 use Rattle.pd_kind.specs.declared.states.State.{State}
-use Rattle.pd_kind.specs.Naming.{number_at}
+use Rattle.pd_naming.specs.Naming.{number_at}
 use Rattle.pd_kind.specs.Said.{Said}
 
 -- what a hearing leaves: the state and what is said

@@ -1,11 +1,8 @@
-pub mod Ports
 pub mod Messages
 pub mod Rows
 pub mod Said
-pub mod RowNames
 pub mod States
 pub mod Books
-pub mod Naming
 pub mod Tables
 pub mod Lends
 pub mod Fit

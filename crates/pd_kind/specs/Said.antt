@@ -7,7 +7,7 @@ use Rattle.pd_kind.specs.declared.messages.Deed.{Deed}
 use Rattle.pd_kind.specs.declared.messages.Deed.TheVariants.{Nothing}
 use Rattle.pd_kind.specs.declared.messages.Notice.{Notice}
 use Rattle.pd_kind.specs.declared.messages.Notice.TheVariants.{NoMethod}
-use Rattle.pd_kind.specs.declared.row_names.Row.{Row}
+use Rattle.pd_object.specs.declared.row_names.Row.{Row}
 use Rattle.pd_kind.specs.declared.sends.Sends.{Sends}
 use Rattle.pd_kind.specs.Rows.{Send, send_of}
 

@@ -5,20 +5,20 @@ use Rattle.pd_atom.specs.declared.Atom.{Atom}
 use Rattle.pd_atom.specs.declared.Atom.TheVariants as atom
 use Rattle.pd_clock.specs.declared.times.Rate.{Rate}
 use Rattle.pd_clock.specs.Rates.{samples}
-use Rattle.pd_kind.specs.declared.kinds.Kind.{Kind}
-use Rattle.pd_kind.specs.declared.kinds.Kind.TheVariants as kind
-use Rattle.pd_kind.specs.declared.kinds.Arith.{Arith}
-use Rattle.pd_kind.specs.declared.kinds.Arith.TheVariants as arith
-use Rattle.pd_kind.specs.declared.kinds.Glue.{Glue}
-use Rattle.pd_kind.specs.declared.kinds.Glue.TheVariants as glue
-use Rattle.pd_kind.specs.declared.kinds.Slot.{Slot}
-use Rattle.pd_kind.specs.declared.kinds.Slot.TheVariants as slot
-use Rattle.pd_kind.specs.declared.kinds.Tone.{Tone}
-use Rattle.pd_kind.specs.declared.kinds.Tone.TheVariants as tone
-use Rattle.pd_kind.specs.declared.kinds.Signal.{Signal}
-use Rattle.pd_kind.specs.declared.kinds.Signal.TheVariants as signal
-use Rattle.pd_kind.specs.declared.kinds.Panel.{Panel}
-use Rattle.pd_kind.specs.declared.kinds.Panel.TheVariants as panel
+use Rattle.pd_object.specs.declared.kinds.Kind.{Kind}
+use Rattle.pd_object.specs.declared.kinds.Kind.TheVariants as kind
+use Rattle.pd_object.specs.declared.kinds.Arith.{Arith}
+use Rattle.pd_object.specs.declared.kinds.Arith.TheVariants as arith
+use Rattle.pd_object.specs.declared.kinds.Glue.{Glue}
+use Rattle.pd_object.specs.declared.kinds.Glue.TheVariants as glue
+use Rattle.pd_object.specs.declared.kinds.Slot.{Slot}
+use Rattle.pd_object.specs.declared.kinds.Slot.TheVariants as slot
+use Rattle.pd_object.specs.declared.kinds.Tone.{Tone}
+use Rattle.pd_object.specs.declared.kinds.Tone.TheVariants as tone
+use Rattle.pd_object.specs.declared.kinds.Signal.{Signal}
+use Rattle.pd_object.specs.declared.kinds.Signal.TheVariants as signal
+use Rattle.pd_object.specs.declared.kinds.Panel.{Panel}
+use Rattle.pd_object.specs.declared.kinds.Panel.TheVariants as panel
 use Rattle.pd_kind.specs.declared.states.State.{State}
 use Rattle.pd_kind.specs.declared.states.State.TheVariants as state
 

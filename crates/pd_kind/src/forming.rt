@@ -4,11 +4,11 @@ ghost use Rattle.std.specs.Prelude.{◌≡◌, ◌+◌, ◌<◌, ◌≤◌, ◌+
 ghost use Rattle.pd_kind.specs.Said.{said_by};
 ghost use Rattle.pd_kind.specs.Forming.{float_in as float_of_atoms, symbol_of as symbol_of_atoms, list_selector as selector_of_list, list_send, normal_send, message_send};
 
-use crate::lists::zero;
 use crate::messages::Target;
 use crate::sends::Sends;
 use pd_atom::{Atom, Sym};
 use pd_num::Num;
+use pd_object::zero;
 
 /// The first atom where it is a number, else 0.
 pub fn float_in(atoms: &[Atom]) -> Num

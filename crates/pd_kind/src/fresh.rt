@@ -2,16 +2,18 @@
 
 ghost use Rattle.std.specs.Prelude.{◌≡◌, ◌≤◌, ◌<◌, ◌+◌, ◌*◌, ◌^◌, map, pos, false, replicate, length, IfOk};
 ghost use Rattle.pd_kind.specs.declared.states.State.TheVariants.{Delwrite, Dac};
-ghost use Rattle.pd_kind.specs.declared.kinds.Kind.TheVariants.{Vline};
-ghost use Rattle.pd_kind.specs.Ports.{IsSmallKind, IsSmallGlue, IsSmallSignal};
+ghost use Rattle.pd_object.specs.declared.kinds.Kind.TheVariants.{Vline};
+ghost use Rattle.pd_object.specs.Ports.{IsSmallKind, IsSmallGlue, IsSmallSignal};
 ghost use Rattle.pd_kind.specs.States.{units_of as units_of_number, whole_at_least as whole_of_at_least, table_size as size_of_table, line_length as length_of_line, slot_start, or_one as one_for_zero, or_zero as zero_for_none, keeps_list, keeps_samples, silent_block, arith_start, glue_start, tone_start, signal_start, panel_start, start_of, size_of, glue_size, signal_size};
 
-use crate::kinds::{Arith, Channel, Glue, Kind, Panel, Signal, Slot, Tone};
-use crate::lists::{Bounded, Items, no_signal, silence, zero, zeros};
 use crate::states::{RampBook, Ramps, Samples, Slope, State, Text};
 use pd_atom::{Atom, Sym};
 use pd_clock::{Rate, Time};
 use pd_num::Num;
+use pd_object::{
+    Arith, Bounded, Channel, Glue, Items, Kind, Panel, Signal, Slot, Tone, no_signal, silence,
+    zero, zeros,
+};
 use std::alloc::{AllocError, Global};
 
 /// How many samples a block has.

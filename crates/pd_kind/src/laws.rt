@@ -1,9 +1,9 @@
 //! Laws over states and kinds.
 ghost use Rattle.std.specs.Prelude.{ℕ, ℤ, ◌≡◌, List, length, IfSome};
 ghost use Rattle.pd_clock.specs.declared.times.Rate.{Rate};
-ghost use Rattle.pd_kind.specs.declared.kinds.Kind.{Kind};
+ghost use Rattle.pd_object.specs.declared.kinds.Kind.{Kind};
 ghost use Rattle.pd_kind.specs.declared.states.State.{State};
-ghost use Rattle.pd_kind.specs.Ports.{IsSmallKind};
+ghost use Rattle.pd_object.specs.Ports.{IsSmallKind};
 ghost use Rattle.pd_kind.specs.States.{start_of};
 ghost use Rattle.pd_kind.specs.Tables.{with_value, started, shared_of, with_shared, block_begun};
 ghost use Rattle.pd_kind.specs.Fit.{IsOfKind, IsLike};

@@ -4,11 +4,11 @@ ghost use Rattle.std.specs.Prelude.{◌≡◌, slice_get};
 ghost use Rattle.pd_kind.specs.Messages.{sort_of as sort_of_message};
 ghost use Rattle.pd_kind.specs.Hearing.{first_sort as first_sort_of, told as told_as, stored as stored_at, sort_of_atom};
 
-use crate::arguments::number_at;
-use crate::row_names::Row;
 use pd_atom::{Atom, Sym};
 use pd_clock::Time;
+use pd_naming::number_at;
 use pd_num::Num;
+use pd_object::Row;
 
 /// A selector and the atoms behind it, numbers and symbols alone.
 ///

@@ -4,11 +4,10 @@ ghost use Rattle.std.specs.Prelude.{◌≡◌, ◌+◌, ◌<◌, ◌≤◌, ◌+
 ghost use Rattle.pd_kind.specs.Rows.{are_within, send_of};
 ghost use Rattle.pd_kind.specs.Forming.{cut_atoms};
 
-use crate::lists::Bounded;
 use crate::messages::{Deed, Notice, Target};
-use crate::row_names::Row;
 use pd_atom::{Atom, Sym};
 use pd_num::Num;
+use pd_object::{Bounded, Row};
 use std::alloc::{AllocError, Global};
 
 /// A send: its target, the selector of its message, and the places of the message's first atom and of the one behind its last.

@@ -2,11 +2,10 @@
 
 ghost use Rattle.std.specs.Prelude.{◌≡◌, ◌<◌, ◌≤◌, length, IfOk, IfSome};
 
-use crate::kinds::Values;
-use crate::lists::{Bounded, Items};
 use pd_atom::{Atom, Sym};
 use pd_clock::{Rate, Time};
 use pd_num::{Num, Sig};
+use pd_object::{Bounded, Items, Values};
 use std::alloc::{AllocError, Global};
 use std::marker::Model;
 

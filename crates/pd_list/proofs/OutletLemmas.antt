@@ -2,7 +2,7 @@
 use Rattle.std.proofs.Common.{◌≡◌, ℕ, ◌+◌, ◌<◌, suc, List, [], ◌∷◌, ◌++◌, length, drop, get_or, sym, ◌∙◌, ap, arith}
 use Rattle.std.proofs.Math.Seq.{drop-cons, drop-length}
 use Rattle.pd_atom.specs.declared.Atom.{Atom}
-use Rattle.pd_kind.specs.declared.kinds.Trigger.{Trigger}
+use Rattle.pd_object.specs.declared.kinds.Trigger.{Trigger}
 use Rattle.pd_kind.specs.Rows.{Send}
 use Rattle.pd_list.specs.Outlets.{outlet_sends, trigger_sends}
 

@@ -6,8 +6,8 @@ use Rattle.pd_atom.specs.declared.Atom.TheVariants as atom
 use Rattle.pd_kind.specs.declared.messages.Sort.{Sort}
 use Rattle.pd_kind.specs.declared.messages.Sort.TheVariants as sort
 use Rattle.pd_kind.specs.declared.messages.Target.TheVariants.{Outlet}
-use Rattle.pd_kind.specs.declared.row_names.Row.{Row}
-use Rattle.pd_kind.specs.declared.row_names.Row.TheVariants as row
+use Rattle.pd_object.specs.declared.row_names.Row.{Row}
+use Rattle.pd_object.specs.declared.row_names.Row.TheVariants as row
 use Rattle.pd_kind.specs.Forming.{message_send}
 use Rattle.pd_kind.specs.Messages.{sort_of}
 use Rattle.pd_kind.specs.Said.{Said, silent, sends_only, bang_to, deaf}

@@ -5,7 +5,7 @@ use Rattle.pd_kind.specs.declared.messages.Deed.TheVariants.{Nothing}
 use Rattle.pd_kind.specs.declared.messages.Sort.{Sort}
 use Rattle.pd_kind.specs.declared.messages.Sort.TheVariants as sort
 use Rattle.pd_kind.specs.declared.messages.Target.TheVariants.{Outlet}
-use Rattle.pd_kind.specs.declared.row_names.Row.TheVariants as row
+use Rattle.pd_object.specs.declared.row_names.Row.TheVariants as row
 use Rattle.pd_kind.specs.declared.states.State.TheVariants as state
 use Rattle.pd_kind.specs.Forming.{list_send, message_send, cut_atoms, cut_notices, atoms_with_selector}
 use Rattle.pd_kind.specs.Hearing.{Heard}

@@ -2,8 +2,8 @@
 use Rattle.std.specs.Prelude.{ℕ, suc, Bool, nat_lt, List, [], ◌∷◌, ◌++◌, if◌then◌else◌}
 use Rattle.pd_atom.specs.declared.Atom.{Atom}
 use Rattle.pd_atom.specs.declared.Atom.TheVariants as atom
-use Rattle.pd_kind.specs.declared.kinds.Trigger.{Trigger}
-use Rattle.pd_kind.specs.declared.kinds.Trigger.TheVariants as trigger
+use Rattle.pd_object.specs.declared.kinds.Trigger.{Trigger}
+use Rattle.pd_object.specs.declared.kinds.Trigger.TheVariants as trigger
 use Rattle.pd_kind.specs.declared.states.State.{State}
 use Rattle.pd_kind.specs.Forming.{float_in}
 use Rattle.pd_kind.specs.Hearing.{Heard}

@@ -1,7 +1,7 @@
 //! What a box that works with messages as a whole does with a message.
 
 ghost use Rattle.std.specs.Prelude.{◌≡◌, ◌≤◌, length};
-ghost use Rattle.pd_kind.specs.Ports.{IsSmallGlue};
+ghost use Rattle.pd_object.specs.Ports.{IsSmallGlue};
 ghost use Rattle.pd_kind.specs.Fit.{IsLike};
 ghost use Rattle.pd_kind.specs.Said.{said_by};
 ghost use Rattle.pd_list.specs.Rows.{IsSmallState, list_row};

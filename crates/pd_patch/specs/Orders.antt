@@ -2,8 +2,8 @@
 use Rattle.std.specs.Prelude.{◌≡◌, ℕ, zero, suc, Bool, true, false, List, [], ◌∷◌, ◌++◌, length, map, filter, if◌then◌else◌, ◌||◌, Option, Some, None, is_some}
 use Rattle.std.specs.List.{flat_map}
 use Rattle.slab.specs.Slab.{get}
-use Rattle.pd_kind.specs.declared.kinds.Kind.{Kind}
-use Rattle.pd_kind.specs.declared.kinds.Kind.TheVariants as kind
+use Rattle.pd_object.specs.declared.kinds.Kind.{Kind}
+use Rattle.pd_object.specs.declared.kinds.Kind.TheVariants as kind
 use Rattle.pd_order.specs.Graph.{IsOrder}
 use Rattle.pd_order.specs.Listing.{Listing}
 use Rattle.pd_chain.specs.declared.graph.SignalWire.{SignalWire}

@@ -4,12 +4,12 @@ use Rattle.std.specs.List.{flat_map, filter_map}
 use Rattle.std.specs.Ordering.{int_eq}
 use Rattle.slab.specs.Slab.{get}
 use Rattle.pd_canvas.specs.declared.wires.Wire.{Wire}
-use Rattle.pd_kind.specs.declared.kinds.Kind.{Kind}
-use Rattle.pd_kind.specs.declared.kinds.Kind.TheVariants as kind
-use Rattle.pd_kind.specs.declared.kinds.Glue.{Glue}
-use Rattle.pd_kind.specs.declared.kinds.Glue.TheVariants as glue
-use Rattle.pd_kind.specs.declared.kinds.Panel.{Panel}
-use Rattle.pd_kind.specs.declared.kinds.Panel.TheVariants as panel
+use Rattle.pd_object.specs.declared.kinds.Kind.{Kind}
+use Rattle.pd_object.specs.declared.kinds.Kind.TheVariants as kind
+use Rattle.pd_object.specs.declared.kinds.Glue.{Glue}
+use Rattle.pd_object.specs.declared.kinds.Glue.TheVariants as glue
+use Rattle.pd_object.specs.declared.kinds.Panel.{Panel}
+use Rattle.pd_object.specs.declared.kinds.Panel.TheVariants as panel
 use Rattle.pd_tree.specs.Ports.{fits}
 use Rattle.pd_grove.specs.declared.nodes.Node.{Node}
 use Rattle.pd_grove.specs.declared.grove.Grove.{Grove}

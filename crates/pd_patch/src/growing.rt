@@ -4,7 +4,7 @@ ghost use Rattle.std.specs.Prelude.{◌≡◌, length, IfOk, IfErr};
 ghost use Rattle.std.specs.List.{AllByRecursion};
 ghost use Rattle.slab.specs.Slab.{get};
 ghost use Rattle.pd_atom.specs.Names.{Extends};
-ghost use Rattle.pd_kind.specs.Ports.{IsSmallKind};
+ghost use Rattle.pd_object.specs.Ports.{IsSmallKind};
 ghost use Rattle.pd_canvas.specs.Pages.{elements_of};
 ghost use Rattle.pd_canvas.specs.Proper.{IsProper};
 ghost use Rattle.pd_library.specs.Files.{answer_in};

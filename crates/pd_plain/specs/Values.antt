@@ -9,12 +9,12 @@ use Rattle.pd_kind.specs.declared.messages.Sort.{Sort}
 use Rattle.pd_kind.specs.declared.messages.Sort.TheVariants as sort
 use Rattle.pd_kind.specs.declared.messages.Target.{Target}
 use Rattle.pd_kind.specs.declared.messages.Target.TheVariants as target
-use Rattle.pd_kind.specs.declared.row_names.Row.{Row}
-use Rattle.pd_kind.specs.declared.row_names.Row.TheVariants as row
+use Rattle.pd_object.specs.declared.row_names.Row.{Row}
+use Rattle.pd_object.specs.declared.row_names.Row.TheVariants as row
 use Rattle.pd_kind.specs.declared.states.State.{State}
 use Rattle.pd_kind.specs.declared.states.State.TheVariants as state
 use Rattle.pd_kind.specs.Messages.{sort_of}
-use Rattle.pd_kind.specs.Naming.{name_at}
+use Rattle.pd_naming.specs.Naming.{name_at}
 use Rattle.pd_kind.specs.Rows.{Send}
 use Rattle.pd_kind.specs.Said.{Said, silent, sends_only, send_to, bang_to, number_to, symbol_to, deaf}
 use Rattle.pd_kind.specs.Hearing.{Heard, first_sort, told, stored}

@@ -4,11 +4,11 @@ use Rattle.std.specs.List.{AllByRecursion, list_any}
 use Rattle.pd_atom.specs.declared.Atom.{Atom}
 use Rattle.pd_atom.specs.declared.Atom.TheVariants as atom
 use Rattle.pd_atom.specs.Names.{Names, Outcome, given, name_of, Extends, longest, interned}
-use Rattle.pd_kind.specs.declared.kinds.Kind.{Kind}
-use Rattle.pd_kind.specs.declared.kinds.Kind.TheVariants as kind
-use Rattle.pd_kind.specs.declared.kinds.Named.{Named}
-use Rattle.pd_kind.specs.declared.kinds.Named.TheVariants as named
-use Rattle.pd_kind.specs.Naming.{arguments_of, named_by}
+use Rattle.pd_object.specs.declared.kinds.Kind.{Kind}
+use Rattle.pd_object.specs.declared.kinds.Kind.TheVariants as kind
+use Rattle.pd_object.specs.declared.kinds.Named.{Named}
+use Rattle.pd_object.specs.declared.kinds.Named.TheVariants as named
+use Rattle.pd_naming.specs.Naming.{arguments_of, named_by}
 use Rattle.pd_canvas.specs.Pages.{Shape, Obj, Msg, Comment, FloatBox, SymbolBox, Sub, Array, Other, Head, Boxes, End, Box, Page, Entry, listed, elements_of}
 use Rattle.pd_library.specs.declared.answers.Answer.{Answer}
 use Rattle.pd_tree.specs.declared.rows.Fault.{Fault}

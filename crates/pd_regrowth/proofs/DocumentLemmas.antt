@@ -1,7 +1,7 @@
 -- The document from which a tree grew stays in it.
 use Rattle.std.proofs.Common.{◌≡◌, ℕ, zero, suc, ◌+◌, ◌≤◌, max, List, Option, drop, refl, sym, ap, ◌∙◌, subst, arith}
 use Rattle.pd_atom.specs.declared.Atom.{Atom}
-use Rattle.pd_kind.specs.Naming.{arguments_of}
+use Rattle.pd_naming.specs.Naming.{arguments_of}
 use Rattle.pd_canvas.specs.Pages.{Shape, Obj, Msg, Comment, FloatBox, SymbolBox, Sub, Array, Other, Boxes, End, Box, Page, Entry, page_of, frame_of, empty_page, listed}
 use Rattle.pd_canvas.specs.Proper.{HoldsNone, levels_of, levels}
 use Rattle.pd_library.specs.declared.answers.Answer.{Answer}

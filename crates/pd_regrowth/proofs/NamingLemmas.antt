@@ -4,21 +4,21 @@ use Rattle.pd_atom.specs.declared.Atom.{Atom}
 use Rattle.pd_atom.specs.declared.Atom.TheVariants as atom
 use Rattle.pd_atom.specs.Names.{Names, name_of, Extends}
 use Rattle.pd_atom.specs.Atoms.{IsOf}
-use Rattle.pd_kind.specs.declared.kinds.Kind.{Kind}
-use Rattle.pd_kind.specs.declared.kinds.Kind.TheVariants as kind
-use Rattle.pd_kind.specs.declared.kinds.Named.{Named}
-use Rattle.pd_kind.specs.declared.kinds.Named.TheVariants as named
-use Rattle.pd_kind.specs.declared.kinds.Glue.{Glue}
-use Rattle.pd_kind.specs.declared.kinds.Glue.TheVariants as glue
-use Rattle.pd_kind.specs.declared.kinds.Panel.{Panel}
-use Rattle.pd_kind.specs.declared.kinds.Signal.TheVariants as signal
-use Rattle.pd_kind.specs.declared.kinds.Spelling.TheVariants.{Whole, Short}
-use Rattle.pd_kind.specs.declared.kinds.Slot.{Slot}
-use Rattle.pd_kind.specs.declared.kinds.Slot.TheVariants as slot
-use Rattle.pd_kind.specs.declared.kinds.Trigger.{Trigger}
-use Rattle.pd_kind.specs.declared.kinds.Trigger.TheVariants as trigger
+use Rattle.pd_object.specs.declared.kinds.Kind.{Kind}
+use Rattle.pd_object.specs.declared.kinds.Kind.TheVariants as kind
+use Rattle.pd_object.specs.declared.kinds.Named.{Named}
+use Rattle.pd_object.specs.declared.kinds.Named.TheVariants as named
+use Rattle.pd_object.specs.declared.kinds.Glue.{Glue}
+use Rattle.pd_object.specs.declared.kinds.Glue.TheVariants as glue
+use Rattle.pd_object.specs.declared.kinds.Panel.{Panel}
+use Rattle.pd_object.specs.declared.kinds.Signal.TheVariants as signal
+use Rattle.pd_object.specs.declared.kinds.Spelling.TheVariants.{Whole, Short}
+use Rattle.pd_object.specs.declared.kinds.Slot.{Slot}
+use Rattle.pd_object.specs.declared.kinds.Slot.TheVariants as slot
+use Rattle.pd_object.specs.declared.kinds.Trigger.{Trigger}
+use Rattle.pd_object.specs.declared.kinds.Trigger.TheVariants as trigger
 use Rattle.std.specs.Prelude.{pos, ◌==◌}
-use Rattle.pd_kind.specs.Naming.{first_of, arguments_of, trigger_letter, first_letter, trigger_of, slot_of, channels_of, or_default, triggers_of, slots_of, choices_of, listed_named, panel_name, button_of, is_whole_text, toggle_of, panel_named, simple_kind, listed_kind, word_kind, kind_or_abstraction, is_foreign_word, begins_foreign, list_of_word, list_of, list_named, object_named, named_by}
+use Rattle.pd_naming.specs.Naming.{first_of, arguments_of, trigger_letter, first_letter, trigger_of, slot_of, channels_of, or_default, triggers_of, slots_of, choices_of, listed_named, panel_name, button_of, is_whole_text, toggle_of, panel_named, simple_kind, listed_kind, word_kind, kind_or_abstraction, is_foreign_word, begins_foreign, list_of_word, list_of, list_named, object_named, named_by}
 use Rattle.pd_regrowth.specs.Suits.{AreOf}
 use Rattle.pd_regrowth.proofs.ExpandLemmas.{name_stays}
 

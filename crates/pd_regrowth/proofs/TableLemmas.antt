@@ -2,7 +2,7 @@
 use Rattle.std.proofs.Common.{◌≡◌, ℕ, zero, suc, List, [], ◌∷◌, Option, drop, sym, ◌∙◌, subst}
 use Rattle.pd_atom.specs.declared.Atom.{Atom}
 use Rattle.pd_atom.specs.Names.{Names, Extends}
-use Rattle.pd_kind.specs.Naming.{arguments_of}
+use Rattle.pd_naming.specs.Naming.{arguments_of}
 use Rattle.pd_canvas.specs.Pages.{Head, Page, Entry, elements_of}
 use Rattle.pd_library.specs.declared.answers.Answer.{Answer}
 use Rattle.pd_tree.specs.Trees.{Trees, Done, Leaf, Holder, Tree, join}

@@ -3,8 +3,8 @@ use Rattle.std.proofs.Common.{◌≡◌, ℕ, zero, suc, ◌+◌, ◌≤◌, Boo
 use Rattle.std.specs.Prelude.{drop}
 use Rattle.pd_atom.specs.Names.{Names}
 use Rattle.pd_atom.specs.declared.Atom.{Atom}
-use Rattle.pd_kind.specs.declared.kinds.Kind.TheVariants as kind
-use Rattle.pd_kind.specs.Naming.{arguments_of}
+use Rattle.pd_object.specs.declared.kinds.Kind.TheVariants as kind
+use Rattle.pd_naming.specs.Naming.{arguments_of}
 use Rattle.pd_canvas.specs.Pages.{Head, Page, Entry, elements_of}
 use Rattle.pd_library.specs.declared.answers.Answer.{Answer}
 use Rattle.pd_tree.specs.Trees.{Trees, Done, Leaf, Holder, Tree, join, weight, sheet_of, own_zeros, zeros_in, zeros_of}

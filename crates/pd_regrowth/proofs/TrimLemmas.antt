@@ -1,7 +1,7 @@
 -- Wires that fit: trimming twice is trimming once, and a patch's own document grows to a tree that is trimmed to the same.
 use Rattle.std.proofs.Common.{◌≡◌, ℕ, ◌+◌, Bool, true, cond, List, [], ◌∷◌, ◌++◌, map, filter, Option, refl, sym, ap, ◌∙◌}
 use Rattle.pd_atom.proofs.CaseLemmas.{by_test}
-use Rattle.pd_kind.specs.declared.kinds.Kind.{Kind}
+use Rattle.pd_object.specs.declared.kinds.Kind.{Kind}
 use Rattle.pd_canvas.specs.Pages.{Shape, Sub, Boxes, End, Box, Page, page_of, frame_of, empty_page}
 use Rattle.pd_library.specs.declared.answers.Answer.{Answer}
 use Rattle.pd_tree.specs.declared.rows.Sheet.{Sheet}

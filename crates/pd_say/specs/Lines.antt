@@ -6,7 +6,7 @@ use Rattle.pd_atom.specs.Atoms.{IsOf, spelled}
 use Rattle.pd_atom.specs.declared.Atom.{Atom}
 use Rattle.pd_kind.specs.declared.messages.Notice.{Notice}
 use Rattle.pd_kind.specs.declared.messages.Notice.TheVariants as notice
-use Rattle.pd_kind.specs.RowNames.{row_name}
+use Rattle.pd_object.specs.RowNames.{row_name}
 use Rattle.pd_say.specs.declared.paths.CanvasPath.{CanvasPath}
 use Rattle.pd_say.specs.declared.lines.Line.{Line}
 use Rattle.pd_say.specs.declared.lines.Line.TheVariants.{Print, NoMethod, NoCanvasMethod, StackOverflow, EventCut, NoObject, NoArgument, MessageCut, TextFull, TableFull, QueueFull, BadArguments, NotMade, BadFile, InsideItself, TooDeep, TooManyRamps, NoFit, SignalLoop, Refused, Chain, Stuck, NoCanvas}

@@ -6,7 +6,7 @@ ghost use Rattle.pd_atom.specs.Atoms.{IsOf};
 ghost use Rattle.pd_say.specs.Gathering.{Says, Fails, HasCause};
 ghost use Rattle.pd_say.specs.Lines.{text_of, selector_error, named_error, boxes_line, print_line, argument_error, file_error, wire_error, refusal_text, LineOf, notice_line as line_of_notice};
 ghost use Rattle.pd_say.specs.Paths.{CanvasOf};
-ghost use Rattle.pd_kind.specs.RowNames.{row_name};
+ghost use Rattle.pd_object.specs.RowNames.{row_name};
 
 use crate::gathering::{Held, put};
 use crate::paths::CanvasPath;

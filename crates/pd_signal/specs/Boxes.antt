@@ -1,9 +1,9 @@
 -- Boxes that run for a block of 64 samples.
 use Rattle.std.specs.Prelude.{◌≡◌, ℕ, ℤ, ◌^◌, ◌<◌, ◌≤◌, List, [], length, slice_index_or, slice_set}
-use Rattle.pd_kind.specs.declared.kinds.Kind.{Kind}
+use Rattle.pd_object.specs.declared.kinds.Kind.{Kind}
 use Rattle.pd_kind.specs.declared.states.State.{State}
 use Rattle.pd_kind.specs.declared.states.State.TheVariants as state
-use Rattle.pd_kind.specs.Ports.{ports_of}
+use Rattle.pd_object.specs.Ports.{ports_of}
 
 -- what a box keeps once it has run, and the blocks of its signal outlets
 pub record Ran : Type 0 where

@@ -3,14 +3,14 @@ use Rattle.std.specs.Prelude.{ℤ, pos, negsuc, ◌*◌, ◌/◌, min, true, Lis
 use Rattle.pd_num.specs.Scale.{billionths, signal_of, sum_of, difference_of, product_of, quotient_of}
 use Rattle.pd_clock.specs.declared.times.Rate.{Rate}
 use Rattle.pd_clock.specs.Rates.{samples}
-use Rattle.pd_kind.specs.declared.kinds.Kind.{Kind}
-use Rattle.pd_kind.specs.declared.kinds.Kind.TheVariants as kind
-use Rattle.pd_kind.specs.declared.kinds.Signal.{Signal}
-use Rattle.pd_kind.specs.declared.kinds.Signal.TheVariants as signal
-use Rattle.pd_kind.specs.declared.kinds.SignalOperation.{SignalOperation}
-use Rattle.pd_kind.specs.declared.kinds.SignalOperation.TheVariants as operation
-use Rattle.pd_kind.specs.declared.kinds.SignalFunction.{SignalFunction}
-use Rattle.pd_kind.specs.declared.kinds.SignalFunction.TheVariants as function
+use Rattle.pd_object.specs.declared.kinds.Kind.{Kind}
+use Rattle.pd_object.specs.declared.kinds.Kind.TheVariants as kind
+use Rattle.pd_object.specs.declared.kinds.Signal.{Signal}
+use Rattle.pd_object.specs.declared.kinds.Signal.TheVariants as signal
+use Rattle.pd_object.specs.declared.kinds.SignalOperation.{SignalOperation}
+use Rattle.pd_object.specs.declared.kinds.SignalOperation.TheVariants as operation
+use Rattle.pd_object.specs.declared.kinds.SignalFunction.{SignalFunction}
+use Rattle.pd_object.specs.declared.kinds.SignalFunction.TheVariants as function
 use Rattle.pd_kind.specs.declared.states.State.{State}
 use Rattle.pd_kind.specs.declared.states.State.TheVariants as state
 use Rattle.pd_kind.specs.States.{silent_block}

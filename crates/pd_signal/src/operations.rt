@@ -1,7 +1,7 @@
 //! `sig~`, the arithmetic objects, `abs~`, `wrap~` and `clip~`.
 
 ghost use Rattle.std.specs.Prelude.{◌≡◌, ◌<◌, length, replicate};
-ghost use Rattle.pd_kind.specs.Ports.{operation_ports_of};
+ghost use Rattle.pd_object.specs.Ports.{operation_ports_of};
 ghost use Rattle.pd_signal.specs.Samples.{zip_with};
 ghost use Rattle.pd_signal.specs.Rows.{sig_row, operation_of, operation_row, function_row, clip_row};
 

@@ -1,7 +1,7 @@
 //! What a signal object gives for a block that needs nothing of another box.
 
 ghost use Rattle.std.specs.Prelude.{◌≡◌, length};
-ghost use Rattle.pd_kind.specs.Ports.{signal_ports};
+ghost use Rattle.pd_object.specs.Ports.{signal_ports};
 ghost use Rattle.pd_signal.specs.Boxes.{HasBlocks, IsSized};
 ghost use Rattle.pd_signal.specs.Rows.{signal_row, run_of};
 

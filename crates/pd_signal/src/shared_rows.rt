@@ -3,7 +3,7 @@
 ghost use Rattle.std.specs.Prelude.{◌≡◌, ◌<◌, ℤ, List, length};
 ghost use Rattle.pd_num.specs.Scale.{billionths, sum_of};
 ghost use Rattle.pd_signal.specs.Samples.{zip_with};
-ghost use Rattle.pd_kind.specs.Ports.{signal_ports};
+ghost use Rattle.pd_object.specs.Ports.{signal_ports};
 ghost use Rattle.pd_kind.specs.States.{silent_block};
 ghost use Rattle.pd_signal.specs.Boxes.{HasBlocks};
 ghost use Rattle.pd_signal.specs.Delays.{delayed};

@@ -1,17 +1,17 @@
 -- A turn in a block leaves what a box keeps of the same objects, and so it leaves what the other box keeps.
 use Rattle.std.proofs.Common.{ℕ, ℤ, Bool, true, false, List, [], ◌∷◌, length, Option, Some, None, refl}
-use Rattle.pd_kind.specs.declared.kinds.Kind.{Kind}
-use Rattle.pd_kind.specs.declared.kinds.Kind.TheVariants as kind
-use Rattle.pd_kind.specs.declared.kinds.Signal.{Signal}
-use Rattle.pd_kind.specs.declared.kinds.Signal.TheVariants as signal
-use Rattle.pd_kind.specs.declared.kinds.SignalOperation.{SignalOperation}
-use Rattle.pd_kind.specs.declared.kinds.SignalFunction.{SignalFunction}
-use Rattle.pd_kind.specs.declared.kinds.Tone.{Tone}
-use Rattle.pd_kind.specs.declared.kinds.Tone.TheVariants as tone
+use Rattle.pd_object.specs.declared.kinds.Kind.{Kind}
+use Rattle.pd_object.specs.declared.kinds.Kind.TheVariants as kind
+use Rattle.pd_object.specs.declared.kinds.Signal.{Signal}
+use Rattle.pd_object.specs.declared.kinds.Signal.TheVariants as signal
+use Rattle.pd_object.specs.declared.kinds.SignalOperation.{SignalOperation}
+use Rattle.pd_object.specs.declared.kinds.SignalFunction.{SignalFunction}
+use Rattle.pd_object.specs.declared.kinds.Tone.{Tone}
+use Rattle.pd_object.specs.declared.kinds.Tone.TheVariants as tone
 use Rattle.pd_kind.specs.declared.states.State.{State}
 use Rattle.pd_kind.specs.declared.states.State.TheVariants as state
 use Rattle.pd_kind.specs.declared.tables.Line.{Line}
-use Rattle.pd_kind.specs.Ports.{ports_of}
+use Rattle.pd_object.specs.Ports.{ports_of}
 use Rattle.pd_kind.specs.Tables.{with_shared}
 use Rattle.pd_tone.specs.Rows.{tone_row, row}
 use Rattle.pd_signal.specs.Rows.{sig_row, operation_row, function_row, clip_row, line_row, samphold_row, lop_row, hip_row, delwrite_row, send_row, catch_row, snapshot_row, signal_row, run_of}

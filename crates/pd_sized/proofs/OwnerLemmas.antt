@@ -7,17 +7,17 @@ use Rattle.pd_clock.specs.declared.times.Rate.{Rate}
 use Rattle.pd_name.specs.declared.Class.{Class}
 use Rattle.pd_name.specs.declared.Class.TheVariants.{Receiver, Table, Catch, Bus, Delay}
 use Rattle.pd_name.specs.Rows.{same_class, owners_of}
-use Rattle.pd_kind.specs.declared.kinds.Kind.{Kind}
-use Rattle.pd_kind.specs.declared.kinds.Kind.TheVariants as kind
-use Rattle.pd_kind.specs.declared.kinds.Glue.{Glue}
-use Rattle.pd_kind.specs.declared.kinds.Glue.TheVariants as glue
-use Rattle.pd_kind.specs.declared.kinds.Panel.{Panel}
-use Rattle.pd_kind.specs.declared.kinds.Panel.TheVariants as panel
-use Rattle.pd_kind.specs.declared.kinds.Spelling.{Spelling}
-use Rattle.pd_kind.specs.declared.kinds.Signal.{Signal}
-use Rattle.pd_kind.specs.declared.kinds.Signal.TheVariants as signal
+use Rattle.pd_object.specs.declared.kinds.Kind.{Kind}
+use Rattle.pd_object.specs.declared.kinds.Kind.TheVariants as kind
+use Rattle.pd_object.specs.declared.kinds.Glue.{Glue}
+use Rattle.pd_object.specs.declared.kinds.Glue.TheVariants as glue
+use Rattle.pd_object.specs.declared.kinds.Panel.{Panel}
+use Rattle.pd_object.specs.declared.kinds.Panel.TheVariants as panel
+use Rattle.pd_object.specs.declared.kinds.Spelling.{Spelling}
+use Rattle.pd_object.specs.declared.kinds.Signal.{Signal}
+use Rattle.pd_object.specs.declared.kinds.Signal.TheVariants as signal
 use Rattle.pd_kind.specs.declared.states.State.{State}
-use Rattle.pd_kind.specs.Naming.{name_at}
+use Rattle.pd_naming.specs.Naming.{name_at}
 use Rattle.pd_kind.specs.States.{start_of}
 use Rattle.pd_kind.specs.Tables.{started}
 use Rattle.pd_tree.specs.Trees.{Cell}

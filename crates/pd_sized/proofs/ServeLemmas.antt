@@ -8,10 +8,10 @@ use Rattle.pd_clock.specs.declared.times.Rate.{Rate}
 use Rattle.pd_name.specs.declared.Class.{Class}
 use Rattle.pd_name.specs.declared.Class.TheVariants.{Receiver, Catch, Bus, Delay}
 use Rattle.pd_name.specs.Rows.{same_class, owners_of}
-use Rattle.pd_kind.specs.declared.kinds.Kind.{Kind}
-use Rattle.pd_kind.specs.declared.kinds.Kind.TheVariants as kind
-use Rattle.pd_kind.specs.declared.kinds.Signal.{Signal}
-use Rattle.pd_kind.specs.declared.kinds.Signal.TheVariants as signal
+use Rattle.pd_object.specs.declared.kinds.Kind.{Kind}
+use Rattle.pd_object.specs.declared.kinds.Kind.TheVariants as kind
+use Rattle.pd_object.specs.declared.kinds.Signal.{Signal}
+use Rattle.pd_object.specs.declared.kinds.Signal.TheVariants as signal
 use Rattle.pd_kind.specs.declared.states.State.{State}
 use Rattle.pd_kind.specs.declared.states.State.TheVariants as state
 use Rattle.pd_kind.specs.Fit.{blank}

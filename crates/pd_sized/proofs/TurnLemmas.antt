@@ -2,14 +2,14 @@
 use Rattle.std.proofs.Common.{◌≡◌, ℕ, ℤ, ◌≤◌, ◌^◌, Bool, true, false, cond, ◌&&◌, ◌==◌, nat_le, nat_lt, List, length, Option, Some, unwrap_or, refl, sym, ap, subst, ◌∙◌, true≢false}
 use Rattle.std.proofs.lemmas.Bool.{le-leb}
 use Rattle.pd_atom.specs.Names.{Names}
-use Rattle.pd_kind.specs.declared.kinds.Kind.{Kind}
-use Rattle.pd_kind.specs.declared.kinds.Kind.TheVariants as kind
-use Rattle.pd_kind.specs.declared.kinds.Signal.{Signal}
-use Rattle.pd_kind.specs.declared.kinds.Signal.TheVariants as signal
+use Rattle.pd_object.specs.declared.kinds.Kind.{Kind}
+use Rattle.pd_object.specs.declared.kinds.Kind.TheVariants as kind
+use Rattle.pd_object.specs.declared.kinds.Signal.{Signal}
+use Rattle.pd_object.specs.declared.kinds.Signal.TheVariants as signal
 use Rattle.pd_kind.specs.declared.states.Ramps.{Ramps}
 use Rattle.pd_kind.specs.declared.states.State.{State}
 use Rattle.pd_kind.specs.declared.states.State.TheVariants as state
-use Rattle.pd_kind.specs.Ports.{ports_of}
+use Rattle.pd_object.specs.Ports.{ports_of}
 use Rattle.pd_kind.specs.Tables.{shared_of, with_shared}
 use Rattle.pd_signal.specs.Rows.{run_of}
 use Rattle.pd_turn.specs.Rows.{ran, still, silent_outs, vline_if, vline_ran, signal_ran, is_fitting}

@@ -3,12 +3,12 @@ ghost use Rattle.std.specs.Prelude.{◌≡◌, ◌≤◌, ◌^◌, ℕ, ℤ, tru
 ghost use Rattle.pd_atom.specs.Names.{Names};
 ghost use Rattle.pd_atom.specs.declared.Atom.{Atom};
 ghost use Rattle.pd_clock.specs.declared.times.Rate.{Rate};
-ghost use Rattle.pd_kind.specs.declared.kinds.Kind.{Kind};
+ghost use Rattle.pd_object.specs.declared.kinds.Kind.{Kind};
 ghost use Rattle.pd_kind.specs.declared.states.Ramps.{Ramps};
 ghost use Rattle.pd_kind.specs.declared.states.State.{State};
 ghost use Rattle.pd_kind.specs.declared.states.State.TheVariants.{Vline};
 ghost use Rattle.pd_kind.specs.declared.messages.Deed.{Deed};
-ghost use Rattle.pd_kind.specs.Ports.{ports_of};
+ghost use Rattle.pd_object.specs.Ports.{ports_of};
 ghost use Rattle.pd_kind.specs.States.{size_of, start_of};
 ghost use Rattle.pd_kind.specs.Tables.{started, shared_of, with_shared};
 ghost use Rattle.pd_signal.specs.Rows.{run_of};

@@ -1,6 +1,6 @@
 -- That boxes find what they look for.
 use Rattle.std.specs.Prelude.{◌≡◌, ℕ, Some}
-use Rattle.pd_kind.specs.declared.kinds.Kind.{Kind}
+use Rattle.pd_object.specs.declared.kinds.Kind.{Kind}
 use Rattle.pd_block.specs.Blocks.{owner_of}
 use Rattle.pd_sized.specs.Sizes.{Finds}
 use Rattle.pd_engine.specs.Stages.{Stage}

@@ -1,7 +1,7 @@
 -- Running canvases as a tree, and as the list of their boxes in text order.
 use Rattle.std.specs.Prelude.{ℕ, ◌+◌, List, [], ◌∷◌, ◌++◌, map, Option, Some, None}
 use Rattle.pd_atom.specs.declared.Atom.{Atom}
-use Rattle.pd_kind.specs.declared.kinds.Kind.{Kind}
+use Rattle.pd_object.specs.declared.kinds.Kind.{Kind}
 use Rattle.pd_canvas.specs.Pages.{Shape, Obj, Msg, Comment, FloatBox, SymbolBox, Sub, Array, Other, Head, Frame, Boxes, End, Box, Page, page_of, frame_of, empty_page}
 use Rattle.pd_canvas.specs.Views.{entry_of}
 use Rattle.pd_tree.specs.declared.rows.Fault.{Fault}

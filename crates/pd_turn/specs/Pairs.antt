@@ -1,9 +1,9 @@
 -- What a box keeps and gives beside another box, and what that one keeps then.
 use Rattle.std.specs.Prelude.{ℤ, false, List, [], length, Option, Some, None, unwrap_or, if◌then◌else◌}
-use Rattle.pd_kind.specs.declared.kinds.Kind.{Kind}
+use Rattle.pd_object.specs.declared.kinds.Kind.{Kind}
 use Rattle.pd_kind.specs.declared.states.State.{State}
 use Rattle.pd_kind.specs.declared.tables.Line.{Line}
-use Rattle.pd_kind.specs.Ports.{ports_of}
+use Rattle.pd_object.specs.Ports.{ports_of}
 use Rattle.pd_kind.specs.Tables.{shared_of, with_shared, line_of}
 use Rattle.pd_signal.specs.SharedRows.{RanShared, shared_run_of}
 use Rattle.pd_turn.specs.Rows.{Ran, ran, silent_outs, is_fitting}

@@ -1,15 +1,15 @@
 -- What the boxes of a kind keep and give for a block.
 use Rattle.std.specs.Prelude.{ℕ, ℤ, ◌+◌, ◌*◌, ◌^◌, ◌==◌, ◌&&◌, Bool, true, false, nat_le, nat_lt, List, [], ◌∷◌, map, take, length, slice_index_or, Option, None, if◌then◌else◌}
 use Rattle.std.specs.List.{range_with_len}
-use Rattle.pd_kind.specs.declared.kinds.Kind.{Kind}
-use Rattle.pd_kind.specs.declared.kinds.Kind.TheVariants as kind
-use Rattle.pd_kind.specs.declared.kinds.Signal.{Signal}
-use Rattle.pd_kind.specs.declared.kinds.Signal.TheVariants as signal
-use Rattle.pd_kind.specs.declared.kinds.Tone.TheVariants as tone
+use Rattle.pd_object.specs.declared.kinds.Kind.{Kind}
+use Rattle.pd_object.specs.declared.kinds.Kind.TheVariants as kind
+use Rattle.pd_object.specs.declared.kinds.Signal.{Signal}
+use Rattle.pd_object.specs.declared.kinds.Signal.TheVariants as signal
+use Rattle.pd_object.specs.declared.kinds.Tone.TheVariants as tone
 use Rattle.pd_kind.specs.declared.states.State.{State}
 use Rattle.pd_kind.specs.declared.states.State.TheVariants as state
 use Rattle.pd_kind.specs.declared.tables.Line.{Line}
-use Rattle.pd_kind.specs.Ports.{ports_of}
+use Rattle.pd_object.specs.Ports.{ports_of}
 use Rattle.pd_kind.specs.States.{silent_block}
 use Rattle.pd_tone.specs.Rows.{row}
 use Rattle.pd_signal.specs.Rows.{run_of}

@@ -1,13 +1,13 @@
 -- Boxes that have at most two signal inlets and one signal outlet.
 use Rattle.std.specs.Prelude.{◌≡◌, ℕ, ◌≤◌, Option, Some, None}
-use Rattle.pd_kind.specs.declared.kinds.Kind.{Kind}
-use Rattle.pd_kind.specs.declared.kinds.Kind.TheVariants as kind
-use Rattle.pd_kind.specs.declared.kinds.Signal.{Signal}
-use Rattle.pd_kind.specs.declared.kinds.Signal.TheVariants as signal
-use Rattle.pd_kind.specs.declared.kinds.Tone.{Tone}
-use Rattle.pd_kind.specs.declared.kinds.Tone.TheVariants as tone
+use Rattle.pd_object.specs.declared.kinds.Kind.{Kind}
+use Rattle.pd_object.specs.declared.kinds.Kind.TheVariants as kind
+use Rattle.pd_object.specs.declared.kinds.Signal.{Signal}
+use Rattle.pd_object.specs.declared.kinds.Signal.TheVariants as signal
+use Rattle.pd_object.specs.declared.kinds.Tone.{Tone}
+use Rattle.pd_object.specs.declared.kinds.Tone.TheVariants as tone
 use Rattle.pd_turn.specs.declared.sizes.Few.{Few}
-use Rattle.pd_kind.specs.Ports.{Ports, ports_of, signal_ports, tone_ports}
+use Rattle.pd_object.specs.Ports.{Ports, ports_of, signal_ports, tone_ports}
 
 -- so many signal inlets and signal outlets
 abbrev pub few : ℕ → ℕ → Option Few

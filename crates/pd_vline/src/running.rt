@@ -2,7 +2,7 @@
 
 ghost use Rattle.std.specs.Prelude.{◌≡◌, ℕ, ◌+◌, ◌≤◌, ◌^◌, List, []};
 ghost use Rattle.pd_clock.specs.declared.times.Rate.{Rate};
-ghost use Rattle.pd_kind.specs.declared.kinds.Kind.TheVariants.{Vline};
+ghost use Rattle.pd_object.specs.declared.kinds.Kind.TheVariants.{Vline};
 ghost use Rattle.pd_kind.specs.declared.states.Ramp.{Ramp};
 ghost use Rattle.pd_kind.specs.States.{start_of};
 ghost use Rattle.pd_vline.specs.Ramps.{AreSamples, IsStanding, at};

@@ -3,7 +3,7 @@ use Rattle.std.proofs.Common.{◌≡◌, ℕ, ℤ, ◌+◌, Bool, true, false, c
 use Rattle.std.specs.Prelude.{option_map, option_and_then}
 use Rattle.std.proofs.lemmas.Option.{none-some, same_Some}
 use Rattle.slab.specs.Slab.{get}
-use Rattle.pd_kind.specs.declared.kinds.Kind.{Kind}
+use Rattle.pd_object.specs.declared.kinds.Kind.{Kind}
 use Rattle.pd_tree.specs.Trees.{Trees, Done, Leaf, Holder, Tree}
 use Rattle.pd_tree.specs.Ports.{PortBox, with_port, port_boxes, placed, by_x, inlet_signal, outlet_signal, is_made, sockets_of, sockets_around, sockets_in, fits, trimmed_sheet}
 use Rattle.pd_tree.specs.Ports.{Sockets as Seen}

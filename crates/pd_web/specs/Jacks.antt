@@ -1,7 +1,7 @@
 -- Which ports a box under a key has.
 use Rattle.std.specs.Prelude.{ℕ, zero, suc, Bool, true, false, nat_lt, List, [], ◌∷◌, ◌++◌, map, Option, Some, None}
 use Rattle.slab.specs.Slab.{get}
-use Rattle.pd_kind.specs.declared.kinds.Kind.{Kind}
+use Rattle.pd_object.specs.declared.kinds.Kind.{Kind}
 use Rattle.pd_tree.specs.Ports.{Sockets, sockets_of, is_made}
 use Rattle.pd_grove.specs.declared.nodes.Node.{Node}
 use Rattle.pd_grove.specs.declared.grove.Grove.{Grove}

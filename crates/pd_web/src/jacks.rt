@@ -2,7 +2,7 @@
 
 ghost use Rattle.std.specs.Prelude.{◌≡◌, ◌≤◌, ℕ, Some, map, IfOk, length};
 ghost use Rattle.slab.specs.Slab.{get};
-ghost use Rattle.pd_kind.specs.Ports.{IsSmallKind, ports_of};
+ghost use Rattle.pd_object.specs.Ports.{IsSmallKind, ports_of};
 ghost use Rattle.pd_tree.specs.Ports.{is_made};
 ghost use Rattle.pd_grove.specs.declared.nodes.Node.{Node};
 ghost use Rattle.pd_web.specs.Jacks.{KindsSmall, plain_jack, spot_jack, marks, kind_jacks as jacks_of_kind, canvas_jacks as jacks_of_canvas, jacks_in, jacks_at as jacks_of_box, made_in};

@@ -1,5 +1,5 @@
 use Rattle.std.proofs.Common.{ap, ◌∙◌}
-use Rattle.pd_kind.specs.Ports.{Ports}
+use Rattle.pd_object.specs.Ports.{Ports}
 use Rattle.pd_tree.specs.Trees.{stand_of}
 use Rattle.pd_fit.specs.Seeing.{marks}
 use Rattle.pd_fit.proofs.MarkLemmas.{inlets_marked, outlets_marked}

@@ -2,7 +2,7 @@ use Rattle.std.proofs.Common.{◌+◌, ◌-◌, List, length, drop, sym, ap, sub
 use Rattle.std.specs.List.{AllByRecursion}
 use Rattle.std.proofs.lemmas.Result.{err_from_is_err_and}
 use Rattle.pd_atom.specs.declared.Atom.{Atom}
-use Rattle.pd_kind.specs.Naming.{arguments_of}
+use Rattle.pd_naming.specs.Naming.{arguments_of}
 use Rattle.pd_canvas.specs.Pages.{Entry, Page}
 use Rattle.pd_canvas.specs.Views.{entry_of, entries_of}
 use Rattle.pd_growth.specs.declared.making.Made.{Made}

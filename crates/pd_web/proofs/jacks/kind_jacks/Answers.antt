@@ -1,5 +1,5 @@
 use Rattle.std.proofs.Common.{◌≡◌, List, map, IfOk, sym, ap, ◌∙◌, subst}
-use Rattle.pd_kind.specs.Ports.{Ports}
+use Rattle.pd_object.specs.Ports.{Ports}
 use Rattle.pd_grove.specs.declared.ports.Side.{Side}
 use Rattle.pd_web.specs.declared.jacks.Jack.{Jack}
 use Rattle.pd_web.specs.Jacks.{plain_jack, marks, kind_jacks as jacks_of_kind}

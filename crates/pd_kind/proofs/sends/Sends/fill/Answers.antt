@@ -2,7 +2,7 @@ use Rattle.std.proofs.Common.{◌≡◌, ◌+◌, ◌-◌, ◌++◌, length, map
 use Rattle.std.proofs.lemmas.List.{length-append}
 use Rattle.pd_atom.specs.declared.Atom.{Atom}
 use Rattle.pd_kind.specs.Rows.{send_of}
-use Rattle.pd_kind.proofs.ListLemmas.{cut_behind}
+use Rattle.pd_object.proofs.ListLemmas.{cut_behind}
 use Rattle.pd_kind.proofs.SendLemmas.{within_more, sends_more}
 use Rattle.pd_kind.proofs.sends.Sends.fill.Goals as goal
 

@@ -1,6 +1,0 @@
-use Rattle.std.proofs.Common.{◌≡◌, take}
-use Rattle.pd_kind.specs.Naming.{arguments_of}
-use Rattle.pd_kind.proofs.arguments.arguments.Given as goal
-
-abbrev pub invariant-loop-atom : goal.invariant-loop-atom
-invariant-loop-atom l = l.list.items ≡ arguments_of (take l.atom-index l.atoms)

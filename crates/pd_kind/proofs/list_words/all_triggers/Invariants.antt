@@ -1,6 +1,0 @@
-use Rattle.std.proofs.Common.{◌≡◌, map, take}
-use Rattle.pd_kind.specs.Naming.{trigger_of}
-use Rattle.pd_kind.proofs.list_words.all_triggers.Given as goal
-
-abbrev pub invariant-loop-atom : goal.invariant-loop-atom
-invariant-loop-atom l = l.list.items ≡ map (trigger_of l.symbols) (take l.atom-index l.arguments)

@@ -1,5 +1,0 @@
-use Rattle.std.proofs.Common.{sym, ◌∙◌}
-use Rattle.pd_kind.proofs.lists.no_signal.Goals as goal
-
-pub returns : goal.returns
-returns c = sym c.default.ensures.1 ∙ c.default.ensures.2
