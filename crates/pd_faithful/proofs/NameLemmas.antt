@@ -8,7 +8,8 @@ use Rattle.pd_hearing.specs.Worlds.{Net, Kept}
 use Rattle.pd_hearing.specs.Deeds.{done}
 use Rattle.pd_walk.specs.declared.walker.Start.{Start}
 use Rattle.pd_walk.specs.declared.walker.Start.TheVariants as start
-use Rattle.pd_walk.specs.Tasks.{Task, Nobody, kept_after, rules}
+use Rattle.pd_stack.specs.Tasks.{Task, Nobody}
+use Rattle.pd_walk.specs.Acts.{kept_after, rules}
 use Rattle.pd_walk.specs.Outcome.{outcome}
 use Rattle.pd_guards.specs.Order.{IsName}
 use Rattle.pd_guards.specs.Worlds.{IsInOrder, IsTask, IsStart}

@@ -17,7 +17,7 @@ use Rattle.pd_kind.specs.declared.messages.Notice.{Notice}
 use Rattle.pd_kind.specs.declared.messages.Notice.TheVariants as notice
 use Rattle.pd_object.specs.Ports.{IsSmallGlue}
 use Rattle.pd_hearing.specs.Guards.{is_name, is_atom, are_atoms, is_few, is_message, is_table, is_small_glue, has_text, is_small_state, keeps_list, keeps_message, keeps_text, is_small_box, is_small, is_open, is_known}
-use Rattle.pd_walk.specs.Tasks.{is_near}
+use Rattle.pd_walk.specs.Acts.{is_near}
 use Rattle.pd_guards.specs.Order.{IsName, IsAtom, AreAtoms, IsMessage, IsTable, IsKept, HasWords, IsGlue, IsKind, IsNotice}
 
 pub true_and : (a b : Bool) → a ≡ true → b ≡ true → (a && b) ≡ true

@@ -35,7 +35,8 @@ use Rattle.pd_patch.specs.Paths.{spot_of, holder_in, around, outward, path_told}
 use Rattle.pd_patch.specs.Telling.{number_in}
 use Rattle.pd_hearing.specs.Worlds.{Net, Kept, bare, net_of}
 use Rattle.pd_hearing.specs.Hearing.{heard_at, resumed_at}
-use Rattle.pd_walk.specs.Tasks.{Task, Deliver, Ask, Resume, Nobody, owner_told, along, arrival, to_owners, unless_heard, to_name, wires_from, sent_to, sent, sends_of, is_again, again_after, asked_for, caused}
+use Rattle.pd_stack.specs.Tasks.{Task, Deliver, Ask, Resume, Nobody, owner_told, along, arrival, to_owners, unless_heard, to_name, wires_from, sent_to, sent, again_after}
+use Rattle.pd_walk.specs.Acts.{sends_of, is_again, asked_for, caused}
 use Rattle.pd_guards.specs.Near.{IsNearOwner, AreNear, AsksNear}
 use Rattle.pd_guards.proofs.FactLemmas.{either, all-append, all-map}
 

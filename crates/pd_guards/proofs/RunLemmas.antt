@@ -20,7 +20,8 @@ use Rattle.pd_hearing.specs.Worlds.{Net, Kept, set_at}
 use Rattle.pd_hearing.specs.Guards.{is_message, is_table, is_small, is_open}
 use Rattle.pd_hearing.specs.Hearing.{table_in, table_named, table_owner, heard_other, heard_by, heard_kind, heard_in, heard_with, heard_at, resumed_in, resumed_with, resumed_at}
 use Rattle.pd_hearing.specs.Deeds.{written_at, written, done}
-use Rattle.pd_walk.specs.Tasks.{Task, Deliver, Ask, Resume, Nobody, kept_after, rules}
+use Rattle.pd_stack.specs.Tasks.{Task, Deliver, Ask, Resume, Nobody}
+use Rattle.pd_walk.specs.Acts.{kept_after, rules}
 use Rattle.pd_walk.specs.Outcome.{world, outcome, IsLeft}
 use Rattle.pd_guards.specs.Order.{HasFirst, IsMessage}
 use Rattle.pd_guards.specs.Worlds.{IsInOrder, IsTask, IsStart}

@@ -35,7 +35,8 @@ use Rattle.pd_hearing.specs.Worlds.{Net, Kept}
 use Rattle.pd_hearing.specs.Guards.{are_atoms, is_few}
 use Rattle.pd_hearing.specs.Hearing.{Reply, heard_at, resumed_at, fired_at, loaded_at, table_owner, table_named}
 use Rattle.pd_hearing.specs.Deeds.{written_at, written, done, replied}
-use Rattle.pd_walk.specs.Tasks.{Task, Deliver, Ask, Resume, Nobody, delivery, end_of, owner_told, arrival, to_owners, unless_heard, to_name, wires_from, leads_out, sent_to, sent, sends_of, is_again, again_after, asked_for, notice_text, notices_text, words_printed, printed, glue_words, print_words, is_print, canvas_text, verb_in, is_near, path_in, queue_with, answer_text, asked_text, overflow_text, is_too_deep, kept_by, kept_after, said_by_box, said_at, caused, rules}
+use Rattle.pd_stack.specs.Tasks.{Task, Deliver, Ask, Resume, Nobody, delivery, end_of, owner_told, arrival, to_owners, unless_heard, to_name, wires_from, leads_out, sent_to, sent, again_after}
+use Rattle.pd_walk.specs.Acts.{sends_of, is_again, asked_for, notice_text, notices_text, words_printed, printed, glue_words, print_words, is_print, canvas_text, verb_in, is_near, path_in, queue_with, answer_text, asked_text, overflow_text, is_too_deep, kept_by, kept_after, said_by_box, said_at, caused, rules}
 use Rattle.pd_walk.specs.Outcome.{ran, after_deed, told_by, all_loaded, named_tasks, outcome}
 use Rattle.pd_guards.specs.Order.{IsNumber, HasFirst, IsName, AreAtoms, IsMessage, IsKept, HasWords, IsKind, IsTarget, IsSend, IsDeed, IsNotice, IsSaid}
 use Rattle.pd_guards.specs.Worlds.{AreKept, AreKinds, IsInOrder, IsTask, IsReply, IsStart}

@@ -29,7 +29,8 @@ use Rattle.pd_walk.specs.declared.walker.Start.{Start}
 use Rattle.pd_walk.specs.declared.walker.Start.TheVariants as start
 use Rattle.pd_hearing.specs.Worlds.{Net, Kept, set_at}
 use Rattle.pd_hearing.specs.Hearing.{Reply, mute, reply, table_in, table_named, resumed_at, fired_at, loaded_at}
-use Rattle.pd_walk.specs.Tasks.{Task, Deliver, Ask, Resume, Nobody, costs, asked_for, to_name, overflow_text, is_too_deep, is_print, print_words, full_text, cut_line, path_in, kept_by}
+use Rattle.pd_stack.specs.Tasks.{Task, Deliver, Ask, Resume, Nobody, to_name}
+use Rattle.pd_walk.specs.Acts.{costs, asked_for, overflow_text, is_too_deep, is_print, print_words, full_text, cut_line, path_in, kept_by}
 use Rattle.pd_walk.specs.Outcome.{after_deed}
 
 -- a box of a kind that keeps this hears a message, at a time and beside the table that its kind names

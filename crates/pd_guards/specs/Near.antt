@@ -6,7 +6,8 @@ use Rattle.pd_name.specs.declared.Class.TheVariants.{Receiver}
 use Rattle.pd_bind.specs.declared.owners.Owner.{Owner}
 use Rattle.pd_bind.specs.declared.owners.Owner.TheVariants as owner
 use Rattle.pd_hearing.specs.Worlds.{Net}
-use Rattle.pd_walk.specs.Tasks.{Task, Ask, owner_told, path_in}
+use Rattle.pd_stack.specs.Tasks.{Task, Ask, owner_told}
+use Rattle.pd_walk.specs.Acts.{path_in}
 
 -- the path to a canvas has at most 255 numbers
 abbrev pub IsNear : Net → ℕ → Type 0

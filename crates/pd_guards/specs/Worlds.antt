@@ -8,7 +8,7 @@ use Rattle.pd_walk.specs.declared.walker.Start.{Start}
 use Rattle.pd_walk.specs.declared.walker.Start.TheVariants as start
 use Rattle.pd_hearing.specs.Worlds.{Net, Kept}
 use Rattle.pd_hearing.specs.Hearing.{Reply}
-use Rattle.pd_walk.specs.Tasks.{Task, Deliver, Ask, Resume, Nobody}
+use Rattle.pd_stack.specs.Tasks.{Task, Deliver, Ask, Resume, Nobody}
 use Rattle.pd_guards.specs.Order.{HasFirst, IsName, AreAtoms, IsMessage, IsKept, IsKind, IsSaid}
 
 abbrev pub AreKept : Names → ℕ → (ℕ → Option State) → Type 0

@@ -23,7 +23,8 @@ use Rattle.pd_hearing.specs.Worlds.{Net, Kept, set_at}
 use Rattle.pd_hearing.specs.Guards.{is_message, is_table, is_small, is_open}
 use Rattle.pd_hearing.specs.Hearing.{table_in, table_named, table_owner, heard_other, heard_by, heard_kind, heard_in, heard_with, heard_at, resumed_in, resumed_with, resumed_at, fired_at, loaded_at}
 use Rattle.pd_hearing.specs.Deeds.{written_at, written, done}
-use Rattle.pd_walk.specs.Tasks.{Task, Deliver, Ask, Resume, Nobody, kept_after, rules, asked_for}
+use Rattle.pd_stack.specs.Tasks.{Task, Deliver, Ask, Resume, Nobody}
+use Rattle.pd_walk.specs.Acts.{kept_after, rules, asked_for}
 use Rattle.pd_walk.specs.Outcome.{world, ran, after_deed, told_by, all_loaded, named_tasks, outcome, IsLeft}
 use Rattle.pd_guards.proofs.FactLemmas.{either}
 use Rattle.pd_guards.proofs.SameTurns.{Agree, all_same}

@@ -3,7 +3,7 @@ use Rattle.std.specs.Prelude.{ℕ, true}
 use Rattle.pd_turns.specs.Turns.{World}
 use Rattle.pd_hearing.specs.Worlds.{Net, Kept}
 use Rattle.pd_hearing.specs.Hearing.{fired_at}
-use Rattle.pd_walk.specs.Tasks.{to_name}
+use Rattle.pd_stack.specs.Tasks.{to_name}
 use Rattle.pd_guards.specs.Freely.{ran, told_by, all_loaded}
 use Rattle.pd_engine.specs.Stages.{Stage, Passage}
 use Rattle.pd_engine.specs.Events.{Beginning, Message, Firing, Loading, begun, after_deliveries}

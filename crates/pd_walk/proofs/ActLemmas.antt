@@ -13,17 +13,18 @@ use Rattle.pd_queue.specs.Queue.{Waiting, answer_to, after_asking}
 use Rattle.std.specs.Prelude.{Some}
 use Rattle.pd_hearing.specs.Guards.{is_few}
 use Rattle.pd_patch.specs.declared.patch.Patch.{Patch}
-use Rattle.pd_walk.specs.Pile.{Pile}
+use Rattle.pd_stack.specs.Pile.{Pile}
 use Rattle.pd_hearing.specs.Worlds.{Net, Kept, net_of, kept_of, states_of}
 use Rattle.pd_hearing.specs.Hearing.{Reply, heard_at, resumed_at}
 use Rattle.pd_hearing.specs.Deeds.{done}
 use Rattle.pd_kind.specs.declared.sends.SendRow.{SendRow}
 use Rattle.pd_kind.specs.Rows.{Send, send_of}
-use Rattle.pd_walk.specs.declared.steps.Place.{Place}
-use Rattle.pd_walk.specs.declared.steps.Place.TheVariants as place
-use Rattle.pd_walk.specs.Tasks.{Task, kept_after, said_at, caused, kept_by, said_by_box, asked_for, notices_text, printed, overflow_text, is_too_deep, sends_of, sent, again_after, is_again, has_some, queue_with, asked_text, answer_text, verb_in, path_in, is_near}
-use Rattle.pd_walk.specs.Turns.{doing}
-use Rattle.pd_walk.specs.Piles.{LeftOn}
+use Rattle.pd_stack.specs.declared.steps.Place.{Place}
+use Rattle.pd_stack.specs.declared.steps.Place.TheVariants as place
+use Rattle.pd_stack.specs.Tasks.{Task, sent, again_after}
+use Rattle.pd_walk.specs.Acts.{kept_after, said_at, caused, kept_by, said_by_box, asked_for, notices_text, printed, overflow_text, is_too_deep, sends_of, is_again, has_some, queue_with, asked_text, answer_text, verb_in, path_in, is_near}
+use Rattle.pd_stack.specs.Turns.{doing}
+use Rattle.pd_stack.specs.Piles.{LeftOn}
 
 module _ (net net1 net2 : Net) (same1 : net1 ≡ net) (same2 : net2 ≡ net1) (depth node selector : ℕ) (atoms : List Atom) (r r0 : Reply) (is : r0 ≡ r)
     (t0 t1 t2 t3 : Option (List ℕ)) (h0 h1 h2 h3 : List ℕ) where

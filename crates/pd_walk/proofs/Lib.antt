@@ -1,7 +1,3 @@
-pub mod StackLemmas
-pub mod PileLemmas
-pub mod TurnLemmas
-pub mod SendLemmas
 pub mod WayLemmas
 pub mod ActLemmas
 pub mod StayLemmas

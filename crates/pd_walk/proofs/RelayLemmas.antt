@@ -28,21 +28,22 @@ use Rattle.pd_hearing.specs.Deeds.{done, with_states}
 use Rattle.pd_hearing.proofs.WorldLemmas.{kept-same}
 use Rattle.pd_walk.specs.declared.relay.Rest.{Rest}
 use Rattle.pd_walk.specs.declared.relay.Saying.{Saying}
-use Rattle.pd_walk.specs.declared.stack.Cursor.TheVariants.{Wires}
-use Rattle.pd_walk.specs.declared.steps.Place.{Place}
-use Rattle.pd_walk.specs.declared.steps.Place.TheVariants as place
+use Rattle.pd_stack.specs.declared.stack.Cursor.TheVariants.{Wires}
+use Rattle.pd_stack.specs.declared.steps.Place.{Place}
+use Rattle.pd_stack.specs.declared.steps.Place.TheVariants as place
 use Rattle.pd_walk.specs.declared.walker.Budget.{Budget}
-use Rattle.pd_walk.specs.Pile.{Pile}
-use Rattle.pd_walk.specs.Piles.{GoesAlong, LeftOn, AreLeft, AllLie}
-use Rattle.pd_walk.specs.Tasks.{Task, Deliver, Resume, along, end_of, kept_after, said_at, caused, kept_by, said_by_box, asked_for, overflow_text, is_too_deep, sends_of, sent, wires_from, leads_out, fan_at}
-use Rattle.pd_walk.specs.Turns.{doing}
+use Rattle.pd_stack.specs.Pile.{Pile}
+use Rattle.pd_stack.specs.Piles.{GoesAlong, LeftOn, AreLeft, AllLie}
+use Rattle.pd_stack.specs.Tasks.{Task, Deliver, Resume, along, end_of, sent, wires_from, leads_out, fan_at}
+use Rattle.pd_walk.specs.Acts.{kept_after, said_at, caused, kept_by, said_by_box, asked_for, overflow_text, is_too_deep, sends_of}
+use Rattle.pd_stack.specs.Turns.{doing}
 use Rattle.pd_walk.specs.Outcome.{world, ran, StatesStay}
 use Rattle.pd_walk.specs.Ways.{IsUnderWay}
 use Rattle.pd_walk.specs.declared.routes.Route.{Route}
 use Rattle.pd_walk.specs.Relays.{saying_at, deeper, spent, brief_tasks, saying_tasks, one_less, Leads, IsRoute, IsHeard, Stepped, RestTasks, Relayed, GoesFrom, resumption}
 use Rattle.pd_walk.proofs.WayLemmas.{world_of, step}
-use Rattle.pd_walk.proofs.SendLemmas.{along_fan}
-use Rattle.pd_walk.proofs.PileLemmas.{left-agree, more-agree}
+use Rattle.pd_stack.proofs.SendLemmas.{along_fan}
+use Rattle.pd_stack.proofs.PileLemmas.{left-agree, more-agree}
 use Rattle.pd_walk.proofs.StayLemmas.{heard-stay, resumed-stay, all-stay}
 
 -- lists that are told by their first places

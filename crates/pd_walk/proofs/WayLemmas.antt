@@ -8,14 +8,15 @@ use Rattle.pd_turns.specs.Turns.{World}
 use Rattle.pd_turns.proofs.Turns.{all_finished-step, all_finished-free, all_finished-cut, all_finished-end, all_finished-said, prefix-trans, prefix-whole}
 use Rattle.std.proofs.lemmas.List.{take-append-drop, take_more}
 use Rattle.pd_walk.specs.declared.walker.Budget.{Budget}
-use Rattle.pd_walk.specs.declared.steps.Place.{Place}
-use Rattle.pd_walk.specs.declared.steps.Place.TheVariants as place
-use Rattle.pd_walk.specs.declared.steps.Task.{Task as Due}
-use Rattle.pd_walk.specs.Pile.{Pile}
+use Rattle.pd_stack.specs.declared.steps.Place.{Place}
+use Rattle.pd_stack.specs.declared.steps.Place.TheVariants as place
+use Rattle.pd_stack.specs.declared.steps.Task.{Task as Due}
+use Rattle.pd_stack.specs.Pile.{Pile}
 use Rattle.pd_hearing.specs.Worlds.{Net, Kept}
-use Rattle.pd_walk.specs.Tasks.{Task, Nobody, costs, rules, kept_after, said_at, caused, asked_for, nobody_text, cut_line}
-use Rattle.pd_walk.specs.Piles.{LeftOn, AreLeft}
-use Rattle.pd_walk.specs.Turns.{doing, told, told_list, nobodies, Yields, BreaksOff}
+use Rattle.pd_stack.specs.Tasks.{Task, Nobody, nobody_text}
+use Rattle.pd_walk.specs.Acts.{costs, rules, kept_after, said_at, caused, asked_for, cut_line}
+use Rattle.pd_stack.specs.Piles.{LeftOn, AreLeft}
+use Rattle.pd_stack.specs.Turns.{doing, told, told_list, nobodies, Yields, BreaksOff}
 use Rattle.pd_walk.specs.Ways.{IsUnderWay, IsDone}
 use Rattle.pd_kind.specs.Said.{Said}
 use Rattle.pd_hearing.specs.Hearing.{loaded_at}

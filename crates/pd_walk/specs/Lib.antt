@@ -1,7 +1,4 @@
-pub mod Tasks
+pub mod Acts
 pub mod Outcome
-pub mod Pile
-pub mod Piles
-pub mod Turns
 pub mod Ways
 pub mod Relays

@@ -12,7 +12,8 @@ use Rattle.pd_hearing.specs.Worlds.{Net, Kept}
 use Rattle.pd_hearing.specs.Guards.{is_few}
 use Rattle.pd_hearing.specs.Hearing.{fired_at, loaded_at}
 use Rattle.pd_hearing.specs.Deeds.{done}
-use Rattle.pd_walk.specs.Tasks.{Task, rules, to_name, asked_for}
+use Rattle.pd_stack.specs.Tasks.{Task, to_name}
+use Rattle.pd_walk.specs.Acts.{rules, asked_for}
 
 -- a world with this budget
 abbrev pub world : Kept → Budget → List ℕ → World Kept

@@ -1,5 +1,5 @@
 -- Brief messages that go from box to box along single wires, past the stack.
-use Rattle.std.specs.Prelude.{◌≡◌, ℕ, ◌+◌, ◌-◌, ◌%◌, ◌<◌, ◌≤◌, ◌^◌, true, false, List, [], ◌∷◌, ◌++◌, length, slice_get, Option, Some, None}
+use Rattle.std.specs.Prelude.{◌≡◌, ℕ, ◌+◌, ◌-◌, ◌%◌, ◌<◌, ◌≤◌, ◌^◌, false, List, [], ◌∷◌, ◌++◌, length, slice_get, Option, Some, None}
 use Rattle.pd_atom.specs.Names.{Names}
 use Rattle.pd_kind.specs.declared.states.State.{State}
 use Rattle.pd_web.specs.declared.web.Hop.{Hop}
@@ -17,9 +17,9 @@ use Rattle.pd_walk.specs.declared.routes.Route.{Route}
 use Rattle.pd_walk.specs.declared.relay.Saying.{Saying}
 use Rattle.pd_walk.specs.declared.relay.Rest.{Rest}
 use Rattle.pd_walk.specs.declared.walker.Budget.{Budget}
-use Rattle.pd_walk.specs.Pile.{Pile}
-use Rattle.pd_walk.specs.Piles.{GoesAlong, LeftOn}
-use Rattle.pd_walk.specs.Tasks.{Task, Resume, along, end_of}
+use Rattle.pd_stack.specs.Pile.{Pile}
+use Rattle.pd_stack.specs.Piles.{GoesAlong, LeftOn}
+use Rattle.pd_stack.specs.Tasks.{Task, Resume, along, end_of}
 use Rattle.pd_walk.specs.Outcome.{world, ran}
 
 -- a box's first outlet has one wire, which leads here

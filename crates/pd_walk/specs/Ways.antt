@@ -3,10 +3,10 @@ use Rattle.std.specs.Prelude.{◌≡◌, ℕ, List, ◌++◌, Option}
 use Rattle.pd_say.specs.Gathering.{IsSaid}
 use Rattle.pd_turns.specs.Turns.{World}
 use Rattle.pd_walk.specs.declared.walker.Budget.{Budget}
-use Rattle.pd_walk.specs.Pile.{Pile}
+use Rattle.pd_stack.specs.Pile.{Pile}
 use Rattle.pd_hearing.specs.Worlds.{Net, Kept}
-use Rattle.pd_walk.specs.Tasks.{Task}
-use Rattle.pd_walk.specs.Piles.{LeftOn}
+use Rattle.pd_stack.specs.Tasks.{Task}
+use Rattle.pd_stack.specs.Piles.{LeftOn}
 use Rattle.pd_walk.specs.Outcome.{world, ran}
 
 -- these tasks come next, and then what is left of the pile

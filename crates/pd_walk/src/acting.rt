@@ -12,16 +12,14 @@ ghost use Rattle.pd_grove.specs.Telling.{kind_in};
 ghost use Rattle.std.specs.Option.{option_copied};
 ghost use Rattle.pd_hearing.specs.Worlds.{net_of, kept_of, states_of};
 ghost use Rattle.pd_hearing.specs.Hearing.{heard_at as reply_at, resumed_at as reply_again};
-ghost use Rattle.pd_walk.specs.Tasks.{Task as Doing, kept_after, said_at, caused, asked_for, is_too_deep, overflow_text, printed, is_print as is_print_of, print_words as words_of, is_again as is_again_of, has_some, leads_out as leads_nowhere, kept_by, said_by_box, sent, again_after};
+ghost use Rattle.pd_stack.specs.Tasks.{Task as Doing, leads_out as leads_nowhere, sent, again_after};
+ghost use Rattle.pd_walk.specs.Acts.{kept_after, said_at, caused, asked_for, is_too_deep, overflow_text, printed, is_print as is_print_of, print_words as words_of, is_again as is_again_of, has_some, kept_by, said_by_box};
 ghost use Rattle.pd_walk.specs.Outcome.{StatesStay};
-ghost use Rattle.pd_walk.specs.Piles.{IsPiled, LeftOn};
-ghost use Rattle.pd_walk.specs.Turns.{told, IsDue};
+ghost use Rattle.pd_stack.specs.Piles.{IsPiled, LeftOn};
+ghost use Rattle.pd_stack.specs.Turns.{told, IsDue};
 
 use crate::canvases::ask_canvas;
 use crate::printing::{print_message, print_notices, print_overflow};
-use crate::sending::{leads_out, push_all};
-use crate::stack::Stack;
-use crate::steps::{Place, Task};
 use pd_atom::{Atom, Sym, Symbols};
 use pd_clock::Time;
 use pd_hearing::{do_deed, hear_at, resume_at};
@@ -30,12 +28,13 @@ use pd_kind::{Deed, Glue, Kind, SendRow, Sends};
 use pd_patch::Patch;
 use pd_queue::EditQueue;
 use pd_say::Held;
+use pd_stack::{Place, Stack, Task, leads_out, push_all};
 
 /// A delivery at this depth sends nothing.
 pub(crate) const DEEPEST: u32 = 1000;
 
 /// Does one task.
-#[tactic(auto, unfolding(crate::specs::Tasks::kept_after, crate::specs::Tasks::said_at, crate::specs::Tasks::caused))]
+#[tactic(auto, unfolding(crate::specs::Acts::kept_after, crate::specs::Acts::said_at, crate::specs::Acts::caused))]
 pub(crate) fn perform<L: Sink>(
     patch: &mut Patch,
     stack: &mut Stack,

@@ -3,7 +3,7 @@
 ghost use Rattle.std.specs.Prelude.{◌≡◌, ◌≤◌, ◌&&◌, true, length, Some, OnOk, OnErr};
 ghost use Rattle.pd_say.specs.Gathering.{Says, Fails, HasCause};
 ghost use Rattle.pd_hearing.specs.Worlds.{net_of};
-ghost use Rattle.pd_walk.specs.Tasks.{verb_in as verb_named_in, queue_with, asked_text, answer_text, is_near};
+ghost use Rattle.pd_walk.specs.Acts.{verb_in as verb_named_in, queue_with, asked_text, answer_text, is_near};
 ghost use Rattle.pd_hearing.specs.Guards.{is_few};
 
 use crate::printing::{print_canvas, print_full};

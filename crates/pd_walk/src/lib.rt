@@ -6,9 +6,6 @@ mod canvases;
 mod printing;
 mod relay;
 mod routes;
-mod sending;
-mod stack;
-mod steps;
 mod walker;
 
 pub use walker::{Budget, Start, Walker};

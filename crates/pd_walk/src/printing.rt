@@ -4,33 +4,13 @@ ghost use Rattle.std.specs.Prelude.{◌≡◌, ◌<◌, true, length, Some, OnOk
 ghost use Rattle.pd_say.specs.Gathering.{Says, Fails, HasCause};
 ghost use Rattle.pd_say.specs.Lines.{LineOf, notice_line};
 ghost use Rattle.pd_hearing.specs.Guards.{is_known as is_known_line};
-ghost use Rattle.pd_walk.specs.Tasks.{nobody_text, notice_text, notices_text, words_printed, overflow_text, cut_line, full_text, canvas_text};
+ghost use Rattle.pd_walk.specs.Acts.{notice_text, notices_text, words_printed, overflow_text, cut_line, full_text, canvas_text};
 
 use pd_atom::{Atom, Sym, Symbols};
 use pd_hearing::{are_known, is_known, is_name};
 use pd_io::{Sink, SinkFailed};
 use pd_kind::{Message, Notice};
 use pd_say::{Held, Line, say, say_notice};
-
-/// Says that nobody hears at a name.
-pub(crate) fn print_nobody<L: Sink>(
-    name: Sym,
-    symbols: &Symbols,
-    held: &mut Held,
-    lines: &mut L,
-) -> Result<(), SinkFailed>
-    ensures ok { OnOk result (Says (L.taken lines.old) held.old.items (L.taken lines.new) held.new.items (nobody_text symbols.now name)) }
-    ensures err { OnErr result (Fails (L.taken lines.old) held.old.items (L.taken lines.new) (nobody_text symbols.now name)) }
-    ensures cause { HasCause (L.faults lines.old) (L.faults lines.new) result }
-{
-    if !is_name(symbols, name) {
-        return Ok(());
-    }
-    let line = Line::NoObject {
-        name: Atom::Symbol(name),
-    };
-    say(&line, symbols, held, lines)
-}
 
 /// Whether what a notice names is of the table.
 fn is_known_notice(symbols: &Symbols, notice: &Notice) -> bool

@@ -6,21 +6,20 @@ ghost use Rattle.pd_queue.specs.Queue.{Waiting};
 ghost use Rattle.pd_web.specs.Hops.{fan_hops};
 ghost use Rattle.pd_hearing.specs.Briefs.{selector_of, atoms_of};
 ghost use Rattle.pd_hearing.specs.Worlds.{Net, net_of, kept_of, states_of};
-ghost use Rattle.pd_walk.specs.declared.steps.Place.TheVariants.{Inlet};
-ghost use Rattle.pd_walk.specs.Tasks.{Task as Doing, Resume};
-ghost use Rattle.pd_walk.specs.Piles.{GoesAlong, IsPiled, LeftOn};
-ghost use Rattle.pd_walk.specs.Turns.{told, IsDue};
+ghost use Rattle.pd_stack.specs.declared.steps.Place.TheVariants.{Inlet};
+ghost use Rattle.pd_stack.specs.Tasks.{Task as Doing, Resume};
+ghost use Rattle.pd_stack.specs.Piles.{GoesAlong, IsPiled, LeftOn};
+ghost use Rattle.pd_stack.specs.Turns.{told, IsDue};
 ghost use Rattle.pd_walk.specs.Outcome.{StatesStay};
 ghost use Rattle.pd_walk.specs.Relays.{AreRoutes, IsAtHand, saying_at, saying_tasks, resumption, Stepped, Relayed, GoesFrom};
 
 use crate::acting::DEEPEST;
 use crate::routes::{Routes, has_route, is_at_hand, route_of};
-use crate::stack::{Cursor, Frame, Stack};
-use crate::steps::{Place, Task};
 use crate::walker::Budget;
 use pd_atom::{Atom, Sym, Symbols};
 use pd_hearing::{Asked, Brief, Reaction, goes_on_at, hear_brief};
 use pd_patch::Patch;
+use pd_stack::{Cursor, Frame, Place, Stack, Task};
 use pd_web::Hop;
 
 /// A box says a brief message to its first outlet, to be delivered at this depth.

@@ -5,8 +5,8 @@ ghost use Rattle.pd_web.specs.declared.web.Web.{Web};
 ghost use Rattle.pd_web.specs.Hops.{fan_hops};
 ghost use Rattle.pd_walk.specs.Relays.{IsRoute, AreRoutes, IsAtHand};
 
-use crate::steps::end_at;
 use pd_patch::Patch;
+use pd_stack::end_at;
 use pd_web::Hop;
 
 /// How many routes are kept at hand.

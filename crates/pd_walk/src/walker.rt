@@ -8,8 +8,9 @@ ghost use Rattle.pd_turns.specs.Turns.{World};
 ghost use Rattle.pd_hearing.specs.Worlds.{Kept, net_of, kept_of, states_of};
 ghost use Rattle.pd_hearing.specs.Hearing.{fired_at, loaded_at};
 ghost use Rattle.pd_hearing.specs.Deeds.{done};
-ghost use Rattle.pd_walk.specs.Tasks.{Task as Doing, asked_for};
-ghost use Rattle.pd_walk.specs.Piles.{IsPiled, LeftOn};
+ghost use Rattle.pd_stack.specs.Tasks.{Task as Doing};
+ghost use Rattle.pd_walk.specs.Acts.{asked_for};
+ghost use Rattle.pd_stack.specs.Piles.{IsPiled, LeftOn};
 ghost use Rattle.pd_walk.specs.Ways.{IsUnderWay, IsDone};
 ghost use Rattle.pd_walk.specs.Outcome.{world, outcome, told_by, all_loaded, named_tasks, ran, IsLeft, StatesStay};
 
@@ -17,8 +18,6 @@ use crate::acting::{perform, push_sends};
 use crate::printing::print_cut;
 use crate::relay::relay_task;
 use crate::routes::no_routes;
-use crate::stack::{Cursor, Frame, Stack};
-use crate::steps::next_task;
 use pd_atom::{Atom, Sym, Symbols};
 use pd_clock::Time;
 use pd_hearing::{do_deed, fire_at, load_at};
@@ -27,6 +26,7 @@ use pd_kind::{Message, Sends};
 use pd_patch::Patch;
 use pd_queue::EditQueue;
 use pd_say::{Held, flush};
+use pd_stack::{Cursor, Frame, Stack, next_task};
 use std::alloc::{AllocError, Global};
 
 /// The most atoms of a message.

@@ -5,8 +5,8 @@ use Rattle.pd_kind.specs.declared.messages.Notice.{Notice}
 use Rattle.pd_say.specs.Gathering.{Says, Fails}
 use Rattle.pd_hearing.specs.Worlds.{Net, net_of, kept_of, states_of}
 use Rattle.pd_hearing.specs.Hearing.{heard_at}
-use Rattle.pd_walk.specs.Tasks.{kept_by, said_by_box, asked_for, notices_text}
-use Rattle.pd_walk.specs.Piles.{LeftOn}
+use Rattle.pd_walk.specs.Acts.{kept_by, said_by_box, asked_for, notices_text}
+use Rattle.pd_stack.specs.Piles.{LeftOn}
 use Rattle.pd_hearing.proofs.ResultLemmas.{on_ok_map, on_err_map}
 use Rattle.pd_walk.proofs.ActLemmas.{box-says, box-fails, print-fails, notices-fail, asked-left, acts-kept}
 use Rattle.pd_walk.proofs.StayLemmas.{heard-stay, done-stay, stay-then}

@@ -2,8 +2,8 @@ use Rattle.std.proofs.Common.{◌++◌, ℕ, List, sym, ◌∙◌, subst, OnOk, 
 use Rattle.std.specs.List.{slice_range}
 use Rattle.pd_say.specs.Gathering.{Says, Fails}
 use Rattle.pd_hearing.specs.Worlds.{net_of, kept_of}
-use Rattle.pd_walk.specs.Tasks.{Task}
-use Rattle.pd_walk.specs.Piles.{LeftOn}
+use Rattle.pd_stack.specs.Tasks.{Task}
+use Rattle.pd_stack.specs.Piles.{LeftOn}
 use Rattle.pd_hearing.proofs.ResultLemmas.{on_ok_map}
 use Rattle.pd_walk.proofs.ActLemmas.{inlet-kept, inlet-said, inlet-caused, again-kept, again-said, again-caused}
 use Rattle.pd_walk.proofs.StayLemmas.{all-stay}

@@ -5,8 +5,8 @@ use Rattle.pd_say.specs.Gathering.{Says, Fails}
 use Rattle.pd_say.proofs.GatheringLemmas.{says_nothing}
 use Rattle.pd_kind.specs.Said.{said_by}
 use Rattle.pd_hearing.specs.Worlds.{net_of}
-use Rattle.pd_walk.specs.Tasks.{Task, leads_out, sent, again_after}
-use Rattle.pd_walk.specs.Piles.{LeftOn}
+use Rattle.pd_stack.specs.Tasks.{Task, leads_out, sent, again_after}
+use Rattle.pd_stack.specs.Piles.{LeftOn}
 use Rattle.std.specs.List.{flat_map}
 use Rattle.pd_hearing.proofs.ResultLemmas.{on_ok_map}
 use Rattle.pd_walk.proofs.ActLemmas.{rows-sends, quiet-text, quiet-asked, deep-text, deep-asked, some-text, some-left}

@@ -4,7 +4,7 @@ use Rattle.pd_queue.specs.declared.queue.Asked.{Asked}
 use Rattle.pd_say.specs.Gathering.{Says, Fails}
 use Rattle.pd_say.proofs.GatheringLemmas.{says_nothing}
 use Rattle.pd_hearing.specs.Worlds.{net_of}
-use Rattle.pd_walk.specs.Tasks.{path_in, answer_text}
+use Rattle.pd_walk.specs.Acts.{path_in, answer_text}
 use Rattle.pd_hearing.proofs.WorldLemmas.{path-bare}
 use Rattle.pd_walk.proofs.ActLemmas.{far-queue, near-queue, far-text, near-text}
 use Rattle.pd_walk.proofs.canvases.ask_edit.Goals as goal

@@ -1,6 +1,6 @@
 use Rattle.std.proofs.Common.{◌<◌, length, arith}
 use Rattle.std.proofs.lemmas.Result.{err_from_is_err_and}
-use Rattle.pd_walk.specs.Tasks.{notice_text}
+use Rattle.pd_walk.specs.Acts.{notice_text}
 use Rattle.pd_say.proofs.RowLemmas.{says_more, fails_within}
 use Rattle.pd_walk.proofs.printing.print_notices.Goals as goal
 

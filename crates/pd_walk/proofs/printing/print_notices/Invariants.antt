@@ -1,6 +1,6 @@
 use Rattle.std.proofs.Common.{◌≤◌, take}
 use Rattle.pd_say.specs.Gathering.{Says}
-use Rattle.pd_walk.specs.Tasks.{notices_text}
+use Rattle.pd_walk.specs.Acts.{notices_text}
 use Rattle.pd_walk.proofs.printing.print_notices.Given as goal
 
 abbrev pub invariant-loop-notice : goal.invariant-loop-notice

@@ -4,9 +4,9 @@ use Rattle.pd_hearing.specs.declared.briefs.Brief.TheVariants as brief
 use Rattle.pd_hearing.specs.Worlds.{Kept, net_of, kept_of}
 use Rattle.pd_hearing.proofs.WorldLemmas.{kept-same}
 use Rattle.pd_walk.specs.declared.relay.Saying.{Saying}
-use Rattle.pd_walk.specs.Pile.{Pile}
-use Rattle.pd_walk.specs.Piles.{LeftOn}
-use Rattle.pd_walk.specs.Tasks.{Resume}
+use Rattle.pd_stack.specs.Pile.{Pile}
+use Rattle.pd_stack.specs.Piles.{LeftOn}
+use Rattle.pd_stack.specs.Tasks.{Resume}
 use Rattle.pd_walk.specs.Relays.{Leads, resumption}
 use Rattle.pd_walk.proofs.StayLemmas.{stay-then}
 use Rattle.pd_walk.proofs.RelayLemmas.{again-relayed, again-done, again-goes, again-stay, same-stay}

@@ -1,4 +1,4 @@
-use Rattle.std.proofs.Common.{rules, arith, ◌≡◌, ◌<◌, ℕ, zero, suc, ◌%◌, List, [], ◌∷◌, length, true, refl}
+use Rattle.std.proofs.Common.{rules, arith, ◌≡◌, ◌<◌, ℕ, zero, suc, ◌%◌, List, [], ◌∷◌, length, refl}
 use Rattle.std.specs.Prelude.{slice_get, slice_set, Some}
 use Rattle.pd_walk.specs.declared.routes.Route.{Route}
 use Rattle.pd_walk.proofs.routes.keep_route.Goals as goal

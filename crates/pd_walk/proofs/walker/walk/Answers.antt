@@ -1,8 +1,8 @@
 use Rattle.std.proofs.Common.{arith, ◌≡◌, ◌<◌, ◌-◌, [], false, Option, IfNone, refl, sym, ◌∙◌, ap, subst}
 use Rattle.std.proofs.lemmas.Result.{err_from_is_err_and}
-use Rattle.pd_walk.specs.declared.steps.Task.{Task as Due}
+use Rattle.pd_stack.specs.declared.steps.Task.{Task as Due}
 use Rattle.pd_hearing.specs.Worlds.{Net, kept_of}
-use Rattle.pd_walk.specs.Turns.{told}
+use Rattle.pd_stack.specs.Turns.{told}
 use Rattle.pd_walk.specs.Ways.{IsUnderWay}
 use Rattle.pd_hearing.proofs.ResultLemmas.{on_ok_map, on_err_map, none-is}
 use Rattle.pd_walk.proofs.WayLemmas.{costs-doing, takes-some, takes-none, takes-fails, goes_on, fails, ends, stands, is_cut, fails_cut}

@@ -2,7 +2,7 @@ use Rattle.std.proofs.Common.{◌≡◌, ◌≤◌, ℕ, List, [], false, Option
 use Rattle.pd_turns.specs.Turns.{World}
 use Rattle.pd_hearing.specs.Worlds.{Kept, net_of, kept_of, states_of}
 use Rattle.pd_walk.specs.Outcome.{StatesStay}
-use Rattle.pd_walk.specs.Piles.{IsPiled}
+use Rattle.pd_stack.specs.Piles.{IsPiled}
 use Rattle.pd_walk.specs.Relays.{AreRoutes}
 use Rattle.pd_walk.specs.Ways.{IsUnderWay}
 use Rattle.pd_walk.proofs.walker.walk.Given as goal

@@ -1,0 +1,4 @@
+pub mod StackLemmas
+pub mod PileLemmas
+pub mod TurnLemmas
+pub mod SendLemmas

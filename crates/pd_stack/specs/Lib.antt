@@ -1,0 +1,4 @@
+pub mod Tasks
+pub mod Pile
+pub mod Piles
+pub mod Turns
