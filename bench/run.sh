@@ -9,8 +9,7 @@
 #   mend       the signal order of voices that feed one box: one voice's wire is cut and added again, where the chain stays and, apart, where it
 #              changes; beside it a fold at the same size
 #   hear       messages heard by one box: a number at the left inlet of `+`, `trigger`, `route`, `pack` and a message box with `$1`
-#   tone       blocks of phasor~, osc~ and noise~, one after another
-#   signal     blocks of the other signal objects but vline~ and those of the canvas's ports, one after another
+#   signal     blocks of one signal object after another, for all but min~, dac~, vline~ and those of the canvas's ports
 #   growth     a patch with twice as many wires as boxes: its growth alone, and with reading and gathering
 #
 # Times are of the processor, so other work on the machine lengthens them little; each is the least of five runs. docs/BENCHMARKS.md has
@@ -22,7 +21,6 @@
 #   crates/pd_bench/out/pd_bench fold BOXES
 #   crates/pd_bench/out/pd_bench mend BOXES
 #   crates/pd_bench/out/pd_bench hear MESSAGES
-#   crates/pd_bench/out/pd_bench tone BLOCKS
 #   crates/pd_bench/out/pd_bench signal BLOCKS
 #   crates/pd_bench/out/pd_bench growth BOXES [WIRES]
 #   crates/pd_bench/out/pd_bench full messages BOXES
@@ -54,7 +52,6 @@ sizes=(
   "fold 100" "fold 1000" "fold 10000"
   "mend 100" "mend 1000" "mend 10000"
   "hear 1000000"
-  "tone 100000"
   "signal 100000"
   "growth 100" "growth 1000" "growth 10000"
 )

@@ -1,4 +1,5 @@
 pub mod Boxes
 pub mod Held
+pub mod Objects
 pub mod Rows
 pub mod Voices

@@ -1,12 +1,12 @@
 //! The benchmarks by name.
 
 use crate::patches::Filling;
-use crate::{clocks, document, fold, growth, hearing, mend, signal, tone, wires};
+use crate::{clocks, document, fold, growth, hearing, mend, objects, wires};
 use anyhow::Result;
 use std::time::CpuClock;
 
 pub(crate) const USAGE: &str =
-    "usage: pd_bench document BYTES | clocks OWNERS FIRINGS | wires COUNT | fold BOXES | mend BOXES | hear MESSAGES | tone BLOCKS | signal BLOCKS | growth BOXES [WIRES] | full messages BOXES | full packs BOXES";
+    "usage: pd_bench document BYTES | clocks OWNERS FIRINGS | wires COUNT | fold BOXES | mend BOXES | hear MESSAGES | signal BLOCKS | growth BOXES [WIRES] | full messages BOXES | full packs BOXES";
 
 /// How many wires a box has in a patch that grows, where the words don't tell.
 const WIRES_EACH: u32 = 2;
@@ -25,7 +25,6 @@ pub(crate) enum Benchmark {
     Fold { boxes: u32 },
     Mend { boxes: u32 },
     Hear { messages: u32 },
-    Tone { blocks: u32 },
     Signal { blocks: u32 },
     Growth { boxes: u32, wires: u32 },
     Full { filling: Filling, boxes: u32 },
@@ -51,9 +50,6 @@ impl Benchmark {
             }),
             [name, boxes] if name.as_str() == "fold" => Some(Benchmark::Fold {
                 boxes: size(boxes.as_str())?,
-            }),
-            [name, blocks] if name.as_str() == "tone" => Some(Benchmark::Tone {
-                blocks: size(blocks.as_str())?,
             }),
             [name, blocks] if name.as_str() == "signal" => Some(Benchmark::Signal {
                 blocks: size(blocks.as_str())?,
@@ -89,8 +85,7 @@ impl Benchmark {
             Benchmark::Fold { boxes } => fold::run(rt, boxes),
             Benchmark::Mend { boxes } => mend::run(rt, boxes),
             Benchmark::Hear { messages } => hearing::run(rt, messages),
-            Benchmark::Tone { blocks } => tone::run(rt, blocks),
-            Benchmark::Signal { blocks } => signal::run(rt, blocks),
+            Benchmark::Signal { blocks } => objects::run(rt, blocks),
             Benchmark::Growth { boxes, wires } => growth::run(rt, boxes, wires),
             Benchmark::Full { filling, boxes } => growth::run_full(rt, filling, boxes),
         }

@@ -1,9 +1,14 @@
 //! Texts that are read and written: how long each takes, for four kinds of text.
 
+ghost use Rattle.std.specs.Prelude.{IfOk};
+ghost use Rattle.pd_canvas.specs.Proper.{IsProper};
+ghost use Rattle.pd_doc.specs.Atoms.{PageOf};
+
 use crate::benchmark::Measures;
 use crate::timing::{Nanos, RUNS, Stopwatch};
-use anyhow::{Result, ensure};
+use anyhow::{Result, bail, ensure};
 use pd_atom::Symbols;
+use pd_doc::Doc;
 use std::alloc::{AllocError, Global};
 use std::fmt::Write;
 
@@ -97,19 +102,37 @@ struct Times {
     write: Nanos,
 }
 
-/// Reads a text and writes it again, which gives the same text.
-fn measure<R: Measures>(rt: &R, text: &str) -> Result<Times> {
-    let bytes = text.as_bytes();
-    ensure!(bytes.len() <= MOST, "a text of {} bytes", bytes.len());
-    let mut symbols = Symbols::new(rt.alloc())?;
-    let watch = Stopwatch::start(rt)?;
-    let doc = pd_doc::read(rt.alloc(), bytes, &mut symbols)?;
-    let read = watch.read(rt)?;
+/// The document of a text.
+pub(crate) fn document(alloc: Global, text: &[u8], symbols: &mut Symbols) -> Result<Doc>
+    ensures proper { IfOk result (λ doc. IsProper symbols.new doc.root) }
+    ensures of_table { IfOk result (λ doc. PageOf symbols.new doc.root) }
+{
+    ensure!(text.len() <= MOST, "a text of {} bytes", text.len());
+    match pd_doc::read(alloc, text, symbols) {
+        Ok(doc) => Ok(doc),
+        Err(refusal) => bail!("{refusal}"),
+    }
+}
+
+/// The time of writing a document, which gives its text again.
+fn writing<R: Measures>(rt: &R, doc: &Doc, symbols: &Symbols, text: &[u8]) -> Result<Nanos>
+    requires { PageOf symbols.now doc.now.root }
+{
     let mut out = Vec::new(rt.alloc());
     let watch = Stopwatch::start(rt)?;
-    pd_doc::write(&doc, &symbols, &mut out)?;
-    let write = watch.read(rt)?;
-    ensure!(out.as_slice() == bytes, "another text is written");
+    pd_doc::write(doc, symbols, &mut out)?;
+    let time = watch.read(rt)?;
+    ensure!(out.as_slice() == text, "another text is written");
+    Ok(time)
+}
+
+/// Reads a text and writes it again.
+fn measure<R: Measures>(rt: &R, text: &str) -> Result<Times> {
+    let mut symbols = Symbols::new(rt.alloc())?;
+    let watch = Stopwatch::start(rt)?;
+    let doc = document(rt.alloc(), text.as_bytes(), &mut symbols)?;
+    let read = watch.read(rt)?;
+    let write = writing(rt, &doc, &symbols, text.as_bytes())?;
     Ok(Times { read, write })
 }
 

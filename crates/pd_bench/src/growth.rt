@@ -6,12 +6,13 @@ ghost use Rattle.pd_canvas.specs.Proper.{IsProper};
 ghost use Rattle.pd_gather.specs.Gather.{AreProper};
 
 use crate::benchmark::Measures;
+use crate::document::document;
 use crate::patches::{Filling, Size, full, groups};
 use crate::timing::{Nanos, RUNS, Stopwatch};
 use anyhow::{Result, bail, ensure};
 use pd_atom::Symbols;
 use pd_clock::Rate;
-use pd_doc::{Doc, proper_extended, read};
+use pd_doc::{Doc, proper_extended};
 use pd_gather::Library;
 use pd_io::{Files, MemShelf, Shelf};
 use pd_patch::{Patch, Report};
@@ -23,9 +24,6 @@ const NAME: &[u8] = b"main.pd";
 /// The `$0` of the patch.
 const FIRST_ZERO: u32 = 1001;
 
-/// A text that is read has no more bytes.
-const MOST: usize = 1 << 30;
-
 /// A folder without files.
 fn empty_shelf(alloc: Global) -> Result<MemShelf> {
     let files = Files::new(alloc);
@@ -33,34 +31,26 @@ fn empty_shelf(alloc: Global) -> Result<MemShelf> {
     Ok(MemShelf::new(alloc, files, Vec::new(alloc)))
 }
 
-fn document(alloc: Global, text: &[u8], symbols: &mut Symbols) -> Result<Doc>
-    ensures { IfOk result (λ doc. IsProper symbols.new doc.root) }
-{
-    ensure!(text.len() <= MOST, "a text of {} bytes", text.len());
-    let doc = read(alloc, text, symbols)?;
-    Ok(doc)
-}
-
-/// Gathers the files that a document asks for.
-fn gather_all<H: Shelf>(
-    library: &mut Library,
+/// The library of the files that a document asks for.
+fn gathered<H: Shelf>(
+    alloc: Global,
     doc: &Doc,
     shelf: &mut H,
     symbols: &mut Symbols,
-) -> Result<()>
-    requires proper { IsProper symbols.old doc.now.root }
-    requires found { AreProper symbols.old library.old }
-    ensures found { AreProper symbols.new library.new }
+) -> Result<Library>
+    requires { IsProper symbols.old doc.now.root }
+    ensures found { IfOk result (λ library. AreProper symbols.new library) }
     ensures extends { Extends symbols.old symbols.new }
 {
-    if let Err(refusal) = library.gather(doc, NAME, shelf, symbols) {
-        bail!("{refusal}");
+    let mut library = Library::new(alloc)?;
+    match library.gather(doc, NAME, shelf, symbols) {
+        Ok(()) => Ok(library),
+        Err(refusal) => bail!("{refusal}"),
     }
-    Ok(())
 }
 
 /// Grows a document with the files that were gathered.
-fn grow_all(
+fn grown(
     alloc: Global,
     doc: Doc,
     library: &Library,
@@ -69,9 +59,16 @@ fn grow_all(
     requires proper { IsProper symbols.old doc.root }
     requires found { AreProper symbols.old library.now }
 {
-    let rate = Rate::R44100;
-    let grown = Patch::grow(alloc, doc, NAME, rate, library, FIRST_ZERO, symbols)?;
-    Ok(grown)
+    match Patch::grow(alloc, doc, NAME, Rate::R44100, library, FIRST_ZERO, symbols) {
+        Ok(grown) => Ok(grown),
+        Err(refusal) => bail!("{refusal}"),
+    }
+}
+
+/// Whether of each box something is made, and all wires fit.
+fn is_whole(grown: (Patch, Report)) -> bool {
+    let (patch, report) = grown;
+    report.notices.is_empty() && patch.nodes_end() > 0
 }
 
 /// The times of growth, and of reading, gathering and growth.
@@ -81,7 +78,28 @@ struct Times {
     whole: Nanos,
 }
 
-/// Gathers for a document that was read and grows it; of each box something is made, and all wires fit.
+/// Grows a document that was read and whose files were gathered.
+fn measure_growth<R: Measures>(
+    rt: &R,
+    start: Stopwatch,
+    doc: Doc,
+    library: &Library,
+    symbols: &mut Symbols,
+) -> Result<Times>
+    requires proper { IsProper symbols.old doc.root }
+    requires found { AreProper symbols.old library.now }
+{
+    let watch = Stopwatch::start(rt)?;
+    let grown = grown(rt.alloc(), doc, library, symbols)?;
+    let (growth, whole) = (watch.read(rt), start.read(rt));
+    ensure!(is_whole(grown), "a box or a wire is refused");
+    Ok(Times {
+        growth: growth?,
+        whole: whole?,
+    })
+}
+
+/// Gathers for a document that was read and grows it.
 fn measure_from<R: Measures, H: Shelf>(
     rt: &R,
     start: Stopwatch,
@@ -91,19 +109,11 @@ fn measure_from<R: Measures, H: Shelf>(
 ) -> Result<Times>
     requires { IsProper symbols.old doc.root }
 {
-    let alloc = rt.alloc();
-    let mut library = Library::new(alloc)?;
     let _names = symbols.len();
-    gather_all(&mut library, &doc, shelf, symbols)?;
+    let library = gathered(rt.alloc(), &doc, shelf, symbols)?;
     let _names = symbols.len();
     proper_extended();
-    let watch = Stopwatch::start(rt)?;
-    let (patch, report) = grow_all(alloc, doc, &library, symbols)?;
-    let growth = watch.read(rt)?;
-    let whole = start.read(rt)?;
-    ensure!(report.notices.is_empty(), "a box or a wire is refused");
-    ensure!(patch.nodes_end() > 0, "a patch without boxes");
-    Ok(Times { growth, whole })
+    measure_growth(rt, start, doc, &library, symbols)
 }
 
 fn measure<R: Measures>(rt: &R, text: &str) -> Result<Times> {

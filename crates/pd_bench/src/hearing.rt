@@ -144,10 +144,17 @@ fn run_kind<R: Measures>(rt: &R, name: &str, kind: &Kind, messages: u32) -> Resu
     Ok(())
 }
 
+/// Measures a kind that was made for it.
+fn run_made<R: Measures>(rt: &R, name: &str, kind: Kind, messages: u32) -> Result<()>
+    requires { IsFit kind }
+{
+    run_kind(rt, name, &kind, messages)
+}
+
 pub(crate) fn run<R: Measures>(rt: &R, messages: u32) -> Result<()> {
-    run_kind(rt, "+ 1", &adder(), messages)?;
-    run_kind(rt, "trigger bang float", &trigger(rt.alloc())?, messages)?;
-    run_kind(rt, "route 1 2 3", &route(rt.alloc())?, messages)?;
-    run_kind(rt, "pack 0 0", &pack(rt.alloc())?, messages)?;
-    run_kind(rt, "a message box with $1", &message(rt.alloc())?, messages)
+    run_made(rt, "+ 1", adder(), messages)?;
+    run_made(rt, "trigger bang float", trigger(rt.alloc())?, messages)?;
+    run_made(rt, "route 1 2 3", route(rt.alloc())?, messages)?;
+    run_made(rt, "pack 0 0", pack(rt.alloc())?, messages)?;
+    run_made(rt, "a message box with $1", message(rt.alloc())?, messages)
 }

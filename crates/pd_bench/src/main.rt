@@ -12,10 +12,9 @@ mod growth;
 mod hearing;
 mod mend;
 mod numbers;
+mod objects;
 mod patches;
-mod signal;
 mod timing;
-mod tone;
 mod wires;
 
 use anyhow::Result;
