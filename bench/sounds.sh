@@ -2,10 +2,9 @@
 # Measures the sound of whole runs: bench/sounds.sh
 #
 # A voice is `osc~` into `*~`, and all voices feed `dac~`. Printed are nanoseconds for a voice and a sample, of the whole run less those of a run
-# of a block or two, by the number of voices; beside them the same patch in Pd (`pd -nogui -batch`), where `pd` is installed, and how many times its
-# time ours is, by the least times of 25 runs and by those in the middle. The runs of the two take turns. Pd plays three times as long, so that
-# a run of either takes about as much time of the processor: of a shorter run the least time would more often be that of a moment in which
-# nothing else slowed the machine. Build the program first, by ./play, or name another one in PDPLAY.
+# of a block or two, by the number of voices; beside them the same patch in Pd (`pd -nogui -batch`) for the same length, where `pd` is installed,
+# and how many times its time ours is, by the least times of 25 runs and by those in the middle. The runs of the two take turns. Build the
+# program first, by ./play, or name another one in PDPLAY.
 set -u
 top=$(cd "$(dirname "$0")/.." && pwd) || exit 2
 program=$(readlink -f "${PDPLAY:-$top/crates/pdplay/out/pdplay}")
@@ -38,18 +37,18 @@ ours() { "$program" main.pd; }
 theirs() { pd -nogui -noprefs -batch -open sound.pd; }
 none() { :; }
 
-# The patches of so many voices over so many milliseconds, in Pd three times as many.
+# The patches of so many voices over so many milliseconds.
 prepare() {
   { echo "#N canvas 0 0 400 300 12;"; voices "$1" 0; } >main.pd
   echo "$2 end;" >script
-  pd_patch "$1" $((3 * $2)) >sound.pd
+  pd_patch "$1" "$2" >sound.pd
 }
 
 other=none
 command -v pd >/dev/null && other=theirs
 printf '%-8s %14s %14s %8s %8s\n' voices pdplay pd times middle
 for count in 10 100 1000; do
-  length=$((700000 / count))
+  length=$((2100000 / count))
   prepare "$count" 1
   read -r -a idle < <(in_turn 25 ours "$other")
   prepare "$count" "$length"
@@ -57,7 +56,7 @@ for count in 10 100 1000; do
   awk -v c="$count" -v l="$length" -v o="$other" -v a="${whole[*]}" -v b="${idle[*]}" 'BEGIN {
     n = int(l * 44.1 * c)
     split(a, w, " "); split(b, i, " ")
-    for (k = 1; k <= 4; k++) t[k] = (w[k] - i[k]) * 1e9 / n / (k % 2 ? 1 : 3)
+    for (k = 1; k <= 4; k++) t[k] = (w[k] - i[k]) * 1e9 / n
     if (o == "none") printf "%-8s %11.1f ns %14s %8s %8s\n", c, t[1], "-", "-", "-"
     else printf "%-8s %11.1f ns %11.1f ns %8.1f %8.1f\n", c, t[1], t[2], t[1] / t[2], t[3] / t[4]
   }'
