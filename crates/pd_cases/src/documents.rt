@@ -1,9 +1,11 @@
 //! A text that is read as a document, and written.
 
+ghost use Rattle.pd_doc.specs.Atoms.{PageOf};
+
 use crate::stage::stage_of;
 use anyhow::{Result, bail, ensure};
 use pd_atom::Symbols;
-use pd_doc::{DocRefusal, read, write};
+use pd_doc::{Doc, DocRefusal, read, write};
 use std::alloc::Global;
 
 /// The number of the record that is refused, 0 for want of memory.
@@ -20,26 +22,34 @@ fn record_of(refusal: DocRefusal) -> u32 {
     }
 }
 
-/// The text that is written for the document of a text, its lines with blanks between them, or the record that is refused.
-pub(crate) fn document(alloc: Global, parts: &str, symbols: &mut Symbols) -> Result<String> {
-    let stage = stage_of(alloc, format!(in alloc; "document {parts}")?.as_str())?;
-    let text = stage.last_text().unwrap_or(b"");
-    ensure!(text.len() <= 4_294_967_295, "too long a text");
-    let doc = match read(alloc, text, symbols) {
-        Ok(doc) => doc,
-        Err(refusal) => {
-            return Ok(format!(in alloc; " record {}: {refusal}", record_of(refusal))?);
-        }
-    };
-    let mut written = Vec::new(alloc);
-    write(&doc, symbols, &mut written)?;
-    let Ok(written) = String::from_utf8(written) else {
+/// The text that is written for a document, its lines with blanks between them.
+fn written(alloc: Global, doc: &Doc, symbols: &Symbols) -> Result<String>
+    requires { PageOf symbols.now doc.now.root }
+{
+    let mut bytes = Vec::new(alloc);
+    write(doc, symbols, &mut bytes)?;
+    let Ok(text) = String::from_utf8(bytes) else {
         bail!("a name that is no text");
     };
     let mut said = String::new(alloc);
-    for line in written.as_str().lines() {
+    for line in text.as_str().lines() {
         said.push_str(" ")?;
         said.push_str(line)?;
     }
     Ok(said)
+}
+
+/// What is written for the document of a text, or the record that is refused.
+fn rewritten(alloc: Global, text: &[u8], symbols: &mut Symbols) -> Result<String> {
+    ensure!(text.len() <= 4_294_967_295, "too long a text");
+    match read(alloc, text, symbols) {
+        Ok(doc) => written(alloc, &doc, symbols),
+        Err(refusal) => Ok(format!(in alloc; " record {}: {refusal}", record_of(refusal))?),
+    }
+}
+
+/// What is written for the document of the text of a case's parts.
+pub(crate) fn document(alloc: Global, parts: &str, symbols: &mut Symbols) -> Result<String> {
+    let stage = stage_of(alloc, format!(in alloc; "document {parts}")?.as_str())?;
+    rewritten(alloc, stage.last_text().unwrap_or(b""), symbols)
 }

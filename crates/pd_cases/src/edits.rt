@@ -3,7 +3,7 @@
 use crate::shown::push_words;
 use anyhow::{Result, bail, ensure};
 use pd_atom::Symbols;
-use pd_canvas::{Doc, apply_plain, can_apply, copy};
+use pd_canvas::{Doc, Edit, apply_plain, can_apply, copy};
 use pd_doc::read;
 use pd_lex::{Step, next_record};
 use pd_num::Num;
@@ -31,34 +31,61 @@ pub(crate) fn command(alloc: Global, record: &str, symbols: &mut Symbols) -> Res
     Ok(said)
 }
 
-/// Makes the edit of a record where it can be made, and gives the words of the document.
-fn made(alloc: Global, doc: &mut Doc, record: &str, symbols: &mut Symbols) -> Result<String> {
-    let Some((_, Script::Run(Command::Edit { place, edit }))) = script_of(alloc, record, symbols)?
-    else {
-        bail!("no edit: {record}");
-    };
-    let edit = edit.copy(alloc)?;
-    if !can_apply(doc, place.path.as_slice(), &edit) {
-        return Ok(String::from_str(alloc, " can't")?);
-    }
-    apply_plain(doc, place.path.as_slice(), &edit)?;
+/// The words of a document.
+fn words(alloc: Global, doc: &Doc) -> Result<String> {
     let mut said = String::new(alloc);
     push_words(format!(in alloc; "{doc:?}")?.as_str(), &mut said)?;
     Ok(said)
 }
 
-/// The words of a copy of a text's document after each edit.
-pub(crate) fn edits(alloc: Global, parts: &str, symbols: &mut Symbols) -> Result<String> {
-    let (text, records) = parts.split_once(" | ").unwrap_or((parts, ""));
+/// Makes an edit where it can be made, and gives the words of the document.
+fn made(alloc: Global, doc: &mut Doc, path: &[u32], edit: &Edit) -> Result<String> {
+    if !can_apply(doc, path, edit) {
+        return Ok(String::from_str(alloc, " can't")?);
+    }
+    apply_plain(doc, path, edit)?;
+    words(alloc, doc)
+}
+
+/// Makes the edit of a record.
+fn edited(alloc: Global, doc: &mut Doc, record: &str, symbols: &mut Symbols) -> Result<String> {
+    let Some((_, Script::Run(Command::Edit { place, edit }))) = script_of(alloc, record, symbols)?
+    else {
+        bail!("no edit: {record}");
+    };
+    let edit = edit.copy(alloc)?;
+    made(alloc, doc, place.path.as_slice(), &edit)
+}
+
+/// A copy of a text's document.
+fn copied(alloc: Global, text: &str, symbols: &mut Symbols) -> Result<Doc> {
     ensure!(text.len() <= 4_294_967_295, "too long a text");
     let Ok(doc) = read(alloc, text.as_bytes(), symbols) else {
         bail!("no document: {text}");
     };
-    let mut doc = copy(&doc)?;
-    let mut said = String::new(alloc);
+    Ok(copy(&doc)?)
+}
+
+/// Puts the words of a document after each edit.
+fn push_edits(
+    alloc: Global,
+    doc: &mut Doc,
+    records: &str,
+    symbols: &mut Symbols,
+    said: &mut String,
+) -> Result<()> {
     for record in records.split(" | ") {
         said.push_str(" |")?;
-        said.push_str(made(alloc, &mut doc, record, symbols)?.as_str())?;
+        said.push_str(edited(alloc, doc, record, symbols)?.as_str())?;
     }
+    Ok(())
+}
+
+/// The words of a copy of a text's document after each edit.
+pub(crate) fn edits(alloc: Global, parts: &str, symbols: &mut Symbols) -> Result<String> {
+    let (text, records) = parts.split_once(" | ").unwrap_or((parts, ""));
+    let mut said = String::new(alloc);
+    let mut doc = copied(alloc, text, symbols)?;
+    push_edits(alloc, &mut doc, records, symbols, &mut said)?;
     Ok(said)
 }

@@ -1,9 +1,9 @@
-use Rattle.std.proofs.Common.{refl, ◌≡◌, ◌==◌, List, ℕ, length, true, false, sym, ap, ◌∙◌, subst}
+use Rattle.std.proofs.Common.{◌≡◌, ◌==◌, List, ℕ, length, true, false, sym, ap, ◌∙◌, subst}
 use Rattle.pd_script.specs.Scripts.{command_of}
 use Rattle.pd_script.specs.Tokens.{tokens_of}
 use Rattle.pd_play.specs.declared.status.Status.{Status}
 use Rattle.pd_play.specs.declared.status.Status.TheVariants.{ScriptBad}
-use Rattle.pd_play.specs.Runs.{Point, Run, counted, bad, record_run}
+use Rattle.pd_play.specs.Runs.{Point, Run, counted, bad}
 use Rattle.pd_play.specs.Playing.{Plays, point_of}
 use Rattle.pd_play.proofs.RunLemmas.{nothing_goes_on, leads_same, ended_played, record_empty, record_read, record_bad}
 use Rattle.pd_play.proofs.session.Session.run_record.Goals as goal
