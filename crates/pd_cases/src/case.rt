@@ -8,6 +8,7 @@ use pd_kind::Named;
 use std::alloc::Global;
 
 /// What a line asks.
+#[derive(Clone, Copy)]
 enum Case<'a> {
     /// What a text names.
     Name { text: &'a str },
@@ -69,26 +70,37 @@ fn said(alloc: Global, texts: &str, symbols: &mut Symbols) -> Result<String> {
     }
 }
 
+/// What a text names.
+fn named(alloc: Global, text: &str, symbols: &mut Symbols) -> Result<String> {
+    shown::named(alloc, &naming::named_of(alloc, text, symbols)?)
+}
+
+/// How many values the box of a text counts.
+fn sized(alloc: Global, rate: Rate, text: &str, symbols: &mut Symbols) -> Result<String> {
+    shown::size(alloc, &naming::named_of(alloc, text, symbols)?, rate)
+}
+
+/// The answer to a case, with a table of names for it.
+fn answered(alloc: Global, case: Case<'_>, symbols: &mut Symbols) -> Result<String> {
+    match case {
+        Case::Name { text } => named(alloc, text, symbols),
+        Case::Size { rate, text } => sized(alloc, rate, text, symbols),
+        Case::Hear { texts } => said(alloc, texts, symbols),
+        Case::Play { parts } => playing::played(alloc, parts),
+        Case::Tree { parts } => trees::tree(alloc, parts),
+        Case::Refusals => refusals::texts(alloc),
+        Case::Document { parts } => documents::document(alloc, parts, symbols),
+        Case::Command { record } => edits::command(alloc, record, symbols),
+        Case::Edit { parts } => edits::edits(alloc, parts, symbols),
+        Case::Order { parts } => orders::orders(alloc, parts),
+    }
+}
+
 /// What is printed behind a case's line and an arrow; it begins with a blank.
 pub(crate) fn answer(alloc: Global, line: &str) -> Result<String> {
+    let Some(case) = case_of(line) else {
+        bail!("no case: {line}");
+    };
     let mut symbols = Symbols::new(alloc)?;
-    match case_of(line) {
-        Some(Case::Name { text }) => {
-            shown::named(alloc, &naming::named_of(alloc, text, &mut symbols)?)
-        }
-        Some(Case::Size { rate, text }) => shown::size(
-            alloc,
-            &naming::named_of(alloc, text, &mut symbols)?,
-            rate,
-        ),
-        Some(Case::Hear { texts }) => said(alloc, texts, &mut symbols),
-        Some(Case::Play { parts }) => playing::played(alloc, parts),
-        Some(Case::Tree { parts }) => trees::tree(alloc, parts),
-        Some(Case::Refusals) => refusals::texts(alloc),
-        Some(Case::Document { parts }) => documents::document(alloc, parts, &mut symbols),
-        Some(Case::Command { record }) => edits::command(alloc, record, &mut symbols),
-        Some(Case::Edit { parts }) => edits::edits(alloc, parts, &mut symbols),
-        Some(Case::Order { parts }) => orders::orders(alloc, parts),
-        None => bail!("no case: {line}"),
-    }
+    answered(alloc, case, &mut symbols)
 }

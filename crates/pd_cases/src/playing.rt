@@ -41,11 +41,15 @@ fn run(alloc: Global, words: &[String], stage: Stage) -> Result<String> {
     let mut lines = MemSink::new(alloc, ROOM, lines)?;
     let mut pcm = MemSink::new(alloc, ROOM, pcm)?;
     let status = play(alloc, words, &mut shelf, &mut script, &mut lines, &mut pcm);
-    let code = status.code();
+    told(alloc, status.code(), lines.taken(), pcm.taken())
+}
+
+/// An exit code, lines and samples.
+fn told(alloc: Global, code: u8, lines: &[u8], samples: &[u8]) -> Result<String> {
     let mut said = format!(in alloc; " {code}")?;
-    push_lines(alloc, lines.taken(), &mut said)?;
+    push_lines(alloc, lines, &mut said)?;
     said.push_str(" |")?;
-    push_samples(alloc, pcm.taken(), &mut said)?;
+    push_samples(alloc, samples, &mut said)?;
     Ok(said)
 }
 

@@ -39,6 +39,30 @@ fn grown(alloc: Global, stage: Stage) -> Result<String> {
     }
 }
 
+/// The `$0` numbers of a tree in text order.
+fn push_zeros(alloc: Global, patch: &Patch, said: &mut String) -> Result<()> {
+    said.push_str(" | zeros")?;
+    let zeros = patch.zeros(alloc)?;
+    for zero in zeros.as_slice() {
+        write!(said, " {zero}")?;
+    }
+    Ok(())
+}
+
+/// Canvases by their keys, each as `push_canvas` tells it.
+fn push_canvases(
+    alloc: Global,
+    patch: &Patch,
+    canvases: &[u32],
+    symbols: &Symbols,
+    said: &mut String,
+) -> Result<()> {
+    for canvas in canvases {
+        push_canvas(alloc, patch, *canvas, symbols, said)?;
+    }
+    Ok(())
+}
+
 /// The canvases of a tree in text order, and its `$0` numbers.
 fn shown(alloc: Global, patch: &Patch, symbols: &Symbols) -> Result<String> {
     let canvases = canvases_of(alloc, patch)?;
@@ -48,14 +72,8 @@ fn shown(alloc: Global, patch: &Patch, symbols: &Symbols) -> Result<String> {
         write!(said, " {boxes} boxes, {} canvases", canvases.len())?;
         return Ok(said);
     }
-    for canvas in canvases.iter() {
-        push_canvas(alloc, patch, *canvas, symbols, &mut said)?;
-    }
-    said.push_str(" | zeros")?;
-    let zeros = patch.zeros(alloc)?;
-    for zero in zeros.as_slice() {
-        write!(said, " {zero}")?;
-    }
+    push_canvases(alloc, patch, canvases.as_slice(), symbols, &mut said)?;
+    push_zeros(alloc, patch, &mut said)?;
     Ok(said)
 }
 
