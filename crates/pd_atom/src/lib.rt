@@ -1,4 +1,17 @@
-//! Names and atoms: a table of the names of symbols, and what tokens read as, how atoms are spelled, and what their dollars stand for.
+//! Names and atoms: a table of the names of symbols, and what tokens read as, how atoms are spelled, and what their
+//! dollars stand for.
+//!
+//! A table is the list of its distinct names, from six that it begins with. `Symbols::intern` finds a name or adds
+//! it last, TooLong exactly above 255 bytes, Full exactly at 65,536 names and a new one; a refusal changes nothing,
+//! and `cut_back` forgets the names from a number on. `read_token`, `write_atom`, `settle` and `expand` are their
+//! definitions: what a token reads as, an atom's spelling, what reading that spelling gives, and an atom with its
+//! dollars replaced.
+//!
+//! Laws: the spelling of a settled atom reads as that atom (`spellings_read`), an atom that settles to itself is
+//! settled (`settled_laws`), and what is of a table stays so in a longer one (`tables_extended`). Free: want of
+//! memory.
+//!
+//! Definitions: `Names`, `Atoms`, `Tokens`, `Expansion`; `Stored` is of the table inside.
 #![tactic(auto)]
 
 ghost use Rattle.std.specs.Prelude.{◌≡◌};

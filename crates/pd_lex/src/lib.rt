@@ -1,11 +1,18 @@
 //! The text of Pd patches and scripts: its records, their tokens, and the backslashes in names.
 //!
-//! White space is space, tab, line feed and carriage return. A unit is a byte that is neither white
-//! space, comma, semicolon nor backslash, or a backslash with any one byte behind it. A token is a
-//! longest run of units, or one comma by itself. A record is tokens, with white space between them
-//! or around them, and then a semicolon. A text is records and then white space alone; what else
-//! stands behind its last record is an unfinished rest. A place is a count of bytes from the start
-//! of the text.
+//! White space is space, tab, line feed and carriage return. A unit is a byte that is neither white space, comma,
+//! semicolon nor backslash, or a backslash with any one byte behind it. A token is a longest run of units, or one
+//! comma by itself. A record is tokens, with white space between them or around them, and then a semicolon. A text
+//! is records and then white space alone; what else stands behind its last record is an unfinished rest. A place is
+//! a count of bytes from the start of the text.
+//!
+//! `next_record` and `next_token` find the records and tokens that a text stands for by a relation on whole texts;
+//! that every text stands for at most one list of records, and that it is the one that is read, is the law
+//! `one_reading`. `unescape` gives a token's bytes without their backslashes, and False exactly above 255 bytes;
+//! `put_escaped` puts the backslashes back, and what it puts reads as the name (law `escapes_read`). Want of memory
+//! is the only failure, of `put_escaped` alone.
+//!
+//! Definitions: `Text` (the relation), `Reading` (the same, read from the left).
 #![tactic(auto)]
 
 ghost use Rattle.std.specs.Prelude.{ℕ, List, ◌≡◌, ◌+◌, ◌-◌, ◌≤◌, length, slice_range, IsTrue, MatchOption, IfSome, ◌<◌, drop, [], None};

@@ -1,5 +1,19 @@
-//! Numbers and signal values: whole counts of millionths and of billionths, whose operations saturate.
-//! No call takes memory.
+//! Numbers and signal values in fixed point.
+//!
+//! A number (`Num`) is a whole count of millionths of magnitude at most 10^15, a signal value (`Sig`) one of
+//! billionths of magnitude at most 10^18. `add`, `sub`, `mul` and `div` of both give the exact sum, difference,
+//! product and quotient, rounded toward zero and saturated, and 0 for a zero divisor. `of_micros` and `of_nanos`
+//! answer None exactly out of range; `of_num` and `to_num` lead from the one to the other.
+//!
+//! `Num::read` gives the value of a numeral, an exact fraction that is rounded once, halves away from zero, and
+//! None exactly for a token that is no numeral. `Num::print` leaves the printed form, and a printed number reads as
+//! itself. Two laws say so of the definitions: `numerals_read` (each numeral is found, and nothing else) and
+//! `printed_again`.
+//!
+//! No call takes memory. Nothing is left free.
+//!
+//! Definitions: `Scale` (ranges, saturation, the four operations), `Cut` (rounding toward zero), `Numeral` (what a
+//! numeral is and is worth), `Reading` (the same from the left), `Printing`.
 #![tactic(auto)]
 
 ghost use Rattle.std.specs.Prelude.{◌≡◌, ℕ, ℤ, List, Some, IfSome};
