@@ -1,4 +1,19 @@
-//! Documents of a patch: canvases with their boxes and wires, and plain edits of them.
+//! Documents of a patch in memory: canvases with their boxes and wires, and plain edits of them.
+//!
+//! `Doc`, `Canvas`, `Element`, `Form`, `Wire`, `Edit` and `Place` are the types of a patch file. Contracts see a
+//! canvas as one value, a tree with a list of boxes, and lists as their items. `copy` equals its source.
+//!
+//! `apply_plain` is the plain edit over lists, one equation a verb: a new box goes last, a new wire last in its
+//! outlet's fan-out, a deleted box takes its wires along and higher numbers go down; after want of memory the
+//! document is as before. `can_apply` tells exactly whether an edit can be done.
+//!
+//! Laws: in sorted wires a new wire goes last in its outlet's fan-out and every other outlet keeps its own
+//! (`fan_outs`); an edit keeps a proper document proper where what it brings is ready and the limits hold
+//! (`edits_keep_proper`). No layer above makes these edits yet; `pd_doc`, `pd_script` and `pd_play` stand on the
+//! types. Free: want of memory.
+//!
+//! Definitions: `Pages` (a canvas as a value), `Views`, `Paths`, `Wiring`, `Edits`, `Proper`; `Arrays`, `Codes` and
+//! `Falls` help these.
 #![tactic(auto)]
 
 mod changes;

@@ -1,4 +1,20 @@
-//! Documents: the patch file format in both directions.
+//! The patch file format in both directions.
+//!
+//! `read` gives the document of the text's records, or the first refusal with its record and cause, and after any
+//! refusal the table of names is as before; what it gives is proper in the table after it. `write` takes a document
+//! whose atoms are of the table, as those of a proper one are (`proper_pages`), and appends the canonical text, or
+//! leaves what was there.
+//!
+//! Laws: reading the text of a proper document gives it back and leaves the table (`written_read`); what reading
+//! any text gives is proper, and the table after it is one (`read_proper`); so what was read and is written is read
+//! as the same document with the same table (`read_again`). A proper document stays so in a longer table
+//! (`proper_extended`).
+//!
+//! Free: want of memory, and how deep `write` goes on the machine's stack, which is as deep as the canvases nest,
+//! in a proper document at most 256. No layer above writes yet. The speed is measured: `docs/BENCHMARKS.md`.
+//!
+//! Definitions: `Reading`, over `Records`, `Kinds`, `Fields`, `Lines` (what a text is read as); `Writing` (the
+//! canonical text); `Atoms`; the others help.
 #![tactic(auto)]
 
 mod atoms;
