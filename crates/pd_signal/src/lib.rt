@@ -1,6 +1,17 @@
 //! The signal objects, a block at a time: what each gives from its inlets' samples, and what it keeps then.
 //!
-//! No call takes memory.
+//! `run` leaves exactly the state and the blocks of 64 samples of the box's row, for every kind and state; a box of
+//! another kind, or whose state is of another, stays as it is. It asks for a block at each signal port, and that
+//! rings and blocks that are kept have their sizes, which it keeps. `run_shared` does the same beside a bus or a
+//! delay line, `run_table` beside a table. Not here: `phasor~`, `osc~` and `noise~` (`pd_tone`), `vline~`
+//! (`pd_vline`), `dac~`, `inlet~` and `outlet~` (`pd_block`).
+//!
+//! Law: the ring of a `delwrite~` holds the last of all samples that were written, and a `delread~` gives those
+//! that begin as far back as it looks (`lines_hold_their_samples`). No call takes memory. The speed is measured:
+//! `docs/BENCHMARKS.md`.
+//!
+//! Definitions: `Rows` and `SharedRows` (the rows), over `Samples`, `Ramps`, `Rings`, `Delays`, `Lines`, `Tables`;
+//! `Boxes` (blocks and sizes), `Shorts` helps.
 #![tactic(auto)]
 
 ghost use Rattle.std.specs.Prelude.{◌≡◌, ℕ, ℤ, pos, ◌<◌, ◌≤◌, ◌++◌, List, [], length, replicate};
