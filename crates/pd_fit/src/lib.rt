@@ -1,4 +1,10 @@
-//! The wires of a grown patch that fit, counted before it has keys.
+//! The wires of a grown patch that fit, counted before its boxes have keys, so that a patch with too many is
+//! refused before anything is planted.
+//!
+//! `has_too_many_wires` tells exactly whether more than 65,536 do. It goes over the list once, from the last box to
+//! the first. Free: want of memory.
+//!
+//! Definitions: `Fitting` (how many wires of a tree fit), `Seeing`, `Stacking`.
 #![tactic(auto)]
 
 mod boxes;

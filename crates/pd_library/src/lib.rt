@@ -1,4 +1,10 @@
-//! What is known of the files of abstractions, and drafts of them.
+//! What is known of the files of abstractions, in the order in which it was learned, and drafts of them.
+//!
+//! `answer` is what is known of a name; `learn` notes what was found under a name of which nothing was known,
+//! `publish` makes a document what is found under a name, and `cut_back` forgets all names but the first ones.
+//! Nothing above calls `publish` yet. All else stays, and after want of memory all is as before.
+//!
+//! Definitions: `Files`; `Codes` helps.
 #![tactic(auto)]
 
 mod answers;

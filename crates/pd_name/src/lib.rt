@@ -1,5 +1,11 @@
-//! Names and their owners: for each class and name the list of the boxes and canvases that are found by it, in an order that the caller
-//! gives.
+//! Names and their owners: for each class and name the list of the boxes and canvases that are found by it, in an
+//! order that the caller gives, and a number of spare places.
+//!
+//! `bind` puts an owner at its index, `unbind` takes one out and keeps the others' order, and `reserve` makes
+//! places spare so that later calls of `bind` can't fail; all other lists and places stay. An owner that isn't
+//! there changes nothing. After want of memory all is as before. Free: want of memory, and how long a call takes.
+//!
+//! Definitions: `Rows` (owners, spare places, what stays); `Stored` is of the lists inside.
 #![tactic(auto)]
 
 ghost use Rattle.std.specs.Prelude.{◌≡◌, ◌<◌, ◌≤◌, ◌+◌, [], length, insert, IsOkAnd, OnOk, OnErr, IsOk};

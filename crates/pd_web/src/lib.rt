@@ -1,4 +1,17 @@
 //! The ports of running boxes under their keys, and the wires between them.
+//!
+//! `Web::lay` lists the ports of each live box: those of the box's kind, or of the port boxes of the canvas in it,
+//! and the box that each port box stands for is told. A port gets an end in pd_wire's book with its first wire, so
+//! that of the many ports that a box may have those without wires take little room. The hops from an outlet are, in
+//! order, the wires of the canvases that fit, by the keys of the boxes and the numbers of the ports, and those to
+//! an inlet likewise; there are at most 65,536, and `TooManyWires` comes only where more fit. `fan_first`,
+//! `fan_next`, `feed_first` and `feed_next` walk these lists without a search.
+//!
+//! Laws: `canvases_wire_their_own_boxes` and `standing_canvases_are_trimmed` lead from keys to the tree's own
+//! wires. Free: want of memory.
+//!
+//! Definitions: `Hops` (ports and wires as they are told), `Canvases`, `Homes`, `Sockets`; `Jacks`, `Lines` and
+//! `Wiring` help.
 #![tactic(auto)]
 
 mod calls;
