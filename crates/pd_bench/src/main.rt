@@ -2,6 +2,10 @@
 //!
 //! Times are of the processor. Each is the least of a few runs, since other work can only lengthen one. Without
 //! words nothing is measured and nothing printed.
+//!
+//! It is measured, not proved beyond safety: its two graphs of formulas are proved lawful, since `pd_order` asks
+//! for that, and the documents that grow are proper, as `pd_patch` asks. `bench/run.sh` runs it and prints a table;
+//! `docs/BENCHMARKS.md` has targets and figures.
 #![tactic(auto)]
 
 mod benchmark;

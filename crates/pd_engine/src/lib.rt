@@ -1,4 +1,40 @@
 //! Events in time: opening, commands, clocks and blocks.
+//!
+//! Between events a patch stands at a stage: what messages leave as it is, what the boxes keep, the clocks, the
+//! table of names, the time, when the next block ends, and how many clocks fired since the last one. Each call is a
+//! function of the stage: it gives the stage after it and the bytes of the lines and samples on the way, and the
+//! code does exactly that.
+//!
+//! `command` does what its command says: a `send` is its event, that is pd_walk's deliveries under 1,000,000, and
+//! then a line for each edit that was asked for, which is refused; `show` prints the order of the canvas that its
+//! path leads to; an edit, a save, `undo` and `redo` print their refusal. It answers accordingly. `advance` takes
+//! the steps to a time: each block that ends by it runs, after the clocks below its end, and its samples are
+//! written; then the clocks below the time fire, each the first that was set among those of the least time, at most
+//! 10,000 between two blocks; then it is that time. `finish` runs the block that has begun, after its clocks. Where
+//! a sink fails, the lines that it took are a first part of those, and so are the samples (`part`); `WriteFault`
+//! comes only where a count of faults of the sinks rose in that call (`cause`); after it, and only after it, calls
+//! answer `Stopped`, and then nothing changes (`nothing`). `read_record` is pd_script's reading on the engine's own
+//! table.
+//!
+//! `open` and `from_doc` (`opens`): the document is what pd_doc's definition reads of the file, which is the one
+//! that the folder holds where it tells; its files are gathered; it and they are proper; the patch is one that
+//! stands for the tree that growth gives, with `$0` from 1001; the lines are those of growth and of the load event,
+//! and the engine stands where these lead and keeps the files that were gathered, which `command`, `advance` and
+//! `finish` leave as they are. A refusal has its cause (`refused`): no such file, a text that isn't read, files
+//! whose names fill the table, a limit of growth, each with its number and cause; after each but `WriteFault` no
+//! line was printed (`quiet`). The folder stays as it was (`kept`), and a fault is answered only where its count
+//! rose (`causes`).
+//!
+//! Law: from where a patch opens on, through commands and through time, it stays as it grew but for its clocks,
+//! what its boxes keep and the blocks of their outlets, and so each block that sounds is the whole one, however
+//! deep its canvases lie (`blocks_are_whole`).
+//!
+//! Free: want of memory, only in opening. A line tells the numbers of at most 16,384 boxes, which is as many as a
+//! patch may have: the lines of `show` tell all boxes of an order, and the line of a signal loop, which is printed
+//! where a patch opens, all boxes of the loop (`pd_steady`).
+//!
+//! Definitions: `Stages` (stages, and parts of a run), `Events`, `Times`, `Commands`, `Messages`, `Opening`,
+//! `Remarks` (lines of growth), `Refusals`, `Causes`.
 #![tactic(auto)]
 
 mod commands;

@@ -1,4 +1,28 @@
 //! The player: what a run on the words of a command line reads, prints and answers.
+//!
+//! The clause `plays` of `play` says what a run answers, prints and writes, where the words ask for a patch that is
+//! there. Its file opens as pd_engine's `open` says, with its lines; from there the script is run, and its bytes
+//! are all that the source had left, where it tells that, in whatever pieces they come. The run takes record by
+//! record. One of white space alone is counted and passed over. A record that is no command, that takes the time
+//! past 86,400,000 ms or that is too long ends the run with `ScriptBad` and its number, and so does a rest that is
+//! no record. A command brings its names, the patch is taken to its time, and it is carried out. At an `end` and at
+//! the end of the script the block that has begun runs, and the status is `Done`. Status, lines and samples are
+//! those of the run, and then comes the line of the status.
+//!
+//! Where the source fails, the script is what it gave until then: its whole records are run, and the status is
+//! `ReadFault`. Where a sink fails, the status is `WriteFault`, and what was taken is a first part of those lines,
+//! and of those samples. With `Done`, nothing is left of the script, where the source tells that, or the run met an
+//! `end`. Where the patch doesn't open, the line of its status follows, no script is read, and no sample is
+//! written. The folder is left alone (`folder`), and a status that tells of a fault comes only where that count of
+//! faults rose (`causes`). The usage line is told where the words are none of the command, or ask for a made patch,
+//! unless memory is short or the line isn't taken (`unplayed`); the status for it comes nowhere else (`usage`). The
+//! exit code of each status is exact (`Status::code`).
+//!
+//! Free: want of memory for the words or in opening. Once the patch is open, it plays to its end without: with
+//! `NoMemory` nothing of the script was read and no sample written (`short`).
+//!
+//! Definitions: `Patches` (a play of a patch by a script), `Runs` (the run of a script), `Playing` (what was taken
+//! of it), `Ending` (statuses, lines, codes), `Refusing`, `Causes`, `Telling`.
 #![tactic(auto)]
 
 mod player;
