@@ -1,5 +1,5 @@
 -- Dollars and what they stand for.
-use Rattle.std.specs.Prelude.{ℕ, zero, suc, ◌*◌, ℤ, pos, Bool, true, false, ◌==◌, ◌&&◌, List, [], ◌∷◌, ◌++◌, length, take, take_while, slice_get, Option, Some, None, if◌then◌else◌, nat_lt}
+use Rattle.std.specs.Prelude.{ℕ, zero, suc, ◌*◌, ℤ, pos, Bool, true, false, ◌==◌, ◌&&◌, List, [], ◌∷◌, ◌++◌, length, take, take_while, slice_get, min, Option, Some, None, if◌then◌else◌, nat_lt}
 use Rattle.std.specs.Char.{is_ascii_digit}
 use Rattle.std.specs.Str.Parse.{digits_value}
 use Rattle.pd_atom.specs.Names.{Names, Outcome, given, outcome_map, interned, name_of, longest}
@@ -9,9 +9,9 @@ use Rattle.pd_atom.specs.declared.Atom.{Atom}
 use Rattle.pd_atom.specs.declared.Atom.TheVariants.{Number, Symbol, Dollar, DollarSymbol, Comma, Semi}
 use Rattle.pd_atom.specs.declared.Expanded.{Expanded}
 
--- the number of so many whole units, in millionths
+-- the number of so many whole units, in millionths, saturated
 abbrev pub units : ℕ → ℤ
-units n = pos (n * 1000000)
+units n = pos (min n 1000000000 * 1000000)
 
 -- what a dollar with a number stands for: the number of `$0`, or an argument where it is there
 abbrev pub argument : ℕ → List Atom → ℕ → Option Atom

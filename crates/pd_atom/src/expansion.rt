@@ -14,6 +14,9 @@ use crate::{Atom, Expanded, Sym, SymbolRefusal, Symbols};
 use arrayvec::ArrayVec;
 use pd_num::Num;
 
+/// The whole units of the greatest number.
+const MOST_UNITS: u32 = 1_000_000_000;
+
 /// An atom with its dollars replaced by the arguments that they stand for, of which `$0` is `zero` in whole units.
 ///
 /// A missing argument counts as the number 0, and the first one is told; a dollar with more than four digits is told as 9,999.
@@ -25,7 +28,6 @@ pub fn expand(
 ) -> Result<Expanded, SymbolRefusal>
     requires of_table { IsOf symbols.old atom }
     requires args { All (IsOf symbols.old) args.now }
-    requires zero { zero ≤ 1000000000 }
     ensures answer { result ≡ (expanded symbols.old atom zero args.now).answer }
     ensures names { symbols.new ≡ (expanded symbols.old atom zero args.now).names }
     ensures of_table { IfOk result (λ e. IsOf symbols.new e.atom) }
@@ -69,17 +71,15 @@ fn dollar(number: u16, found: Option<Atom>) -> Expanded
     }
 }
 
-/// The number of so many whole units.
+/// The number of so many whole units, or the greatest number.
 fn whole(count: u32) -> Num
-    requires { count ≤ 1000000000 }
     ensures { result ≡ units count }
 {
-    Num::of_micros(i64::from(count) * 1_000_000).unwrap()
+    Num::of_micros(i64::from(count.min(MOST_UNITS)) * 1_000_000).unwrap()
 }
 
 /// What a dollar with a number stands for.
 fn argument(zero: u32, args: &[Atom], number: u16) -> Option<Atom>
-    requires { zero ≤ 1000000000 }
     ensures { result ≡ argument_of zero args.now number }
 {
     if number == 0 {
@@ -99,7 +99,6 @@ fn fill(
 ) -> Option<u16>
     requires of_table { sym < length symbols.now }
     requires args { All (IsOf symbols.now) args.now }
-    requires zero { zero ≤ 1000000000 }
     ensures name { out.new.items ≡ expanded_name symbols.now sym zero args.now }
     ensures some { 0 < length out.new.items }
     ensures missing { result ≡ first_missing zero args.now (runs_of (name_of symbols.now sym)) }
@@ -127,7 +126,6 @@ fn put_piece(
 ) -> (usize, Option<u16>)
     requires some { 0 < length rest.now }
     requires args { All (IsOf symbols.now) args.now }
-    requires zero { zero ≤ 1000000000 }
     ensures some { 0 < result.0 }
     ensures within { result.0 ≤ length rest.now }
     ensures text { take 255 (out.new.items ++ filled (run_text symbols.now zero args.now) false (drop result.0 rest.now))
@@ -155,7 +153,6 @@ fn put_argument(
 ) -> Option<u16>
     requires digits { list_all is_ascii_digit digits.now ≡ true }
     requires args { All (IsOf symbols.now) args.now }
-    requires zero { zero ≤ 1000000000 }
     ensures text { out.new.items ≡ take 255 (out.old.items ++ run_text symbols.now zero args.now digits.now) }
     ensures some { 0 < length out.new.items }
     ensures missing { result ≡ or_missing (run_argument_of zero args.now digits.now) (run_number_of digits.now) None }
@@ -208,7 +205,6 @@ fn digits_len(bytes: &[u8]) -> usize
 /// What a dollar with a run of digits stands for.
 fn run_argument(zero: u32, args: &[Atom], digits: &[u8]) -> Option<Atom>
     requires digits { list_all is_ascii_digit digits.now ≡ true }
-    requires zero { zero ≤ 1000000000 }
     ensures { result ≡ run_argument_of zero args.now digits.now }
 {
     if digits.len() > 4 {

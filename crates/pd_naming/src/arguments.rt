@@ -1,6 +1,6 @@
 //! The arguments of an object's text.
 
-ghost use Rattle.std.specs.Prelude.{◌≡◌, ◌≤◌, pos, length, map, bytes_eq, IfOk};
+ghost use Rattle.std.specs.Prelude.{◌≡◌, ◌≤◌, pos, length, map, bytes_eq, slice_get, IfOk};
 ghost use Rattle.std.specs.List.{AllByRecursion, filter, list_all};
 ghost use Rattle.pd_atom.specs.Atoms.{IsOf};
 ghost use Rattle.pd_naming.specs.Naming.{is_argument as counts, arguments_of, number_or, number_at as number_at_place, name_at as name_at_place, or_symbol as symbol_or, first_number as first_number_of, first_letter as first_letter_of, is_whole_text as is_whole};
@@ -55,6 +55,22 @@ pub(crate) fn arguments(alloc: Global, atoms: &[Atom]) -> Result<Vec<Atom>, Allo
         }
     }
     Ok(list)
+}
+
+/// The argument at a place, where one is there: the atom that is at it once commas and semicolons are left out.
+pub fn argument_at(atoms: &[Atom], i: usize) -> Option<Atom>
+    ensures { result ≡ slice_get (arguments_of atoms.now) i }
+{
+    let mut before = 0;
+    for atom in atoms {
+        if is_argument(*atom) {
+            if before == i {
+                return Some(*atom);
+            }
+            before += 1;
+        }
+    }
+    None
 }
 
 /// The number at a place, and the default where none is there.
