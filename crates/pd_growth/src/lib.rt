@@ -7,7 +7,7 @@
 //! are kept as the document has them; which of them fit is a function of the tree (`pd_tree`).
 //!
 //! Laws: a proper document can grow (`proper_suits`), also in a longer table (`suits_extended`), and so can known
-//! files (`files_suit`). What else is true of growth stands in `pd_regrowth`. Free: want of memory.
+//! files (`files_suit`). What else is true of growth stands in `pd_regrowth_law`. Free: want of memory.
 //!
 //! Definitions: `Growth` (`grown`, its steps), `Making` (what a box makes of its text), `Steps` (what a step gives
 //! and leaves), `Suits`, `Growing`.

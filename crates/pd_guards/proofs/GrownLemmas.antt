@@ -24,9 +24,9 @@ use Rattle.pd_growth.specs.declared.growing.Stop.{Stop}
 use Rattle.pd_growth.specs.Steps.{Stock, gives, numbered, named_step, outcome_after, outcome_then, text_expanded}
 use Rattle.pd_growth.specs.Making.{Around, Making, Plain, Subpatch, File, unmade, is_inside, has_slash, file_made, answer_made, abstraction_made, nothing_made, object_made, made, is_expanded}
 use Rattle.pd_growth.specs.Growth.{Inner, cell_of, canvas_grown, receiver_bytes, receiver_brought, around_instance, box_made, own_text, box_grown, boxes_grown, page_grown, without_ending, around_root, grown}
-use Rattle.pd_regrowth.specs.Regrowth.{Takes, inner_of}
-use Rattle.pd_regrowth.proofs.StepLemmas.{no_boxes, page_is, gives_same, gives_stock, chain, named_went, text_extends, box_went, boxes_went, counted_takes, numbered_takes, brought_takes}
-use Rattle.pd_regrowth.proofs.TakeLemmas.{text_takes, receiver_takes, canvas_went, InnerTakes, box_takes, boxes_take, inner_takes, patch_went}
+use Rattle.pd_regrowth_law.specs.Regrowth.{Takes, inner_of}
+use Rattle.pd_regrowth_law.proofs.StepLemmas.{no_boxes, page_is, gives_same, gives_stock, chain, named_went, text_extends, box_went, boxes_went, counted_takes, numbered_takes, brought_takes}
+use Rattle.pd_regrowth_law.proofs.TakeLemmas.{text_takes, receiver_takes, canvas_went, InnerTakes, box_takes, boxes_take, inner_takes, patch_went}
 use Rattle.pd_guards.specs.Order.{IsNumber, HasFirst, IsAtom, AreAtoms, IsList}
 use Rattle.pd_guards.specs.Growing.{IsBorn, AreBorn, ValuesIn, IsHeadIn, BoxesIn, LibraryIn, StockIn}
 use Rattle.pd_guards.proofs.FactLemmas.{either, all-weaker}

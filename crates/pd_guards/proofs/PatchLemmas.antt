@@ -31,7 +31,7 @@ use Rattle.pd_patch.specs.Values.{blocks_told, block_count, AreSilent, HasNoOthe
 use Rattle.pd_grove.specs.declared.ports.Side.TheVariants.{Outlets}
 use Rattle.pd_web.specs.Hops.{ports_told}
 use Rattle.pd_hearing.specs.Worlds.{bare, net_of, states_of, kept_of}
-use Rattle.pd_regrowth.proofs.TakeLemmas.{patch_takes}
+use Rattle.pd_regrowth_law.proofs.TakeLemmas.{patch_takes}
 use Rattle.pd_guards.specs.Order.{HasFirst, IsKept, IsKind}
 use Rattle.pd_guards.specs.Worlds.{IsInOrder}
 use Rattle.pd_guards.specs.Growing.{IsBorn, AreBorn, BoxesIn, LibraryIn, StockIn}

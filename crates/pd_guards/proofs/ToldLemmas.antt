@@ -11,7 +11,7 @@ use Rattle.pd_library.specs.declared.answers.Answer.{Answer}
 use Rattle.pd_tree.specs.Trees.{Trees, Done, Leaf, Holder, Tree, weight}
 use Rattle.pd_growth.specs.Steps.{beginning}
 use Rattle.pd_growth.specs.Growth.{grown}
-use Rattle.pd_regrowth.proofs.TakeLemmas.{patch_small}
+use Rattle.pd_regrowth_law.proofs.TakeLemmas.{patch_small}
 use Rattle.pd_order.specs.Graph.{Graph, tally, take_out, IsOrder}
 use Rattle.pd_order.specs.Listing.{Listing}
 use Rattle.pd_order.proofs.Basics.{same_test, tally-append, tally-take_out, length-take_out}

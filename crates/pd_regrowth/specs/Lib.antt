@@ -1,3 +1,0 @@
-pub mod Regrowth
-pub mod Suits
-pub mod Rewiring
