@@ -7,3 +7,12 @@ pub mod TextOrders
 pub mod OwnLemmas
 pub mod PlaceLemmas
 pub mod SpotLemmas
+pub mod ForestLemmas
+pub mod NestLemmas
+pub mod GraftLemmas
+pub mod MoreLemmas
+pub mod PruneLemmas
+pub mod LessLemmas
+pub mod OpenLemmas
+pub mod AllLemmas
+pub mod PartLemmas

@@ -7,3 +7,5 @@ pub mod Owning
 pub mod TextOrder
 pub mod Places
 pub mod Lending
+pub mod Forest
+pub mod Grafts

@@ -31,7 +31,7 @@ mod text_order;
 
 pub use boards::Board;
 pub use grove::Grove;
-pub use laws::trees_are_told;
+pub use laws::{forests_change, forests_stand, prunes, trees_are_told};
 pub use nodes::Node;
 pub use ports::{PortSpot, Side, ports_of};
 pub use seeds::{Seed, Seeds};
