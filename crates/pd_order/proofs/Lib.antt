@@ -16,6 +16,7 @@ pub mod WindowLemmas
 pub mod AloneLemmas
 pub mod RemoveLemmas
 pub mod SeatLemmas
+pub mod ShiftLemmas
 pub mod SeekLemmas
 pub mod UniqueLemmas
 pub mod SameLemmas

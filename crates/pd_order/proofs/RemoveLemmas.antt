@@ -14,7 +14,7 @@ above_none x (s ∷ ss) a =
     let t : (s.node == x) ≡ false = other_test s.node x (λ e. let k : x < s.node = a.0 in omega arith) in
     let k : tally x (nodes_of ss) ≡ 0 = above_none x ss a.1 in rw t (omega arith)
 
-absent_place : (ss : List Spot) (y : ℕ) → tally y (nodes_of ss) ≡ 0 → place_in ss y ≡ nowhere
+pub absent_place : (ss : List Spot) (y : ℕ) → tally y (nodes_of ss) ≡ 0 → place_in ss y ≡ nowhere
 absent_place [] y f = refl
 absent_place (s ∷ ss) y f = by_test (s.node == y)
     (λ t. let k : 1 + tally y (nodes_of ss) ≡ 0 = rw t at f in absurd (omega arith))

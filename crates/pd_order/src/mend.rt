@@ -152,8 +152,12 @@ fn has_higher_between<L: Ledger, G: SignalGraph<L>>(
     false
 }
 
-// Whether a node of higher rank than the sink stands between the source and the sink. Then another feeder, which stands
-// no earlier than that node, held the sink back, and does so without the wire too.
+// So many places are looked over for a node of higher rank before the wires are asked.
+const NEAR: usize = 64;
+
+// Whether a node of higher rank than the sink stands between the source and the sink, among the nearest places before
+// the sink. Then another feeder, which stands no earlier than that node, held the sink back, and does so without the
+// wire too.
 fn is_held_behind<L: Ledger, G: SignalGraph<L>>(
     graph: &G,
     chain: &[u32],
@@ -163,17 +167,13 @@ fn is_held_behind<L: Ledger, G: SignalGraph<L>>(
 ) -> bool
     requires by_node { AreByNode spots.now }
     requires there { 0 < tally sink (nodes_of spots.now) }
-    ensures { IsTrue result ↔ ((place_in spots.now sink < length chain.now) × IsHigherBetween (G.meaning graph.now) chain.now (place_in spots.now source + 1) (place_in spots.now sink) sink) }
+    ensures { IsTrue result → (place_in spots.now sink < length chain.now) × IsHigherBetween (G.meaning graph.now) chain.now (place_in spots.now source + 1) (place_in spots.now sink) sink }
 {
     let at = place(spots, sink) as usize;
     if at < chain.len() {
-        return has_higher_between(
-            graph,
-            chain,
-            seek_place(spots, source) as usize + 1,
-            at,
-            sink,
-        );
+        let behind = seek_place(spots, source) as usize + 1;
+        let from = behind.max(at.saturating_sub(NEAR));
+        return has_higher_between(graph, chain, from, at, sink);
     }
     false
 }

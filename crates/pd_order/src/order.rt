@@ -1,11 +1,11 @@
 // An order of signal nodes.
-ghost use Rattle.std.specs.Prelude.{◌≡◌, ℕ, ◌+◌, ◌*◌, ◌<◌, ◌≤◌, List, [], ◌∷◌, length, slice_index, IfSome, IfNone, OnOk, IsOkAnd, vec_len, vec_capacity};
+ghost use Rattle.std.specs.Prelude.{◌≡◌, ℕ, ◌+◌, ◌*◌, ◌<◌, ◌≤◌, List, [], ◌∷◌, ◌++◌, length, slice_index, IfSome, IfNone, OnOk, IsOkAnd, vec_len, vec_capacity};
 ghost use Rattle.pd_order.specs.Graph.{Graph, tally, take_out, total, ends, IsAlone, IsLawful, IsOrder, cut_wire, add_wire};
 ghost use Rattle.pd_order.specs.Spots.{nodes_of, nowhere};
 ghost use Rattle.pd_order.specs.Window.{changed_places, changed_ends};
 ghost use Rattle.pd_order.specs.Listing.{IsListed};
 
-use crate::alone::{insert_over, remove_over};
+use crate::alone::{append_over, insert_over, remove_over};
 use crate::fold::fold_lists;
 use crate::mend::{add_over, cut_over};
 use crate::spots::{NOWHERE, seek_place};
@@ -89,12 +89,38 @@ impl Order {
         ensures not_less { self.old.room ≤ self.new.room }
         ensures enough { OnOk result (nodes ≤ self.new.room) }
     {
-        let count = nodes as usize;
+        self.widen_all(nodes as usize)
+    }
+
+    // Room for so many nodes in all.
+    fn widen_all(&mut self, count: usize) -> Result<(), AllocError>
+        ensures chain { self.new.chain ≡ self.old.chain }
+        ensures stuck { self.new.stuck ≡ self.old.stuck }
+        ensures spots { self.new.spots ≡ self.old.spots }
+        ensures not_less { self.old.room ≤ self.new.room }
+        ensures enough { OnOk result (count ≤ self.new.room) }
+    {
         widen(&mut self.chain.vec, count)?;
         widen(&mut self.stuck.vec, count)?;
         widen(&mut self.spots.vec, count)?;
         widen(&mut self.heap.vec, count)?;
         self.spare.vec.reserve_exact(count)
+    }
+
+    /// Makes room for so many nodes more than there are. Where it takes memory, it takes twice as much as it had.
+    pub fn reserve_more(&mut self, more: u32) -> Result<(), AllocError>
+        ensures chain { self.new.chain ≡ self.old.chain }
+        ensures stuck { self.new.stuck ≡ self.old.stuck }
+        ensures spots { self.new.spots ≡ self.old.spots }
+        ensures not_less { self.old.room ≤ self.new.room }
+        ensures enough { OnOk result (length self.old.spots + more ≤ self.new.room) }
+    {
+        let count = self.spots.vec.len() + more as usize;
+        let room = self.spare.vec.capacity();
+        if count <= room {
+            return Ok(());
+        }
+        self.widen_all(count.max(room.saturating_mul(2)))
     }
 
     /// Changes nothing, and tells how the five lists stand to one another between calls.
@@ -163,7 +189,38 @@ impl Order {
         );
     }
 
-    /// Before or after a node without wires is taken from the graph.
+    /// After a node without wires was added to the graph, behind all others by rank: it stands last in the chain. It
+    /// takes no look, and passes over no list.
+    pub fn append_alone<L: Ledger, G: SignalGraph<L>>(
+        &mut self,
+        graph: &G,
+        node: u32,
+        steps: &mut Steps<L>,
+    )
+        requires fresh { tally node (nodes_of self.old.spots) ≡ 0 }
+        requires room { length self.old.spots < self.old.room }
+        requires few { length self.old.spots + 1 < nowhere }
+        requires alone { IsAlone (G.meaning graph.now) node }
+        requires last { (x : ℕ) → 0 < tally x (nodes_of self.old.spots) → (G.meaning graph.now).rank x < (G.meaning graph.now).rank node }
+        requires lawful { IsLawful (G.meaning graph.now) (node ∷ nodes_of self.old.spots) }
+        requires order { IsOrder (G.meaning graph.now) (nodes_of self.old.spots) self.old.chain self.old.stuck }
+        ensures chain { self.new.chain ≡ self.old.chain ++ node ∷ [] }
+        ensures stuck { self.new.stuck ≡ self.old.stuck }
+        ensures order { IsOrder (G.meaning graph.now) (node ∷ nodes_of self.old.spots) self.new.chain self.new.stuck }
+        ensures nodes { (x : ℕ) → tally x (nodes_of self.new.spots) ≡ tally x (node ∷ nodes_of self.old.spots) }
+        ensures room { self.new.room ≡ self.old.room }
+        ensures looks { steps.new ≡ steps.old }
+    {
+        append_over(
+            graph,
+            &mut self.chain.vec,
+            self.stuck.vec.as_slice(),
+            &mut self.spots.vec,
+            node,
+        );
+    }
+
+    /// Before or after a node without wires is taken from the graph. It passes once over the nodes.
     pub fn remove_alone(&mut self, node: u32)
         requires there { 0 < tally node (nodes_of self.old.spots) }
         requires alone { (g : Graph) × IsOrder g (nodes_of self.old.spots) self.old.chain self.old.stuck × IsAlone g node }

@@ -65,14 +65,15 @@ pub fn sweep(spots: &[Spot], stuck: &mut Vec<u32>)
     ensures stuck { stuck.new.items ≡ filter (is_nowhere spots.now) stuck.old.items }
     ensures capacity { vec_capacity stuck.new ≡ vec_capacity stuck.old }
 {
-    let mut at = 0;
-    while at < stuck.len() {
-        if stays(spots, stuck[at]) {
-            at += 1;
-        } else {
-            stuck.remove(at);
+    let mut kept = 0;
+    for at in 0..stuck.len() {
+        let node = stuck[at];
+        if stays(spots, node) {
+            stuck[kept] = node;
+            kept += 1;
         }
     }
+    stuck.truncate(kept);
 }
 
 fn gather_one<L: Ledger, G: SignalGraph<L>>(

@@ -1,5 +1,5 @@
 -- What contracts see of a slab of nodes.
-use Rattle.std.proofs.Common.{◌≡◌, ◌≢◌, ◌⊎◌, ℕ, zero, suc, ◌+◌, ◌<◌, ◌≤◌, Bool, true, false, cond, ◌||◌, eqb, List, [], ◌∷◌, length, get_or, Option, Some, None, IsSome, refl, sym, ap, ◌∙◌, subst, inl, inr, arith}
+use Rattle.std.proofs.Common.{◌≡◌, ◌≢◌, ◌⊎◌, ℕ, zero, suc, ◌+◌, ◌-◌, ◌<◌, ◌≤◌, Bool, true, false, cond, ◌||◌, eqb, List, [], ◌∷◌, length, get_or, Option, Some, None, IsSome, refl, sym, ap, ◌∙◌, subst, inl, inr, arith}
 use Rattle.std.proofs.Math.ListN.{get_or-map}
 use Rattle.std.proofs.lemmas.Option.{slice_get_within, get_or_from_slice_get, slice_get-get_or, slice_get_past, some_pair_parts}
 use Rattle.std.proofs.lemmas.Bool.{cases_lt}
@@ -8,15 +8,16 @@ use Rattle.std.proofs.lemmas.Map.Steps.{length-le_from_distinct_below}
 use Rattle.std.proofs.lemmas.Map.Keys.{IsDistinct-from_apart}
 use Rattle.std.proofs.lemmas.Bool.{ne_eqb, eqb-true}
 use Rattle.std.specs.List.{slice_get, list_any}
+use Rattle.std.specs.Prelude.{unwrap_or}
 use Rattle.slab.specs.Slab.{Slab, ContainsKey}
 use Rattle.pd_wire.specs.Links.{fan_at, feed_at, is_end, is_wire, IsBook, list_of}
-use Rattle.pd_wire.specs.Book.{Book, IsEnd, IsWire, end_at, wire_at, fan_part, feed_part, fan_of, feeds_of, IsLinked, IsNext}
+use Rattle.pd_wire.specs.Book.{Book, IsEnd, IsWire, end_at, wire_at, fan_part, feed_part, fan_of, feeds_of, IsLinked, IsNext, IsPrevious, StandsAt}
 use Rattle.pd_wire.specs.Stored.{end_of_slot, wire_of_slot, book_of, IsSound}
 use Rattle.pd_wire.specs.declared.links.Link.{Link}
 use Rattle.pd_wire.specs.declared.links.Node.{Node}
 use Rattle.pd_wire.proofs.Rings.{ring_below, next_apart}
 use Rattle.pd_wire.proofs.Books.{node_in, not_head, true_false}
-use Rattle.pd_wire.proofs.Nodes.{next_place, first_place, key_of_either, either, wire_is_no_end}
+use Rattle.pd_wire.proofs.Nodes.{next_place, first_place, key_of_either, either, before_of, wire_is_no_end}
 
 -- what is seen of the nodes, whatever room is set aside
 abbrev pub seen : Slab Node → Book
@@ -181,6 +182,59 @@ pub first_is : (head member : ℕ → Bool) (f : ℕ → Link) (e : ℕ) → IsB
 first_is head member f e B he n =
     let l : 0 < length (list_of f e) = omega (arith, B.counted e he) in
     ap (λ x. Some x) (first_place head member f (list_of f) e B he) ∙ sym (slice_get-get_or (list_of f e) 0 e l)
+
+-- the last of a list that is not empty
+pub last_is : (head member : ℕ → Bool) (f : ℕ → Link) (e : ℕ) → IsBook head member f (list_of f) → head e ≡ true → ((f e).count ≡ 0 → ⊥) → Some (f e).before ≡ slice_get (list_of f e) (length (list_of f e) - 1)
+last_is head member f e B he n =
+    let xs : List ℕ = list_of f e in
+    let l : 0 < length xs = omega (arith, B.counted e he) in
+    let past : get_or xs (length xs) e ≡ e = get_or_past xs (length xs) e (omega arith) in
+    let r : (f (get_or xs (length xs) e)).before ≡ get_or (e ∷ xs) (length xs) e = (B.rings e he).before (length xs) (omega arith) in
+    let r' : (f e).before ≡ get_or (e ∷ xs) (length xs) e = ap (λ x. (f x).before) (sym past) ∙ r in
+    let m : length xs ≡ suc (length xs - 1) = omega arith in
+    let at : get_or (e ∷ xs) (length xs) e ≡ get_or xs (length xs - 1) e = ap (λ i. get_or (e ∷ xs) i e) m in
+    ap (λ x. Some x) (r' ∙ at) ∙ sym (slice_get-get_or xs (length xs - 1) e (omega arith))
+
+-- the one before a key in its list
+pub record PreviousIs (xs : List ℕ) (key owner before : ℕ) : Type 0 where
+  pub at_front : slice_get xs 0 ≡ Some key → before ≡ owner
+  pub apart : (i : ℕ) → slice_get xs (i + 1) ≡ Some key → before ≡ owner → ⊥
+  pub behind : (i : ℕ) → slice_get xs (i + 1) ≡ Some key → Some before ≡ slice_get xs i
+
+pub previous_is : (head member : ℕ → Bool) (f : ℕ → Link) (key : ℕ) → IsBook head member f (list_of f) → member key ≡ true → PreviousIs (list_of f (f key).owner) key (f key).owner (f key).before
+previous_is head member f key B mk =
+    let source = (f key).owner in
+    let he = B.owners key mk in
+    let xs = list_of f source in
+    let within : (i : ℕ) → slice_get xs i ≡ Some key → i < length xs = λ i q. slice_get_within xs i key q in
+    let is : (i : ℕ) → slice_get xs i ≡ Some key → get_or xs i source ≡ key = λ i q. get_or_from_slice_get xs i key source q in
+    let more : (i : ℕ) → i + 1 ≡ suc i = λ i. omega arith in
+    let before : (i : ℕ) → slice_get xs (i + 1) ≡ Some key → (f key).before ≡ get_or xs i source = λ i q. before_of head member f (list_of f) key (i + 1) B he (within (i + 1) q) (is (i + 1) q) ∙ ap (λ k. get_or (source ∷ xs) k source) (more i) in
+    let there : (i : ℕ) → slice_get xs (i + 1) ≡ Some key → i < length xs = λ i q. let l : i + 1 < length xs = within (i + 1) q in omega arith in
+    record {
+      at_front = λ q. before_of head member f (list_of f) key 0 B he (within 0 q) (is 0 q);
+      apart = λ i q e. not_head head member f (list_of f) source B he i (there i q) (sym (before i q) ∙ e);
+      behind = λ i q. ap (λ x. Some x) (before i q) ∙ sym (slice_get-get_or xs i source (there i q));
+    }
+
+-- the key that stands at a place, or the end's behind the last
+pub standing_key : (xs : List ℕ) (place e : ℕ) (key : Option ℕ) → StandsAt xs place key → unwrap_or key e ≡ get_or xs place e
+standing_key xs place e None s = elim (cases_lt place (length xs)) [
+  | inl lt ↦ absurd (none_some (sym s.1 ∙ slice_get-get_or xs place 0 lt))
+  | inr ge ↦ sym (get_or_past xs place e ge)
+]
+  where
+    none_some : {x : ℕ} → None ≡ Some x → ⊥
+    none_some q = cc
+standing_key xs place e (Some k) s = sym (get_or_from_slice_get xs place k e s.1)
+
+-- what stands before a key in the list of its owner stands before it in the list that contracts see
+pub feed_before_seen : (s : Slab Node) (key source sink : ℕ) (previous : Option ℕ) → IsSound s → wire_at (seen s) key ≡ Some (source, sink)
+    → IsPrevious (list_of (feed_at s) (feed_at s key).owner) key previous → IsPrevious (feeds_of (seen s) sink) key previous
+feed_before_seen s key source sink previous S w h =
+    let o = owners_are s key source sink w in
+    let P : List ℕ → Type 0 = λ xs. IsPrevious xs key previous in
+    subst P (ap (list_of (feed_at s)) o.2 ∙ sym (feeds_is s sink (ap (is_end s) (sym o.2) ∙ S.feeds.owners key o.0))) h
 
 -- a key of an end is no wire's
 pub end_no_wire : (s : Slab Node) (k : ℕ) → is_end s k ≡ true → is_wire s k ≡ false

@@ -1,5 +1,5 @@
 -- What a contract sees of a `WireBook`.
-use Rattle.std.specs.Prelude.{◌≡◌, ◌≢◌, ℕ, ◌+◌, ◌<◌, max, not, ◌==◌, filter, List, [], length, Option, Some, None, IsSome, slice_get, slice_index_or, refl}
+use Rattle.std.specs.Prelude.{◌≡◌, ◌≢◌, ℕ, ◌+◌, ◌<◌, ◌≤◌, max, not, ◌==◌, filter, List, [], length, Option, Some, None, IsSome, slice_get, slice_index_or, refl}
 use Rattle.std.specs.List.{insert, remove}
 use Rattle.std.specs.Coded.{Coded, code_by, coded×, coded_ℕ, coded_list, coded_option}
 
@@ -67,6 +67,15 @@ without key xs = filter (λ x. not (x == key)) xs
 -- what stands behind the key in the list, and nothing at the list's end
 abbrev pub IsNext : List ℕ → ℕ → Option ℕ → Type 0
 IsNext xs key next = (i : ℕ) → slice_get xs i ≡ Some key → next ≡ slice_get xs (i + 1)
+
+-- what stands before the key in the list, and nothing at the list's front
+pub record IsPrevious (xs : List ℕ) (key : ℕ) (previous : Option ℕ) : Type 0 where
+  pub at_front : slice_get xs 0 ≡ Some key → previous ≡ None
+  pub behind : (i : ℕ) → slice_get xs (i + 1) ≡ Some key → previous ≡ slice_get xs i
+
+-- the place of this key in the list, and without a key the place behind the last
+abbrev pub StandsAt : List ℕ → ℕ → Option ℕ → Type 0
+StandsAt xs place key = (place ≤ length xs) × (slice_get xs place ≡ key)
 
 -- one end more, with no wire
 pub record MakesEnd (old new : Book) (key : ℕ) : Type 0 where

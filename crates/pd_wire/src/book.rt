@@ -1,6 +1,6 @@
 //! The book of wires and its edits.
 
-ghost use Rattle.std.specs.Prelude.{[], ◌≡◌, ◌+◌, ◌<◌, ◌≤◌, ℕ, length, OnOk, OnErr, IfOk, IsOk};
+ghost use Rattle.std.specs.Prelude.{[], ◌≡◌, ◌+◌, ◌<◌, ◌≤◌, ℕ, length, slice_index_or, unwrap_or, OnOk, OnErr, IfOk, IsOk};
 
 use crate::keys::{End, WireKey};
 use crate::links::{Link, Node, Side, at_place, insert_node, link_of, remove_node};
@@ -33,8 +33,18 @@ impl Model for WireBook {
     ghost invariant = { λ a. IsSoundBook a.nodes a.spare_ends a.spare_wires };
 }
 
+/// The key of this wire, or that of the end, which stands for the place behind the last.
+fn key_or(wire: Option<WireKey>, end: End) -> usize
+    ensures { result ≡ unwrap_or wire end }
+{
+    match wire {
+        Some(wire) => wire.key,
+        None => end.key,
+    }
+}
+
 impl WireBook {
-    ghost use Rattle.pd_wire.specs.Book.{empty_book, with_room, IsEnd, IsWire, fan_of, feeds_of, Adds, Cuts, MakesEnd, DropsEnd, IsLinked, without};
+    ghost use Rattle.pd_wire.specs.Book.{empty_book, with_room, IsEnd, IsWire, fan_of, feeds_of, Adds, Cuts, MakesEnd, DropsEnd, IsLinked, StandsAt, without};
 
     /// A book with no ends. It takes no memory, so it is never refused.
     pub fn new(alloc: Global) -> Result<WireBook, AllocError>
@@ -101,6 +111,25 @@ impl WireBook {
         self.spare_ends += 1;
     }
 
+    /// A new wire, before what stands at a place of its source's fan-out and at one of its sink's feeds. The end's own
+    /// key stands at the place behind the last.
+    fn link(&mut self, source: usize, next_fan: usize, sink: usize, next_feed: usize) -> usize
+        requires room { 0 < self.old.spare_wires }
+        requires source { IsEnd self.old source }
+        requires sink { IsEnd self.old sink }
+        requires fan { (p : ℕ) × (p ≤ length (fan_of self.old source)) × (next_fan ≡ slice_index_or (fan_of self.old source) p source) }
+        requires feed { (q : ℕ) × (q ≤ length (feeds_of self.old sink)) × (next_feed ≡ slice_index_or (feeds_of self.old sink) q sink) }
+        ensures { (p q : ℕ) → p ≤ length (fan_of self.old source) → next_fan ≡ slice_index_or (fan_of self.old source) p source →
+            q ≤ length (feeds_of self.old sink) → next_feed ≡ slice_index_or (feeds_of self.old sink) q sink →
+            Adds self.old self.new result source p sink q }
+    {
+        // Neither what the slab holds nor what is set aside is more than its capacity, so the counts fit.
+        let _most = self.nodes.capacity();
+        let key = insert_node(&mut self.nodes, source, next_fan, sink, next_feed);
+        self.spare_wires -= 1;
+        key
+    }
+
     /// A new wire, at a place of its source's fan-out and at one of its sink's feeds.
     fn insert(&mut self, source: usize, fan_place: usize, sink: usize, feed_place: usize) -> usize
         requires room { 0 < self.old.spare_wires }
@@ -110,13 +139,9 @@ impl WireBook {
         requires feed_place { feed_place ≤ length (feeds_of self.old sink) }
         ensures { Adds self.old self.new result source fan_place sink feed_place }
     {
-        // Neither what the slab holds nor what is set aside is more than its capacity, so the counts fit.
-        let _most = self.nodes.capacity();
         let next_fan = at_place(&self.nodes, Side::Fan, source, fan_place);
         let next_feed = at_place(&self.nodes, Side::Feed, sink, feed_place);
-        let key = insert_node(&mut self.nodes, source, next_fan, sink, next_feed);
-        self.spare_wires -= 1;
-        key
+        self.link(source, next_fan, sink, next_feed)
     }
 
     /// How many wires leave an outlet.
@@ -160,6 +185,44 @@ impl WireBook {
     {
         let last = self.fan_len(source.key);
         let key = self.insert(source.key, last, sink.key, feed_place as usize);
+        WireKey { key }
+    }
+
+    /// A new wire, last in the fan-out of its source, and among the feeds of its sink before the wire `next`, or last
+    /// without one. It walks no list.
+    pub fn add_before(&mut self, source: End, sink: End, next: Option<WireKey>) -> WireKey
+        requires room { 0 < self.old.spare_wires }
+        requires source { IsEnd self.old source }
+        requires sink { IsEnd self.old sink }
+        requires next { (place : ℕ) × StandsAt (feeds_of self.old sink) place next }
+        ensures { (place : ℕ) → StandsAt (feeds_of self.old sink) place next →
+            Adds self.old self.new result source (length (fan_of self.old source)) sink place }
+    {
+        let key = self.link(source.key, source.key, sink.key, key_or(next, sink));
+        WireKey { key }
+    }
+
+    /// A new wire, in the fan-out of its source before the wire `fan_next`, and among the feeds of its sink before the
+    /// wire `feed_next`, or last where there is none. It walks no list.
+    pub fn insert_before(
+        &mut self,
+        source: End,
+        fan_next: Option<WireKey>,
+        sink: End,
+        feed_next: Option<WireKey>,
+    ) -> WireKey
+        requires room { 0 < self.old.spare_wires }
+        requires source { IsEnd self.old source }
+        requires fan_next { (place : ℕ) × StandsAt (fan_of self.old source) place fan_next }
+        requires sink { IsEnd self.old sink }
+        requires feed_next { (place : ℕ) × StandsAt (feeds_of self.old sink) place feed_next }
+        ensures { (fan_place feed_place : ℕ) → StandsAt (fan_of self.old source) fan_place fan_next →
+            StandsAt (feeds_of self.old sink) feed_place feed_next →
+            Adds self.old self.new result source fan_place sink feed_place }
+    {
+        let next_fan = key_or(fan_next, source);
+        let next_feed = key_or(feed_next, sink);
+        let key = self.link(source.key, next_fan, sink.key, next_feed);
         WireKey { key }
     }
 

@@ -1,8 +1,8 @@
 //! Nodes in a slab, linked in rings: an end's node is the head of a ring of wires on each side.
 
-ghost use Rattle.std.specs.Prelude.{ℕ, true, length, slice_get, slice_index_or, ◌≡◌, ◌≢◌, ◌+◌, ◌<◌, ◌≤◌, ◌^◌};
+ghost use Rattle.std.specs.Prelude.{ℕ, true, length, slice_get, slice_index_or, ◌≡◌, ◌≢◌, ◌+◌, ◌-◌, ◌<◌, ◌≤◌, ◌^◌};
 ghost use Rattle.slab.specs.Slab.{ContainsKey, HasRoomFor};
-ghost use Rattle.pd_wire.specs.Book.{IsNext};
+ghost use Rattle.pd_wire.specs.Book.{IsNext, IsPrevious};
 ghost use Rattle.pd_wire.specs.Links.{other, node_link, link_at, fan_at, feed_at, is_end, is_wire, list_of, KeepsKeys, Puts, Attaches, Detaches, IsSideSound};
 ghost use Rattle.pd_wire.specs.Stored.{IsSound, Inserts, Removes};
 
@@ -185,6 +185,36 @@ pub(crate) fn next(nodes: &Slab<Node>, side: Side, key: usize) -> Option<WireKey
         None
     } else {
         Some(WireKey { key: link.after })
+    }
+}
+
+/// The last wire of an end's list.
+pub(crate) fn last(nodes: &Slab<Node>, side: Side, end: usize) -> Option<WireKey>
+    requires sound { IsSideSound side nodes.now }
+    requires end { is_end nodes.now end ≡ true }
+    ensures { let list = list_of (link_at side nodes.now) end in
+        result ≡ slice_get list (length list - 1) }
+{
+    let head = link_of(nodes, side, end);
+    if head.count == 0 {
+        None
+    } else {
+        Some(WireKey { key: head.before })
+    }
+}
+
+/// The wire before another in its list.
+pub(crate) fn previous(nodes: &Slab<Node>, side: Side, key: usize) -> Option<WireKey>
+    requires sound { IsSideSound side nodes.now }
+    requires wire { is_wire nodes.now key ≡ true }
+    ensures { let links = link_at side nodes.now in
+        IsPrevious (list_of links (links key).owner) key result }
+{
+    let link = link_of(nodes, side, key);
+    if link.before == link.owner {
+        None
+    } else {
+        Some(WireKey { key: link.before })
     }
 }
 

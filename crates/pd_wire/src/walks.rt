@@ -1,11 +1,11 @@
 //! Walks along the lists of a book.
 
-ghost use Rattle.std.specs.Prelude.{ℕ, Some, is_some, slice_get, ◌≡◌};
-ghost use Rattle.pd_wire.specs.Book.{IsEnd, IsWire, fan_of, feeds_of, wire_at, IsNext};
+ghost use Rattle.std.specs.Prelude.{ℕ, Some, is_some, slice_get, length, ◌≡◌, ◌-◌};
+ghost use Rattle.pd_wire.specs.Book.{IsEnd, IsWire, fan_of, feeds_of, wire_at, IsNext, IsPrevious};
 
 use crate::book::WireBook;
 use crate::keys::{End, WireKey};
-use crate::links::{Side, first, link_of, next};
+use crate::links::{Side, first, last, link_of, next, previous};
 
 impl WireBook {
     /// Whether a key is a wire's.
@@ -50,6 +50,23 @@ impl WireBook {
             IsNext (feeds_of self.now sink) key result }
     {
         next(&self.nodes, Side::Feed, key.key)
+    }
+
+    /// The last wire among an inlet's feeds.
+    pub fn feed_last(&self, sink: End) -> Option<WireKey>
+        requires { IsEnd self.now sink }
+        ensures { result ≡ slice_get (feeds_of self.now sink) (length (feeds_of self.now sink) - 1) }
+    {
+        last(&self.nodes, Side::Feed, sink.key)
+    }
+
+    /// The wire before this one among its inlet's feeds, and none at their front.
+    pub fn feed_before(&self, key: WireKey) -> Option<WireKey>
+        requires { IsWire self.now key }
+        ensures { (source sink : ℕ) → wire_at self.now key ≡ Some (source, sink) →
+            IsPrevious (feeds_of self.now sink) key result }
+    {
+        previous(&self.nodes, Side::Feed, key.key)
     }
 
     /// The outlet that a wire comes from.

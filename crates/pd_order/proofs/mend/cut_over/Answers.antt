@@ -108,7 +108,7 @@ returns-then-is_held_behind-clause-order g c =
     let ln : length nodes ≡ length c.args.spots.now = length-nodes c.args.spots.now in
     let few : length c.args.spots.now < nowhere = c.requires.listed.few in
     let h : (place_in c.args.spots.now v < length C) × IsHigherBetween G C (place_in c.args.spots.now c.args.source + 1) (place_in c.args.spots.now v) v =
-    subst (λ (l : List ℕ). (place_in c.args.spots.now v < length l) × IsHigherBetween G l (place_in c.args.spots.now c.args.source + 1) (place_in c.args.spots.now v) v) c.deref.ensures.value (c.is_held_behind.ensures.0 c.if-is_held_behind.true) in
+    subst (λ (l : List ℕ). (place_in c.args.spots.now v < length l) × IsHigherBetween G l (place_in c.args.spots.now c.args.source + 1) (place_in c.args.spots.now v) v) c.deref.ensures.value (c.is_held_behind.ensures c.if-is_held_behind.true) in
     let h0 : place_in c.args.spots.now v < length C = h.0 in
     let inn : 0 < tally v C = listed_at C c.args.stuck.now.items c.args.spots.now v c.requires.listed c.requires.there (λ e. absurd (omega arith)) in
     let e : get_or C (place_in c.args.spots.now v) 0 ≡ v = (c.requires.listed.seated.placed v inn).1 in

@@ -1,76 +1,30 @@
-use Rattle.std.proofs.Common.{◌≡◌, ◌+◌, ◌-◌, ℕ, ◌≤◌, ◌∙◌, ap, sym, subst, length, true, arith}
-use Rattle.slab.specs.Slab.{ContainsKey}
-use Rattle.pd_wire.specs.Links.{fan_at, feed_at, is_end, list_of}
-use Rattle.pd_wire.specs.Book.{Book, IsEnd, fan_of, feeds_of, Adds}
-use Rattle.pd_wire.specs.Stored.{book_of, IsSoundBook}
-use Rattle.pd_wire.proofs.Nodes.{place_lives, before_place_lives}
-use Rattle.pd_wire.proofs.Seen.{end_is, fan_is, feeds_is, list_fits}
-use Rattle.pd_wire.proofs.Changes.{insert_from}
+use Rattle.std.proofs.Common.{◌∙◌, ap, sym, subst, get_or}
+use Rattle.pd_wire.specs.Book.{Book, IsEnd, fan_of, feeds_of}
+use Rattle.pd_wire.proofs.Seen.{end_is, fan_is, feeds_is}
 use Rattle.pd_wire.proofs.book.WireBook.insert.Goals as goal
 
-source_end : (c : goal.After-insert_node-arg-1) → is_end c.self.inside.nodes c.args.source ≡ true
-source_end c = let P : Book → Type 0 = λ v. IsEnd v c.args.source in end_is c.self.inside.nodes c.args.source (subst P (sym c.self.view_is) c.requires.source)
-
-sink_end : (c : goal.After-insert_node-arg-1) → is_end c.self.inside.nodes c.args.sink ≡ true
-sink_end c = let P : Book → Type 0 = λ v. IsEnd v c.args.sink in end_is c.self.inside.nodes c.args.sink (subst P (sym c.self.view_is) c.requires.sink)
-
-fan_within : (c : goal.After-insert_node-arg-1) → c.args.fan_place ≤ length (list_of (fan_at c.self.inside.nodes) c.args.source)
-fan_within c = let e : length (fan_of c.args.self.now c.args.source) ≡ length (list_of (fan_at c.self.inside.nodes) c.args.source) = ap (λ v. length (fan_of v c.args.source)) (sym c.self.view_is) ∙ ap length (fan_is c.self.inside.nodes c.args.source (source_end c)) in omega (arith, c.requires.fan_place)
-
-feed_within : (c : goal.After-insert_node-arg-1) → c.args.feed_place ≤ length (list_of (feed_at c.self.inside.nodes) c.args.sink)
-feed_within c = let e : length (feeds_of c.args.self.now c.args.sink) ≡ length (list_of (feed_at c.self.inside.nodes) c.args.sink) = ap (λ v. length (feeds_of v c.args.sink)) (sym c.self.view_is) ∙ ap length (feeds_is c.self.inside.nodes c.args.sink (sink_end c)) in omega (arith, c.requires.feed_place)
-
-pub insert_node-key-requires-clause-next_fan : goal.insert_node-key-requires-clause-next_fan
-insert_node-key-requires-clause-next_fan c =
+pub link-requires-clause-fan : goal.link-requires-clause-fan
+link-requires-clause-fan c =
     let s = c.self.inside.nodes in
-    let P : ℕ → Type 0 = λ x. ContainsKey s x in
-    subst P (sym c.at_place-next_fan.ensures) (place_lives s (fan_at s) (list_of (fan_at s)) c.args.source c.args.fan_place c.self.invariant.links.fans (source_end c))
+    let P : Book → Type 0 = λ v. IsEnd v c.args.source in
+    let e = end_is s c.args.source (subst P (sym c.self.view_is) c.requires.source) in
+    (c.args.fan_place, c.requires.fan_place, c.at_place-next_fan.ensures ∙ ap (λ xs. get_or xs c.args.fan_place c.args.source) (sym (fan_is s c.args.source e)) ∙ ap (λ v. get_or (fan_of v c.args.source) c.args.fan_place c.args.source) c.self.view_is)
 
-pub insert_node-key-requires-clause-last_fan : goal.insert_node-key-requires-clause-last_fan
-insert_node-key-requires-clause-last_fan c =
+pub link-requires-clause-feed : goal.link-requires-clause-feed
+link-requires-clause-feed c =
     let s = c.self.inside.nodes in
-    let P : ℕ → Type 0 = λ x. ContainsKey s (fan_at s x).before in
-    subst P (sym c.at_place-next_fan.ensures) (before_place_lives s (fan_at s) (list_of (fan_at s)) c.args.source c.args.fan_place c.self.invariant.links.fans (source_end c) (fan_within c))
-
-pub insert_node-key-requires-clause-fan_count : goal.insert_node-key-requires-clause-fan_count
-insert_node-key-requires-clause-fan_count c =
-    let s = c.self.inside.nodes in
-    omega (arith, list_fits s (fan_at s) (list_of (fan_at s)) c.args.source c.self.invariant.links.fans (source_end c), c.capacity-most.ensures.slots)
-
-pub insert_node-key-requires-clause-next_feed : goal.insert_node-key-requires-clause-next_feed
-insert_node-key-requires-clause-next_feed c =
-    let s = c.self.inside.nodes in
-    let P : ℕ → Type 0 = λ x. ContainsKey s x in
-    subst P (sym c.at_place-next_feed.ensures) (place_lives s (feed_at s) (list_of (feed_at s)) c.args.sink c.args.feed_place c.self.invariant.links.feeds (sink_end c))
-
-pub insert_node-key-requires-clause-last_feed : goal.insert_node-key-requires-clause-last_feed
-insert_node-key-requires-clause-last_feed c =
-    let s = c.self.inside.nodes in
-    let P : ℕ → Type 0 = λ x. ContainsKey s (feed_at s x).before in
-    subst P (sym c.at_place-next_feed.ensures) (before_place_lives s (feed_at s) (list_of (feed_at s)) c.args.sink c.args.feed_place c.self.invariant.links.feeds (sink_end c) (feed_within c))
-
-pub insert_node-key-requires-clause-feed_count : goal.insert_node-key-requires-clause-feed_count
-insert_node-key-requires-clause-feed_count c =
-    let s = c.self.inside.nodes in
-    omega (arith, list_fits s (feed_at s) (list_of (feed_at s)) c.args.sink c.self.invariant.links.feeds (sink_end c), c.capacity-most.ensures.slots)
-
-inserted : (c : goal.After-self-1) → IsSoundBook c.insert_node-key.new.nodes c.self.inside.spare_ends (c.self.inside.spare_wires - 1) × Adds c.args.self.now (book_of c.insert_node-key.new.nodes c.self.inside.spare_ends (c.self.inside.spare_wires - 1)) c.insert_node-key.result c.args.source c.args.fan_place c.args.sink c.args.feed_place
-inserted c =
-    let s = c.self.inside.nodes in
-    let t = c.insert_node-key.new.nodes in
-    let m = c.self.inside.spare_ends in
-    let n = c.self.inside.spare_wires in
-    let key = c.insert_node-key.result in
-    let source = c.args.source in
-    let sink = c.args.sink in
-    let less : n - 1 + 1 ≡ n = omega (arith, ap (λ (b : Book). b.spare_wires) c.self.view_is, c.requires.room) in
-    let P : Book → Type 0 = λ v. IsEnd v source → c.args.fan_place ≤ length (fan_of v source) → IsEnd v sink → c.args.feed_place ≤ length (feeds_of v sink)
-    → IsSoundBook t m (n - 1) × Adds v (book_of t m (n - 1)) key source c.args.fan_place sink c.args.feed_place in
-    subst P c.self.view_is (insert_from s t m n (n - 1) key source c.args.fan_place c.at_place-next_fan.result sink c.args.feed_place c.at_place-next_feed.result c.self.invariant less c.insert_node-key.ensures c.at_place-next_fan.ensures c.at_place-next_feed.ensures)
-    c.requires.source c.requires.fan_place c.requires.sink c.requires.feed_place
-
-pub invariant_of-self : goal.invariant_of-self
-invariant_of-self c = (inserted c).0
+    let P : Book → Type 0 = λ v. IsEnd v c.args.sink in
+    let e = end_is s c.args.sink (subst P (sym c.self.view_is) c.requires.sink) in
+    (c.args.feed_place, c.requires.feed_place, c.at_place-next_feed.ensures ∙ ap (λ xs. get_or xs c.args.feed_place c.args.sink) (sym (feeds_is s c.args.sink e)) ∙ ap (λ v. get_or (feeds_of v c.args.sink) c.args.feed_place c.args.sink) c.self.view_is)
 
 pub returns : goal.returns
-returns c = (inserted c).1
+returns c =
+    let s = c.self.inside.nodes in
+    let P : Book → Type 0 = λ v. IsEnd v c.args.source in
+    let Q : Book → Type 0 = λ v. IsEnd v c.args.sink in
+    let e = end_is s c.args.source (subst P (sym c.self.view_is) c.requires.source) in
+    let h = end_is s c.args.sink (subst Q (sym c.self.view_is) c.requires.sink) in
+    c.link.ensures c.args.fan_place c.args.feed_place c.requires.fan_place
+    (c.at_place-next_fan.ensures ∙ ap (λ xs. get_or xs c.args.fan_place c.args.source) (sym (fan_is s c.args.source e)) ∙ ap (λ v. get_or (fan_of v c.args.source) c.args.fan_place c.args.source) c.self.view_is)
+    c.requires.feed_place
+    (c.at_place-next_feed.ensures ∙ ap (λ xs. get_or xs c.args.feed_place c.args.sink) (sym (feeds_is s c.args.sink h)) ∙ ap (λ v. get_or (feeds_of v c.args.sink) c.args.feed_place c.args.sink) c.self.view_is)
