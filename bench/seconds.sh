@@ -1,4 +1,6 @@
-# Read by the benchmarks of whole runs.
+# shellcheck shell=bash
+# Read by the benchmarks of whole runs, whose folder is $folder.
+# shellcheck disable=SC2154
 
 # Seconds of the processor that a command takes once; its input is the file `script` of the folder of the run.
 once() {
