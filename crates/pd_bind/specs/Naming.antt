@@ -13,7 +13,7 @@ use Rattle.pd_object.specs.declared.kinds.Signal.{Signal}
 use Rattle.pd_object.specs.declared.kinds.Signal.TheVariants as signal
 use Rattle.pd_object.specs.declared.kinds.Panel.{Panel}
 use Rattle.pd_object.specs.declared.kinds.Panel.TheVariants as panel
-use Rattle.pd_naming.specs.Naming.{name_at}
+use Rattle.pd_naming.specs.Naming.{name_at, arguments_of}
 use Rattle.pd_tree.specs.Trees.{Cell}
 use Rattle.pd_grove.specs.TextOrder.{is_sub}
 
@@ -33,9 +33,9 @@ abbrev pub unless_dash : Names → Option ℕ → Option ℕ
 unless_dash names (Some s) = if bytes_eq (name_of names s) (codes "-") then None else Some s
 unless_dash names None = None
 
--- the receive name of a number or symbol box: the sixth atom of its text
+-- the receive name of a number or symbol box: its sixth argument
 abbrev pub receive_name : Names → List Atom → Option ℕ
-receive_name names text = unless_dash names (name_at text 5)
+receive_name names text = unless_dash names (name_at (arguments_of text) 5)
 
 abbrev pub glue_owned : Names → Glue → Option Owned
 glue_owned names (glue.Receive spelling name) = owned Receiver name

@@ -9,10 +9,10 @@ use crate::receivers::{named_canvas_receiver, spelling};
 use pd_atom::{Atom, Sym, Symbols};
 use pd_canvas::Form;
 use pd_grove::Node;
-use pd_kind::{Glue, Kind, Panel, Signal};
+use pd_kind::{Glue, Kind, Panel, Signal, argument_name_at};
 use pd_name::Class;
 
-/// The place of the receive name in the text of a number or symbol box.
+/// The place of the receive name among the arguments of a number or symbol box.
 const RECEIVE_NAME: usize = 5;
 
 /// The name that a box owns, by its kind alone; that of a subpatch by its text too, where it is in the patch's own document. A
@@ -93,7 +93,7 @@ fn name_at(text: &[Atom], place: usize) -> Option<Sym>
 fn receive_name(text: &[Atom], symbols: &Symbols) -> Option<Sym>
     ensures { result ≡ receive_name_of symbols.now text.now }
 {
-    unless_dash(name_at(text, RECEIVE_NAME), symbols)
+    unless_dash(argument_name_at(text, RECEIVE_NAME), symbols)
 }
 
 /// `-` is no name.

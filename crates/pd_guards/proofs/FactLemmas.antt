@@ -1,6 +1,6 @@
 -- What holds of each element of a list, and of either of two.
 use Rattle.std.proofs.Common.{◌≡◌, ℕ, zero, suc, Bool, true, false, cond, List, [], ◌∷◌, ◌++◌, take, drop, map, slice_get, slice_set, Option, Some, None, IfSome, refl}
-use Rattle.std.specs.List.{AllByRecursion, flat_map}
+use Rattle.std.specs.List.{AllByRecursion, filter, flat_map}
 
 pub either : {A : Type 0} (P : A → Type 0) (b : Bool) (x y : A) → P x → P y → P (cond b x y)
 either P true x y h k = h
@@ -22,6 +22,10 @@ pub all-take : {A : Type 0} (P : A → Type 0) (n : ℕ) (xs : List A) → AllBy
 all-take P zero xs h = tt
 all-take P (suc n) [] h = tt
 all-take P (suc n) (x ∷ xs) h = (h.0, all-take P n xs h.1)
+
+pub all-filter : {A : Type 0} (P : A → Type 0) (q : A → Bool) (xs : List A) → AllByRecursion P xs → AllByRecursion P (filter q xs)
+all-filter P q [] h = tt
+all-filter P q (x ∷ xs) h = either (AllByRecursion P) (q x) (x ∷ filter q xs) (filter q xs) (h.0, all-filter P q xs h.1) (all-filter P q xs h.1)
 
 pub all-drop : {A : Type 0} (P : A → Type 0) (n : ℕ) (xs : List A) → AllByRecursion P xs → AllByRecursion P (drop n xs)
 all-drop P zero xs h = h

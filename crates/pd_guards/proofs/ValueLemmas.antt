@@ -11,12 +11,12 @@ use Rattle.pd_kind.specs.declared.messages.Sort.TheVariants as sort
 use Rattle.pd_kind.specs.declared.messages.Target.TheVariants as target
 use Rattle.pd_object.specs.declared.row_names.Row.TheVariants as row
 use Rattle.pd_kind.specs.Messages.{sort_of}
-use Rattle.pd_naming.specs.Naming.{symbol_in, name_at}
+use Rattle.pd_naming.specs.Naming.{symbol_in, name_at, is_argument, arguments_of}
 use Rattle.pd_kind.specs.Said.{send_to, number_to}
 use Rattle.pd_kind.specs.Hearing.{first_sort, stored}
 use Rattle.pd_plain.specs.Values.{float_hot, float_cold, float_row, int_hot, int_cold, int_row, symbol_hot, symbol_cold, symbol_row, moses_outlet, moses_hot, moses_cold, moses_row, spigot_cold, spigot_row, swapped, swap_hot, swap_cold, swap_row, changed, change_set, change_other, change_hot, change_row, to_name, shown, unless_dash, box_send_name, float_box_set, float_box_other, float_box_hot, float_box_row, symbol_box_set, symbol_box_other, symbol_box_hot, symbol_box_row, send_cold, send_row, is_called}
 use Rattle.pd_guards.specs.Order.{IsNumber, HasFirst, IsName, IsAtom, AreAtoms, IsMessage, IsSend, IsSaid, IsHeard}
-use Rattle.pd_guards.proofs.FactLemmas.{either, all-at}
+use Rattle.pd_guards.proofs.FactLemmas.{either, all-at, all-filter}
 use Rattle.pd_guards.proofs.NumberLemmas.{whole_in}
 use Rattle.pd_guards.proofs.BaseLemmas.{IsSort, sort_in, first_in, stored_in, passed_on, number_sent, silence, only, one, number_said, symbol_said, passed_said, deafness, deaf_told}
 
@@ -160,7 +160,7 @@ module _ (names : Names) (first : HasFirst names) (limit : ℕ) where
   symbol_there (Some a) h = tt
 
   pub box_name : (text : List Atom) → AreAtoms names text → IfSome (box_send_name names text) (IsName names)
-  box_name text h = unless_dash-in (name_at text 6) (symbol_there (slice_get text 6) (all-at (IsAtom names) text 6 h))
+  box_name text h = unless_dash-in (name_at (arguments_of text) 6) (symbol_there (slice_get (arguments_of text) 6) (all-at (IsAtom names) (arguments_of text) 6 (all-filter (IsAtom names) is_argument text h)))
 
   number_message : (z : ℤ) → IsNumber z → IsMessage names 1 (atom.Number z ∷ [])
   number_message z h = record { known = omega (arith, first); list = one names first (atom.Number z) (tt, h) }

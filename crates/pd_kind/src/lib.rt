@@ -31,7 +31,7 @@ pub use laws::{fresh_fits, likes_fit, reached_fits};
 pub use messages::{
     Around, Deed, Message, Notice, Sort, Target, first_sort, sort_of, stored, told,
 };
-pub use pd_naming::kind_of;
+pub use pd_naming::{argument_name_at, kind_of};
 pub use pd_object::{
     Arguments, Arith, Bounded, Button, Channel, Comparison, Division, Function, Glue, Items, Kind,
     Named, Operation, Panel, PortList, Row, Side, Signal, SignalFunction, SignalOperation,

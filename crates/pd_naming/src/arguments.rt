@@ -1,9 +1,9 @@
 //! The arguments of an object's text.
 
-ghost use Rattle.std.specs.Prelude.{◌≡◌, ◌≤◌, pos, length, map, bytes_eq, slice_get, IfOk};
+ghost use Rattle.std.specs.Prelude.{◌≡◌, ◌≤◌, pos, length, map, bytes_eq, Some, IfOk};
 ghost use Rattle.std.specs.List.{AllByRecursion, filter, list_all};
 ghost use Rattle.pd_atom.specs.Atoms.{IsOf};
-ghost use Rattle.pd_naming.specs.Naming.{is_argument as counts, arguments_of, number_or, number_at as number_at_place, name_at as name_at_place, or_symbol as symbol_or, first_number as first_number_of, first_letter as first_letter_of, is_whole_text as is_whole};
+ghost use Rattle.pd_naming.specs.Naming.{is_argument as counts, arguments_of, number_or, number_at as number_at_place, name_at as name_at_place, symbol_in as symbol_of, or_symbol as symbol_or, first_number as first_number_of, first_letter as first_letter_of, is_whole_text as is_whole};
 
 use pd_atom::{Atom, Sym};
 use pd_num::Num;
@@ -57,15 +57,25 @@ pub(crate) fn arguments(alloc: Global, atoms: &[Atom]) -> Result<Vec<Atom>, Allo
     Ok(list)
 }
 
-/// The argument at a place, where one is there: the atom that is at it once commas and semicolons are left out.
-pub fn argument_at(atoms: &[Atom], i: usize) -> Option<Atom>
-    ensures { result ≡ slice_get (arguments_of atoms.now) i }
+/// The symbol that an atom is, where it is one.
+fn symbol_in(atom: &Atom) -> Option<Sym>
+    ensures { result ≡ symbol_of (Some atom.now) }
+{
+    match atom {
+        Atom::Symbol(symbol) => Some(*symbol),
+        _ => None,
+    }
+}
+
+/// The symbol among the arguments at a place, where one is there. Commas and semicolons are left out before places are counted.
+pub fn argument_name_at(atoms: &[Atom], i: usize) -> Option<Sym>
+    ensures { result ≡ name_at_place (arguments_of atoms.now) i }
 {
     let mut before = 0;
     for atom in atoms {
         if is_argument(*atom) {
             if before == i {
-                return Some(*atom);
+                return symbol_in(atom);
             }
             before += 1;
         }
@@ -87,10 +97,7 @@ pub fn number_at(arguments: &[Atom], i: usize, default: Num) -> Num
 pub(crate) fn name_at(arguments: &[Atom], i: usize) -> Option<Sym>
     ensures { result ≡ name_at_place arguments.now i }
 {
-    match arguments.get(i) {
-        Some(Atom::Symbol(symbol)) => Some(*symbol),
-        _ => None,
-    }
+    symbol_in(arguments.get(i)?)
 }
 
 /// The symbol, or `symbol` where none is there.

@@ -17,5 +17,5 @@ mod naming;
 mod panel_words;
 mod signal_words;
 
-pub use arguments::number_at;
+pub use arguments::{argument_name_at, number_at};
 pub use naming::kind_of;

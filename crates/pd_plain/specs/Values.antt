@@ -14,7 +14,7 @@ use Rattle.pd_object.specs.declared.row_names.Row.TheVariants as row
 use Rattle.pd_kind.specs.declared.states.State.{State}
 use Rattle.pd_kind.specs.declared.states.State.TheVariants as state
 use Rattle.pd_kind.specs.Messages.{sort_of}
-use Rattle.pd_naming.specs.Naming.{name_at}
+use Rattle.pd_naming.specs.Naming.{name_at, arguments_of}
 use Rattle.pd_kind.specs.Rows.{Send}
 use Rattle.pd_kind.specs.Said.{Said, silent, sends_only, send_to, bang_to, number_to, symbol_to, deaf}
 use Rattle.pd_kind.specs.Hearing.{Heard, first_sort, told, stored}
@@ -155,7 +155,7 @@ unless_dash names (Some s) = if bytes_eq (name_of names s) (codes "-") then None
 unless_dash names None = None
 
 abbrev pub box_send_name : Names → List Atom → Option ℕ
-box_send_name names text = unless_dash names (name_at text 6)
+box_send_name names text = unless_dash names (name_at (arguments_of text) 6)
 
 -- a number box: a float is stored, and a bang too then sends the value; `set` stores.
 abbrev pub float_box_set : ℤ → ℕ → Option Atom → Heard

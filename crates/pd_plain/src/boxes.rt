@@ -10,10 +10,10 @@ ghost use Rattle.pd_plain.specs.Values.{leaves, shown, box_send_name as box_send
 
 use crate::values::is_called;
 use pd_atom::{Atom, Sym, Symbols};
-use pd_kind::{Row, Sends, Sort, Target, first_sort, sort_of, told};
+use pd_kind::{Row, Sends, Sort, Target, argument_name_at, first_sort, sort_of, told};
 use pd_num::Num;
 
-/// The place of the send name in the text of a number or symbol box.
+/// The place of the send name among the arguments of a number or symbol box.
 const SEND_NAME: usize = 6;
 
 /// The send name of a number or symbol box; `-` is no name.
@@ -21,8 +21,8 @@ fn box_send_name(symbols: &Symbols, text: &[Atom]) -> Option<Sym>
     requires { All (IsOf symbols.now) text.now }
     ensures { result ≡ box_send_name_of symbols.now text.now }
 {
-    match text.get(SEND_NAME) {
-        Some(Atom::Symbol(name)) if !is_called(symbols, *name, b"-") => Some(*name),
+    match argument_name_at(text, SEND_NAME) {
+        Some(name) if !is_called(symbols, name, b"-") => Some(name),
         _ => None,
     }
 }
