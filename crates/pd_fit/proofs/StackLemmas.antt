@@ -1,5 +1,5 @@
 -- Stacked boxes are those of the tree, and so are the wires that fit.
-use Rattle.std.proofs.Common.{arith, ◌≡◌, ℕ, zero, suc, ◌+◌, ◌-◌, ◌==◌, nat_lt, Bool, true, false, cond, List, [], ◌∷◌, ◌++◌, append_assoc, length, take, drop, filter, Some, refl, sym, ap, ◌∙◌, subst}
+use Rattle.std.proofs.Common.{arith, ◌≡◌, ℕ, zero, suc, ◌+◌, ◌-◌, ◌==◌, nat_lt, min, Bool, true, false, cond, List, [], ◌∷◌, ◌++◌, append_assoc, length, take, drop, filter, Some, refl, sym, ap, ◌∙◌, subst}
 use Rattle.std.proofs.lemmas.List.{append-nil}
 use Rattle.std.proofs.lemmas.Bool.Decides.{nat_tests}
 use Rattle.pd_canvas.specs.declared.wires.Wire.{Wire}
@@ -84,3 +84,7 @@ counted_all s t ss vs left less h v l m =
     let own : fitting vs s.wires ≡ length (trimmed_sheet t s).wires = (ap (λ x. fitting x s.wires) (v ∙ stacked_all ss t h) ∙ fitting_in t s) in
     let inside = wires_all ss t h in
     fewer (wires_fitting s t) less (omega (arith, l, m, own, inside))
+
+-- so many of 65,537 are no longer left
+pub capped : (n all left : ℕ) → all ≡ n → left ≡ 65537 - all → 65537 - left ≡ min 65537 n
+capped n all left h k = grind (arith, min)
