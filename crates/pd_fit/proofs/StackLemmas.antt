@@ -1,14 +1,14 @@
 -- Stacked boxes are those of the tree, and so are the wires that fit.
-use Rattle.std.proofs.Common.{arith, ◌≡◌, ℕ, zero, suc, ◌+◌, ◌-◌, ◌==◌, nat_lt, min, Bool, true, false, cond, List, [], ◌∷◌, ◌++◌, append_assoc, length, take, drop, filter, Some, refl, sym, ap, ◌∙◌, subst}
+use Rattle.std.proofs.Common.{arith, ◌≡◌, ℕ, zero, suc, ◌+◌, ◌-◌, ◌==◌, nat_lt, min, Bool, true, false, cond, List, [], ◌∷◌, ◌++◌, append_assoc, length, take, drop, filter, Some, refl, sym, ap, ◌∙◌}
 use Rattle.std.proofs.lemmas.List.{append-nil}
 use Rattle.std.proofs.lemmas.Bool.Decides.{nat_tests}
 use Rattle.pd_canvas.specs.declared.wires.Wire.{Wire}
 use Rattle.pd_tree.specs.declared.rows.Sheet.{Sheet}
 use Rattle.pd_tree.specs.Trees.{Trees, Done, Leaf, Holder, Stand, width, stands_of}
-use Rattle.pd_tree.specs.Ports.{Sockets, sockets_in, fits, trimmed_sheet}
+use Rattle.pd_tree.specs.Ports.{Sockets, fits, trimmed_sheet}
 use Rattle.pd_fit.specs.Fitting.{wires_inside, wires_fitting}
 use Rattle.pd_fit.specs.Seeing.{View, leaf_view, holder_view, views_in, sockets_seen, fitting}
-use Rattle.pd_fit.specs.Stacking.{stacked_on, stacked, wires_on, wires_stacked}
+use Rattle.pd_fit.specs.Stacking.{stacked_on, stacked, wires_stacked}
 use Rattle.pd_fit.proofs.PlaceLemmas.{sockets_are}
 
 -- the first of two lists, and the second

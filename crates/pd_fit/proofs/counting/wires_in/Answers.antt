@@ -1,4 +1,3 @@
-use Rattle.std.proofs.Common.{◌≡◌, ◌-◌, min, arith}
 use Rattle.pd_tree.specs.Trees.{stands_in}
 use Rattle.pd_fit.specs.Fitting.{wires_inside}
 use Rattle.pd_fit.proofs.StackLemmas.{wires_all, capped}
