@@ -1,5 +1,5 @@
 //! The table of the names of symbols.
-ghost use Rattle.std.specs.Prelude.{◌≡◌, ◌<◌, ◌≤◌, ◌↔◌, ◌^◌, length, take, slice_get, Some, Err, IfOk, OnOk, OnErr};
+ghost use Rattle.std.specs.Prelude.{◌≡◌, ◌<◌, ◌≤◌, ◌↔◌, ◌^◌, length, take, slice_get, position, bytes_eq, Some, Err, IfOk, IfSome, OnOk, OnErr};
 ghost use Rattle.pd_atom.specs.Names.{IsTable, Extends, first_names, name_of, interned, longest};
 ghost use Rattle.pd_atom.specs.declared.SymbolRefusal.TheVariants.{TooLong};
 
@@ -69,6 +69,18 @@ impl Symbols {
         }
         self.table.push(name);
         Ok(symbol(place))
+    }
+
+    /// The symbol of a name, where the table has it.
+    pub fn find(&self, name: &[u8]) -> Option<Sym>
+        ensures value { result ≡ position (bytes_eq name.now) self.now }
+        ensures of_table { IfSome result (λ s. s < length self.now) }
+        ensures named { IfSome result (λ s. slice_get self.now s ≡ Some name.now) }
+    {
+        match self.table.place(name) {
+            Some(place) => Some(symbol(place)),
+            None => None,
+        }
     }
 
     /// The name of a symbol of the table.

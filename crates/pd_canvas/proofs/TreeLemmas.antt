@@ -1,5 +1,5 @@
 -- The boxes of a canvas in the code against those of its page.
-use Rattle.std.proofs.Common.{◌≡◌, ℕ, zero, suc, ◌-◌, ◌<◌, ◌≤◌, List, [], ◌∷◌, ◌++◌, length, map, take, drop, set, get_or, remove, Option, Some, None, Result, Ok, Err, refl, sym, ap, ◌∙◌, subst, arith}
+use Rattle.std.proofs.Common.{◌≡◌, ℕ, zero, suc, ◌-◌, ◌<◌, ◌≤◌, List, [], ◌∷◌, ◌++◌, length, map, take, drop, set, get_or, insert, remove, Option, Some, None, Result, Ok, Err, refl, sym, ap, ◌∙◌, subst, arith}
 use Rattle.std.proofs.lemmas.List.{map-append, take-map, drop-map, length-map, take_all, length-take, length-drop}
 use Rattle.std.proofs.Math.Seq.{map-set_same}
 use Rattle.std.specs.Prelude.{slice_get, option_and_then, IsSomeAnd, OnErr}
@@ -134,3 +134,19 @@ edit_first f path p h = ap (λ l. edit_at l f p) (sym (path_is path h))
 -- the elements of the program, seen
 pub entries_seen : (a : Inside) (p : Page) → page_seen a ≡ p → elements_of p ≡ map entry_of a.boxes.items.items
 entries_seen a p e = sym (ap elements_of e) ∙ elements_seen a
+
+-- one element more at a place
+map-insert : (es : List Element) (n : ℕ) (e : Element) → map entry_of (insert es n e) ≡ insert (map entry_of es) n (entry_of e)
+map-insert es n e =
+    map-append entry_of (take n es) (e ∷ drop n es)
+    ∙ (ap (λ l. l ++ entry_of e ∷ map entry_of (drop n es)) (sym (take-map entry_of n es))
+    ∙ ap (λ l. take n (map entry_of es) ++ entry_of e ∷ l) (sym (drop-map entry_of n es)))
+
+pub insert_seen : (a : Inside) (es : List Element) (n : ℕ) (e : Element) → es ≡ insert a.boxes.items.items n e
+    → map entry_of es ≡ insert (elements_of (page_seen a)) n (entry_of e)
+insert_seen a es n e h =
+    ap (map entry_of) h ∙ (map-insert a.boxes.items.items n e ∙ ap (λ l. insert l n (entry_of e)) (sym (elements_seen a)))
+
+pub place_seen : (a : Inside) (p : Page) → page_seen a ≡ p → (n : ℕ) → n ≤ length (elements_of p) → n ≤ length a.boxes.items.items
+place_seen a p e n h =
+    omega (arith, ap (λ q. length (elements_of q)) e, ap length (elements_seen a), length-map a.boxes.items.items entry_of)

@@ -1,11 +1,12 @@
 -- The list words of the code against the definitions on wires.
-use Rattle.std.proofs.Common.{◌≡◌, ℕ, suc, ◌+◌, ◌≤◌, Bool, true, false, cond, not, List, [], ◌∷◌, length, insert, remove, position, unwrap_or, Some, None, refl, sym, ap, ◌∙◌, arith}
+use Rattle.std.proofs.Common.{◌≡◌, ℕ, zero, suc, ◌+◌, ◌<◌, ◌≤◌, Bool, true, false, cond, not, List, [], ◌∷◌, length, drop, set, get_or, add-one, insert, remove, position, unwrap_or, Some, None, refl, sym, ap, ◌∙◌, arith}
 use Rattle.std.proofs.lemmas.Bool.Decides.{nat_tests}
 use Rattle.std.specs.Prelude.{nat_lt}
 use Rattle.std.specs.List.{position_or_len}
 use Rattle.std.proofs.lemmas.List.Sums.{prefix_len-le-length}
 use Rattle.pd_canvas.specs.declared.wires.Wire.{Wire}
 use Rattle.pd_canvas.specs.Wiring.{precedes, is_same, with_wire, without_wire}
+use Rattle.pd_canvas.specs.Turns.{LeavesRoom}
 
 one_more : (n : ℕ) → 1 + n ≡ suc n
 one_more n = omega arith
@@ -71,3 +72,20 @@ absent w ws e = without_none w ws (none_le (none_place _ _ e)) where
 -- a wire read at a place within, at whatever default
 abbrev pub no_wire : Wire
 no_wire = record { source = 0; outlet = 0; sink = 0; inlet = 0 }
+
+-- there are numbers above those of the wire's boxes
+abbrev pub HasRoom : Wire → Type 0
+HasRoom w = (w.source < 4294967295) × (w.sink < 4294967295)
+
+pub first_room : (ws : List Wire) (i : ℕ) → i < length ws → LeavesRoom (drop i ws) → HasRoom (get_or ws i no_wire)
+first_room [] i h k = absurd (omega arith)
+first_room (w ∷ ws) zero h k = k.0
+first_room (w ∷ ws) (suc i) h k = first_room ws i (omega arith) k
+
+others_by : (ws : List Wire) (i : ℕ) (w : Wire) → i < length ws → LeavesRoom (drop i ws) → LeavesRoom (drop (suc i) (set ws i w))
+others_by [] i v h k = absurd (omega arith)
+others_by (w ∷ ws) zero v h k = k.1
+others_by (w ∷ ws) (suc i) v h k = others_by ws i v (omega arith) k
+
+pub others_room : (ws : List Wire) (i : ℕ) (w : Wire) → i < length ws → LeavesRoom (drop i ws) → LeavesRoom (drop (i + 1) (set ws i w))
+others_room ws i w h k = rw add-one (others_by ws i w h k)

@@ -7,3 +7,4 @@ pub mod Paths
 pub mod Edits
 pub mod Arrays
 pub mod Proper
+pub mod Turns

@@ -1,5 +1,5 @@
 -- The wires of a canvas, as a list.
-use Rattle.std.specs.Prelude.{◌≡◌, ℕ, ◌-◌, Bool, false, cond, not, ◌==◌, ◌&&◌, ◌||◌, nat_lt, List, [], ◌∷◌, map, filter}
+use Rattle.std.specs.Prelude.{◌≡◌, ℕ, ◌+◌, ◌-◌, Bool, false, cond, not, ◌==◌, ◌&&◌, ◌||◌, nat_lt, List, [], ◌∷◌, map, filter}
 use Rattle.std.specs.List.{AllByRecursion}
 use Rattle.pd_canvas.specs.declared.wires.Wire.{Wire}
 
@@ -34,6 +34,13 @@ spares n w = not (w.source == n) && not (w.sink == n)
 -- less the wires of box n, with higher numbers down by one
 abbrev pub without_box : ℕ → List Wire → List Wire
 without_box n ws = map (lowered_wire n) (filter (spares n) ws)
+
+-- the number of a box once another has come in at number n
+abbrev pub raised : ℕ → ℕ → ℕ
+raised n k = cond (nat_lt k n) k (k + 1)
+
+abbrev pub raised_wire : ℕ → Wire → Wire
+raised_wire n w = record { source = raised n w.source; outlet = w.outlet; sink = raised n w.sink; inlet = w.inlet }
 
 -- the wires stand by source, then outlet
 abbrev pub AreSorted : List Wire → Type 0

@@ -1,7 +1,8 @@
 //! The wires of a canvas.
 
-ghost use Rattle.pd_canvas.specs.Wiring.{precedes, is_same, with_wire, without_wire, lowered, lowered_wire, spares, without_box};
-ghost use Rattle.std.specs.Prelude.{unwrap_or, position, map, filter, ◌≡◌, ◌==◌, [], ◌∷◌, ◌++◌, length, OnOk, OnErr, IfOk};
+ghost use Rattle.pd_canvas.specs.Wiring.{precedes, is_same, with_wire, without_wire, lowered, lowered_wire, raised, raised_wire, spares, without_box};
+ghost use Rattle.pd_canvas.specs.Turns.{LeavesRoom};
+ghost use Rattle.std.specs.Prelude.{unwrap_or, position, map, filter, ◌≡◌, ◌==◌, ◌<◌, [], ◌∷◌, ◌++◌, length, OnOk, OnErr, IfOk};
 
 use std::alloc::{AllocError, Global};
 use std::marker::Model;
@@ -109,6 +110,14 @@ impl Wires {
     {
         drop_box_from(&mut self.items, number);
     }
+
+    /// Gives the boxes from a number on the numbers that they have once another has come in there.
+    pub fn lift_box(&mut self, number: u32)
+        requires { LeavesRoom self.old }
+        ensures { self.new ≡ map (raised_wire number) self.old }
+    {
+        raise_all(&mut self.items, number);
+    }
 }
 
 impl Wire {
@@ -117,6 +126,20 @@ impl Wire {
         ensures { result ≡ precedes self other }
     {
         self.source < other.source || self.source == other.source && self.outlet < other.outlet
+    }
+
+    /// The wire once a box has come in.
+    fn raised(self, number: u32) -> Wire
+        requires source { self.source < 4294967295 }
+        requires sink { self.sink < 4294967295 }
+        ensures { result ≡ raised_wire number self }
+    {
+        Wire {
+            source: number_with(number, self.source),
+            outlet: self.outlet,
+            sink: number_with(number, self.sink),
+            inlet: self.inlet,
+        }
     }
 
     /// The wire once a box is gone that is at neither of its ends.
@@ -130,6 +153,14 @@ impl Wire {
             inlet: self.inlet,
         }
     }
+}
+
+/// The number of a box once another has come in.
+fn number_with(new: u32, number: u32) -> u32
+    requires { number < 4294967295 }
+    ensures { result ≡ raised new number }
+{
+    if number < new { number } else { number + 1 }
 }
 
 /// The number of a box once another is gone.
@@ -171,6 +202,15 @@ fn lower_all(wires: &mut [Wire], number: u32)
 {
     for wire in wires.iter_mut() {
         *wire = wire.lowered(number);
+    }
+}
+
+fn raise_all(wires: &mut [Wire], number: u32)
+    requires { LeavesRoom wires.old }
+    ensures { wires.new ≡ map (raised_wire number) wires.old }
+{
+    for wire in wires.iter_mut() {
+        *wire = wire.raised(number);
     }
 }
 

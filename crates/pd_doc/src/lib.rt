@@ -33,8 +33,8 @@ mod writing;
 
 pub use laws::{proper_extended, proper_pages, read_again, read_proper, written_read};
 pub use pd_canvas::{
-    AtomRows, Atoms, Canvas, Doc, Edit, Element, Elements, Form, Numbers, Nums, Place, Wire, Wires,
-    apply_plain, can_apply, canvas_at, copy,
+    AtomRows, Atoms, Canvas, Change, Doc, Edit, Element, Elements, Form, Numbers, Nums, Place,
+    Turn, Wire, Wires, apply_plain, can_apply, canvas_at, copy, plain_turn,
 };
 pub use reading::read;
 pub use refusal::DocRefusal;

@@ -1,5 +1,5 @@
 -- The ports of a kind, counted up.
-use Rattle.std.proofs.Common.{◌≡◌, ℕ, zero, suc, ◌+◌, ◌-◌, ◌≤◌, Bool, true, false, nat_lt, [], ◌∷◌, ◌++◌, replicate, refl, sym, ap, ◌∙◌, add-one, add-zero, add-suc, lt-ltb, le-ltb, append_assoc, append-nil, arith}
+use Rattle.std.proofs.Common.{◌≡◌, ℕ, zero, suc, ◌+◌, ◌-◌, ◌≤◌, Bool, true, false, [], ◌∷◌, ◌++◌, replicate, refl, sym, ap, ◌∙◌, add-one, add-zero, add-suc, lt-ltb, le-ltb, append_assoc, append-nil, arith}
 use Rattle.std.proofs.lemmas.List.{replicate_more}
 use Rattle.pd_object.specs.declared.kinds.Kind.{Kind}
 use Rattle.pd_object.specs.Ports.{ports_of}

@@ -1,10 +1,10 @@
 -- Boxes as wires see them.
-use Rattle.std.proofs.Common.{◌≡◌, ℕ, ℤ, zero, suc, Bool, List, [], ◌∷◌, take, drop, map, Option, refl, sym, ap, ◌∙◌}
+use Rattle.std.proofs.Common.{◌≡◌, ℕ, ℤ, zero, suc, Bool, List, [], ◌∷◌, take, drop, Option, refl, sym, ap, ◌∙◌}
 use Rattle.std.specs.Prelude.{option_map, slice_get}
 use Rattle.std.proofs.lemmas.List.{take-map, drop-map}
 use Rattle.pd_canvas.specs.declared.wires.Wire.{Wire}
 use Rattle.pd_tree.specs.Trees.{Cell}
-use Rattle.pd_tree.specs.Ports.{Sockets, fits, fits_between, is_made, inlet_signal, outlet_signal, sockets_of}
+use Rattle.pd_tree.specs.Ports.{fits, fits_between, is_made, inlet_signal, outlet_signal, sockets_of}
 use Rattle.pd_fit.specs.declared.boxes.Seen.{Seen}
 use Rattle.pd_fit.specs.Seeing.{View, view_of, views_of, sockets_of_box, sockets_seen, leaf_view, holder_view}
 

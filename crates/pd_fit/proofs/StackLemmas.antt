@@ -1,14 +1,14 @@
 -- Stacked boxes are those of the tree, and so are the wires that fit.
-use Rattle.std.proofs.Common.{arith, ◌≡◌, ℕ, zero, suc, ◌+◌, ◌-◌, ◌==◌, nat_lt, Bool, true, false, cond, List, [], ◌∷◌, ◌++◌, append_assoc, length, take, drop, filter, Some, refl, sym, ap, ◌∙◌, subst}
+use Rattle.std.proofs.Common.{arith, ◌≡◌, ℕ, zero, suc, ◌+◌, ◌-◌, ◌==◌, nat_lt, min, Bool, true, false, cond, List, [], ◌∷◌, ◌++◌, append_assoc, length, take, drop, filter, Some, refl, sym, ap, ◌∙◌}
 use Rattle.std.proofs.lemmas.List.{append-nil}
 use Rattle.std.proofs.lemmas.Bool.Decides.{nat_tests}
 use Rattle.pd_canvas.specs.declared.wires.Wire.{Wire}
 use Rattle.pd_tree.specs.declared.rows.Sheet.{Sheet}
 use Rattle.pd_tree.specs.Trees.{Trees, Done, Leaf, Holder, Stand, width, stands_of}
-use Rattle.pd_tree.specs.Ports.{Sockets, sockets_in, fits, trimmed_sheet}
+use Rattle.pd_tree.specs.Ports.{Sockets, fits, trimmed_sheet}
 use Rattle.pd_fit.specs.Fitting.{wires_inside, wires_fitting}
 use Rattle.pd_fit.specs.Seeing.{View, leaf_view, holder_view, views_in, sockets_seen, fitting}
-use Rattle.pd_fit.specs.Stacking.{stacked_on, stacked, wires_on, wires_stacked}
+use Rattle.pd_fit.specs.Stacking.{stacked_on, stacked, wires_stacked}
 use Rattle.pd_fit.proofs.PlaceLemmas.{sockets_are}
 
 -- the first of two lists, and the second
@@ -84,3 +84,7 @@ counted_all s t ss vs left less h v l m =
     let own : fitting vs s.wires ≡ length (trimmed_sheet t s).wires = (ap (λ x. fitting x s.wires) (v ∙ stacked_all ss t h) ∙ fitting_in t s) in
     let inside = wires_all ss t h in
     fewer (wires_fitting s t) less (omega (arith, l, m, own, inside))
+
+-- so many of 65,537 are no longer left
+pub capped : (n all left : ℕ) → all ≡ n → left ≡ 65537 - all → 65537 - left ≡ min 65537 n
+capped n all left h k = grind (arith, min)

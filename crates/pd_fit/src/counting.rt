@@ -1,10 +1,10 @@
 //! The wires of all canvases of a grown patch that fit, counted.
 
-ghost use Rattle.std.specs.Prelude.{◌≡◌, ◌-◌, ◌++◌, [], nat_lt, take, drop, Some, None, OnOk, IfOk};
+ghost use Rattle.std.specs.Prelude.{◌≡◌, ◌-◌, ◌++◌, [], nat_lt, min, take, drop, Some, None, OnOk, IfOk};
 ghost use Rattle.std.specs.List.{AllByRecursion};
 ghost use Rattle.pd_object.specs.Ports.{IsSmallKind};
 ghost use Rattle.pd_tree.specs.Trees.{Trees, stand_of, stands_of, stands_in};
-ghost use Rattle.pd_fit.specs.Fitting.{wires_fitting};
+ghost use Rattle.pd_fit.specs.Fitting.{wires_inside, wires_fitting};
 ghost use Rattle.pd_fit.specs.Seeing.{views_of};
 ghost use Rattle.pd_fit.specs.Stacking.{stacked, stacked_on, wires_on, wires_stacked};
 
@@ -30,6 +30,20 @@ pub fn has_too_many_wires(alloc: Global, sheet: &Sheet, rows: &[Row]) -> Result<
     let left = stack_rows(alloc, rows, &mut stack)?;
     let boxes = take_all(alloc, &mut stack)?;
     Ok(less_fitting(boxes.as_slice(), sheet.wires.as_slice(), left) == 0)
+}
+
+/// How many wires fit of the canvases that these grown boxes hold, and 65,537 where there are more.
+///
+/// # Errors
+///
+/// `AllocError` where memory ran out.
+pub fn wires_in(alloc: Global, rows: &[Row]) -> Result<u32, AllocError>
+    requires { AllByRecursion (λ r. IsSmallKind r.kind) rows.now }
+    ensures { (t : Trees) → stands_in rows.now ≡ stands_of t → IfOk result (λ count. count ≡ min 65537 (wires_inside t)) }
+{
+    let mut stack = VecDeque::new(alloc);
+    let left = stack_rows(alloc, rows, &mut stack)?;
+    Ok(MOST_WIRES + 1 - left)
 }
 
 /// Stacks boxes from the last to the first, and gives 65,537 less the wires that fit of the canvases that they hold, or 0.

@@ -12,4 +12,4 @@ mod counting;
 mod ports;
 mod wires;
 
-pub use counting::{MOST_WIRES, has_too_many_wires};
+pub use counting::{MOST_WIRES, has_too_many_wires, wires_in};

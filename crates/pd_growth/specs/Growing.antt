@@ -1,6 +1,8 @@
 -- What the functions of growth answer.
-use Rattle.std.specs.Prelude.{◌≡◌, ℕ, zero, suc, ◌+◌, ◌<◌, ◌≤◌, List, ◌++◌, length, Option, Some, None, Result, Ok, Err}
+use Rattle.std.specs.Prelude.{◌≡◌, ℕ, zero, suc, ◌+◌, ◌<◌, ◌≤◌, List, [], ◌++◌, length, Option, Some, None, Result, Ok, Err}
 use Rattle.std.specs.List.{All, AllByRecursion}
+use Rattle.std.specs.declared.vec.Vec.{Vec}
+use Rattle.std.specs.declared.alloc.Global.{Global}
 use Rattle.pd_atom.specs.declared.SymbolRefusal.TheVariants.{Full}
 use Rattle.pd_atom.specs.Names.{Names, Outcome, given, refused}
 use Rattle.pd_library.specs.declared.answers.Answer.{Answer}
@@ -103,6 +105,11 @@ pub record HasGrown (n : ℕ) (before after : List Row) (w : Stock) (s : Step Tr
 abbrev pub Grows : ℕ → Result (Unit {0}) Stop → List Row → List Row → Stock → Step Trees → Type 0
 Grows n (Ok u) before after w s = HasGrown n before after w s
 Grows n (Err e) before after w s = Refuses e w s
+
+-- What growing a box alone answers: its rows, or why growth ends.
+abbrev pub GrowsBox : Result (Vec Row Global) Stop → Stock → Step Trees → Type 0
+GrowsBox (Ok rows) w s = HasGrown 1 [] rows.items w s
+GrowsBox (Err e) w s = Refuses e w s
 
 -- the canvases inside the boxes of a canvas, inside which so many canvases may lie in one another
 abbrev pub inside_grown : (ℕ → Option Answer) → List ℕ → ℕ → Inner

@@ -57,7 +57,7 @@ pub(crate) fn grow_boxes(
 /// Grows a box.
 #[cycle(growth)]
 #[tactic(auto, using(crate::proofs::StepLemmas::growth_steps))]
-fn grow_box(
+pub(crate) fn grow_box(
     setting: &Setting<'_>,
     scope: &Scope<'_>,
     left: u32,

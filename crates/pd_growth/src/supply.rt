@@ -15,14 +15,14 @@ const GREATEST_ZERO: u32 = 1_000_000_000;
 
 /// The `$0` numbers still to be given, from `next_zero` on, and how many boxes there may still be.
 #[derive(Clone, Copy, Debug)]
-pub(crate) struct Supply {
-    next_zero: u32,
-    room: u32,
+pub struct Supply {
+    pub next_zero: u32,
+    pub room: u32,
 }
 
 impl Supply {
     /// All boxes, and the `$0` numbers from this one on.
-    pub(crate) fn new(first_zero: u32) -> Supply
+    pub fn new(first_zero: u32) -> Supply
         ensures { (names : Names) → stock names result ≡ beginning names first_zero }
     {
         Supply {
@@ -33,7 +33,7 @@ impl Supply {
 
     /// Takes a box.
     #[tactic(auto, using(crate::proofs::SupplyLemmas::supply_steps))]
-    pub(crate) fn count(&mut self) -> Result<(), Stop>
+    pub fn count(&mut self) -> Result<(), Stop>
         ensures { (names : Names) → Answers (λ u. u) result (stock names self.new) (counted (stock names self.old)) }
     {
         if self.room == 0 {
@@ -45,7 +45,7 @@ impl Supply {
 
     /// Takes a `$0`.
     #[tactic(auto, using(crate::proofs::SupplyLemmas::supply_steps))]
-    pub(crate) fn number(&mut self) -> Result<u32, Stop>
+    pub fn number(&mut self) -> Result<u32, Stop>
         ensures exact { (names : Names) → Answers (λ z. z) result (stock names self.new) (numbered (stock names self.old)) }
         ensures small { IfOk result (λ z. z ≤ 1000000000) }
     {

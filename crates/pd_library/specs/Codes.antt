@@ -2,6 +2,7 @@
 use Rattle.std.specs.Prelude.{◌≡◌, ℕ, ◌⊎◌, List, Option, Some, None}
 use Rattle.std.specs.Coded.{Coded, code_by, coded×, coded⊎, coded_list, coded_option, coded_ℕ}
 use Rattle.std.proofs.Common.{refl, inl, inr}
+use Rattle.pd_canvas.specs.declared.tree.Doc.{Doc}
 use Rattle.pd_canvas.specs.Pages.{Page}
 use Rattle.pd_canvas.specs.Codes.{page_code}
 use Rattle.pd_library.specs.declared.answers.Answer.{Answer}
@@ -27,3 +28,9 @@ answer_code = code_by (Option (Page ⊎ ℕ)) (coded_option (coded⊎ page_code 
 
 abbrev pub files_code : Coded (List (ℕ × Answer))
 files_code = coded_list (coded× coded_ℕ answer_code)
+
+abbrev pub doc_code : Coded Doc
+doc_code = code_by Page page_code (λ d. d.root) (λ p. record { root = p }) (λ d. refl)
+
+abbrev pub drafts_code : Coded (List (ℕ × Doc))
+drafts_code = coded_list (coded× coded_ℕ doc_code)

@@ -8,9 +8,11 @@
 #![tactic(auto)]
 
 mod answers;
+mod drafts;
 mod files;
 
 pub use answers::Answer;
+pub use drafts::Drafts;
 pub use files::Files;
 
 #[cfg(test)]

@@ -1,7 +1,7 @@
 //! A run of calls, with what is known of two names after each.
 ghost use Rattle.std.specs.Prelude.{◌≤◌};
 
-use crate::{Answer, Files};
+use crate::{Answer, Drafts, Files};
 use pd_atom::Sym;
 use pd_canvas::{Atoms, Canvas, Doc};
 use std::alloc::{AllocError, Global};
@@ -78,5 +78,21 @@ fn known_after_each_call(rt: HostRuntime) -> Result<(), Fail> {
         assert!(rt; known_of(&files, first) == of_first);
         assert!(rt; known_of(&files, second) == of_second);
     }
+    Ok(())
+}
+
+#[test]
+fn drafts_begin_and_end(rt: HostRuntime) -> Result<(), Fail> {
+    let mut drafts = Drafts::new(rt.alloc());
+    let first = Sym::pd();
+    let second = Sym::list();
+    drafts.put_draft(first, empty(rt.alloc()))?;
+    drafts.put_draft(second, empty(rt.alloc()))?;
+    drafts.put_draft(first, empty(rt.alloc()))?;
+    assert!(rt; drafts.len() == 2);
+    drafts.end_draft(first);
+    drafts.end_draft(first);
+    assert!(rt; drafts.draft(first).is_none());
+    assert!(rt; drafts.draft(second).is_some());
     Ok(())
 }

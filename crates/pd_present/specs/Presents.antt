@@ -77,3 +77,7 @@ page_within web numbers nodes boards (suc n) canvas = page_on web numbers nodes 
 -- the document of a running patch: with the root 257 canvases may lie in one another
 abbrev pub present_page : Grove → Web → List ℕ → Page
 present_page g web numbers = page_within web numbers (get g.nodes) (get g.boards) 257 g.root
+
+-- a box of it with what it holds: with the box's own canvas 257 may lie in one another
+abbrev pub present_entry : Grove → Web → List ℕ → ℕ → Entry
+present_entry g web numbers key = entry_at (page_within web numbers (get g.nodes) (get g.boards) 256) (get g.nodes key)

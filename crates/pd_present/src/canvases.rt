@@ -4,7 +4,7 @@ ghost use Rattle.std.specs.Prelude.{◌≡◌, IfOk, Some, map};
 ghost use Rattle.slab.specs.Slab.{get};
 ghost use Rattle.pd_canvas.specs.Pages.{empty_page};
 ghost use Rattle.pd_canvas.specs.Views.{entries_of, entry_of};
-ghost use Rattle.pd_present.specs.Presents.{entry_at, page_inside, page_on, page_within, present_page};
+ghost use Rattle.pd_present.specs.Presents.{entry_at, page_inside, page_on, page_within, present_entry, present_page};
 
 use crate::boxes::{blank, element_now};
 use crate::wires::wires_of;
@@ -27,6 +27,24 @@ pub fn present(alloc: Global, grove: &Grove, web: &Web, numbers: &[u32]) -> Resu
 {
     let root = canvas_of(alloc, grove, web, numbers, grove.root(), MOST_CANVASES)?;
     Ok(Doc { root })
+}
+
+/// A box of a running patch as it stands, with what it holds: as the document has it that `present` gives. A key under which no box
+/// is gives an empty comment.
+///
+/// # Errors
+///
+/// `AllocError` where memory ran out.
+pub fn present_box(
+    alloc: Global,
+    grove: &Grove,
+    web: &Web,
+    numbers: &[u32],
+    key: u32,
+) -> Result<Element, AllocError>
+    ensures { IfOk result (λ e. entry_of e ≡ present_entry grove.now web.now numbers.now key) }
+{
+    element_of(alloc, grove, web, numbers, key, MOST_CANVASES - 1)
 }
 
 fn empty_canvas(alloc: Global) -> Canvas

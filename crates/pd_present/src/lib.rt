@@ -14,4 +14,4 @@ mod canvases;
 mod contents;
 mod wires;
 
-pub use canvases::present;
+pub use canvases::{present, present_box};

@@ -21,3 +21,17 @@ fn owners_below_the_number_have_clocks(rt: HostRuntime) -> Result<(), Fail> {
     assert!(rt; timers.next_before(at(6)).is_none());
     Ok(())
 }
+
+#[test]
+fn owners_get_room_later(rt: HostRuntime) -> Result<(), Fail> {
+    let mut timers = Timers::new(rt.alloc(), 1)?;
+    timers.set(0, at(5));
+    timers.reach(3)?;
+    timers.reach(2)?;
+    timers.set(2, at(4));
+    timers.set(3, at(1));
+    assert_eq!(rt; timers.next_before(at(9)).map(|next| next.1), Some(2));
+    assert_eq!(rt; timers.next_before(at(9)).map(|next| next.1), Some(0));
+    assert!(rt; timers.next_before(at(9)).is_none());
+    Ok(())
+}

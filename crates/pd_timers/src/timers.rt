@@ -1,6 +1,6 @@
 //! Clocks with their room.
 
-ghost use Rattle.std.specs.Prelude.{◌≡◌, ◌<◌, ◌≤◌, ◌++◌, ◌∷◌, [], ℕ, List, IfOk, IfNone, IfSome};
+ghost use Rattle.std.specs.Prelude.{◌≡◌, ◌+◌, ◌<◌, ◌≤◌, ◌++◌, ◌∷◌, [], ℕ, max, List, IfOk, OnOk, OnErr, IfNone, IfSome};
 ghost use Rattle.std.specs.List.{AllByRecursion};
 ghost use Rattle.pd_clock.specs.Queue.{without, IsTaken};
 ghost use Rattle.pd_timers.specs.Room.{HasRoom};
@@ -29,6 +29,23 @@ impl Timers {
         let mut clocks = Clocks::new(alloc)?;
         make_room(&mut clocks, end)?;
         Ok(Timers { clocks, end })
+    }
+
+    /// Makes room for each owner below `end`. No clock changes.
+    ///
+    /// # Errors
+    ///
+    /// `AllocError` where memory ran out. Then the same owners have room as before.
+    pub fn reach(&mut self, end: u32) -> Result<(), AllocError>
+        ensures clocks { self.new.clocks.clocks ≡ self.old.clocks.clocks }
+        ensures ok { OnOk result (self.new.end ≡ max self.old.end end) }
+        ensures err { OnErr result (self.new.end ≡ self.old.end) }
+    {
+        if end > self.end {
+            make_room(&mut self.clocks, end - self.end)?;
+            self.end = end;
+        }
+        Ok(())
     }
 
     /// Sets an owner's clock in place of the one that it has; it comes last among those of its time. An owner that isn't below
@@ -62,11 +79,11 @@ impl Timers {
     }
 }
 
-/// Makes room for so many owners.
+/// Makes room for so many owners more.
 fn make_room(clocks: &mut Clocks, count: u32) -> Result<(), AllocError>
-    requires { clocks.old.clocks ≡ [] }
-    ensures clocks { clocks.new.clocks ≡ [] }
-    ensures room { IfOk result (λ _. count ≤ clocks.new.room) }
+    ensures clocks { clocks.new.clocks ≡ clocks.old.clocks }
+    ensures room { OnOk result (clocks.old.room + count ≤ clocks.new.room) }
+    ensures kept { clocks.old.room ≤ clocks.new.room }
 {
     for _ in 0..count {
         clocks.reserve_one()?;
