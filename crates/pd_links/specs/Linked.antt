@@ -1,0 +1,54 @@
+-- The graph that links and labels tell, and how it stands to the wires of a canvas.
+use Rattle.std.specs.Prelude.{◌≡◌, ℕ, ◌<◌, ◌≤◌, ◌==◌, ◌↔◌, cond, List, ◌∷◌, slice_index_or}
+use Rattle.pd_order.specs.Graph.{Graph, tally}
+use Rattle.pd_chain.specs.declared.graph.SignalWire.{SignalWire}
+use Rattle.pd_chain.specs.Wires.{place_of, sources_into, sinks_from}
+use Rattle.pd_links.specs.declared.links.Links.{Links}
+use Rattle.pd_links.specs.Rows.{keys_at, spare_at}
+
+-- from which boxes wires come to the box x, as often as there are wires
+abbrev pub feeders_of : Links → ℕ → List ℕ
+feeders_of l x = keys_at l.into.items x
+
+-- to which boxes wires lead from the box x, as often as there are wires
+abbrev pub followers_of : Links → ℕ → List ℕ
+followers_of l x = keys_at l.from.items x
+
+-- so many more wires to the box x, and from it, take no memory
+abbrev pub spare_into : Links → ℕ → ℕ
+spare_into l x = spare_at l.into.items x
+
+abbrev pub spare_from : Links → ℕ → ℕ
+spare_from l x = spare_at l.from.items x
+
+-- a box's rank is its label
+abbrev pub label_at : List ℕ → ℕ → ℕ
+label_at labels x = slice_index_or labels x 0
+
+abbrev pub link_graph : List ℕ → Links → Graph
+link_graph labels l = record {
+  rank = λ x. label_at labels x;
+  feeders = λ x. feeders_of l x;
+  followers = λ x. followers_of l x;
+}
+
+-- the wires are the same, and there is room for at least as many more
+pub record SameLinks (old new : Links) : Type 0 where
+  pub feeders : (x : ℕ) → feeders_of new x ≡ feeders_of old x
+  pub followers : (x : ℕ) → followers_of new x ≡ followers_of old x
+  pub spare_into : (x : ℕ) → spare_into old x ≤ spare_into new x
+  pub spare_from : (x : ℕ) → spare_from old x ≤ spare_from new x
+
+-- `more` has one wire more from the source to the sink, and else the same
+pub record HasOneMore (links more : Links) (source sink : ℕ) : Type 0 where
+  pub feeders : (x u : ℕ) → tally u (feeders_of more x) ≡ tally u (cond (x == sink) (source ∷ feeders_of links x) (feeders_of links x))
+  pub followers : (x u : ℕ) → tally u (followers_of more x) ≡ tally u (cond (x == source) (sink ∷ followers_of links x) (followers_of links x))
+
+-- the links are those of these wires, in any order at each box
+pub record AreLinked (l : Links) (wires : List SignalWire) : Type 0 where
+  pub feeders : (x u : ℕ) → tally u (feeders_of l x) ≡ tally u (sources_into wires x)
+  pub followers : (x u : ℕ) → tally u (followers_of l x) ≡ tally u (sinks_from wires x)
+
+-- the labels of a canvas's boxes rise with their numbers
+abbrev pub RiseAlong : List ℕ → List ℕ → Type 0
+RiseAlong labels nodes = (x y : ℕ) → 0 < tally x nodes → 0 < tally y nodes → (label_at labels x < label_at labels y) ↔ (place_of nodes x < place_of nodes y)
