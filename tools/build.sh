@@ -78,10 +78,10 @@ need_rt() {
     stop 2 "there is no command rt on this machine, the Rattle toolchain that proves and builds pdplay; README.md, 'What is needed', tells where it comes from"
 }
 
-# Copies the crates that the program stands on to a folder, a repository of their own.
+# Copies the crates that the program stands on to a new folder, a repository of their own.
 copy_crates() {
   local name part
-  mkdir -p "$1/crates" && cp "$top/HANDLES" "$1/" || return
+  mkdir -p "$1/crates" "$1/.git" && cp "$top/HANDLES" "$1/" || return
   for name in $(crates_of_program); do
     grep -E "^$name\\b" "$top/crates.txt" >>"$1/crates.txt"
     mkdir "$1/crates/$name" || return
@@ -102,6 +102,11 @@ at_work() {
   done 2>/dev/null | sort -u | tr '\n' ' '
 }
 
+# Prints the time since SECONDS was 0.
+clock() {
+  printf '%d:%02d' $((SECONDS / 60)) $((SECONDS % 60))
+}
+
 # Says how far a job has come until it ends or its log has a line: watch JOB LOG PATTERN COMMAND.., where the command prints how far. On a terminal
 # that is one line, written anew each time, else a line a minute.
 watch() {
@@ -109,7 +114,7 @@ watch() {
   shift 3
   width=$({ stty size <&2 || echo 0 80; } 2>/dev/null | cut -d ' ' -f 2)
   while kill -0 "$job" 2>/dev/null && ! grep -qE "$pattern" "$log"; do
-    text="play: $(printf '%d:%02d' $((SECONDS / 60)) $((SECONDS % 60))) $("$@")"
+    text="play: $(clock) $("$@")"
     if [ -t 2 ]; then
       printf '\r\033[K%s' "${text:0:$((width > 1 ? width - 1 : 79))}" >&2
     elif [ "$SECONDS" -ge "$next" ]; then
@@ -125,9 +130,9 @@ watch() {
 progress() {
   local job=$1 log=$2 all=$3 doing
   doing=$(at_work "$job")
-  echo "$(grep -cE "$is_done" "$log") of $all crates done${doing:+; at work: $doing}"
+  [ -n "$doing" ] || doing=$(sed -n '$s/^rt: \([a-z0-9_]*\): another run on this machine .*/\1, in another run on this machine/p' "$log")
+  echo "$(grep -cE '^rt: [a-z0-9_]+ (proved$|is kept: )' "$log") of $all crates done${doing:+; at work: $doing}"
 }
-is_done='^rt: [a-z0-9_]+ (proved$|is kept: )'
 
 # Prints the part of a log that tells of the first crate that isn't proved, or all where none does.
 failed_part() {
@@ -142,7 +147,7 @@ build() {
   estimate "${crates[@]}"
   SECONDS=0
   : >"$room/began"
-  mkdir "$copy" && copy_crates "$copy" || return
+  copy_crates "$copy" || return
   (cd "$copy" && TMPDIR=$room exec rt ci) >"$log" 2>&1 </dev/null &
   job=$!
   running+=("$job")
@@ -151,11 +156,13 @@ build() {
   wait "$job" 2>/dev/null
   if ! grep -qE '^rt: pdplay (proved$|is kept: )' "$log" || [ ! -x "$copy/crates/pdplay/out/pdplay" ]; then
     failed_part "$log" >&2
-    say "the build failed after $SECONDS seconds, as told above; nothing was run"
+    mkdir -p "${program%/*}" && cp "$log" "${program%/*}/build.log"
+    say "the build failed after $(clock) minutes, as told above, and nothing is played; its whole log is ${program%/*}/build.log"
     return 1
   fi
   # The program's time is that of the beginning, so that what was changed meanwhile is newer.
   mkdir -p "${program%/*}" && cp "$copy/crates/pdplay/out/pdplay" "$program.new" && touch -r "$room/began" "$program.new" &&
     mv -f "$program.new" "$program" || return
-  say "built in $SECONDS seconds"
+  remove "$copy"
+  say "built in $(clock) minutes"
 }
