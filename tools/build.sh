@@ -8,26 +8,39 @@
 # It uses $top, $program, $room, $running, say and stop of play.
 # shellcheck disable=SC2154
 
-# What a crate takes of a processor, in seconds: for itself, and for each thousand lines of its code; and its memory in MB.
-seconds_a_crate=10
-seconds_a_thousand_lines=60
-megabytes_a_crate=3500
+# What the proof of a crate takes of a processor: so many milliseconds for itself and for each line of its code, definitions and proofs; and so many MB
+# of memory. The times were measured of some crates on a busy machine (Intel Xeon, 2.5 GHz); the memory is the middle of what rt ci plans for.
+milliseconds_a_crate=8000
+milliseconds_a_line=45
+megabytes_a_crate=3750
+
+# Prints each crate of crates.txt with those that it stands on.
+dependencies() {
+  sed 's/#.*//; s/[:,]/ /g' "$top/crates.txt" | awk 'NF { $1 = $1; print }'
+}
 
 # Prints the crates that the program stands on, and its own, each behind those below it; with names, only these and the crates above them.
 crates_of_program() {
-  awk -v wanted=" $* " -v count=$# '
+  dependencies | awk -v wanted=" $* " -v count=$# '
     function visit(name,    words, i, n, is_wanted) {
       if (!(name in below)) return 0
       if (name in seen) return seen[name]
       is_wanted = !count || index(wanted, " " name " ")
-      n = split(below[name], words, /[ \t,]+/)
-      for (i = 1; i <= n; i++) if (visit(words[i])) is_wanted = 1
+      n = split(below[name], words)
+      for (i = 2; i <= n; i++) if (visit(words[i])) is_wanted = 1
       if (is_wanted) print name
       return seen[name] = is_wanted
     }
-    { sub(/#.*/, "") }
-    NF { split($0, half, ":"); split(half[1], head, " "); below[head[1]] = half[2] }
-    END { visit("pdplay") }' "$top/crates.txt"
+    { below[$1] = $0 }
+    END { visit("pdplay") }'
+}
+
+# Prints each of these crates with its lines.
+lines_of() {
+  local name
+  for name in "$@"; do
+    echo "$name $(find "$top/crates/$name" \( -path '*/src/*.rt' -o -path '*/specs/*.antt' -o -path '*/proofs/*.antt' \) -exec cat {} + | wc -l)"
+  done
 }
 
 # Whether a file that the proofs of these crates read has changed since the program's build began. The time is the one at which the system noted the
@@ -60,16 +73,30 @@ crates_to_prove() {
   crates_of_program ${changed[@]+"${changed[@]}"}
 }
 
-# Says how many crates are to be proved, and how long that takes on so many processors and so much memory.
+# Says how many crates are to be proved, and how long that takes here: their work by the processors and the memory that there are, a fifth more for
+# tests that come between, and no less than the longest chain of crates that wait for one another.
 estimate() {
-  local crates=("$@") lines jobs by_memory seconds
-  lines=$(for name in "${crates[@]}"; do find "$top/crates/$name/src" -name '*.rt' -exec cat {} +; done | wc -l)
-  by_memory=$(awk -v each="$megabytes_a_crate" '/^MemAvailable:/ { print int($2 / 1024 / each) }' /proc/meminfo 2>/dev/null)
+  local memory jobs minutes
   jobs=$(nproc)
-  [ "${by_memory:-$jobs}" -ge "$jobs" ] || jobs=$((by_memory > 0 ? by_memory : 1))
-  seconds=$(((seconds_a_crate * ${#crates[@]} + seconds_a_thousand_lines * lines / 1000) / jobs))
-  say "building pdplay: ${#crates[@]} of $(crates_of_program | wc -l) crates are to be proved, $lines lines, $jobs side by side"
-  say "allow $((seconds / 60 + 1)) to $((2 * seconds / 60 + 2)) minutes, less where they were proved on this machine before, and seconds from then on"
+  memory=$(awk -v each="$megabytes_a_crate" '/^MemAvailable:/ { print int(0.85 * $2 / 1024 / each) }' /proc/meminfo)
+  [ "${memory:-$jobs}" -ge "$jobs" ] || jobs=$((memory > 0 ? memory : 1))
+  minutes=$({ lines_of "$@" && echo && dependencies; } | awk -v crate="$milliseconds_a_crate" -v line="$milliseconds_a_line" -v jobs="$jobs" '
+    function chain(name,    words, i, n, most) {
+      if (name in chains) return chains[name]
+      n = split(below[name], words)
+      for (i = 2; i <= n; i++) if (chain(words[i]) > most) most = chain(words[i])
+      return chains[name] = most + times[name]
+    }
+    !NF { is_behind = 1; next }
+    is_behind { below[$1] = $0; next }
+    { times[$1] = crate + line * $2; all += times[$1] }
+    END {
+      least = chain("pdplay")
+      work = 1.2 * all / jobs
+      print int((work > least ? work : least) / 60000) + 1
+    }')
+  say "building pdplay: $# of its $(crates_of_program | wc -l) crates are to be proved, $jobs at a time"
+  say "allow $minutes minutes, twice that on a slow processor, and less where they were proved on this machine before; later calls take seconds"
 }
 
 # Stops where the toolchain isn't there.
