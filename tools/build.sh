@@ -9,9 +9,10 @@
 # shellcheck disable=SC2154
 
 # What the proof of a crate takes of a processor: so many milliseconds for itself and for each line of its code, definitions and proofs; and so many MB
-# of memory. The times were measured of some crates on a busy machine (Intel Xeon, 2.5 GHz); the memory is the middle of what rt ci plans for.
-milliseconds_a_crate=8000
-milliseconds_a_line=45
+# of memory. The times are fitted to those of 21 crates on an overloaded machine (Intel Xeon, 2.5 GHz), less a seventh for the overload; the memory is
+# the middle of what rt ci plans for.
+milliseconds_a_crate=15000
+milliseconds_a_line=55
 megabytes_a_crate=3750
 
 # Prints each crate of crates.txt with those that it stands on.
