@@ -8,26 +8,40 @@
 # It uses $top, $program, $room, $running, say and stop of play.
 # shellcheck disable=SC2154
 
-# What a crate takes of a processor, in seconds: for itself, and for each thousand lines of its code; and its memory in MB.
-seconds_a_crate=10
-seconds_a_thousand_lines=60
-megabytes_a_crate=3500
+# What the proof of a crate takes of a processor: so many milliseconds for itself and for each line of its code, definitions and proofs; and so many MB
+# of memory. The times are fitted to those of 21 crates on an overloaded machine (Intel Xeon, 2.5 GHz), less a seventh for the overload; the memory is
+# the middle of what rt ci plans for.
+milliseconds_a_crate=15000
+milliseconds_a_line=55
+megabytes_a_crate=3750
+
+# Prints each crate of crates.txt with those that it stands on.
+dependencies() {
+  sed 's/#.*//; s/[:,]/ /g' "$top/crates.txt" | awk 'NF { $1 = $1; print }'
+}
 
 # Prints the crates that the program stands on, and its own, each behind those below it; with names, only these and the crates above them.
 crates_of_program() {
-  awk -v wanted=" $* " -v count=$# '
+  dependencies | awk -v wanted=" $* " -v count=$# '
     function visit(name,    words, i, n, is_wanted) {
       if (!(name in below)) return 0
       if (name in seen) return seen[name]
       is_wanted = !count || index(wanted, " " name " ")
-      n = split(below[name], words, /[ \t,]+/)
-      for (i = 1; i <= n; i++) if (visit(words[i])) is_wanted = 1
+      n = split(below[name], words)
+      for (i = 2; i <= n; i++) if (visit(words[i])) is_wanted = 1
       if (is_wanted) print name
       return seen[name] = is_wanted
     }
-    { sub(/#.*/, "") }
-    NF { split($0, half, ":"); split(half[1], head, " "); below[head[1]] = half[2] }
-    END { visit("pdplay") }' "$top/crates.txt"
+    { below[$1] = $0 }
+    END { visit("pdplay") }'
+}
+
+# Prints each of these crates with its lines.
+lines_of() {
+  local name
+  for name in "$@"; do
+    echo "$name $(find "$top/crates/$name" \( -path '*/src/*.rt' -o -path '*/specs/*.antt' -o -path '*/proofs/*.antt' \) -exec cat {} + | wc -l)"
+  done
 }
 
 # Whether a file that the proofs of these crates read has changed since the program's build began. The time is the one at which the system noted the
@@ -60,16 +74,30 @@ crates_to_prove() {
   crates_of_program ${changed[@]+"${changed[@]}"}
 }
 
-# Says how many crates are to be proved, and how long that takes on so many processors and so much memory.
+# Says how many crates are to be proved, and how long that takes here: their work by the processors and the memory that there are, a fifth more for
+# tests that come between, and no less than the longest chain of crates that wait for one another.
 estimate() {
-  local crates=("$@") lines jobs by_memory seconds
-  lines=$(for name in "${crates[@]}"; do find "$top/crates/$name/src" -name '*.rt' -exec cat {} +; done | wc -l)
-  by_memory=$(awk -v each="$megabytes_a_crate" '/^MemAvailable:/ { print int($2 / 1024 / each) }' /proc/meminfo 2>/dev/null)
+  local memory jobs minutes
   jobs=$(nproc)
-  [ "${by_memory:-$jobs}" -ge "$jobs" ] || jobs=$((by_memory > 0 ? by_memory : 1))
-  seconds=$(((seconds_a_crate * ${#crates[@]} + seconds_a_thousand_lines * lines / 1000) / jobs))
-  say "building pdplay: ${#crates[@]} of $(crates_of_program | wc -l) crates are to be proved, $lines lines, $jobs side by side"
-  say "allow $((seconds / 60 + 1)) to $((2 * seconds / 60 + 2)) minutes, less where they were proved on this machine before, and seconds from then on"
+  memory=$(awk -v each="$megabytes_a_crate" '/^MemAvailable:/ { print int(0.85 * $2 / 1024 / each) }' /proc/meminfo)
+  [ "${memory:-$jobs}" -ge "$jobs" ] || jobs=$((memory > 0 ? memory : 1))
+  minutes=$({ lines_of "$@" && echo && dependencies; } | awk -v crate="$milliseconds_a_crate" -v line="$milliseconds_a_line" -v jobs="$jobs" '
+    function chain(name,    words, i, n, most) {
+      if (name in chains) return chains[name]
+      n = split(below[name], words)
+      for (i = 2; i <= n; i++) if (chain(words[i]) > most) most = chain(words[i])
+      return chains[name] = most + times[name]
+    }
+    !NF { is_behind = 1; next }
+    is_behind { below[$1] = $0; next }
+    { times[$1] = crate + line * $2; all += times[$1] }
+    END {
+      least = chain("pdplay")
+      work = 1.2 * all / jobs
+      print int((work > least ? work : least) / 60000) + 1
+    }')
+  say "building pdplay: $# of its $(crates_of_program | wc -l) crates are to be proved, $jobs at a time"
+  say "allow $minutes minutes, twice that on a slow processor, and less where they were proved on this machine before; later calls take seconds"
 }
 
 # Stops where the toolchain isn't there.
@@ -78,10 +106,10 @@ need_rt() {
     stop 2 "there is no command rt on this machine, the Rattle toolchain that proves and builds pdplay; README.md, 'What is needed', tells where it comes from"
 }
 
-# Copies the crates that the program stands on to a folder, a repository of their own.
+# Copies the crates that the program stands on to a new folder, a repository of their own.
 copy_crates() {
   local name part
-  mkdir -p "$1/crates" && cp "$top/HANDLES" "$1/" || return
+  mkdir -p "$1/crates" "$1/.git" && cp "$top/HANDLES" "$1/" || return
   for name in $(crates_of_program); do
     grep -E "^$name\\b" "$top/crates.txt" >>"$1/crates.txt"
     mkdir "$1/crates/$name" || return
@@ -102,6 +130,11 @@ at_work() {
   done 2>/dev/null | sort -u | tr '\n' ' '
 }
 
+# Prints the time since SECONDS was 0.
+clock() {
+  printf '%d:%02d' $((SECONDS / 60)) $((SECONDS % 60))
+}
+
 # Says how far a job has come until it ends or its log has a line: watch JOB LOG PATTERN COMMAND.., where the command prints how far. On a terminal
 # that is one line, written anew each time, else a line a minute.
 watch() {
@@ -109,7 +142,7 @@ watch() {
   shift 3
   width=$({ stty size <&2 || echo 0 80; } 2>/dev/null | cut -d ' ' -f 2)
   while kill -0 "$job" 2>/dev/null && ! grep -qE "$pattern" "$log"; do
-    text="play: $(printf '%d:%02d' $((SECONDS / 60)) $((SECONDS % 60))) $("$@")"
+    text="play: $(clock) $("$@")"
     if [ -t 2 ]; then
       printf '\r\033[K%s' "${text:0:$((width > 1 ? width - 1 : 79))}" >&2
     elif [ "$SECONDS" -ge "$next" ]; then
@@ -125,9 +158,9 @@ watch() {
 progress() {
   local job=$1 log=$2 all=$3 doing
   doing=$(at_work "$job")
-  echo "$(grep -cE "$is_done" "$log") of $all crates done${doing:+; at work: $doing}"
+  [ -n "$doing" ] || doing=$(sed -n '$s/^rt: \([a-z0-9_]*\): another run on this machine .*/\1, in another run on this machine/p' "$log")
+  echo "$(grep -cE '^rt: [a-z0-9_]+ (proved$|is kept: )' "$log") of $all crates done${doing:+; at work: $doing}"
 }
-is_done='^rt: [a-z0-9_]+ (proved$|is kept: )'
 
 # Prints the part of a log that tells of the first crate that isn't proved, or all where none does.
 failed_part() {
@@ -142,7 +175,7 @@ build() {
   estimate "${crates[@]}"
   SECONDS=0
   : >"$room/began"
-  mkdir "$copy" && copy_crates "$copy" || return
+  copy_crates "$copy" || return
   (cd "$copy" && TMPDIR=$room exec rt ci) >"$log" 2>&1 </dev/null &
   job=$!
   running+=("$job")
@@ -151,11 +184,13 @@ build() {
   wait "$job" 2>/dev/null
   if ! grep -qE '^rt: pdplay (proved$|is kept: )' "$log" || [ ! -x "$copy/crates/pdplay/out/pdplay" ]; then
     failed_part "$log" >&2
-    say "the build failed after $SECONDS seconds, as told above; nothing was run"
+    mkdir -p "${program%/*}" && cp "$log" "${program%/*}/build.log"
+    say "the build failed after $(clock) minutes, as told above, and nothing is played; its whole log is ${program%/*}/build.log"
     return 1
   fi
   # The program's time is that of the beginning, so that what was changed meanwhile is newer.
   mkdir -p "${program%/*}" && cp "$copy/crates/pdplay/out/pdplay" "$program.new" && touch -r "$room/began" "$program.new" &&
     mv -f "$program.new" "$program" || return
-  say "built in $SECONDS seconds"
+  remove "$copy"
+  say "built in $(clock) minutes"
 }

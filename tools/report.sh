@@ -51,6 +51,7 @@ explain() {
     9) why="there was too little memory" ;;
     10) why="a word can't be had, as one that isn't UTF-8" ;;
     11) why="out.pcm can't be made in $folder" ;;
+    126 | 127) why="the program can't be started" ;;
     *) why="the program was ended by signal $(($1 - 128))" ;;
   esac
   say "code $1: $why"
