@@ -3,7 +3,7 @@
 //!
 //! A table is the list of its distinct names, from six that it begins with. `Symbols::intern` finds a name or adds
 //! it last, TooLong exactly above 255 bytes, Full exactly at 65,536 names and a new one; a refusal changes nothing,
-//! and `cut_back` forgets the names from a number on. `read_token`, `write_atom`, `settle` and `expand` are their
+//! `find` tells the symbol of a name that the table has, and `cut_back` forgets the names from a number on. `read_token`, `write_atom`, `settle` and `expand` are their
 //! definitions: what a token reads as, an atom's spelling, what reading that spelling gives, and an atom with its
 //! dollars replaced.
 //!

@@ -7,12 +7,15 @@
 //! outlet's fan-out, a deleted box takes its wires along and higher numbers go down; after want of memory the
 //! document is as before. `can_apply` tells exactly whether an edit can be done.
 //!
+//! `plain_turn` makes one `Change` of a canvas at a path: an element put in at a number, taken out or exchanged, or
+//! the wires exchanged. An edit will be taken back by a list of such turns.
+//!
 //! Laws: in sorted wires a new wire goes last in its outlet's fan-out and every other outlet keeps its own
 //! (`fan_outs`); an edit keeps a proper document proper where what it brings is ready and the limits hold
 //! (`edits_keep_proper`). No layer above makes these edits yet; `pd_doc`, `pd_script` and `pd_play` stand on the
 //! types. Free: want of memory.
 //!
-//! Definitions: `Pages` (a canvas as a value), `Views`, `Paths`, `Wiring`, `Edits`, `Proper`; `Arrays`, `Codes` and
+//! Definitions: `Pages` (a canvas as a value), `Views`, `Paths`, `Wiring`, `Edits`, `Turns`, `Proper`; `Arrays`, `Codes` and
 //! `Falls` help these.
 #![tactic(auto)]
 

@@ -2,7 +2,8 @@
 //! refused before anything is planted.
 //!
 //! `has_too_many_wires` tells exactly whether more than 65,536 do. It goes over the list once, from the last box to
-//! the first. Free: want of memory.
+//! the first. `wires_in` gives how many wires fit of the canvases that grown boxes hold, and 65,537 where there are
+//! more. Free: want of memory.
 //!
 //! Definitions: `Fitting` (how many wires of a tree fit), `Seeing`, `Stacking`.
 #![tactic(auto)]

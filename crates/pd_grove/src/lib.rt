@@ -12,10 +12,15 @@
 //! inside it, and `spots` besides whether each is in the patch's own document. `take_state` and `put_state` change
 //! one box's state and nothing else.
 //!
+//! Laws for edits: where each box and canvas is sound by itself (`IsForest`), the keys tell one tree, and that tree
+//! stands (`forests_stand`); with a box more, less or changed in one canvas, or with other wires there, the keys
+//! are a forest again and their tree is the former one with this canvas changed (`forests_change`, `prunes`).
+//!
 //! Free: want of memory.
 //!
 //! Definitions: `Standing` (a tree stands under keys), `Owning`, `States` (first states), `Ports`, `Places` and
-//! `Telling` (what is told), `TextOrder`, `Planting`, `Lending`.
+//! `Telling` (what is told), `TextOrder`, `Planting`, `Lending`, `Forest` and `Grafts` (boxes sound by themselves,
+//! and what changes of one canvas are).
 #![tactic(auto)]
 
 mod boards;

@@ -6,6 +6,9 @@
 //! asked for, with the names that came before. Every kind that it gives is small, every text of the table. Wires
 //! are kept as the document has them; which of them fit is a function of the tree (`pd_tree`).
 //!
+//! `grow_box` grows one box by itself: exactly what the walk makes of this element under what is around it, from
+//! these names, numbers and room, with what is left of them. An edit that brings a box will stand on it.
+//!
 //! Laws: a proper document can grow (`proper_suits`), also in a longer table (`suits_extended`), and so can known
 //! files (`files_suit`). What else is true of growth stands in `pd_regrowth_law`. Free: want of memory.
 //!

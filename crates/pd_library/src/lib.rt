@@ -4,7 +4,10 @@
 //! `publish` makes a document what is found under a name, and `cut_back` forgets all names but the first ones.
 //! Nothing above calls `publish` yet. All else stays, and after want of memory all is as before.
 //!
-//! Definitions: `Files`; `Codes` helps.
+//! `Drafts` are documents under names, apart from the files: `draft` finds one, `put_draft` puts one in place of the
+//! former, `end_draft` takes one out; all others stay in their order. Nothing above has drafts yet.
+//!
+//! Definitions: `Files`, `Drafts`; `Codes` helps.
 #![tactic(auto)]
 
 mod answers;

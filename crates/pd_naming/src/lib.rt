@@ -2,7 +2,8 @@
 //!
 //! `kind_of` gives exactly what the text names, with the defaults of the arguments that are missing, and a kind
 //! without a list of more than 1,024 items. `number_at` is the number at a place of a list of atoms, or the
-//! default. Free: want of memory.
+//! default; `argument_name_at` is the symbol at a place once commas and semicolons are left out. Free: want of
+//! memory.
 //!
 //! The words are looked up one row at a time: control objects, lists, panel objects, signal objects, each in a file
 //! of its own.

@@ -6,16 +6,17 @@
 //! added or cut, `mend_add` and `mend_cut` give from the lists of the old graph exactly those of the new one, in at
 //! most `4*(w+e) + 4*d + 8` looks: w places from the first to the last difference of the two chains, e wire ends at
 //! the boxes there and at those they feed, d at the fed box. `insert_alone` and `remove_alone` do so for a box
-//! without wires. The graph is a trait, `SignalGraph`, whose calls are counted by `Steps`. After `reserve` nothing
-//! can fail.
+//! without wires, and `append_alone` for one of the highest rank, which stands last and takes no look. The graph is
+//! a trait, `SignalGraph`, whose calls are counted by `Steps`. After `reserve`, or `reserve_more` for boxes that
+//! come one at a time, nothing can fail.
 //!
 //! Laws: a graph has one order (`one_order`), and graphs that are alike have alike orders (`same_order`). The folds
 //! of two graphs that differ by one wire agree up to the first place at which one picks the fed box and the other
 //! doesn't, and again from where both have listed the same boxes (`folds_meet`).
 //!
 //! Only tested: that a second count of the looks stays within the bound, that a cut takes no look where a box of
-//! higher rank stands between its source and the fed box, and that a cut and an add that move a box take as many
-//! looks beside ten other wires into it as beside two.
+//! higher rank stands between its source and the fed box, within 64 places before that one, and that a cut and an
+//! add that move a box take as many looks beside ten other wires into it as beside two.
 //!
 //! Definitions: `Graph` (the order), `Window` (what a change touches), `Laws`; the others are of the lists inside.
 #![tactic(auto)]
