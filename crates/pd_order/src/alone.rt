@@ -131,9 +131,9 @@ pub fn append_over<L: Ledger, G: SignalGraph<L>>(
     ensures chain_capacity { vec_capacity chain.new ≡ vec_capacity chain.old }
     ensures spots_capacity { vec_capacity spots.new ≡ vec_capacity spots.old }
 {
-    let at = chain.len();
+    let last = chain.len();
     chain.push_reserved(node);
-    add_spot(spots, node, at as u32);
+    add_spot(spots, node, last as u32);
 }
 
 // A node of the chain that has no wires leaves it.

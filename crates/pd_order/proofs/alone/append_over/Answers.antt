@@ -19,15 +19,15 @@ push_reserved-requires g c =
     let r = c.requires.chain_room in
     let ok = c.args.chain.now.ok in omega arith
 
-pub overflow_cast-at : goal.overflow_cast-at
-overflow_cast-at g c =
+pub overflow_cast-last : goal.overflow_cast-last
+overflow_cast-last g c =
     let G : Graph = g.G.SignalGraph.meaning c.args.graph.now in
     let C : List ℕ = c.args.chain.now.items in
     let ss : List Spot = c.args.spots.now.items in
     let short : length C ≤ length (nodes_of ss) = chain_short G (nodes_of ss) C c.requires.order.listed in
     let ln : length (nodes_of ss) ≡ length ss = length-nodes ss in
     let few = c.requires.few in
-    let at = c.len-at.ensures in
+    let at = c.len-last.ensures in
     let ok = c.args.chain.now.ok in omega arith
 
 pub returns-clause-order : goal.returns-clause-order
@@ -45,7 +45,7 @@ returns-clause-listed g c =
     let ss : List Spot = c.args.spots.now.items in
     let us : List Spot = c.add_spot.new.spots.items in
     let few : length us < nowhere = (let a = c.add_spot.ensures.len in let b = c.requires.few in let ok = c.args.spots.now.ok in let ok2 = c.add_spot.new.spots.ok in omega arith) in
-    let at : c.len-at.result ≡ length C = (let ok = c.args.chain.now.ok in c.len-at.ensures ∙ ok.0) in
+    let at : c.len-last.result ≡ length C = (let ok = c.args.chain.now.ok in c.len-last.ensures ∙ ok.0) in
     subst (λ (l : List ℕ). IsListed l c.args.stuck.now us) (sym c.push_reserved.ensures.items)
     (appended_listed C c.args.stuck.now ss us c.args.node c.requires.listed (chain_once G (nodes_of ss) C c.requires.order.listed) c.add_spot.ensures.by_node c.add_spot.ensures.nodes
     (λ x. c.add_spot.ensures.mark x ∙ c.requires.listed.unmarked x) few (λ x. subst (λ (k : ℕ). place_in us x ≡ put (place_in ss) c.args.node k x) at (c.add_spot.ensures.place x)))
