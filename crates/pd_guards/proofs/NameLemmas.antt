@@ -1,5 +1,5 @@
 -- Atoms that are expanded, and atoms that are settled.
-use Rattle.std.proofs.Common.{◌≡◌, ℕ, pos, zero, suc, ◌*◌, nat_lt, List, [], ◌∷◌, ◌++◌, length, position, bytes_eq, Option, Some, None, IfSome, option_map, Result, Ok, Err, IfOk, refl, sym, ap, subst, ◌∙◌, arith, append-nil, length-append}
+use Rattle.std.proofs.Common.{◌≡◌, ℕ, pos, zero, suc, ◌*◌, min, nat_lt, List, [], ◌∷◌, ◌++◌, length, position, bytes_eq, Option, Some, None, IfSome, option_map, Result, Ok, Err, IfOk, refl, sym, ap, subst, ◌∙◌, arith, append-nil, length-append}
 use Rattle.pd_num.specs.Reading.{number_at}
 use Rattle.pd_atom.specs.Names.{Names, Extends, Outcome, longest, most, name_of, given, refused, placed, interned, answer_map}
 use Rattle.pd_atom.specs.Atoms.{IsOf, HoldsNumber, spelled}
@@ -14,6 +14,7 @@ use Rattle.pd_atom.proofs.NameLemmas.{position_low, absent_at}
 use Rattle.pd_atom.proofs.TokenLemmas.{by_option, nameless_is, atom_read_some, atom_read_none, number_range, dollar_small, settled_from, number_settled, dollar_settled, comma_settled, semi_settled, of_named, of_any}
 use Rattle.pd_guards.specs.Order.{IsNumber, IsName, IsAtom, AreAtoms}
 use Rattle.pd_guards.proofs.FactLemmas.{either, all-at}
+use Rattle.pd_guards.proofs.NumberLemmas.{near_pos}
 use Rattle.pd_guards.proofs.BaseLemmas.{no_number}
 
 pub same_table : (names : Names) → Extends names names
@@ -48,7 +49,7 @@ pub record IsExpanded (names : Names) (o : Outcome Expanded) : Type 0 where
   pub answer : IfOk o.answer (λ e. IsAtom o.names e.atom)
 
 argument_in : (names : Names) (own : ℕ) (args : List Atom) (n : ℕ) → IsNumber (pos (own * 1000000)) → AreAtoms names args → IfSome (argument own args n) (IsAtom names)
-argument_in names own args zero o h = (tt, o)
+argument_in names own args zero o h = (tt, near_pos (min own 1000000000 * 1000000) (omega arith))
 argument_in names own args (suc k) o h = all-at (IsAtom names) args k h
 
 dollar_in : (names : Names) (n : ℕ) (o : Option Atom) → IfSome o (IsAtom names) → IsAtom names (dollar_expanded n o).atom
