@@ -126,7 +126,7 @@ copy_crates() {
 at_work() {
   local process
   cat "/proc/$1/task"/*/children 2>/dev/null | while read -rd ' ' process; do
-    tr '\0' ' ' <"/proc/$process/cmdline" | sed -n 's/.* --crate-name \([a-z0-9_]*\).*/\1/p'
+    { tr '\0' ' ' <"/proc/$process/cmdline"; echo; } | sed -n 's/.* --crate-name \([a-z0-9_]*\).*/\1/p'
   done 2>/dev/null | sort -u | tr '\n' ' '
 }
 
