@@ -84,7 +84,7 @@ cases_side Inlets Outlets = inr (λ h. cc h)
 cases_side Outlets Inlets = inr (λ h. cc h)
 cases_side Outlets Outlets = inl refl
 
-cases_spot : (s t : Spot) → (s ≡ t) ⊎ (s ≡ t → ⊥)
+pub cases_spot : (s t : Spot) → (s ≡ t) ⊎ (s ≡ t → ⊥)
 cases_spot s t = elim (cases_eq s.node t.node) [
   | inr a ↦ inr (λ h. a (ap (λ (x : Spot). x.node) h))
   | inl a ↦ elim (cases_side s.side t.side) [

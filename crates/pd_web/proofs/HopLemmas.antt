@@ -15,12 +15,12 @@ pub pair_at : (o : Option (ℕ × ℕ)) → IsSome o → (s : ℕ) × (t : ℕ) 
 pair_at None h = absurd (cc)
 pair_at (Some p) h = (p.0, p.1, refl)
 
-fan_listed : (b : Book) (e i k : ℕ) → IsLinked b → slice_get (fan_of b e) i ≡ Some k → (t : ℕ) × (wire_at b k ≡ Some (e, t))
+pub fan_listed : (b : Book) (e i k : ℕ) → IsLinked b → slice_get (fan_of b e) i ≡ Some k → (t : ℕ) × (wire_at b k ≡ Some (e, t))
 fan_listed b e i k linked h =
     let w = linked.fan_wires e i (slice_get_within (fan_of b e) i k h) in
     (w.0, ap (wire_at b) (sym (get_or_from_slice_get (fan_of b e) i k e h)) ∙ w.1)
 
-feed_listed : (b : Book) (e i k : ℕ) → IsLinked b → slice_get (feeds_of b e) i ≡ Some k → (s : ℕ) × (wire_at b k ≡ Some (s, e))
+pub feed_listed : (b : Book) (e i k : ℕ) → IsLinked b → slice_get (feeds_of b e) i ≡ Some k → (s : ℕ) × (wire_at b k ≡ Some (s, e))
 feed_listed b e i k linked h =
     let w = linked.feed_wires e i (slice_get_within (feeds_of b e) i k h) in
     (w.0, ap (wire_at b) (sym (get_or_from_slice_get (feeds_of b e) i k e h)) ∙ w.1)

@@ -3,6 +3,9 @@ mod SocketLemmas
 mod EndLemmas
 mod WireLemmas
 mod HopLemmas
+mod BehindLemmas
+mod ChangeLemmas
+mod RoomLemmas
 mod LineLemmas
 mod FanLemmas
 mod HomeLemmas

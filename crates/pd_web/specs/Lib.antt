@@ -1,7 +1,9 @@
 pub mod Jacks
 pub mod Sockets
+pub mod Spares
 pub mod Wiring
 pub mod Lines
 pub mod Homes
 pub mod Hops
 pub mod Canvases
+pub mod Changes

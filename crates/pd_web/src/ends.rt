@@ -67,7 +67,7 @@ fn put_spot(spots: &mut Vec<Spot>, number: usize, spot: Spot) -> Result<(), Allo
 }
 
 /// Writes which end a port has.
-fn put_end(sockets: &mut [Sockets], spot: Spot, end: u32)
+pub(crate) fn put_end(sockets: &mut [Sockets], spot: Spot, end: u32)
     requires { IsThere sockets.old spot }
     ensures { Gives sockets.old sockets.new spot end }
 {

@@ -70,7 +70,7 @@ impl Web {
         Some(hop.key())
     }
 
-    fn has_wire(&self, hop: Hop) -> bool
+    pub(crate) fn has_wire(&self, hop: Hop) -> bool
         ensures { result ≡ is_some (wire_at self.now.book hop.key) }
     {
         self.book.has_wire(hop.key())
@@ -92,7 +92,7 @@ impl Web {
         self.book.feed_next(hop.key())
     }
 
-    fn end_under(&self, side: Side, node: u32, port: u32) -> Option<End>
+    pub(crate) fn end_under(&self, side: Side, node: u32, port: u32) -> Option<End>
         ensures { result ≡ end_of_port self.now.sockets.items side node port }
     {
         end_at(self.sockets.as_slice(), Spot { node, side, port })
@@ -108,7 +108,7 @@ impl Web {
         }
     }
 
-    fn back(&self, key: Option<WireKey>) -> Option<Hop>
+    pub(crate) fn back(&self, key: Option<WireKey>) -> Option<Hop>
         requires { (k : ℕ) → key ≡ Some k → IsWire self.now.book k }
         ensures { result ≡ option_map (hop_back self.now) key }
     {
@@ -119,7 +119,7 @@ impl Web {
     }
 
     /// A wire, and the inlet to which it leads.
-    fn hop_to(&self, key: WireKey) -> Hop
+    pub(crate) fn hop_to(&self, key: WireKey) -> Hop
         requires { IsWire self.now.book key }
         ensures { result ≡ hop_ahead self.now key }
     {
@@ -133,7 +133,7 @@ impl Web {
     }
 
     /// A wire, and the outlet from which it comes.
-    fn hop_from(&self, key: WireKey) -> Hop
+    pub(crate) fn hop_from(&self, key: WireKey) -> Hop
         requires { IsWire self.now.book key }
         ensures { result ≡ hop_back self.now key }
     {

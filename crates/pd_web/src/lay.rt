@@ -59,6 +59,7 @@ impl Web {
     {
         let mut sockets = lay_sockets(alloc, grove)?;
         let homes = lay_homes(alloc, sockets.as_slice())?;
+        let spare = Vec::new(alloc);
         let mut spots = Vec::new(alloc);
         let mut book = WireBook::new(alloc)?;
         lay_wires(
@@ -73,6 +74,7 @@ impl Web {
             spots,
             homes,
             book,
+            spare,
         })
     }
 }

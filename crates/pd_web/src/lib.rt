@@ -7,14 +7,20 @@
 //! an inlet likewise; there are at most 65,536, and `TooManyWires` comes only where more fit. `fan_first`,
 //! `fan_next`, `feed_first` and `feed_next` walk these lists without a search.
 //!
+//! `reserve` sets room aside, and leaves every port and wire as it was whatever it answers. `join` and `rejoin` then
+//! put one wire more at its place in both of its lists, and `cut` takes one away: every other wire, list and port
+//! stays (`Joins`, `CutsWire`), no memory is taken, and no list is walked. `line_at` tells whether a key is a wire's.
+//!
 //! Laws: `canvases_wire_their_own_boxes` and `standing_canvases_are_trimmed` lead from keys to the tree's own
 //! wires. Free: want of memory.
 //!
-//! Definitions: `Hops` (ports and wires as they are told), `Canvases`, `Homes`, `Sockets`; `Jacks`, `Lines` and
-//! `Wiring` help.
+//! Definitions: `Hops` (ports and wires as they are told), `Changes` (one wire more or less, and room), `Canvases`,
+//! `Homes`, `Sockets`; `Spares`, `Jacks`, `Lines` and `Wiring` help.
 #![tactic(auto)]
 
+mod behind;
 mod calls;
+mod changes;
 mod ends;
 mod homes;
 mod hops;
@@ -23,6 +29,7 @@ mod joints;
 mod laws;
 mod lay;
 mod lines;
+mod room;
 mod sockets;
 mod web;
 mod wires;
@@ -31,5 +38,6 @@ pub use jacks::Jack;
 pub use joints::Joint;
 pub use laws::{canvases_wire_their_own_boxes, standing_canvases_are_trimmed};
 pub use lay::{MOST_WIRES, Unlaid};
+pub use lines::Line;
 pub use sockets::{Port, Sockets, Spot};
 pub use web::{Hop, Web};

@@ -11,17 +11,17 @@ use pd_canvas::Wire;
 use pd_grove::Side;
 
 /// A wire by the keys of its boxes and the numbers of its ports.
-#[derive(Clone, Copy, Debug)]
-pub(crate) struct Line {
-    pub(crate) source: u32,
-    pub(crate) outlet: u32,
-    pub(crate) sink: u32,
-    pub(crate) inlet: u32,
+#[derive(Clone, Copy, Debug, PartialEq, Eq)]
+pub struct Line {
+    pub source: u32,
+    pub outlet: u32,
+    pub sink: u32,
+    pub inlet: u32,
 }
 
 impl Line {
     /// The outlet from which it comes.
-    pub(crate) fn from(self) -> Spot
+    pub fn from(self) -> Spot
         ensures { result ≡ line_from self }
     {
         Spot {
@@ -32,7 +32,7 @@ impl Line {
     }
 
     /// The inlet to which it leads.
-    pub(crate) fn to(self) -> Spot
+    pub fn to(self) -> Spot
         ensures { result ≡ line_to self }
     {
         Spot {

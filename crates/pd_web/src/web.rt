@@ -2,6 +2,7 @@
 
 ghost use Rattle.std.specs.Prelude.{◌≡◌};
 ghost use Rattle.pd_web.specs.Sockets.{AreFew, AreTied};
+ghost use Rattle.pd_web.specs.Spares.{AreFree};
 
 use crate::sockets::{Sockets, Spot};
 use pd_wire::{WireBook, WireKey};
@@ -13,8 +14,11 @@ pub struct Web {
     pub(crate) spots: Vec<Spot>,
     pub(crate) homes: Vec<Option<Spot>>,
     pub(crate) book: WireBook,
+    /// Ends set aside for ports that get their first wire.
+    pub(crate) spare: Vec<u32>,
     ghost few: { AreFew sockets.items },
     ghost tied: { AreTied sockets.items spots.items book },
+    ghost free: { AreFree sockets.items book spare.items },
 }
 
 /// A wire, by its key's number, and the box and the port at its other end.

@@ -8,6 +8,7 @@ use Rattle.pd_wire.specs.Book.{Book}
 use Rattle.pd_grove.specs.declared.ports.Side.{Side}
 use Rattle.pd_grove.specs.declared.ports.Side.TheVariants.{Inlets, Outlets}
 use Rattle.pd_web.specs.declared.sockets.Sockets.{Sockets}
+use Rattle.pd_web.specs.Spares.{AreFree}
 use Rattle.pd_web.specs.Sockets.{AreFew, AreTied, IsBare, ports_at, end_under, made_at, jacks_of}
 use Rattle.pd_web.specs.Wiring.{source_at, sink_at}
 use Rattle.pd_web.specs.Jacks.{jacks_at, made_in}
@@ -17,6 +18,7 @@ use Rattle.pd_web.specs.Hops.{hop_by, fan_under, feeds_under, places_of}
 use Rattle.pd_web.proofs.SocketLemmas.{jacks_laid, tied_laid, none_bare, few_kept}
 use Rattle.pd_web.proofs.LineLemmas.{seen_laid}
 use Rattle.pd_web.proofs.FanLemmas.{fans_are, feeds_are, none_laid}
+use Rattle.pd_web.proofs.ChangeLemmas.{none_free}
 use Rattle.pd_web.proofs.HomeLemmas.{all_near, homes_told, homes_found}
 use Rattle.pd_web.proofs.web.Web.lay.Goals as goal
 
@@ -58,6 +60,7 @@ invariant_of-result c =
     record {
       few = subst P (sym at) (few_kept c.as_mut_slice.result.now new c.in_ok-lay_wires.ensures.keeps (subst P (sym c.as_mut_slice.ensures.value) c.in_ok-sockets.ensures.few));
       tied = subst Q (sym at) c.in_ok-lay_wires.ensures.tied;
+      free = let R : List ℕ → Type 0 = λ xs. AreFree (with_items c.in_ok-sockets.sockets new).items c.lay_wires.new.book xs in subst R (sym c.new-spare.ensures.items) (none_free _ _);
     }
 
 pub returns-clause-ports : goal.returns-clause-ports
