@@ -6,13 +6,10 @@ pub mod Freshness
 pub mod TextOrders
 pub mod OwnLemmas
 pub mod PlaceLemmas
+pub mod SubLemmas
 pub mod SpotLemmas
 pub mod ForestLemmas
 pub mod NestLemmas
 pub mod GraftLemmas
-pub mod MoreLemmas
-pub mod PruneLemmas
-pub mod LessLemmas
 pub mod OpenLemmas
-pub mod AllLemmas
-pub mod PartLemmas
+pub mod PruningLemmas

@@ -1,5 +1,5 @@
 -- What changes inside one canvas changes the tree at that place.
-use Rattle.std.proofs.Common.{◌≡◌, ◌≢◌, ℕ, zero, suc, ◌+◌, List, [], ◌∷◌, Option, Some, None, IsSome, refl, sym, ap, ◌∙◌, subst, arith}
+use Rattle.std.proofs.Common.{◌≡◌, ◌≢◌, ℕ, zero, suc, ◌+◌, ◌<◌, List, [], ◌∷◌, Option, Some, None, IsSome, refl, sym, ap, ◌∙◌, subst, arith}
 use Rattle.std.specs.Prelude.{option_and_then, slice_get}
 use Rattle.std.proofs.lemmas.Option.{none-some, same_Some}
 use Rattle.pd_tree.specs.declared.rows.Sheet.{Sheet}
@@ -10,6 +10,7 @@ use Rattle.pd_grove.specs.Standing.{node_seen, depth_of}
 use Rattle.pd_grove.specs.Telling.{inner_in, keys_in}
 use Rattle.pd_grove.specs.Owning.{board_in}
 use Rattle.pd_grove.specs.Forest.{holder_in, IsForest, box_before, box_by, boxes_by, canvas_by, told, Nest, Alone, Inside, nested, around, out_of, LiesIn, StaysAround, HasOther}
+use Rattle.pd_grove.specs.Grafts.{LiesInBox}
 use Rattle.pd_grove.proofs.ForestLemmas.{told_zero, told_suc, held_there}
 
 -- the canvas around the one in a box is that of the box
@@ -279,3 +280,10 @@ canvas_changes nodes nodes' boards boards' root F (suc d) n c u u' b S is depth 
         let z : d + suc n ≡ suc d + n = omega arith in
         further_out B.0.sheet O.before O.cell O.behind (told nodes boards (suc d + n) root) (told nodes' boards' (suc d + n) root) u u'
         (subst (λ m. HasOther (told nodes boards m root) (told nodes' boards' m root) (with u) (with u')) z H)
+
+-- what lies in a box is deeper than the box's canvas
+pub box_deep : (nodes : ℕ → Option Node) (boards : ℕ → Option Board) (root k c x : ℕ) → IsForest nodes boards root → board_in (nodes k) ≡ Some c → LiesInBox nodes boards k x → depth_of (boards c) < depth_of (boards x)
+box_deep nodes boards root k c x F lies L =
+    let p = F.deeper k c L.0 lies L.1 in
+    let q = lies_deep nodes boards root F L.2.0 x L.0 L.2.1 in
+    omega (arith, p, q)

@@ -9,3 +9,5 @@ pub mod Places
 pub mod Lending
 pub mod Forest
 pub mod Grafts
+pub mod Pruning
+pub mod OwnPaths

@@ -1,8 +1,10 @@
 //! A running canvas under its key.
 
-ghost use Rattle.std.specs.Prelude.{◌≡◌, ◌≢◌, ◌+◌, ◌<◌, ◌≤◌, ◌^◌, ◌++◌, ◌∷◌, [], ℕ, vec_len, vec_capacity, Some, None};
+ghost use Rattle.std.specs.Prelude.{◌≡◌, ◌≢◌, ◌+◌, ◌<◌, ◌≤◌, ◌^◌, ◌++◌, ◌∷◌, [], ℕ, vec_len, vec_capacity, length, take, drop, slice_get, Some, None};
 ghost use Rattle.slab.specs.Slab.{get, ContainsKey, HasRoomFor, slab_len};
 ghost use Rattle.pd_grove.specs.Standing.{Gains, board_room};
+ghost use Rattle.pd_grove.specs.Telling.{keys_in};
+ghost use Rattle.pd_grove.specs.Grafts.{HasOtherKeys};
 
 use pd_tree::Sheet;
 use slab::Slab;
@@ -27,6 +29,20 @@ pub(crate) fn put_last(boards: &mut Slab<Board>, board: u32, node: u32)
 {
     let board = &mut boards[board as usize];
     board.nodes.push_reserved(node);
+}
+
+/// Takes the box of a number out of a canvas's list, and gives its key.
+pub(crate) fn take_key(boards: &mut Slab<Board>, board: u32, number: u32) -> u32
+    requires { number < length (keys_in (get boards.old board)) }
+    ensures key { slice_get (keys_in (get boards.old board)) number ≡ Some result }
+    ensures keys { let keys = keys_in (get boards.old board) in
+        HasOtherKeys (get boards.old) (get boards.new) board (take number keys ++ result ∷ drop (number + 1) keys) (take number keys ++ drop (number + 1) keys) }
+    ensures room { board_room (get boards.new board) ≡ board_room (get boards.old board) + 1 }
+    ensures len { slab_len boards.new ≡ slab_len boards.old }
+    ensures capacity { boards.new.capacity ≡ boards.old.capacity }
+{
+    let board = &mut boards[board as usize];
+    board.nodes.remove(number as usize)
 }
 
 /// Opens a canvas without boxes, held by the box of a key.

@@ -12,15 +12,15 @@
 //! inside it, and `spots` besides whether each is in the patch's own document. `take_state` and `put_state` change
 //! one box's state and nothing else.
 //!
-//! Laws for edits: where each box and canvas is sound by itself (`IsForest`), the keys tell one tree, and that tree
-//! stands (`forests_stand`); with a box more, less or changed in one canvas, or with other wires there, the keys
-//! are a forest again and their tree is the former one with this canvas changed (`forests_change`, `prunes`).
+//! `own_canvas_at` tells where a path leads through subpatches alone. `take_box` takes a box out of its canvas with all
+//! that lies in it, and nothing else goes or changes (`TakesBox`); no memory is taken for it. Where each box and canvas
+//! is sound by itself (`IsForest`), the keys tell one tree: its laws are those of `pd_forest_law`.
 //!
 //! Free: want of memory.
 //!
-//! Definitions: `Standing` (a tree stands under keys), `Owning`, `States` (first states), `Ports`, `Places` and
-//! `Telling` (what is told), `TextOrder`, `Planting`, `Lending`, `Forest` and `Grafts` (boxes sound by themselves,
-//! and what changes of one canvas are).
+//! Definitions: `Standing` (a tree stands under keys), `Owning`, `States` (first states), `Ports`, `Places`, `OwnPaths`
+//! and `Telling` (what is told), `TextOrder`, `Planting`, `Lending`, `Forest` and `Grafts` (boxes sound by themselves,
+//! and what changes of one canvas are), `Pruning`.
 #![tactic(auto)]
 
 mod boards;
@@ -29,6 +29,7 @@ mod laws;
 mod nodes;
 mod planting;
 mod ports;
+mod prunes;
 mod seeds;
 mod spots;
 mod telling;
@@ -36,7 +37,7 @@ mod text_order;
 
 pub use boards::Board;
 pub use grove::Grove;
-pub use laws::{forests_change, forests_stand, prunes, trees_are_told};
+pub use laws::trees_are_told;
 pub use nodes::Node;
 pub use ports::{PortSpot, Side, ports_of};
 pub use seeds::{Seed, Seeds};

@@ -143,7 +143,7 @@ fn keys_inside_box(boards: &Slab<Board>, inner: Option<u32>) -> &[u32]
 }
 
 /// Whether the form is a subpatch's.
-fn is_subpatch(form: &Form) -> bool
+pub(crate) fn is_subpatch(form: &Form) -> bool
     ensures { result ≡ is_sub (shape_of form.now) }
 {
     matches!(form, Form::Sub(_))

@@ -4,11 +4,13 @@ ghost use Rattle.std.specs.Prelude.{◌≡◌, ◌≤◌, length, Some, None, Is
 ghost use Rattle.std.specs.Option.{option_copied, option_copied_mut};
 ghost use Rattle.std.specs.Borrow.{sem};
 ghost use Rattle.slab.specs.Slab.{get, ContainsKey};
+ghost use Rattle.pd_grove.specs.OwnPaths.{sub_step_in, sub_reached};
 ghost use Rattle.pd_grove.specs.Telling.{kind_in, inner_in, state_in, keys_in, step_in, reached, Keeps};
 
 use crate::boards::Board;
 use crate::grove::Grove;
 use crate::nodes::Node;
+use crate::spots::is_subpatch;
 use pd_kind::{Kind, State};
 
 impl Grove {
@@ -105,6 +107,32 @@ impl Grove {
         let board = self.boards.get(canvas? as usize)?;
         let key = board.nodes.get(number as usize)?;
         self.nodes.get(*key as usize)?.inner
+    }
+
+    /// The key of the canvas of the patch's own document to which a path of box numbers leads from the root, through subpatches alone; `None`
+    /// exactly where it leads to none.
+    pub fn own_canvas_at(&self, path: &[u32]) -> Option<u32>
+        ensures { result ≡ sub_reached self.now (Some self.now.root) path.now }
+    {
+        let mut here = Some(self.root);
+        for number in path {
+            here = self.own_step(here, *number);
+        }
+        here
+    }
+
+    /// The canvas in a box of a canvas, where the box is a subpatch.
+    fn own_step(&self, canvas: Option<u32>, number: u32) -> Option<u32>
+        ensures { result ≡ option_and_then (λ c. sub_step_in self.now c number) canvas }
+    {
+        let board = self.boards.get(canvas? as usize)?;
+        let key = board.nodes.get(number as usize)?;
+        let node = self.nodes.get(*key as usize)?;
+        if is_subpatch(&node.element.form) {
+            node.inner
+        } else {
+            None
+        }
     }
 
     /// Takes out what a live box keeps. Its state has to be in.

@@ -12,15 +12,8 @@ use Rattle.pd_grove.specs.Owning.{board_in}
 use Rattle.pd_grove.specs.Forest.{holder_in, IsForest, around, out_of}
 use Rattle.pd_grove.specs.Grafts.{LiesInBox, TakesBox}
 use Rattle.pd_grove.proofs.ForestLemmas.{held_there}
-use Rattle.pd_grove.proofs.NestLemmas.{around_is, lies_deep, out_first, board_there, node_there}
+use Rattle.pd_grove.proofs.NestLemmas.{around_is, out_first, board_there, node_there, box_deep}
 use Rattle.pd_grove.proofs.GraftLemmas.{raised, raised_at, raised_once, place_behind, middle_at, IsHere, IsThere, where_is, is_some}
-
--- what lies in a box is deeper than the box's canvas
-pub box_deep : (nodes : ℕ → Option Node) (boards : ℕ → Option Board) (root k c x : ℕ) → IsForest nodes boards root → board_in (nodes k) ≡ Some c → LiesInBox nodes boards k x → depth_of (boards c) < depth_of (boards x)
-box_deep nodes boards root k c x F lies L =
-    let p = F.deeper k c L.0 lies L.1 in
-    let q = lies_deep nodes boards root F L.2.0 x L.0 L.2.1 in
-    omega (arith, p, q)
 
 -- a canvas of a box that lies in a box k lies in it too
 pub below_box : (nodes : ℕ → Option Node) (boards : ℕ → Option Board) (root k x j : ℕ) → IsForest nodes boards root → around nodes boards j ≡ Some x → LiesInBox nodes boards k x → LiesInBox nodes boards k j

@@ -1,7 +1,7 @@
 use Rattle.slab.specs.Slab.{get}
 use Rattle.pd_grove.proofs.ForestLemmas.{forest_stands, stands_told, canvas_stood}
-use Rattle.pd_grove.proofs.AllLemmas.{all_told}
-use Rattle.pd_grove.proofs.laws.forests_stand.Goals as goal
+use Rattle.pd_forest_law.proofs.AllLemmas.{all_told}
+use Rattle.pd_forest_law.proofs.laws.forests_stand.Goals as goal
 
 pub returns-clause-told : goal.returns-clause-told
 returns-clause-told c = λ g F. forest_stands g F

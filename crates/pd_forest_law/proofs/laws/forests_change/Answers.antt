@@ -4,10 +4,11 @@ use Rattle.pd_grove.specs.Standing.{depth_of}
 use Rattle.pd_grove.proofs.ForestLemmas.{live_board}
 use Rattle.pd_grove.proofs.NestLemmas.{canvas_changes}
 use Rattle.pd_grove.proofs.GraftLemmas.{forest_more}
-use Rattle.pd_grove.proofs.MoreLemmas.{tree_more}
-use Rattle.pd_grove.proofs.OpenLemmas.{forest_bare, forest_opened, tree_opened, forest_alike, tree_refit}
-use Rattle.pd_grove.proofs.PartLemmas.{forest_part}
-use Rattle.pd_grove.proofs.laws.forests_change.Goals as goal
+use Rattle.pd_forest_law.proofs.MoreLemmas.{tree_more}
+use Rattle.pd_grove.proofs.OpenLemmas.{forest_bare, forest_opened, forest_alike}
+use Rattle.pd_forest_law.proofs.OtherLemmas.{tree_opened, tree_refit}
+use Rattle.pd_forest_law.proofs.PartLemmas.{forest_part}
+use Rattle.pd_forest_law.proofs.laws.forests_change.Goals as goal
 
 pub returns-clause-tree : goal.returns-clause-tree
 returns-clause-tree c = λ nodes nodes' boards boards' root k n u u' F S live high was is.

@@ -1,5 +1,5 @@
 -- A forest with a box more and all that lies in it is a forest.
-use Rattle.std.proofs.Common.{◌≡◌, ◌≢◌, ℕ, ◌+◌, ◌<◌, List, [], ◌∷◌, ◌++◌, Option, Some, None, IsSome, inl, inr, refl, sym, ap, ◌∙◌, subst}
+use Rattle.std.proofs.Common.{◌≡◌, ◌≢◌, ℕ, ◌+◌, ◌<◌, List, ◌++◌, Option, Some, None, IsSome, inl, inr, refl, sym, ap, ◌∙◌, subst}
 use Rattle.std.specs.Prelude.{slice_get, ◌⊎◌}
 use mathlib.Core.Logic.{⊎_elim}
 use Rattle.std.proofs.lemmas.Bool.{cases_eq}
@@ -8,11 +8,11 @@ use Rattle.pd_grove.specs.declared.nodes.Node.{Node}
 use Rattle.pd_grove.specs.declared.boards.Board.{Board}
 use Rattle.pd_grove.specs.Standing.{depth_of}
 use Rattle.pd_grove.specs.Telling.{inner_in, keys_in}
-use Rattle.pd_grove.specs.Owning.{board_in, AreOwn}
+use Rattle.pd_grove.specs.Owning.{board_in}
 use Rattle.pd_grove.specs.Forest.{holder_in, IsForest}
 use Rattle.pd_grove.specs.Grafts.{HasPartMore}
-use Rattle.pd_grove.proofs.ForestLemmas.{IsHeld, held_there}
-use Rattle.pd_grove.proofs.NestLemmas.{board_there, node_there}
+use Rattle.pd_grove.proofs.ForestLemmas.{held_there}
+use Rattle.pd_grove.proofs.NestLemmas.{board_there}
 use Rattle.pd_grove.proofs.GraftLemmas.{raised, place_behind, raised_at, middle_at, IsHere, IsThere, where_is, is_some}
 
 there : {A : Type 0} (o : Option A) → (o ≡ None) ⊎ IsSome o
