@@ -4,3 +4,4 @@ pub mod WireLemmas
 pub mod TableLemmas
 pub mod RenameLemmas
 pub mod NumberLemmas
+pub mod EndLemmas

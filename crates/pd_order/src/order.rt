@@ -123,14 +123,21 @@ impl Order {
         self.widen_all(count.max(room.saturating_mul(2)))
     }
 
-    /// Changes nothing, and tells how the five lists stand to one another between calls.
+    /// Changes nothing, and tells how the five lists stand to one another between calls. It takes an order apart, so that a sixth list
+    /// has to be named here.
     pub fn laws(&self)
         ensures listed { IsListed self.now.chain self.now.stuck self.now.spots }
         ensures heap { self.now.heap ≡ [] }
         ensures spare { self.now.spare ≡ [] }
         ensures room { length self.now.spots ≤ self.now.room }
     {
-        let _chain = &self.chain;
+        let Order {
+            chain: _chain,
+            stuck: _stuck,
+            spots: _spots,
+            heap: _heap,
+            spare: _spare,
+        } = self;
     }
 
     /// The chain and the stuck list of these nodes, from nothing.

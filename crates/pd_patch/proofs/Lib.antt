@@ -13,3 +13,4 @@ pub mod WiredLemmas
 pub mod KindLemmas
 pub mod CanvasLemmas
 pub mod BlockLemmas
+pub mod BuiltLemmas

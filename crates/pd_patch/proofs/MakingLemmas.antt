@@ -5,7 +5,6 @@ use Rattle.std.specs.Prelude.{Result, Ok}
 use Rattle.std.specs.List.{AllByRecursion}
 use Rattle.pd_atom.specs.declared.Atom.{Atom}
 use Rattle.pd_atom.specs.Names.{Names, name_of}
-use Rattle.pd_object.specs.declared.kinds.Kind.{Kind}
 use Rattle.pd_object.specs.declared.kinds.Named.{Named}
 use Rattle.pd_object.specs.declared.kinds.Named.TheVariants as named
 use Rattle.pd_naming.specs.Naming.{named_by}

@@ -11,3 +11,7 @@ pub mod Orders
 pub mod Values
 pub mod Wired
 pub mod Lending
+pub mod Built
+pub mod Wires
+pub mod Document
+pub mod Looks

@@ -1,7 +1,7 @@
 //! The document of a patch as it stands.
 
 ghost use Rattle.std.specs.Prelude.{◌≡◌, IfOk};
-ghost use Rattle.pd_present.specs.Presents.{present_page};
+ghost use Rattle.pd_patch.specs.Document.{present_document};
 
 use crate::patch::Patch;
 use pd_canvas::Doc;
@@ -16,7 +16,7 @@ impl Patch {
     ///
     /// `AllocError` where memory ran out.
     pub fn document(&self, alloc: Global) -> Result<Doc, AllocError>
-        ensures { IfOk result (λ doc. doc.root ≡ present_page self.now.grove self.now.web self.now.numbers.items) }
+        ensures { IfOk result (λ doc. doc.root ≡ present_document self.now) }
     {
         present(alloc, &self.grove, &self.web, self.numbers.as_slice())
     }

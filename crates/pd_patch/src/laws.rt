@@ -2,7 +2,9 @@
 
 ghost use Rattle.std.specs.Prelude.{◌≡◌, ◌≤◌, ◌+◌, ℕ, List, Option, length, Some};
 ghost use Rattle.slab.specs.Slab.{get};
+ghost use Rattle.pd_atom.specs.Names.{Names};
 ghost use Rattle.pd_canvas.specs.Pages.{Page};
+ghost use Rattle.pd_clock.specs.declared.times.Rate.{Rate};
 ghost use Rattle.pd_canvas.specs.Proper.{levels};
 ghost use Rattle.pd_library.specs.declared.answers.Answer.{Answer};
 ghost use Rattle.pd_tree.specs.declared.rows.Sheet.{Sheet};
@@ -14,6 +16,9 @@ ghost use Rattle.pd_grove.specs.Standing.{GroveStands};
 ghost use Rattle.pd_grove.specs.Telling.{reached};
 ghost use Rattle.pd_grove.specs.TextOrder.{deep};
 ghost use Rattle.pd_web.specs.Canvases.{IsOwn};
+ghost use Rattle.pd_patch.specs.declared.patch.Patch.{Patch};
+ghost use Rattle.pd_patch.specs.Built.{IsBuilt, IsAtStart};
+ghost use Rattle.pd_patch.specs.Grown.{IsFresh};
 ghost use Rattle.pd_patch.specs.Numbers.{AreNumbered};
 ghost use Rattle.pd_patch.specs.Paths.{path_told};
 
@@ -40,4 +45,10 @@ pub fn growth_is_shallow()
         grown lib name p w ≡ gives t v → deep t.boxes + 1 ≤ 256 }
     ensures all { (lib : ℕ → Option Answer) (name : List ℕ) (p : Page) (w v : Stock) (t : Tree) →
         grown lib name p w ≡ gives t v → deep t.boxes ≤ 256 }
+{}
+
+/// A patch that has just grown is built as one that runs is, and stands as at the start.
+pub fn what_grows_is_built()
+    ensures built { (p : Patch) (names : Names) (file : List ℕ) (rate : Rate) → IsFresh p names file rate → IsBuilt p names file rate }
+    ensures start { (p : Patch) (names : Names) (file : List ℕ) (rate : Rate) → IsFresh p names file rate → IsAtStart p rate }
 {}

@@ -50,7 +50,8 @@ mod telling;
 mod values;
 mod walking;
 
-pub use laws::{growth_is_shallow, paths_are_short, paths_lead_back};
+pub use laws::{growth_is_shallow, paths_are_short, paths_lead_back, what_grows_is_built};
 pub use patch::Patch;
+pub use pd_gather::Library;
 pub use refusal::GrowRefusal;
 pub use report::{Remark, Report};

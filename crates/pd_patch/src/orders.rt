@@ -1,21 +1,25 @@
 //! The signal orders of all canvases.
 
-ghost use Rattle.std.specs.Prelude.{◌≡◌, ◌<◌, ◌≤◌, ◌+◌, ◌++◌, ◌∷◌, [], ℕ, true, length, slice_get, IfOk, OnOk};
+ghost use Rattle.std.specs.Prelude.{◌≡◌, ◌<◌, ◌≤◌, ◌+◌, ◌*◌, ◌++◌, ◌∷◌, [], ℕ, true, length, slice_get, IfOk, OnOk, OnErr};
 ghost use Rattle.slab.specs.Slab.{get};
 ghost use Rattle.pd_order.specs.Graph.{IsOrder};
 ghost use Rattle.pd_chain.specs.Wires.{graph_of, IsCanvas};
 ghost use Rattle.pd_grove.specs.Owning.{AreOwn};
+ghost use Rattle.pd_web.specs.Canvases.{keys_at};
 ghost use Rattle.pd_web.specs.Hops.{fan_hops};
 ghost use Rattle.pd_patch.specs.Grown.{AreLaid};
+ghost use Rattle.pd_patch.specs.Looks.{most_looks};
 ghost use Rattle.pd_patch.specs.Orders.{is_signal as is_signal_so, is_signal_node, signal_among, hop_wires, wires_by, wires_from, box_wires, signal_wires_among, IsChain, HasOrder, AreOrdered};
 
 use crate::numbers::canvas_end;
 use pd_chain::{SignalWire, order_of};
 use pd_grove::Grove;
 use pd_kind::Kind;
-use pd_order::Order;
+use pd_order::{Order, Steps};
 use pd_web::{Hop, Web};
 use std::alloc::{AllocError, Global};
+use std::marker::Brand;
+use std::sync::ledger::{Blank, Ledger};
 
 /// A patch has at most so many wires.
 const MOST_WIRES: u32 = 65_536;
@@ -30,61 +34,86 @@ pub(crate) fn orders_of(
     requires laid { AreLaid grove.now web.now }
     ensures { IfOk result (λ orders. AreOrdered grove.now web.now orders.items) }
 {
+    orders_in::<Brand>(alloc, grove, web, Blank::new(1))
+}
+
+// The same with a ledger for the count of looks, which nobody reads.
+fn orders_in<L: Ledger>(
+    alloc: Global,
+    grove: &Grove,
+    web: &Web,
+    blank: Blank,
+) -> Result<Vec<Option<Order>>, AllocError>
+    requires name { blank.name ≡ L.name }
+    requires parts { blank.parts ≡ L.parts }
+    requires some { 0 < blank.parts }
+    requires own { AreOwn (get grove.now.nodes) (get grove.now.boards) }
+    requires laid { AreLaid grove.now web.now }
+    ensures { IfOk result (λ orders. AreOrdered grove.now web.now orders.items) }
+{
+    let mut steps = Steps::<L>::new(blank);
     let end = canvas_end(grove)?;
     let mut orders = Vec::new(alloc);
     for key in 0..end {
-        let order = order_under(alloc, grove, web, key)?;
+        let order = order_under(alloc, grove, web, key, &mut steps)?;
         orders.push(order)?;
     }
     Ok(orders)
 }
 
 /// The signal order of the canvas under a key, where there is one.
-fn order_under(
+fn order_under<L: Ledger>(
     alloc: Global,
     grove: &Grove,
     web: &Web,
     key: u32,
+    steps: &mut Steps<L>,
 ) -> Result<Option<Order>, AllocError>
     requires own { AreOwn (get grove.now.nodes) (get grove.now.boards) }
     requires laid { AreLaid grove.now web.now }
-    ensures { IfOk result (λ o. HasOrder grove.now web.now (get grove.now.boards key) o) }
+    ensures order { IfOk result (λ o. HasOrder grove.now web.now (get grove.now.boards key) o) }
+    ensures looks { steps.new ≤ steps.old + most_looks grove.now web.now (keys_at grove.now key) }
 {
     match grove.board(key) {
-        Some(board) => order_in_board(alloc, grove, web, board.nodes.as_slice()),
+        Some(board) => order_in_board(alloc, grove, web, board.nodes.as_slice(), steps),
         None => Ok(None),
     }
 }
 
 /// The signal order of a canvas whose boxes have these keys.
-fn order_in_board(
+fn order_in_board<L: Ledger>(
     alloc: Global,
     grove: &Grove,
     web: &Web,
     nodes: &[u32],
+    steps: &mut Steps<L>,
 ) -> Result<Option<Order>, AllocError>
     requires canvas { IsCanvas nodes.now (signal_among grove.now nodes.now) (signal_wires_among web.now (signal_among grove.now nodes.now)) }
     requires few { (k outlet : ℕ) → length (fan_hops web.now k outlet) ≤ 65536 }
-    ensures { IfOk result (IsChain grove.now web.now nodes.now) }
+    ensures order { IfOk result (IsChain grove.now web.now nodes.now) }
+    ensures looks { steps.new ≤ steps.old + most_looks grove.now web.now nodes.now }
 {
     let signal = signal_boxes(alloc, grove, nodes)?;
     let wires = signal_wires(alloc, web, signal.as_slice())?;
-    let order = order_among(alloc, nodes, signal.as_slice(), wires.as_slice())?;
+    let order = order_among(alloc, nodes, signal.as_slice(), wires.as_slice(), steps)?;
     Ok(Some(order))
 }
 
 /// The order of boxes by their wires, where there are no more of them than can be counted.
-fn order_among(
+fn order_among<L: Ledger>(
     alloc: Global,
     nodes: &[u32],
     signal: &[u32],
     wires: &[SignalWire],
+    steps: &mut Steps<L>,
 ) -> Result<Order, AllocError>
     requires { IsCanvas nodes.now signal.now wires.now }
-    ensures { IfOk result (λ made. IsOrder (graph_of nodes.now wires.now) signal.now made.chain made.stuck) }
+    ensures order { IfOk result (λ made. IsOrder (graph_of nodes.now wires.now) signal.now made.chain made.stuck) }
+    ensures looks { OnOk result (steps.new ≤ steps.old + 4 * (length signal.now + 2 * length wires.now) + 8) }
+    ensures no_looks { OnErr result (steps.new ≡ steps.old) }
 {
     if is_few(nodes.len()) && is_few(wires.len()) {
-        return order_of(alloc, nodes, signal, wires);
+        return order_of(alloc, nodes, signal, wires, steps);
     }
     Err(AllocError)
 }

@@ -15,6 +15,7 @@ ghost use Rattle.pd_web.specs.Hops.{ports_told, jack_told, signal_in, side_named
 ghost use Rattle.pd_web.specs.Homes.{inner_in as inner_port};
 ghost use Rattle.pd_patch.specs.Paths.{path_told, number_of, out_of, around as around_of};
 ghost use Rattle.pd_patch.specs.Telling.{order_in, is_looped, fault_in, line_atom, number_in};
+ghost use Rattle.pd_patch.specs.Wires.{wire_in};
 
 use crate::patch::Patch;
 use arrayvec::ArrayVec;
@@ -27,6 +28,7 @@ use pd_name::Class;
 use pd_order::Order;
 use pd_tree::Fault;
 use pd_web::Hop;
+use pd_wire::WireKey;
 use std::alloc::{AllocError, Global};
 
 /// So many canvases may lie in one another.
@@ -67,6 +69,15 @@ impl Patch {
         ensures { result ≡ slice_get (keys_in (get self.now.grove.boards canvas)) number }
     {
         self.grove.box_key(canvas, number)
+    }
+
+    /// The key of the wire at a place, counted from 0, in the fan-out of an outlet of a box of a canvas; `None` exactly where the box, the
+    /// outlet or the place isn't there.
+    pub fn wire_key(&self, canvas: u32, source: u32, outlet: u32, place: u32) -> Option<WireKey>
+        ensures { result ≡ wire_in self.now canvas source outlet place }
+    {
+        let node = self.box_key(canvas, source)?;
+        self.web.wire_key(node, outlet, place)
     }
 
     /// The key of the canvas to which a path of box numbers leads from the root; `None` exactly where it leads to none.

@@ -1,20 +1,38 @@
 // Orders of small canvases.
-ghost use Rattle.std.specs.Prelude.{◌<◌, [], ◌∷◌, length, IfOk};
+ghost use Rattle.std.specs.Prelude.{◌≡◌, ◌<◌, [], ◌∷◌, length, IfOk};
 ghost use Rattle.pd_order.specs.Graph.{IsOrder};
 ghost use Rattle.pd_chain.specs.Wires.{graph_of, IsCanvas};
 
 use super::*;
 use crate::numbers::numbers_in;
+use std::marker::Brand;
 use std::process::Abort;
+use std::sync::ledger::Blank;
 use std::test::Fail;
 
 // Box 0 has the key 5, box 1 the key 9, box 2 the key 7 and no signals, box 3 the key 2.
+fn order_in<L: Ledger>(
+    alloc: Global,
+    wires: &[SignalWire],
+    blank: Blank,
+) -> Result<Order, AllocError>
+    requires name { blank.name ≡ L.name }
+    requires parts { blank.parts ≡ L.parts }
+    requires some { 0 < blank.parts }
+    requires canvas { IsCanvas (5 ∷ 9 ∷ 7 ∷ 2 ∷ []) (2 ∷ 5 ∷ 9 ∷ []) wires.now }
+    requires few { length wires.now < 4 }
+    ensures { IfOk result (λ made. IsOrder (graph_of (5 ∷ 9 ∷ 7 ∷ 2 ∷ []) wires.now) (2 ∷ 5 ∷ 9 ∷ []) made.chain made.stuck) }
+{
+    let mut steps = Steps::<L>::new(blank);
+    order_of(alloc, &[5, 9, 7, 2], &[2, 5, 9], wires, &mut steps)
+}
+
 fn order_of_four(alloc: Global, wires: &[SignalWire]) -> Result<Order, AllocError>
     requires canvas { IsCanvas (5 ∷ 9 ∷ 7 ∷ 2 ∷ []) (2 ∷ 5 ∷ 9 ∷ []) wires.now }
     requires few { length wires.now < 4 }
     ensures { IfOk result (λ made. IsOrder (graph_of (5 ∷ 9 ∷ 7 ∷ 2 ∷ []) wires.now) (2 ∷ 5 ∷ 9 ∷ []) made.chain made.stuck) }
 {
-    order_of(alloc, &[5, 9, 7, 2], &[2, 5, 9], wires)
+    order_in::<Brand>(alloc, wires, Blank::new(1))
 }
 
 fn check_lists(rt: &impl Abort, order: &Order, chain: &[u32], stuck: &[u32]) {

@@ -8,7 +8,7 @@ use Rattle.pd_patch.proofs.OrderLemmas.{few_hops}
 use Rattle.pd_patch.proofs.orders.order_under.Goals as goal
 
 pub order_in_board-requires : goal.order_in_board-requires
-order_in_board-requires c =
+order_in_board-requires g0 c =
     let g = c.args.grove.now in
     let w = c.args.web.now in
     let own = is_canvas g w c.args.key c.requires.own c.requires.laid in

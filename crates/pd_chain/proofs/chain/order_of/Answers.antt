@@ -2,7 +2,8 @@ use Rattle.std.proofs.Common.{◌≤◌, length, arith}
 use Rattle.pd_order.proofs.Basics.{length_le}
 use Rattle.pd_chain.specs.Tables.{graph_in}
 use Rattle.pd_chain.proofs.WireLemmas.{drawn_lawful, drawn_order}
-use Rattle.pd_chain.proofs.chain.order_in.Goals as goal
+use Rattle.pd_chain.proofs.EndLemmas.{few_ends}
+use Rattle.pd_chain.proofs.chain.order_of.Goals as goal
 
 pub overflow_cast-signal : goal.overflow_cast-signal
 overflow_cast-signal g c =
@@ -19,3 +20,9 @@ fold-requires-clause-few g c =
 
 pub returns-clause-order : goal.returns-clause-order
 returns-clause-order g c = drawn_order (graph_in c.in_ok-graph.graph) c.args.nodes.now c.args.signal.now c.fold.new.self.chain c.fold.new.self.stuck c.args.wires.now c.in_ok-graph.ensures c.requires.canvas c.fold.ensures.order
+
+pub returns-clause-looks : goal.returns-clause-looks
+returns-clause-looks g c =
+    let e = few_ends (graph_in c.in_ok-graph.graph) c.args.nodes.now c.args.signal.now c.args.wires.now c.in_ok-graph.ensures c.requires.canvas in
+    let l = c.fold.ensures.looks in
+    omega (arith, e, l)
