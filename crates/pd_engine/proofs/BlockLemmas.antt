@@ -8,8 +8,8 @@ use Rattle.pd_patch.specs.Values.{Blocks, blocks_told}
 use Rattle.pd_hearing.specs.Worlds.{Net, net_of}
 use Rattle.pd_block.specs.Nets as block
 use Rattle.pd_block.specs.Blocks.{Played}
-use Rattle.pd_engine.specs.Stages.{Stage}
-use Rattle.pd_engine.specs.Times.{with_blocks, with_played}
+use Rattle.pd_stage.specs.Stages.{Stage}
+use Rattle.pd_stage.specs.Times.{with_blocks, with_played}
 
 -- only the blocks of outlets have changed
 pub played_net : (p p' : Patch) (x : Played) → block.net_of p' ≡ block.net_of p → blocks_told p' ≡ x.sound.blocks → net_of p' ≡ with_blocks (net_of p) x

@@ -12,10 +12,12 @@ use Rattle.pd_patch.specs.declared.patch.Patch.{Patch}
 use Rattle.pd_patch.specs.Walking.{RestStays}
 use Rattle.pd_hearing.specs.Worlds.{Net, net_of, states_of}
 use Rattle.pd_hearing.proofs.WorldLemmas.{clocks-net}
-use Rattle.pd_engine.specs.Stages.{Stage, Passage, still, followed_by, Says}
-use Rattle.pd_engine.specs.Events.{event}
-use Rattle.pd_engine.proofs.PassageLemmas.{IsOnTheWay, way_goes_on, way_breaks, way_ends, unsounded, lines_off}
-use Rattle.pd_engine.specs.Times.{earlier, first_clock, taken_off, off_or_on, if_below, next_clock, with_taken, fires_at, fires, fires_below, fires_or_not}
+use Rattle.pd_stage.specs.Stages.{Stage, Passage, still, followed_by, Says}
+use Rattle.pd_stage.specs.Events.{event, Firing}
+use Rattle.pd_stage.specs.Items.{lines_of}
+use Rattle.pd_engine.proofs.EventLemmas.{event_told}
+use Rattle.pd_stage.proofs.PassageLemmas.{IsOnTheWay, way_goes_on, way_breaks, way_ends, unsounded, soundless_off, lines_took}
+use Rattle.pd_stage.specs.Times.{earlier, first_clock, taken_off, off_or_on, if_below, next_clock, with_taken, with_fired, fires_at, fires, fires_below, fires_or_not}
 
 -- no clock is earlier than a time
 abbrev NotBelow : ℕ → Option Clock → Type 0
@@ -124,11 +126,13 @@ clock_goes_on limit whole s s1 s' c t₁ t₂ t₃ few next taken way says =
 
 pub clock_breaks : (limit : ℕ) (whole : Passage) (s s1 : Stage) (c : Clock) (t₁ t₂ t₃ : Option (List ℕ)) → s.fired < 10000
     → next_clock limit s.clocks ≡ Some c → s1 ≡ with_taken s (taken_off s.clocks)
-    → IsOnTheWay whole (fires_below (10000 - s.fired) limit) s t₁ t₂ None None → TookPart t₂ t₃ (fires_at s1 c.time c.owner).lines → TookPart t₁ t₃ whole.lines
+    → IsOnTheWay whole (fires_below (10000 - s.fired) limit) s t₁ t₂ None None → TookPart t₂ t₃ (lines_of (fires_at s1 c.time c.owner).items) → TookPart t₁ t₃ (lines_of whole.items)
 clock_breaks limit whole s s1 c t₁ t₂ t₃ few next taken way took =
+    lines_took whole t₁ t₃ None None
     (way_breaks whole (fires_below (10000 - s.fired) limit) (fires_below (10000 - (s.fired + 1)) limit) (fires s c) s t₁ t₂ t₃ None None None way
     (counted limit s c (10000 - (s.fired + 1)) (omega arith) next)
-    (lines_off (fires s c) t₂ t₃ (subst (λ (x : Stage). TookPart t₂ t₃ (fires_at x c.time c.owner).lines) taken took))).lines_took
+    (soundless_off (fires s c) t₂ t₃ None (event_told (with_fired (with_taken s (taken_off s.clocks)) c.time) (Firing c.owner))
+    (subst (λ (x : Stage). TookPart t₂ t₃ (lines_of (fires_at x c.time c.owner).items)) taken took)))
 
 -- nothing more fires
 pub clocks_end : (limit n : ℕ) (whole : Passage) (s s' : Stage) (t₁ t₂ : Option (List ℕ)) → s' ≡ s → fires_below n limit s ≡ still s

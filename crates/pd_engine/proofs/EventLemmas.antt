@@ -11,10 +11,12 @@ use Rattle.pd_walk.specs.declared.walker.Start.{Start}
 use Rattle.pd_walk.specs.declared.walker.Start.TheVariants as start
 use Rattle.pd_hearing.specs.Worlds.{Net, Kept}
 use Rattle.pd_walk.specs.Outcome.{outcome, world, IsLeft}
-use Rattle.pd_engine.specs.Stages.{Stage, still, followed_by, Says}
-use Rattle.pd_engine.specs.Events.{Beginning, beginning_of, deliveries, delivered, begun, repeated, refusals, with_kept, event}
-use Rattle.pd_engine.specs.Times.{blocks_run, block_runs}
-use Rattle.pd_engine.proofs.PassageLemmas.{took_after}
+use Rattle.pd_stage.specs.Stages.{Stage, still, followed_by, Says}
+use Rattle.pd_stage.specs.Events.{Beginning, beginning_of, deliveries, delivered, begun, repeated, refusals, with_kept, event}
+use Rattle.pd_stage.specs.Times.{blocks_run, block_runs}
+use Rattle.pd_stage.specs.Items.{lines_of, said}
+use Rattle.pd_stage.proofs.ItemLemmas.{lines-said}
+use Rattle.pd_stage.proofs.PassageLemmas.{took_after, IsTold}
 
 pub outcome_is : (net : Net) (now : ℕ) (w : World Kept) (st : Start) → outcome net now w st ≡ deliveries net now w (beginning_of st)
 unfolding outcome
@@ -51,7 +53,8 @@ event_says s s' st q queue b budget t₁ t₂ t₃ none whole left net time bloc
       lines_are = more ∙ ap (λ (x : Waiting). grown t₂ (refusals x)) asked
           ∙ ap (λ (o : Option (List ℕ)). grown o (refusals (delivered s (beginning_of st)).kept.queue)) left.said
           ∙ grown-grown t₁ (outcome s.net s.time (from s q b) st).said (refusals (delivered s (beginning_of st)).kept.queue)
-          ∙ ap (λ (w : World Kept). grown t₁ (w.said ++ refusals (delivered s (beginning_of st)).kept.queue)) is;
+          ∙ ap (λ (w : World Kept). grown t₁ (w.said ++ refusals (delivered s (beginning_of st)).kept.queue)) is
+          ∙ ap (grown t₁) (sym (lines-said ((delivered s (beginning_of st)).said ++ refusals (delivered s (beginning_of st)).kept.queue)));
     }
   where
     stays : (s s' : Stage) (q : Waiting) → s'.net ≡ s.net → s'.time ≡ s.time → s'.block_end ≡ s.block_end → s'.fired ≡ s.fired
@@ -64,22 +67,24 @@ event_says s s' st q queue b budget t₁ t₂ t₃ none whole left net time bloc
 
 -- the lines of the deliveries were taken in part, or those of the refused edits
 pub event_breaks : (s : Stage) (st : Start) (q : Waiting) (b : Budget) (t₁ t₂ : Option (List ℕ)) → q ≡ [] → b ≡ record { left = 1000000; cut = false }
-    → TookPart t₁ t₂ (outcome s.net s.time (from s q b) st).said → TookPart t₁ t₂ (event s (beginning_of st)).lines
+    → TookPart t₁ t₂ (outcome s.net s.time (from s q b) st).said → TookPart t₁ t₂ (lines_of (event s (beginning_of st)).items)
 unfolding event
 event_breaks s st q b t₁ t₂ none whole took =
-    took_more t₁ t₂ (delivered s (beginning_of st)).said (refusals (delivered s (beginning_of st)).kept.queue)
-    (subst (λ (w : World Kept). TookPart t₁ t₂ w.said) (final_is s st q b none whole) took)
+    let w : World Kept = delivered s (beginning_of st) in
+    subst (λ (x : List ℕ). TookPart t₁ t₂ x) (sym (lines-said (w.said ++ refusals w.kept.queue)))
+    (took_more t₁ t₂ w.said (refusals w.kept.queue) (subst (λ (v : World Kept). TookPart t₁ t₂ v.said) (final_is s st q b none whole) took))
 
 pub event_breaks_late : (s : Stage) (st : Start) (q : Waiting) (b : Budget) (k : Kept) (budget : Budget) (t₁ t₂ t₃ : Option (List ℕ)) → q ≡ [] → b ≡ record { left = 1000000; cut = false }
     → IsLeft k budget t₁ t₂ (outcome s.net s.time (from s q b) st)
-    → TookPart t₂ t₃ (refusals k.queue) → TookPart t₁ t₃ (event s (beginning_of st)).lines
+    → TookPart t₂ t₃ (refusals k.queue) → TookPart t₁ t₃ (lines_of (event s (beginning_of st)).items)
 unfolding event
 event_breaks_late s st q b k budget t₁ t₂ t₃ none whole left took =
     let is = final_is s st q b none whole in
     let kept : k ≡ (delivered s (beginning_of st)).kept = left.kept_is ∙ ap (λ (w : World Kept). w.kept) is in
-    took_after t₁ t₂ t₃ (delivered s (beginning_of st)).said (refusals (delivered s (beginning_of st)).kept.queue)
+    subst (λ (x : List ℕ). TookPart t₁ t₃ x) (sym (lines-said ((delivered s (beginning_of st)).said ++ refusals (delivered s (beginning_of st)).kept.queue)))
+    (took_after t₁ t₂ t₃ (delivered s (beginning_of st)).said (refusals (delivered s (beginning_of st)).kept.queue)
     (left.said ∙ ap (λ (w : World Kept). grown t₁ w.said) is)
-    (subst (λ (x : Waiting). TookPart t₂ t₃ (refusals x)) (ap (λ (x : Kept). x.queue) kept) took)
+    (subst (λ (x : Waiting). TookPart t₂ t₃ (refusals x)) (ap (λ (x : Kept). x.queue) kept) took))
 
 -- a text once more
 pub repeated_more : (n : ℕ) (text : List ℕ) → repeated n text ++ text ≡ repeated (suc n) text
@@ -104,10 +109,10 @@ lines_break i n text t₁ t₂ t₃ lt is took =
     subst (λ (x : List ℕ). TookPart t₁ t₃ x) (sym rest)
     (took_after t₁ t₂ t₃ (repeated i text) (repeated (suc (n - i - 1)) text) is (took_more t₂ t₃ text (repeated (n - i - 1) text) took))
 
--- clocks that fire write no samples
-pub event_soundless : (s : Stage) (b : Beginning) → (event s b).samples ≡ []
+-- an event says lines alone
+pub event_told : (s : Stage) (b : Beginning) → IsTold (event s b)
 unfolding event
-event_soundless s b = refl
+event_told s b = let w : World Kept = delivered s b in ap said (sym (lines-said (w.said ++ refusals w.kept.queue)))
 
 -- an event leaves the time, the next block and the count of clocks
 pub event_fired : (s : Stage) (b : Beginning) → (event s b).stage.fired ≡ s.fired

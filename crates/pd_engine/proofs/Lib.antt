@@ -3,7 +3,7 @@ pub mod ClockLemmas
 pub mod CommandLemmas
 pub mod EventLemmas
 pub mod OpeningLemmas
-pub mod PassageLemmas
 pub mod ShowLemmas
+pub mod StoppedLemmas
 pub mod TimeLemmas
 pub mod WholeLemmas

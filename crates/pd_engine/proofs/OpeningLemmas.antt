@@ -33,11 +33,14 @@ use Rattle.pd_engine.specs.declared.engine.Engine.{Engine}
 use Rattle.pd_engine.specs.declared.refusals.OpenRefusal.{OpenRefusal}
 use Rattle.pd_engine.specs.declared.refusals.OpenRefusal.TheVariants.{Absent, Bad, ShelfFault, WriteFault, NoMemory}
 use Rattle.pd_engine.specs.Refusals.{unread, ungathered, ungrown}
-use Rattle.pd_engine.specs.Stages.{Stage, stage_of, saying, Says}
-use Rattle.pd_engine.specs.Events.{event, Loading}
+use Rattle.pd_stage.specs.Stages.{Stage, saying, Says}
+use Rattle.pd_engine.specs.Stages.{stage_of}
+use Rattle.pd_stage.specs.Events.{Beginning, event, Loading}
+use Rattle.pd_engine.proofs.EventLemmas.{event_told}
 use Rattle.pd_engine.specs.Remarks.{remarks_text}
 use Rattle.pd_engine.specs.Opening.{first_stage, loaded, opened, growth_of, Grows, Opens, IsUngathered, IsUngrown, IsRefused, text_read, IsUnreadText, IsUnread, Reads}
-use Rattle.pd_engine.proofs.PassageLemmas.{says_followed, says_lines, lines_broke, lines_broke_after}
+use Rattle.pd_stage.specs.Items.{lines_of}
+use Rattle.pd_stage.proofs.PassageLemmas.{IsTold, told_lines, told_joined, says_followed, says_lines, lines_torn, lines_broke, lines_broke_after}
 
 -- the shelf's answer to a fetch, and what it hands out
 found_if : (t : Bool) (b bytes : List ℕ) → fetched.Found ≡ (if t then fetched.Found else fetched.TooLong) → bytes ≡ (if t then b else [])
@@ -108,6 +111,14 @@ grow_refused s rate grow.TooManyWires none h = (refl, h)
 grow_refused s rate grow.TooMuchSound none h = (refl, h)
 grow_refused s rate grow.NoMemory none h = tt
 
+-- an opening says lines alone
+pub opened_told : (p : Patch) (table : Names) → IsTold (opened p table)
+opened_told p table =
+    let s : Stage = first_stage p table in
+    let lines : List ℕ = remarks_text table p (notices_in p.grove p.web p.orders.items) in
+    let b : Beginning = Loading (loads_among p.grove (keys_in_order p.grove)) in
+    told_joined (saying s lines) (event s b) (told_lines s lines) (event_told s b)
+
 -- lines are said, and then boxes are loaded
 pub loads_after : (s s' : Stage) (text boxes told : List ℕ) (t₁ t₂ t₃ : Option (List ℕ)) → t₂ ≡ lines_grown t₁ text → told ≡ boxes
     → Says (event s (Loading told)) s' t₂ t₃ → Says (loaded s text boxes) s' t₁ t₃
@@ -116,13 +127,13 @@ loads_after s s' text boxes told t₁ t₂ t₃ is same says =
     (subst (λ (b : List ℕ). Says (event s (Loading b)) s' t₂ t₃) same says)
 
 pub loads_torn : (s : Stage) (text boxes told : List ℕ) (t₁ t₂ t₃ : Option (List ℕ)) → t₂ ≡ lines_grown t₁ text → told ≡ boxes
-    → TookPart t₂ t₃ (event s (Loading told)).lines → TookPart t₁ t₃ (loaded s text boxes).lines
+    → TookPart t₂ t₃ (lines_of (event s (Loading told)).items) → TookPart t₁ t₃ (lines_of (loaded s text boxes).items)
 loads_torn s text boxes told t₁ t₂ t₃ is same took =
     lines_broke_after (saying s text) (λ (x : Stage). event x (Loading boxes)) s t₁ t₂ t₃ (says_lines s s text t₁ t₂ refl is)
-    (subst (λ (b : List ℕ). TookPart t₂ t₃ (event s (Loading b)).lines) same took)
+    (subst (λ (b : List ℕ). TookPart t₂ t₃ (lines_of (event s (Loading b)).items)) same took)
 
-pub loads_broken : (s : Stage) (text boxes : List ℕ) (t₁ t₂ : Option (List ℕ)) → TookPart t₁ t₂ text → TookPart t₁ t₂ (loaded s text boxes).lines
-loads_broken s text boxes t₁ t₂ took = lines_broke (saying s text) (λ (x : Stage). event x (Loading boxes)) t₁ t₂ took
+pub loads_broken : (s : Stage) (text boxes : List ℕ) (t₁ t₂ : Option (List ℕ)) → TookPart t₁ t₂ text → TookPart t₁ t₂ (lines_of (loaded s text boxes).items)
+loads_broken s text boxes t₁ t₂ took = lines_broke (saying s text) (λ (x : Stage). event x (Loading boxes)) t₁ t₂ (lines_torn s text t₁ t₂ took)
 
 -- a patch that has grown opens
 module _ (holds : Option (List FileRow)) (name : List ℕ) (rate : Rate) (d : Page) (names : Names) (p : Patch) (table : Names) (remarks : List Remark) (boxes : List ℕ)
@@ -139,8 +150,8 @@ module _ (holds : Option (List FileRow)) (name : List ℕ) (rate : Rate) (d : Pa
   opens_so (Ok e) keeps says = record { patch = p; table = table; grows = grows; keeps = keeps; says = subst (λ x. Says x (stage_of e) t t') same says }
   opens_so (Err e) keeps says = tt
 
-  pub breaks_so : (r : Result Engine OpenRefusal) → OnErr r (TookPart t t' (loaded (first_stage p table) (remarks_text table p remarks) boxes).lines)
+  pub breaks_so : (r : Result Engine OpenRefusal) → OnErr r (TookPart t t' (lines_of (loaded (first_stage p table) (remarks_text table p remarks) boxes).items))
       → IfErr r (λ e. e ≡ WriteFault) → IfErr r (IsRefused holds name rate d names t t')
   breaks_so (Ok e) took is = tt
   breaks_so (Err e) took is =
-      inr (inr (record { patch = p; table = table; grows = grows; took = subst (λ x. TookPart t t' x.lines) same took; is = is }))
+      inr (inr (record { patch = p; table = table; grows = grows; took = subst (λ x. TookPart t t' (lines_of x.items)) same took; is = is }))

@@ -6,7 +6,7 @@ use Rattle.pd_io.specs.Stream.{grown, TookPart}
 use Rattle.pd_say.proofs.GatheringLemmas.{took_more}
 use Rattle.pd_order.specs.Listing.{Listing}
 use Rattle.pd_patch.specs.Telling.{order_in}
-use Rattle.pd_engine.proofs.PassageLemmas.{took_after}
+use Rattle.pd_stage.proofs.PassageLemmas.{took_after}
 use Rattle.slab.specs.Slab.{get}
 use Rattle.pd_grove.specs.declared.nodes.Node.{Node}
 use Rattle.pd_grove.specs.Telling.{inner_in, keys_in, step_in, reached}

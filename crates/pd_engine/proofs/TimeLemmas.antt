@@ -1,13 +1,15 @@
 -- Blocks one after another, up to a time.
 use Rattle.std.proofs.Common.{◌≡◌, ◌≤◌, ◌<◌, ◌+◌, ◌-◌, ◌^◌, ℕ, zero, suc, List, [], refl, ◌∙◌, ap, min, Option, Some, None, arith}
 use Rattle.std.proofs.lemmas.Bool.{le-leb, lt-leb, lt-ltb, le-ltb}
-use Rattle.pd_engine.specs.Stages.{Stage, Passage, still, followed_by, Says, Passes, BreaksOff}
-use Rattle.pd_engine.specs.Events.{event}
+use Rattle.pd_stage.specs.Stages.{Stage, Passage, still, followed_by, Says, Passes, BreaksOff}
+use Rattle.pd_stage.specs.Events.{event, Firing}
 use Rattle.pd_clock.specs.Queue.{Clock}
 use Rattle.pd_io.specs.Stream.{grown, TookPart}
-use Rattle.pd_say.proofs.GatheringLemmas.{printed_nothing}
-use Rattle.pd_engine.specs.Times.{fires, blocks_run, block_runs, block_sounds, clocks_fire, fires_below, fires_or_not, next_clock, comes_to, advanced, finished, with_time, time_is}
-use Rattle.pd_engine.proofs.PassageLemmas.{IsOnTheWay, joined_assoc, passes_still, way_goes_on, way_breaks, way_ends, soundless, soundless_off, took_none}
+use Rattle.pd_stage.specs.Items.{lines_of, samples_of}
+use Rattle.pd_engine.proofs.EventLemmas.{event_told}
+use Rattle.pd_mix.specs.Samples.{block_bytes}
+use Rattle.pd_stage.specs.Times.{with_played, played_at, with_fired, with_taken, taken_off, fires, blocks_run, block_runs, block_sounds, clocks_fire, fires_below, fires_or_not, next_clock, comes_to, advanced, finished, with_time, time_is}
+use Rattle.pd_stage.proofs.PassageLemmas.{IsOnTheWay, joined_assoc, passes_still, way_goes_on, way_breaks, way_ends, soundless, soundless_off, wordless, wordless_off, IsTold, IsHeard, told_still, told_joined, heard_samples}
 
 blocks_none : (n to : ℕ) (s : Stage) → to < s.block_end → blocks_run n to s ≡ still s
 unfolding blocks_run
@@ -47,16 +49,16 @@ rest_none n to s later = ap (λ (p : Passage). followed_by p (comes_to to)) (blo
 count_is : (n end to : ℕ) → to + 1 ≤ n + end → end ≤ to → n ≡ suc (n - 1)
 count_is n end to enough due = omega arith
 
--- clocks that fire write no samples, and leave the next block
-soundless_by : (s : Stage) (rest : Stage → Passage) (o : Option Clock) → ((x : Stage) → (rest x).samples ≡ []) → (fires_or_not s rest o).samples ≡ []
-unfolding event
-soundless_by s rest None none = refl
-soundless_by s rest (Some c) none = none (fires s c).stage
+-- clocks that fire say lines alone, and leave the next block
+told_by : (s : Stage) (rest : Stage → Passage) (o : Option Clock) → ((x : Stage) → IsTold (rest x)) → IsTold (fires_or_not s rest o)
+told_by s rest None told = told_still s
+told_by s rest (Some c) told =
+    told_joined (fires s c) (rest (fires s c).stage) (event_told (with_fired (with_taken s (taken_off s.clocks)) c.time) (Firing c.owner)) (told (fires s c).stage)
 
-pub fires_soundless : (n limit : ℕ) (s : Stage) → (fires_below n limit s).samples ≡ []
+pub fires_told : (n limit : ℕ) (s : Stage) → IsTold (fires_below n limit s)
 unfolding fires_below
-fires_soundless zero limit s = refl
-fires_soundless (suc n) limit s = soundless_by s (fires_below n limit) (next_clock limit s.clocks) (λ x. fires_soundless n limit x)
+fires_told zero limit s = told_still s
+fires_told (suc n) limit s = told_by s (fires_below n limit) (next_clock limit s.clocks) (λ x. fires_told n limit x)
 
 end_by : (s : Stage) (rest : Stage → Passage) (o : Option Clock) → ((x : Stage) → (rest x).stage.block_end ≡ x.block_end) → (fires_or_not s rest o).stage.block_end ≡ s.block_end
 unfolding event
@@ -106,23 +108,27 @@ clocks_go_on to whole s s' t₁ t₂ t₃ u₁ u₂ later left fired =
     way_ends whole still (with_time to s') t₁ t₃ u₁ u₂
     (way_goes_on whole (time_is to) still (time_is to s') s' (with_time to s') t₁ t₃ t₃ u₁ u₂ u₂
     (way_goes_on whole (rest_of left.count to) (time_is to) (clocks_fire to s) s s' t₁ t₂ t₃ u₁ u₂ u₂ left.way (rest_none left.count to s later)
-    (soundless (clocks_fire to s) s' t₂ t₃ u₂ (fires_soundless (10000 - s.fired) to s) fired))
+    (soundless (clocks_fire to s) s' t₂ t₃ u₂ (fires_told (10000 - s.fired) to s) fired))
     refl (passes_still (with_time to s') (with_time to s') t₃ u₂ refl))
     refl
 
 pub clocks_break : (to : ℕ) (whole : Passage) (s : Stage) (t₁ t₂ t₃ u₁ u₂ : Option (List ℕ)) → to < s.block_end
-    → HasBlocksLeft to whole s t₁ t₂ u₁ u₂ → TookPart t₂ t₃ (clocks_fire to s).lines → BreaksOff whole t₁ t₃ u₁ u₂
+    → HasBlocksLeft to whole s t₁ t₂ u₁ u₂ → TookPart t₂ t₃ (lines_of (clocks_fire to s).items) → BreaksOff whole t₁ t₃ u₁ u₂
 clocks_break to whole s t₁ t₂ t₃ u₁ u₂ later left off =
     way_breaks whole (rest_of left.count to) (time_is to) (clocks_fire to s) s t₁ t₂ t₃ u₁ u₂ u₂ left.way (rest_none left.count to s later)
-    (soundless_off (clocks_fire to s) t₂ t₃ u₂ off)
+    (soundless_off (clocks_fire to s) t₂ t₃ u₂ (fires_told (10000 - s.fired) to s) off)
 
 -- a block: its clocks, and then its samples
-pub block_passes : (s s' : Stage) (t u u' : Option (List ℕ)) → s' ≡ (block_sounds s).stage → u' ≡ grown u (block_sounds s).samples → Passes (block_sounds s) s' t t u u'
+block_heard : (s : Stage) → IsHeard (block_sounds s)
 unfolding block_sounds
-block_passes s s' t u u' is more = record { says = record { stage_is = is; lines_are = printed_nothing t [] refl }; samples_are = more }
+block_heard s = heard_samples (with_played s (played_at s)) (block_bytes (played_at s).out)
 
-pub block_off : (s : Stage) (t u u' : Option (List ℕ)) → TookPart u u' (block_sounds s).samples → BreaksOff (block_sounds s) t t u u'
-block_off s t u u' took = record { lines_took = took_none t (block_sounds s).lines; samples_took = took }
+pub block_passes : (s s' : Stage) (t u u' : Option (List ℕ)) → s' ≡ (block_sounds s).stage → u' ≡ grown u (samples_of (block_sounds s).items)
+    → Passes (block_sounds s) s' t t u u'
+block_passes s s' t u u' is more = wordless (block_sounds s) s' t u u' (block_heard s) is more
+
+pub block_off : (s : Stage) (t u u' : Option (List ℕ)) → TookPart u u' (samples_of (block_sounds s).items) → BreaksOff (block_sounds s) t t u u'
+block_off s t u u' took = wordless_off (block_sounds s) t u u' (block_heard s) took
 
 -- whether a block has begun
 pub is_begun : (s : Stage) → s.block_end < s.time + 64000000000 → finished s ≡ block_runs s

@@ -15,10 +15,10 @@ use Rattle.pd_script.specs.declared.commands.Command.TheVariants as command
 use Rattle.pd_block.specs.Nets as block
 use Rattle.pd_block.specs.Blocks.{block_within, block_of}
 use Rattle.pd_block.proofs.LevelLemmas.{levels_grown}
-use Rattle.pd_engine.specs.Stages.{Stage, Passage, followed_by}
-use Rattle.pd_engine.specs.Events.{Beginning, Message, Loading, event, delivered}
+use Rattle.pd_stage.specs.Stages.{Stage, Passage, followed_by}
+use Rattle.pd_stage.specs.Events.{Beginning, Message, Loading, event, delivered}
 use Rattle.pd_engine.specs.Messages.{message_in}
-use Rattle.pd_engine.specs.Times.{IsStageOf, block_units, block_net, sound_at, played_at, taken_off, with_taken, with_fired, fires, fires_or_not, fires_below, next_clock, most_fired, clocks_fire, block_sounds, block_runs, blocks_run, advanced, finished}
+use Rattle.pd_stage.specs.Times.{IsStageOf, block_units, block_net, sound_at, played_at, taken_off, with_taken, with_fired, fires, fires_or_not, fires_below, next_clock, most_fired, clocks_fire, block_sounds, block_runs, blocks_run, advanced, finished}
 use Rattle.pd_engine.specs.Commands.{commanded}
 use Rattle.pd_engine.specs.Opening.{Grows, opened, first_stage, growth_of}
 

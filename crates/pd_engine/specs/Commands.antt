@@ -18,8 +18,8 @@ use Rattle.pd_hearing.specs.Worlds.{Net}
 use Rattle.pd_engine.specs.declared.refusals.Outcome.{Outcome}
 use Rattle.pd_engine.specs.declared.refusals.Outcome.TheVariants.{Done, Refused, Nothing}
 use Rattle.pd_engine.specs.declared.refusals.EditRefusal.TheVariants.{NoDocument}
-use Rattle.pd_engine.specs.Stages.{Stage, Passage, saying, joined}
-use Rattle.pd_engine.specs.Events.{event, Message}
+use Rattle.pd_stage.specs.Stages.{Stage, Passage, saying, joined}
+use Rattle.pd_stage.specs.Events.{event, Message}
 use Rattle.pd_engine.specs.Messages.{message_in}
 
 -- the canvas to which a path of box numbers leads from a canvas

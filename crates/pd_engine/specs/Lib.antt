@@ -1,9 +1,7 @@
 pub mod Causes
 pub mod Commands
-pub mod Events
 pub mod Messages
 pub mod Opening
 pub mod Refusals
 pub mod Remarks
 pub mod Stages
-pub mod Times

@@ -29,11 +29,12 @@ use Rattle.pd_engine.specs.declared.refusals.OpenRefusal.{OpenRefusal}
 use Rattle.pd_engine.specs.declared.refusals.OpenRefusal.TheVariants.{Absent, Bad, ShelfFault, WriteFault, NoMemory}
 use Rattle.pd_engine.specs.declared.refusals.BadCause.{BadCause}
 use Rattle.pd_engine.specs.declared.refusals.BadCause.TheVariants as cause
-use Rattle.pd_engine.specs.Stages.{Stage, Passage, saying, joined, Says}
-use Rattle.pd_engine.specs.Events.{event, Loading}
+use Rattle.pd_stage.specs.Items.{lines_of}
+use Rattle.pd_stage.specs.Stages.{Stage, Passage, saying, joined, Says}
+use Rattle.pd_stage.specs.Events.{event, Loading}
 use Rattle.pd_engine.specs.Refusals.{unread}
 use Rattle.pd_engine.specs.Remarks.{remarks_text}
-use Rattle.pd_engine.specs.Times.{block_units}
+use Rattle.pd_stage.specs.Times.{block_units}
 
 -- a patch that has just grown, with these names: the time is 0, and the first block is to come
 abbrev pub first_stage : Patch → Names → Stage
@@ -126,7 +127,7 @@ pub record BreaksOff (holds : Option (List FileRow)) (name : List ℕ) (rate : R
   pub patch : Patch
   pub table : Names
   pub grows : Grows holds name rate d names patch table
-  pub took : TookPart lines lines' (opened patch table).lines
+  pub took : TookPart lines lines' (lines_of (opened patch table).items)
   pub is : e ≡ WriteFault
 
 -- why a document with its names doesn't open

@@ -1,22 +1,7 @@
--- How a patch stands between events, and what a part of a run leads to.
-use Rattle.std.specs.Prelude.{◌≡◌, ℕ, List, [], ◌++◌, Option}
-use Rattle.pd_io.specs.Stream.{grown, TookPart}
-use Rattle.pd_atom.specs.Names.{Names}
-use Rattle.pd_clock.specs.Queue.{Clock}
-use Rattle.pd_kind.specs.declared.states.State.{State}
-use Rattle.pd_hearing.specs.Worlds.{Net, Kept, net_of, states_of}
+-- Where an engine stands.
+use Rattle.pd_hearing.specs.Worlds.{net_of, states_of}
+use Rattle.pd_stage.specs.Stages.{Stage}
 use Rattle.pd_engine.specs.declared.engine.Engine.{Engine}
-
--- A patch between events: what messages leave as it is; what the boxes keep, their clocks, and the table of names; the time; when the
--- block ends that comes next; and how many clocks fired since the last block.
-pub record Stage : Type 0 where
-  pub net : Net
-  pub states : ℕ → Option State
-  pub clocks : List Clock
-  pub names : Names
-  pub time : ℕ
-  pub block_end : ℕ
-  pub fired : ℕ
 
 -- what an engine stands at
 abbrev pub stage_of : Engine → Stage
@@ -29,56 +14,3 @@ stage_of e = record {
   block_end = e.block_end;
   fired = e.fired;
 }
-
--- the same with another table of names
-abbrev pub with_names : Stage → Names → Stage
-with_names s names = record {
-  net = s.net;
-  states = s.states;
-  clocks = s.clocks;
-  names = names;
-  time = s.time;
-  block_end = s.block_end;
-  fired = s.fired;
-}
-
--- what messages change, where no edit waits
-abbrev pub kept_at : Stage → Kept
-kept_at s = record { states = s.states; clocks = s.clocks; names = s.names; queue = [] }
-
--- What a part of a run leads to: where the patch stands then, and the bytes of the lines and of the samples on the way.
-pub record Passage : Type 0 where
-  pub stage : Stage
-  pub lines : List ℕ
-  pub samples : List ℕ
-
--- nothing happens
-abbrev pub still : Stage → Passage
-still s = record { stage = s; lines = []; samples = [] }
-
--- only lines are said
-abbrev pub saying : Stage → List ℕ → Passage
-saying s lines = record { stage = s; lines = lines; samples = [] }
-
--- one part and then another
-abbrev pub joined : Passage → Passage → Passage
-joined p q = record { stage = q.stage; lines = p.lines ++ q.lines; samples = p.samples ++ q.samples }
-
--- one part, and then what follows from where it leads
-abbrev pub followed_by : Passage → (Stage → Passage) → Passage
-followed_by p next = joined p (next p.stage)
-
--- the lines of a part of a run were taken, and it has come to its end
-pub record Says (p : Passage) (stage : Stage) (lines lines' : Option (List ℕ)) : Type 0 where
-  pub stage_is : stage ≡ p.stage
-  pub lines_are : lines' ≡ grown lines p.lines
-
--- so were its samples
-pub record Passes (p : Passage) (stage : Stage) (lines lines' pcm pcm' : Option (List ℕ)) : Type 0 where
-  pub says : Says p stage lines lines'
-  pub samples_are : pcm' ≡ grown pcm p.samples
-
--- a part of a run broke off: a first part of its lines was taken, and of its samples
-pub record BreaksOff (p : Passage) (lines lines' pcm pcm' : Option (List ℕ)) : Type 0 where
-  pub lines_took : TookPart lines lines' p.lines
-  pub samples_took : TookPart pcm pcm' p.samples

@@ -4,7 +4,9 @@ ghost use Rattle.std.specs.Prelude.{◌≡◌, ◌≤◌, OnOk, OnErr, IfOk};
 ghost use Rattle.pd_io.specs.Stream.{grown, TookPart};
 ghost use Rattle.pd_say.specs.Gathering.{HasCause};
 ghost use Rattle.pd_say.specs.Lines.{refusal_text};
-ghost use Rattle.pd_engine.specs.Stages.{stage_of, saying, Says};
+ghost use Rattle.pd_stage.specs.Items.{lines_of};
+ghost use Rattle.pd_stage.specs.Stages.{saying, Says};
+ghost use Rattle.pd_engine.specs.Stages.{stage_of};
 ghost use Rattle.pd_engine.specs.Commands.{commanded, answered, sent, shown, cut_line, refused_as};
 
 use crate::engine::Engine;
@@ -29,7 +31,7 @@ impl Engine {
     ) -> Result<Outcome, SinkFailed>
         ensures ok { OnOk result (Says (commanded cmd.now (stage_of self.old)) (stage_of self.new) (L.taken lines.old) (L.taken lines.new)) }
         ensures answer { IfOk result (λ outcome. outcome ≡ answered cmd.now) }
-        ensures err { OnErr result (TookPart (L.taken lines.old) (L.taken lines.new) (commanded cmd.now (stage_of self.old)).lines) }
+        ensures err { OnErr result (TookPart (L.taken lines.old) (L.taken lines.new) (lines_of (commanded cmd.now (stage_of self.old)).items)) }
         ensures cause { HasCause (L.faults lines.old) (L.faults lines.new) result }
         ensures stays { self.new.stopped ≡ self.old.stopped }
         ensures library { self.new.library ≡ self.old.library }
@@ -53,7 +55,7 @@ impl Engine {
     ) -> Result<Outcome, SinkFailed>
         ensures ok { OnOk result (Says (sent name atoms.now (stage_of self.old)) (stage_of self.new) (L.taken lines.old) (L.taken lines.new)) }
         ensures answer { IfOk result (λ outcome. outcome ≡ Outcome.Done) }
-        ensures err { OnErr result (TookPart (L.taken lines.old) (L.taken lines.new) (sent name atoms.now (stage_of self.old)).lines) }
+        ensures err { OnErr result (TookPart (L.taken lines.old) (L.taken lines.new) (lines_of (sent name atoms.now (stage_of self.old)).items)) }
         ensures cause { HasCause (L.faults lines.old) (L.faults lines.new) result }
         ensures stays { self.new.stopped ≡ self.old.stopped }
         ensures library { self.new.library ≡ self.old.library }
@@ -89,7 +91,7 @@ impl Engine {
     fn show_at<L: Sink>(&mut self, path: &[u32], lines: &mut L) -> Result<Outcome, SinkFailed>
         ensures ok { OnOk result (Says (saying (stage_of self.old) (shown (stage_of self.old).net path.now)) (stage_of self.new) (L.taken lines.old) (L.taken lines.new)) }
         ensures answer { IfOk result (λ outcome. outcome ≡ Outcome.Done) }
-        ensures err { OnErr result (TookPart (L.taken lines.old) (L.taken lines.new) (shown (stage_of self.old).net path.now)) }
+        ensures err { OnErr result (TookPart (L.taken lines.old) (L.taken lines.new) (lines_of (saying (stage_of self.old) (shown (stage_of self.old).net path.now)).items)) }
         ensures cause { HasCause (L.faults lines.old) (L.faults lines.new) result }
         ensures stays { self.new.stopped ≡ self.old.stopped }
         ensures library { self.new.library ≡ self.old.library }
@@ -114,7 +116,7 @@ impl Engine {
     ) -> Result<Outcome, SinkFailed>
         ensures ok { OnOk result (Says (saying (stage_of self.old) (refusal_text request why)) (stage_of self.new) (L.taken lines.old) (L.taken lines.new)) }
         ensures answer { IfOk result (λ outcome. outcome ≡ refused_as why) }
-        ensures err { OnErr result (TookPart (L.taken lines.old) (L.taken lines.new) (refusal_text request why)) }
+        ensures err { OnErr result (TookPart (L.taken lines.old) (L.taken lines.new) (lines_of (saying (stage_of self.old) (refusal_text request why)).items)) }
         ensures cause { HasCause (L.faults lines.old) (L.faults lines.new) result }
         ensures stays { self.new.stopped ≡ self.old.stopped }
         ensures library { self.new.library ≡ self.old.library }

@@ -9,8 +9,10 @@ ghost use Rattle.pd_script.specs.Options.{Gives};
 ghost use Rattle.pd_script.specs.Tokens.{tokens_of};
 ghost use Rattle.pd_script.specs.Tables.{ScriptOf};
 ghost use Rattle.pd_script.specs.Scripts.{command_of};
-ghost use Rattle.pd_engine.specs.Stages.{stage_of, with_names, Says, Passes, BreaksOff};
-ghost use Rattle.pd_engine.specs.Times.{advanced, finished};
+ghost use Rattle.pd_stage.specs.Items.{lines_of};
+ghost use Rattle.pd_stage.specs.Stages.{with_names, Says, Passes, BreaksOff};
+ghost use Rattle.pd_engine.specs.Stages.{stage_of};
+ghost use Rattle.pd_stage.specs.Times.{advanced, finished};
 ghost use Rattle.pd_engine.specs.Commands.{commanded, answered};
 
 use crate::refusals::{EngineFault, Outcome};
@@ -85,7 +87,7 @@ impl Engine {
     pub fn command<L: Sink>(&mut self, cmd: &Command, lines: &mut L) -> Result<Outcome, EngineFault>
         ensures said { OnOk result (Says (commanded cmd.now (stage_of self.old)) (stage_of self.new) (L.taken lines.old) (L.taken lines.new)) }
         ensures answer { IfOk result (λ outcome. outcome ≡ answered cmd.now) }
-        ensures part { OnErr result (TookPart (L.taken lines.old) (L.taken lines.new) (commanded cmd.now (stage_of self.old)).lines) }
+        ensures part { OnErr result (TookPart (L.taken lines.old) (L.taken lines.new) (lines_of (commanded cmd.now (stage_of self.old)).items)) }
         ensures stopped { self.old.stopped ≡ true → IsErrOf result EngineFault.Stopped }
         ensures stopped_before { IsErrOf result EngineFault.Stopped → self.old.stopped ≡ true }
         ensures nothing { self.old.stopped ≡ true → (self.new ≡ self.old) × (L.taken lines.new ≡ L.taken lines.old) }

@@ -3,8 +3,10 @@
 ghost use Rattle.std.specs.Prelude.{◌≡◌, ◌≤◌, OnOk, OnErr, length};
 ghost use Rattle.pd_io.specs.Stream.{grown, TookPart};
 ghost use Rattle.pd_say.specs.Gathering.{HasCause};
-ghost use Rattle.pd_engine.specs.Stages.{stage_of, Says};
-ghost use Rattle.pd_engine.specs.Events.{event, beginning_of, refusals};
+ghost use Rattle.pd_stage.specs.Items.{lines_of};
+ghost use Rattle.pd_stage.specs.Stages.{Says};
+ghost use Rattle.pd_engine.specs.Stages.{stage_of};
+ghost use Rattle.pd_stage.specs.Events.{event, beginning_of, refusals};
 
 use crate::engine::Engine;
 use crate::printing::print_refusal;
@@ -20,7 +22,7 @@ impl Engine {
         lines: &mut L,
     ) -> Result<(), SinkFailed>
         ensures ok { OnOk result (Says (event (stage_of self.old) (beginning_of start.now)) (stage_of self.new) (L.taken lines.old) (L.taken lines.new)) }
-        ensures err { OnErr result (TookPart (L.taken lines.old) (L.taken lines.new) (event (stage_of self.old) (beginning_of start.now)).lines) }
+        ensures err { OnErr result (TookPart (L.taken lines.old) (L.taken lines.new) (lines_of (event (stage_of self.old) (beginning_of start.now)).items)) }
         ensures cause { HasCause (L.faults lines.old) (L.faults lines.new) result }
         ensures stays { self.new.stopped ≡ self.old.stopped }
         ensures library { self.new.library ≡ self.old.library }

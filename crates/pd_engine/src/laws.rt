@@ -8,8 +8,8 @@ ghost use Rattle.pd_clock.specs.declared.times.Rate.{Rate};
 ghost use Rattle.pd_patch.specs.declared.patch.Patch.{Patch};
 ghost use Rattle.pd_script.specs.declared.commands.Command.{Command};
 ghost use Rattle.pd_block.specs.Blocks.{block_within};
-ghost use Rattle.pd_engine.specs.Stages.{Stage};
-ghost use Rattle.pd_engine.specs.Times.{IsStageOf, block_units, block_net, sound_at, played_at, clocks_fire, block_sounds, advanced, finished};
+ghost use Rattle.pd_stage.specs.Stages.{Stage};
+ghost use Rattle.pd_stage.specs.Times.{IsStageOf, block_units, block_net, sound_at, played_at, clocks_fire, block_sounds, advanced, finished};
 ghost use Rattle.pd_engine.specs.Commands.{commanded};
 ghost use Rattle.pd_engine.specs.Opening.{Grows, opened};
 

@@ -1,9 +1,8 @@
 //! Events in time: opening, commands, clocks and blocks.
 //!
-//! Between events a patch stands at a stage: what messages leave as it is, what the boxes keep, the clocks, the
-//! table of names, the time, when the next block ends, and how many clocks fired since the last one. Each call is a
-//! function of the stage: it gives the stage after it and the bytes of the lines and samples on the way, and the
-//! code does exactly that.
+//! Between events a patch stands at a stage (`pd_stage`). Each call is a function of the stage: it gives the stage
+//! after it and what happens on the way, lines and samples in one list in their order, and the code does exactly
+//! that.
 //!
 //! `command` does what its command says: a `send` is its event, that is pd_walk's deliveries under 1,000,000, and
 //! then a line for each edit that was asked for, which is refused; `show` prints the order of the canvas that its
@@ -11,10 +10,10 @@
 //! the steps to a time: each block that ends by it runs, after the clocks below its end, and its samples are
 //! written; then the clocks below the time fire, each the first that was set among those of the least time, at most
 //! 10,000 between two blocks; then it is that time. `finish` runs the block that has begun, after its clocks. Where
-//! a sink fails, the lines that it took are a first part of those, and so are the samples (`part`); `WriteFault`
-//! comes only where a count of faults of the sinks rose in that call (`cause`); after it, and only after it, calls
-//! answer `Stopped`, and then nothing changes (`nothing`). `read_record` is pd_script's reading on the engine's own
-//! table.
+//! a sink fails, the sinks took the lines and the samples of one first part of that list, and so no sample before a
+//! line that comes first (`part`); `WriteFault` comes only where a count of faults of the sinks rose in that call
+//! (`cause`); after it, and only after it, calls answer `Stopped`, and then nothing changes (`nothing`).
+//! `read_record` is pd_script's reading on the engine's own table.
 //!
 //! `open` and `from_doc` (`opens`): the document is what pd_doc's definition reads of the file, which is the one
 //! that the folder holds where it tells; its files are gathered; it and they are proper; the patch is one that
@@ -33,8 +32,8 @@
 //! patch may have: the lines of `show` tell all boxes of an order, and the line of a signal loop, which is printed
 //! where a patch opens, all boxes of the loop (`pd_steady`).
 //!
-//! Definitions: `Stages` (stages, and parts of a run), `Events`, `Times`, `Commands`, `Messages`, `Opening`,
-//! `Remarks` (lines of growth), `Refusals`, `Causes`.
+//! Definitions: `Stages` (where an engine stands), `Commands`, `Messages`, `Opening`, `Remarks` (lines of growth),
+//! `Refusals`, `Causes`; events, clocks and blocks are those of `pd_stage`.
 #![tactic(auto)]
 
 mod commands;

@@ -12,7 +12,9 @@ ghost use Rattle.pd_patch.specs.Grown.{IsFresh, IsTree};
 ghost use Rattle.pd_patch.specs.Report.{notices_in, loads_among};
 ghost use Rattle.pd_say.specs.Gathering.{HasCause};
 ghost use Rattle.pd_engine.specs.Causes.{HasOpeningCauses};
-ghost use Rattle.pd_engine.specs.Stages.{stage_of, Says};
+ghost use Rattle.pd_stage.specs.Items.{lines_of};
+ghost use Rattle.pd_stage.specs.Stages.{Says};
+ghost use Rattle.pd_engine.specs.Stages.{stage_of};
 ghost use Rattle.pd_engine.specs.Opening.{first_stage, loaded, growth_of, GathersAll, Opens, IsUngathered, IsUngrown, IsRefused, Reads, IsUnread, IsUnreadText, OpensFile, IsFileRefused};
 ghost use Rattle.pd_engine.specs.Remarks.{remarks_text};
 
@@ -237,7 +239,7 @@ fn begin<L: Sink>(
     ensures running { IfOk result (λ e. e.stopped ≡ false) }
     ensures library { IfOk result (λ e. e.library ≡ library) }
     ensures ok { IfOk result (λ e. Says (loaded (first_stage patch symbols) (remarks_text symbols patch report.notices.items) report.fresh.items) (stage_of e) (L.taken lines.old) (L.taken lines.new)) }
-    ensures err { OnErr result (TookPart (L.taken lines.old) (L.taken lines.new) (loaded (first_stage patch symbols) (remarks_text symbols patch report.notices.items) report.fresh.items).lines) }
+    ensures err { OnErr result (TookPart (L.taken lines.old) (L.taken lines.new) (lines_of (loaded (first_stage patch symbols) (remarks_text symbols patch report.notices.items) report.fresh.items).items)) }
     ensures fault { IfErr result (λ e. e ≡ OpenRefusal.WriteFault) }
     ensures causes { HasOpeningCauses 0 0 (L.faults lines.old) (L.faults lines.new) result }
 {
@@ -269,7 +271,7 @@ impl Engine {
     /// Prints the lines of growth, and loads the load boxes.
     fn load_whole<L: Sink>(&mut self, report: &Report, lines: &mut L) -> Result<(), SinkFailed>
         ensures ok { OnOk result (Says (loaded (stage_of self.old) (remarks_text self.old.symbols self.old.patch report.now.notices.items) report.now.fresh.items) (stage_of self.new) (L.taken lines.old) (L.taken lines.new)) }
-        ensures err { OnErr result (TookPart (L.taken lines.old) (L.taken lines.new) (loaded (stage_of self.old) (remarks_text self.old.symbols self.old.patch report.now.notices.items) report.now.fresh.items).lines) }
+        ensures err { OnErr result (TookPart (L.taken lines.old) (L.taken lines.new) (lines_of (loaded (stage_of self.old) (remarks_text self.old.symbols self.old.patch report.now.notices.items) report.now.fresh.items).items)) }
         ensures cause { HasCause (L.faults lines.old) (L.faults lines.new) result }
         ensures stays { self.new.stopped ≡ self.old.stopped }
         ensures library { self.new.library ≡ self.old.library }

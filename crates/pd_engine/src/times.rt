@@ -5,8 +5,10 @@ ghost use Rattle.pd_io.specs.Stream.{grown, TookPart};
 ghost use Rattle.pd_say.specs.Gathering.{HasCause};
 ghost use Rattle.pd_clock.specs.Queue.{Clock};
 ghost use Rattle.pd_engine.specs.Causes.{HasCauses};
-ghost use Rattle.pd_engine.specs.Stages.{stage_of, Says, Passes, BreaksOff};
-ghost use Rattle.pd_engine.specs.Times.{fires_at, clocks_fire, block_sounds, block_runs, with_time, advanced, finished};
+ghost use Rattle.pd_stage.specs.Items.{lines_of, samples_of};
+ghost use Rattle.pd_stage.specs.Stages.{Says, Passes, BreaksOff};
+ghost use Rattle.pd_engine.specs.Stages.{stage_of};
+ghost use Rattle.pd_stage.specs.Times.{fires_at, clocks_fire, block_sounds, block_runs, with_time, advanced, finished};
 
 use crate::engine::Engine;
 use pd_block::run_block;
@@ -83,8 +85,8 @@ impl Engine {
     /// Runs the boxes for the next block, and writes its samples.
     fn sound_block<P: Sink>(&mut self, pcm: &mut P) -> Result<(), SinkFailed>
         ensures stage { stage_of self.new ≡ (block_sounds (stage_of self.old)).stage }
-        ensures ok { OnOk result (P.taken pcm.new ≡ grown (P.taken pcm.old) (block_sounds (stage_of self.old)).samples) }
-        ensures err { OnErr result (TookPart (P.taken pcm.old) (P.taken pcm.new) (block_sounds (stage_of self.old)).samples) }
+        ensures ok { OnOk result (P.taken pcm.new ≡ grown (P.taken pcm.old) (samples_of (block_sounds (stage_of self.old)).items)) }
+        ensures err { OnErr result (TookPart (P.taken pcm.old) (P.taken pcm.new) (samples_of (block_sounds (stage_of self.old)).items)) }
         ensures cause { HasCause (P.faults pcm.old) (P.faults pcm.new) result }
         ensures stays { self.new.stopped ≡ self.old.stopped }
         ensures library { self.new.library ≡ self.old.library }
@@ -104,7 +106,7 @@ impl Engine {
     /// Fires the clocks below a time, at most 10,000 between two blocks.
     fn fire_below<L: Sink>(&mut self, limit: Time, lines: &mut L) -> Result<(), SinkFailed>
         ensures ok { OnOk result (Says (clocks_fire limit (stage_of self.old)) (stage_of self.new) (L.taken lines.old) (L.taken lines.new)) }
-        ensures err { OnErr result (TookPart (L.taken lines.old) (L.taken lines.new) (clocks_fire limit (stage_of self.old)).lines) }
+        ensures err { OnErr result (TookPart (L.taken lines.old) (L.taken lines.new) (lines_of (clocks_fire limit (stage_of self.old)).items)) }
         ensures cause { HasCause (L.faults lines.old) (L.faults lines.new) result }
         ensures stays { self.new.stopped ≡ self.old.stopped }
         ensures library { self.new.library ≡ self.old.library }
@@ -122,7 +124,7 @@ impl Engine {
     fn fire<L: Sink>(&mut self, time: Time, owner: u32, lines: &mut L) -> Result<(), SinkFailed>
         requires { self.old.fired ≤ 10000 }
         ensures ok { OnOk result (Says (fires_at (stage_of self.old) time owner) (stage_of self.new) (L.taken lines.old) (L.taken lines.new)) }
-        ensures err { OnErr result (TookPart (L.taken lines.old) (L.taken lines.new) (fires_at (stage_of self.old) time owner).lines) }
+        ensures err { OnErr result (TookPart (L.taken lines.old) (L.taken lines.new) (lines_of (fires_at (stage_of self.old) time owner).items)) }
         ensures cause { HasCause (L.faults lines.old) (L.faults lines.new) result }
         ensures stays { self.new.stopped ≡ self.old.stopped }
         ensures library { self.new.library ≡ self.old.library }

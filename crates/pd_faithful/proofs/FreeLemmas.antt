@@ -12,8 +12,8 @@ use Rattle.pd_script.specs.declared.commands.Script.{Script}
 use Rattle.pd_script.specs.declared.commands.Script.TheVariants as script
 use Rattle.pd_guards.specs.Worlds.{IsSent}
 use Rattle.pd_guards.proofs.MoreLemmas.{name_more, atoms_more}
-use Rattle.pd_engine.specs.Stages.{Stage, Passage, with_names}
-use Rattle.pd_engine.specs.Times.{block_units}
+use Rattle.pd_stage.specs.Stages.{Stage, Passage, with_names}
+use Rattle.pd_stage.specs.Times.{block_units}
 use Rattle.pd_engine.specs.Commands.{commanded}
 use Rattle.pd_steady.specs.Runs.{commanded_by}
 use Rattle.pd_steady.specs.Freely.{event_freely}

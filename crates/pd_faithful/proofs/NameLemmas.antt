@@ -16,9 +16,9 @@ use Rattle.pd_guards.specs.Worlds.{IsInOrder, IsTask, IsStart}
 use Rattle.pd_guards.proofs.FactLemmas.{either_by}
 use Rattle.pd_guards.proofs.SameTurns.{Agree}
 use Rattle.pd_guards.proofs.WalkLemmas.{name_in, asked_in, done_in, done_names, IsTaskAt, stays_in, others_in, follow_in, Delivers, outcome_ends}
-use Rattle.pd_engine.specs.Stages.{Stage, Passage, kept_at, still, followed_by}
-use Rattle.pd_engine.specs.Events.{Firing, begun, event}
-use Rattle.pd_engine.specs.Times.{most_fired, first_clock, if_below, next_clock, taken_off, with_taken, with_fired, fires, fires_or_not, fires_below, clocks_fire, block_sounds, block_runs, blocks_run, advanced}
+use Rattle.pd_stage.specs.Stages.{Stage, Passage, kept_at, still, followed_by}
+use Rattle.pd_stage.specs.Events.{Firing, begun, event}
+use Rattle.pd_stage.specs.Times.{most_fired, first_clock, if_below, next_clock, taken_off, with_taken, with_fired, fires, fires_or_not, fires_below, clocks_fire, block_sounds, block_runs, blocks_run, advanced}
 use Rattle.pd_steady.specs.Steady.{IsSteady}
 use Rattle.pd_steady.proofs.EventLemmas.{Guards, event_free}
 use Rattle.pd_steady.proofs.TimeLemmas.{block_free}

@@ -10,8 +10,8 @@ use Rattle.pd_script.specs.Scripts.{command_of}
 use Rattle.pd_script.specs.declared.commands.Command.{Command}
 use Rattle.pd_script.specs.declared.commands.Script.{Script}
 use Rattle.pd_script.specs.declared.commands.Script.TheVariants as script
-use Rattle.pd_engine.specs.Stages.{Stage, Passage, with_names, joined, followed_by}
-use Rattle.pd_engine.specs.Events.{event}
+use Rattle.pd_stage.specs.Stages.{Stage, Passage, with_names, joined, followed_by}
+use Rattle.pd_stage.specs.Events.{event}
 use Rattle.pd_engine.specs.Commands.{commanded}
 use Rattle.pd_steady.specs.Runs.{Events, commanded_by}
 use Rattle.pd_steady.proofs.OwnLemmas.{commanded_own, advanced_own, finished_own}

@@ -9,10 +9,10 @@ use Rattle.pd_script.specs.Tokens.{tokens_of}
 use Rattle.pd_script.specs.Scripts.{command_of}
 use Rattle.pd_script.specs.declared.commands.Script.{Script}
 use Rattle.pd_script.specs.declared.commands.Script.TheVariants as script
-use Rattle.pd_engine.specs.Stages.{Stage, Passage, with_names, joined}
-use Rattle.pd_engine.specs.Events.{event}
+use Rattle.pd_stage.specs.Stages.{Stage, Passage, with_names, joined}
+use Rattle.pd_stage.specs.Events.{event}
 use Rattle.pd_engine.specs.Commands.{commanded}
-use Rattle.pd_engine.proofs.PassageLemmas.{joined_assoc}
+use Rattle.pd_stage.proofs.PassageLemmas.{joined_assoc}
 use Rattle.pd_steady.specs.Steps.{Step, Does, Learns, Comes, IsStep, step_by, steps_by}
 use Rattle.pd_steady.proofs.OwnLemmas.{commanded_own, finished_own}
 use Rattle.pd_play.specs.Runs.{Point, Run, Ending, Whole, Broken, most_time, at_stage, at_time, counted, ended, bad, behind, millionths, reached, done, said_run, read_run, record_run, records_run, end_run, run_of}

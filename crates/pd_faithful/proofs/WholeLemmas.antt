@@ -1,5 +1,5 @@
 -- A patch opens at a steady point, and from there nothing is passed over.
-use Rattle.std.proofs.Common.{◌≡◌, ◌≤◌, ℕ, List, [], Option, refl, sym, ap, subst, ◌∙◌, arith}
+use Rattle.std.proofs.Common.{◌≡◌, ◌≤◌, ◌⊎◌, inl, inr, ℕ, List, Option, sym, ap, subst, ◌∙◌, arith}
 use Rattle.pd_io.specs.Stream.{grown}
 use Rattle.pd_io.specs.declared.files.FileRow.{FileRow}
 use Rattle.pd_atom.specs.Names.{Names}
@@ -10,18 +10,21 @@ use Rattle.pd_clock.specs.Rates.{samples}
 use Rattle.pd_feed.specs.Script.{Script as Text, script_of}
 use Rattle.pd_patch.specs.declared.patch.Patch.{Patch}
 use Rattle.pd_say.proofs.GatheringLemmas.{printed_nothing}
-use Rattle.pd_engine.specs.Stages.{Stage, Passage, saying}
-use Rattle.pd_engine.specs.Events.{event}
+use Rattle.pd_stage.specs.Stages.{Stage, Passage, saying}
+use Rattle.pd_stage.specs.Items.{samples_of}
 use Rattle.pd_engine.specs.Opening.{Files, Grows, OpensFile, opened}
-use Rattle.pd_engine.proofs.PassageLemmas.{joined_assoc}
+use Rattle.pd_engine.proofs.OpeningLemmas.{opened_told}
+use Rattle.pd_stage.proofs.PassageLemmas.{told_silent, joined_assoc}
 use Rattle.pd_steady.specs.Runs.{opened_by}
 use Rattle.pd_steady.specs.Freely.{event_freely}
 use Rattle.pd_steady.specs.Steady.{IsSteady}
 use Rattle.pd_play.specs.Ending.{status_line}
-use Rattle.pd_play.specs.Runs.{Run, Ending, most_time, behind, run_of}
+use Rattle.pd_feed.specs.Feed.{IsAtEnd}
+use Rattle.pd_play.specs.Runs.{Run, Ending, Broken, most_time, behind, run_of, MeetsEnd}
 use Rattle.pd_play.specs.Playing.{Plays}
 use Rattle.pd_play.specs.Patches.{start, with_line, Tells, PlaysOpened}
 use Rattle.pd_play.specs.declared.status.Status.{Status}
+use Rattle.pd_play.specs.declared.status.Status.TheVariants.{Done}
 use Rattle.pd_play.proofs.RunLemmas.{played_behind}
 use Rattle.pd_faithful.specs.Scripts.{run_of_by, played_by}
 use Rattle.pd_faithful.specs.Points.{most_units, IsSteadyAt}
@@ -49,11 +52,6 @@ few_samples hz.R96000 = omega arith
 starts_steady : (s : Stage) (rate : Rate) → IsSteady most_units s → IsSteadyAt (start s (samples rate))
 starts_steady s rate h = record { stage = h; rate = few_samples rate; time = early most_time }
 
--- an opening writes no samples
-opened_soundless : (p : Patch) (table : Names) → (opened p table).samples ≡ []
-unfolding event
-opened_soundless p table = refl
-
 line_behind : (name : List ℕ) (part : Passage) (run : Run) → with_line name (behind part run) ≡ behind part (with_line name run)
 line_behind name part run =
     ap (λ (x : Passage). record { status = run.status; passage = x }) (joined_assoc part run.passage (saying run.passage.stage (status_line name run.status)))
@@ -72,6 +70,14 @@ module _ (opens : Opens) where
       ∙ ap (λ (r : Run). behind (opened p table) r)
       (run_free opens.laws ending text (start (opened p table).stage (samples rate)) (starts_steady (opened p table).stage rate (opens.steady holds name rate d names table p most_units g)))
 
+  ended_free : (holds : Option (List FileRow)) (name : List ℕ) (rate : Rate) (d : Page) (names table : Names) (p : Patch) (text : Text) (s : Stage) (left : Option (List ℕ))
+      (status : Status) → Grows holds name rate d names p table → s ≡ (opened p table).stage → IsAtEnd left ⊎ MeetsEnd text (start s (samples rate))
+      → IsAtEnd left ⊎ ((played_by event_freely p table (samples rate) Broken text).status ≡ Done)
+  ended_free holds name rate d names table p text s left status g is (inl h) = inl h
+  ended_free holds name rate d names table p text s left status g is (inr h) =
+      inr (ap (λ (r : Run). r.status) (whole_free holds name rate d names table p Broken text g)
+      ∙ ap (λ (x : Stage). (run_of Broken text (start x (samples rate))).status) (sym is) ∙ h)
+
   pub plays_free : (holds : Option (List FileRow)) (name : List ℕ) (rate : Rate) (status : Status) (left left' : Option (List ℕ)) (read read' : ℕ) (lines lines' pcm pcm' : Option (List ℕ))
       → PlaysOpened holds name rate status left left' read read' lines lines' pcm pcm' → PlaysFreely holds name rate status left left' read read' lines lines' pcm pcm'
   plays_free holds name rate status left left' read read' lines lines' pcm pcm' h =
@@ -81,7 +87,7 @@ module _ (opens : Opens) where
       let run : Stage → Run = λ s. run_of h.plays.ending text (start s (samples rate)) in
       let tells : Tells name (run first.stage) status h.printed lines' pcm pcm' =
       subst (λ (s : Stage). Tells name (run s) status h.printed lines' pcm pcm') o.says.stage_is h.plays.tells in
-      let silent : pcm ≡ grown pcm first.samples = printed_nothing pcm first.samples (opened_soundless o.patch o.table) in
+      let silent : pcm ≡ grown pcm (samples_of first.items) = printed_nothing pcm (samples_of first.items) (told_silent first (opened_told o.patch o.table)) in
       let all : Plays (behind first (with_line name (run first.stage))) status lines lines' pcm pcm' =
       played_behind first (with_line name (run first.stage)) status lines h.printed lines' pcm pcm pcm' o.says.lines_are silent tells in
       record {
@@ -97,4 +103,5 @@ module _ (opens : Opens) where
         tells = subst (λ (r : Run). Plays r status lines lines' pcm pcm')
             (sym (line_behind name first (run first.stage))
             ∙ ap (λ (r : Run). with_line name r) (sym (whole_free holds name rate h.opens.document h.opens.names o.table o.patch h.plays.ending text o.grows))) all;
+        over = λ e. ended_free holds name rate h.opens.document h.opens.names o.table o.patch text h.stage left' status o.grows o.says.stage_is (h.plays.over e);
       }

@@ -1,3 +1,4 @@
 pub mod Scripts
 pub mod Points
 pub mod Whole
+pub mod Complete

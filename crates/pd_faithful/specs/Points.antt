@@ -1,7 +1,7 @@
 -- From which points a script passes nothing over, and the steps of its run.
 use Rattle.std.specs.Prelude.{◌≡◌, ℕ, ◌≤◌, ◌*◌, List}
-use Rattle.pd_engine.specs.Stages.{Stage, Passage, still, followed_by}
-use Rattle.pd_engine.specs.Events as engine
+use Rattle.pd_stage.specs.Stages.{Stage, Passage, still, followed_by}
+use Rattle.pd_stage.specs.Events as engine
 use Rattle.pd_steady.specs.Runs.{Events, finished_by}
 use Rattle.pd_steady.specs.Steady.{IsSteady}
 use Rattle.pd_steady.specs.Steps.{Step, AreSteps, steps_by}

@@ -1,18 +1,42 @@
-//! Laws of scripts: nothing is ever passed over in the run of one. It has no code that runs.
+//! The player, as the program calls it, and the laws of its scripts: no message is ever passed over in a run.
 //!
-//! Where a patch opens, all lines and samples that `play` takes to its sinks are those of the run in which each box
-//! does with each message what its object's definition says, or a first part of them where a sink fails
-//! (`play_passes_nothing_over`), whatever the bytes of the script are. The run is steps, one after another: the
-//! names that a record brings, the time that it comes to, and its command; then the last block, where the run comes
-//! to its end (`scripts_are_steps`). So it goes from each point whose stage is steady, and a patch opens at one
-//! (`scripts_pass_nothing_over`). With pd_engine's own events the run is pd_play's (`scripts_are_by_events`).
+//! Messages are delivered under conditions that the program looks at when it runs, and what is out of order is
+//! passed over, in the definitions of pd_engine and pd_play too. In a run that never comes. So the clause `plays` of
+//! `play` says what a call prints and writes by the run in which each event is the depth-first recursion over the
+//! objects' own definitions, where the words ask for a patch that is there. Its file is read and grows; then come
+//! the lines of opening, the run of the script, whatever its bytes are, and the line of the status, lines and
+//! samples in one list in their order. All of that was taken, and the status is the run's; or a sink failed, the
+//! status is `WriteFault`, and the sinks took the lines and the samples of one first part of it. With `Done` nothing
+//! is left of the script, where the source tells that, or the run met an `end`. Where the patch doesn't open, its
+//! cause is told, no script is read, and no sample is written.
 //!
-//! Definitions: `Scripts` (runs with events that are given), `Points` (steady points, steps), `Whole` (all of a
-//! play).
+//! A run comes to its end where it can (`completes`): the words ask for a patch that is there, the folder and the
+//! source tell what they hold, its file reads and grows within the limits of a patch, with the files that are held,
+//! the script is commands up to its end or to an `end`, and no fault comes. Then the status is `Done`, or memory was
+//! short.
+//!
+//! The other clauses are those of pd_play's `play`: the folder holds what it held (`folder`); a fault has its cause
+//! (`causes`); with other words the usage line is told, and the folder, the source of the script and the samples'
+//! sink are as they were (`usage`, `unplayed`, `untouched`); where memory was short, the source and the samples'
+//! sink are (`short`).
+//!
+//! Laws: from each point whose stage is steady the run of a script is the one in which no message is passed over,
+//! and a patch opens at such a point (`scripts_pass_nothing_over`); so it is in all that `play` takes to its sinks
+//! (`play_passes_nothing_over`). The run is steps, one after another: the names that a record brings, the time that
+//! it comes to, and its command; then the last block, where the run comes to its end (`scripts_are_steps`). With
+//! pd_engine's own events the run is pd_play's (`scripts_are_by_events`).
+//!
+//! Not said here: blocks run as `pd_block` says, which looks at some conditions too. Free: want of memory for the
+//! words or in opening.
+//!
+//! Definitions: `Whole` (a play in which no message is passed over), `Complete` (when a run is sure to end),
+//! `Scripts` (runs with events that are given), `Points` (steady points, steps).
 #![tactic(auto)]
 
 mod laws;
+mod player;
 
 pub use laws::{
     play_passes_nothing_over, scripts_are_by_events, scripts_are_steps, scripts_pass_nothing_over,
 };
+pub use player::play;

@@ -1,5 +1,6 @@
 pub mod AheadLemmas
 pub mod CauseLemmas
+pub mod LateLemmas
 pub mod OpenedLemmas
 pub mod PatchLemmas
 pub mod ReportLemmas

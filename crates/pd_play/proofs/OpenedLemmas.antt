@@ -3,7 +3,7 @@ use Rattle.std.proofs.Common.{◌≡◌, ℕ, ap, ◌∙◌, subst, Option, List
 use Rattle.pd_clock.specs.declared.times.Rate.{Rate}
 use Rattle.pd_clock.specs.Rates.{samples}
 use Rattle.pd_feed.specs.Feed.{Feed}
-use Rattle.pd_engine.specs.Stages.{Stage}
+use Rattle.pd_stage.specs.Stages.{Stage}
 use Rattle.pd_play.specs.Runs.{Point}
 use Rattle.pd_play.specs.Playing.{Ends}
 use Rattle.pd_play.specs.Patches.{unread, start}

@@ -4,8 +4,11 @@ use Rattle.std.specs.Prelude.{IfSome}
 use Rattle.std.proofs.lemmas.List.{append-nil}
 use Rattle.pd_io.specs.Stream.{grown, with_front, TookPart}
 use Rattle.pd_feed.specs.Script.{script_of}
-use Rattle.pd_say.proofs.GatheringLemmas.{grown-grown, took_more, printed_nothing}
-use Rattle.pd_engine.proofs.PassageLemmas.{took_after, took_all}
+use Rattle.pd_say.proofs.GatheringLemmas.{printed_nothing}
+use Rattle.pd_stage.specs.Items.{lines_of, samples_of}
+use Rattle.pd_stage.specs.Stages.{Stage, Passage, saying, BreaksOff}
+use Rattle.pd_stage.proofs.ItemLemmas.{lines-said, samples-said, lines_on, samples_on, lines_said}
+use Rattle.pd_stage.proofs.PassageLemmas.{told_lines, lines_torn, broke, broke_behind, soundless_off}
 use Rattle.pd_io.specs.declared.files.FileRow.{FileRow}
 use Rattle.pd_clock.specs.declared.times.Rate.{Rate}
 use Rattle.pd_clock.specs.declared.times.Rate.TheVariants as hz
@@ -20,7 +23,7 @@ use Rattle.pd_play.specs.Telling.{told, Answers, is_unmade}
 use Rattle.pd_play.specs.Runs.{Point, Run, Ending, Whole, Broken, run_of}
 use Rattle.pd_play.specs.Playing.{Played, Cut, Plays, EndsBy, Ends}
 use Rattle.pd_play.proofs.CauseLemmas.{rose_on}
-use Rattle.pd_play.specs.Patches.{unread, start, Tells, IsScript, PlaysScript, PlaysPatch, PlaysAsked, Runs}
+use Rattle.pd_play.specs.Patches.{unread, start, with_line, Tells, IsScript, PlaysScript, PlaysPatch, PlaysAsked, Runs}
 use Rattle.pd_play.specs.declared.status.Status.{Status}
 use Rattle.pd_play.specs.declared.status.Status.TheVariants.{Done, WriteFault, NoMemory}
 
@@ -45,32 +48,28 @@ short_told : (name : List ℕ) (run : Run) (status how : Status) (t₁ t₂ t₃
     Answers (told name how) status t₂ t₃ x y → Tells name run status t₁ t₃ u u'
 short_told name run status how t₁ t₂ t₃ x y u u' h a =
     let w = write_fault_told name status t₂ t₃ x y (subst (λ (s : Status). Answers (told name s) status t₂ t₃ x y) h.status_is a) in
-    let took = h.breaks_off in
     inr (record {
       status_is = w.0;
-      breaks_off = record {
-        lines_took = subst (λ (t : Option (List ℕ)). TookPart t₁ t (run.passage.lines ++ status_line name run.status)) (sym w.1)
-            (took_more t₁ t₂ run.passage.lines (status_line name run.status) took.lines_took);
-        samples_took = took_more u u' run.passage.samples [] took.samples_took;
-      };
+      breaks_off = subst (λ (t : Option (List ℕ)). BreaksOff (with_line name run).passage t₁ t u u') (sym w.1)
+          (broke run.passage (λ (s : Stage). saying s (status_line name run.status)) t₁ t₂ u u' h.breaks_off);
     })
 
 all_told : (name : List ℕ) (run : Run) (status how : Status) (t₁ t₂ t₃ : Option (List ℕ)) (x y : ℕ) (u u' : Option (List ℕ)) → Played run how t₁ t₂ u u' →
     Answers (told name run.status) status t₂ t₃ x y → Tells name run status t₁ t₃ u u'
 all_told name run status how t₁ t₂ t₃ x y u u' h (inl a) =
+    let said : Passage = saying run.passage.stage (status_line name run.status) in
     inl (record {
       status_is = a.0;
-      lines_are = a.1 ∙ ap (λ (t : Option (List ℕ)). grown t (status_line name run.status)) h.lines_are
-          ∙ grown-grown t₁ run.passage.lines (status_line name run.status);
-      samples_are = h.samples_are ∙ ap (λ (l : List ℕ). grown u l) (sym (append-nil run.passage.samples));
+      lines_are = lines_on t₁ t₂ t₃ run.passage.items said.items h.lines_are (lines_said t₂ t₃ (status_line name run.status) a.1);
+      samples_are = samples_on u u' u' run.passage.items said.items h.samples_are (printed_nothing u' (samples_of said.items) (samples-said (status_line name run.status)));
     })
 all_told name run status how t₁ t₂ t₃ x y u u' h (inr a) =
+    let s : Stage = run.passage.stage in
+    let line : List ℕ = status_line name run.status in
     inr (record {
       status_is = a.0;
-      breaks_off = record {
-        lines_took = took_after t₁ t₂ t₃ run.passage.lines (status_line name run.status) h.lines_are a.2;
-        samples_took = took_more u u' run.passage.samples [] (took_all u u' run.passage.samples h.samples_are);
-      };
+      breaks_off = broke_behind run.passage (saying s line) t₁ t₂ t₃ u u' u' h.lines_are h.samples_are
+          (soundless_off (saying s line) t₂ t₃ u' (told_lines s line) (lines_torn s line t₂ t₃ a.2));
     })
 
 run_told : (name : List ℕ) (run : Run) (status how : Status) (t₁ t₂ t₃ : Option (List ℕ)) (x y : ℕ) (u u' : Option (List ℕ)) → Plays run how t₁ t₂ u u' →

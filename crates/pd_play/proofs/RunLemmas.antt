@@ -5,20 +5,17 @@ use Rattle.std.specs.Prelude.{if◌then◌else◌}
 use Rattle.pd_io.specs.Faults.{Rose}
 use Rattle.pd_io.specs.Stream.{grown, with_front}
 use Rattle.pd_atom.specs.Names.{Names}
-use Rattle.pd_say.proofs.GatheringLemmas.{grown-grown, took_more, printed_nothing}
 use Rattle.pd_feed.specs.Script.{is_shown, fed_of}
 use Rattle.pd_feed.specs.Feed.{Feed, IsAtEnd, Feeds, Waits, script_ahead}
 use Rattle.pd_feed.specs.declared.feed.Fed.{Fed}
 use Rattle.pd_feed.specs.declared.feed.Fed.TheVariants as fed
 use Rattle.pd_script.specs.Tokens.{tokens_of}
 use Rattle.pd_script.specs.Scripts.{command_of}
-use Rattle.pd_script.specs.declared.commands.Command.{Command}
-use Rattle.pd_script.specs.declared.commands.Command.TheVariants as command
 use Rattle.pd_script.specs.declared.commands.Script.{Script}
-use Rattle.pd_engine.specs.Stages.{Stage, Passage, with_names, still, joined, Passes, BreaksOff}
-use Rattle.pd_engine.specs.Events.{event}
-use Rattle.pd_engine.specs.Commands.{commanded}
-use Rattle.pd_engine.proofs.PassageLemmas.{took_after}
+use Rattle.pd_stage.specs.Items.{lines_of, samples_of}
+use Rattle.pd_stage.specs.Stages.{Stage, Passage, with_names, still, joined, Passes, BreaksOff}
+use Rattle.pd_stage.proofs.ItemLemmas.{no_lines, no_samples, lines_on, samples_on}
+use Rattle.pd_stage.proofs.PassageLemmas.{joined_assoc, broke, broke_behind}
 use Rattle.pd_play.specs.declared.status.Status.{Status}
 use Rattle.pd_play.specs.declared.status.Status.TheVariants.{Done, ScriptBad, ReadFault, WriteFault}
 use Rattle.pd_play.specs.Runs.{Point, Run, Ending, Whole, Broken, at_stage, counted, ended, bad, done, behind, goes_on, read_run, timed_run, millionths, record_run, end_run, run_of, MeetsEnd}
@@ -26,29 +23,13 @@ use Rattle.pd_play.specs.Playing.{Plays, GoesOn, Leads, fed_run, ahead, Moves, E
 use Rattle.pd_play.proofs.CauseLemmas.{rose_on}
 use Rattle.pd_play.proofs.AheadLemmas.{told, told_is, record_ahead, too_long_ahead, end_ahead, unfinished_ahead, waits_ahead}
 
--- a command writes no samples
-pub commanded_soundless : (c : Command) (s : Stage) → (commanded c s).samples ≡ []
-unfolding commanded event
-commanded_soundless (command.Send name atoms) s = refl
-commanded_soundless (command.Edit place edit) s = refl
-commanded_soundless (command.Save document) s = refl
-commanded_soundless (command.Show path) s = refl
-commanded_soundless command.Undo s = refl
-commanded_soundless command.Redo s = refl
-
 -- ---- what was played of a run
 
 -- a sink failed in the first part of a run
 pub cut_early : (part : Passage) (run : Run) (status : Status) (t t' u u' : Option (List ℕ)) → status ≡ WriteFault → BreaksOff part t t' u u' →
     Plays (behind part run) status t t' u u'
 cut_early part run status t t' u u' e b =
-    inr (record {
-      status_is = e;
-      breaks_off = record {
-        lines_took = took_more t t' part.lines run.passage.lines b.lines_took;
-        samples_took = took_more u u' part.samples run.passage.samples b.samples_took;
-      };
-    })
+    inr (record { status_is = e; breaks_off = broke part (λ _. run.passage) t t' u u' b })
 
 -- what was played to a run's end without a fault has the run's status
 pub done_is : (run : Run) (status : Status) (t t' u u' : Option (List ℕ)) → Plays run status t t' u u' → status ≡ Done → run.status ≡ Done
@@ -57,25 +38,19 @@ done_is run status t t' u u' (inr h) e = let no : WriteFault ≡ Done = sym h.st
 
 -- the run ends and nothing happens
 pub ended_played : (p : Point) (status : Status) (t u : Option (List ℕ)) → Plays (ended p status) status t t u u
-ended_played p status t u = inl (record { status_is = refl; lines_are = printed_nothing t [] refl; samples_are = printed_nothing u [] refl })
+ended_played p status t u = inl (record { status_is = refl; lines_are = no_lines t; samples_are = no_samples u })
 
 -- a first part was played, and then the rest
-pub played_behind : (part : Passage) (run : Run) (status : Status) (t₁ t₂ t₃ u₁ u₂ u₃ : Option (List ℕ)) → t₂ ≡ grown t₁ part.lines → u₂ ≡ grown u₁ part.samples →
+pub played_behind : (part : Passage) (run : Run) (status : Status) (t₁ t₂ t₃ u₁ u₂ u₃ : Option (List ℕ)) → t₂ ≡ grown t₁ (lines_of part.items) → u₂ ≡ grown u₁ (samples_of part.items) →
     Plays run status t₂ t₃ u₂ u₃ → Plays (behind part run) status t₁ t₃ u₁ u₃
 played_behind part run status t₁ t₂ t₃ u₁ u₂ u₃ a b (inl h) =
     inl (record {
       status_is = h.status_is;
-      lines_are = h.lines_are ∙ ap (λ (o : Option (List ℕ)). grown o run.passage.lines) a ∙ grown-grown t₁ part.lines run.passage.lines;
-      samples_are = h.samples_are ∙ ap (λ (o : Option (List ℕ)). grown o run.passage.samples) b ∙ grown-grown u₁ part.samples run.passage.samples;
+      lines_are = lines_on t₁ t₂ t₃ part.items run.passage.items a h.lines_are;
+      samples_are = samples_on u₁ u₂ u₃ part.items run.passage.items b h.samples_are;
     })
 played_behind part run status t₁ t₂ t₃ u₁ u₂ u₃ a b (inr h) =
-    inr (record {
-      status_is = h.status_is;
-      breaks_off = record {
-        lines_took = took_after t₁ t₂ t₃ part.lines run.passage.lines a h.breaks_off.lines_took;
-        samples_took = took_after u₁ u₂ u₃ part.samples run.passage.samples b h.breaks_off.samples_took;
-      };
-    })
+    inr (record { status_is = h.status_is; breaks_off = broke_behind part run.passage t₁ t₂ t₃ u₁ u₂ u₃ a b h.breaks_off })
 
 -- ---- how a part of the code leads on
 
@@ -100,8 +75,8 @@ part_goes_on p p' part t t' u u' h b c d = record {
 pub nothing_goes_on : (run : (Point → Run) → Run) (p : Point) (t u : Option (List ℕ)) → ((rest : Point → Run) → run rest ≡ rest p) → GoesOn run p t t u u
 nothing_goes_on run p t u same = record {
   part = still p.stage;
-  lines_are = printed_nothing t [] refl;
-  samples_are = printed_nothing u [] refl;
+  lines_are = no_lines t;
+  samples_are = no_samples u;
   same = same;
 }
 
@@ -259,17 +234,13 @@ moves_nothing f p left t u = record {
   given = [];
   came = front_nothing left;
   part = still p.stage;
-  lines_are = printed_nothing t [] refl;
-  samples_are = printed_nothing u [] refl;
+  lines_are = no_lines t;
+  samples_are = no_samples u;
   same = λ ending more. refl;
 }
 
 behind_behind : (p q : Passage) (run : Run) → behind p (behind q run) ≡ behind (joined p q) run
-behind_behind p q run =
-    ap (λ (x : List ℕ). record { status = run.status; passage = record { stage = run.passage.stage; lines = x; samples = p.samples ++ (q.samples ++ run.passage.samples) } })
-    (sym (append_assoc p.lines q.lines run.passage.lines))
-    ∙ ap (λ (x : List ℕ). record { status = run.status; passage = record { stage = run.passage.stage; lines = (p.lines ++ q.lines) ++ run.passage.lines; samples = x } })
-    (sym (append_assoc p.samples q.samples run.passage.samples))
+behind_behind p q run = ap (λ (x : Passage). record { status = run.status; passage = x }) (sym (joined_assoc p q run.passage))
 
 pub moves_on : (f f' f'' : Feed) (p p' p'' : Point) (l₁ l₂ l₃ t₁ t₂ t₃ u₁ u₂ u₃ : Option (List ℕ)) → Moves f p f' p' l₁ l₂ t₁ t₂ u₁ u₂ →
     Moves f' p' f'' p'' l₂ l₃ t₂ t₃ u₂ u₃ → Moves f p f'' p'' l₁ l₃ t₁ t₃ u₁ u₃
@@ -277,8 +248,8 @@ moves_on f f' f'' p p' p'' l₁ l₂ l₃ t₁ t₂ t₃ u₁ u₂ u₃ a b = re
   given = a.given ++ b.given;
   came = a.came ∙ ap (with_front a.given) b.came ∙ front_front a.given b.given l₃;
   part = joined a.part b.part;
-  lines_are = b.lines_are ∙ ap (λ (o : Option (List ℕ)). grown o b.part.lines) a.lines_are ∙ grown-grown t₁ a.part.lines b.part.lines;
-  samples_are = b.samples_are ∙ ap (λ (o : Option (List ℕ)). grown o b.part.samples) a.samples_are ∙ grown-grown u₁ a.part.samples b.part.samples;
+  lines_are = lines_on t₁ t₂ t₃ a.part.items b.part.items a.lines_are b.lines_are;
+  samples_are = samples_on u₁ u₂ u₃ a.part.items b.part.items a.samples_are b.samples_are;
   same = λ ending more.
       ap (λ (x : List ℕ). ahead ending f p x) (append_assoc a.given b.given more) ∙ a.same ending (b.given ++ more)
       ∙ ap (behind a.part) (b.same ending more) ∙ behind_behind a.part b.part (ahead ending f'' p'' more);

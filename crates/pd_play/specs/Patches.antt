@@ -7,7 +7,7 @@ use Rattle.pd_clock.specs.declared.times.Rate.{Rate}
 use Rattle.pd_clock.specs.Rates.{samples}
 use Rattle.pd_feed.specs.Script.{script_of}
 use Rattle.pd_feed.specs.Feed.{Feed, IsAtEnd}
-use Rattle.pd_engine.specs.Stages.{Stage, saying, joined}
+use Rattle.pd_stage.specs.Stages.{Stage, saying, joined}
 use Rattle.pd_engine.specs.Opening.{Files, OpensFile}
 use Rattle.pd_words.specs.Grammar.{Asked}
 use Rattle.pd_play.specs.Ending.{status_line}

@@ -6,7 +6,9 @@ use Rattle.pd_clock.specs.Rates.{samples}
 use Rattle.pd_feed.specs.Feed.{Feed, IsAtEnd, script_ahead}
 use Rattle.pd_feed.specs.declared.feed.Fed.{Fed}
 use Rattle.pd_feed.specs.declared.feed.Fed.TheVariants as fed
-use Rattle.pd_engine.specs.Stages.{Passage, BreaksOff, stage_of}
+use Rattle.pd_stage.specs.Items.{lines_of, samples_of}
+use Rattle.pd_stage.specs.Stages.{Passage, BreaksOff}
+use Rattle.pd_engine.specs.Stages.{stage_of}
 use Rattle.pd_play.specs.Runs.{Point, Run, Ending, Whole, Broken, behind, counted, record_run, end_run, run_of, MeetsEnd}
 use Rattle.pd_play.specs.declared.status.Status.{Status}
 use Rattle.pd_play.specs.declared.status.Status.TheVariants.{Done, WriteFault}
@@ -31,10 +33,10 @@ pub record IsCounted (number : ℕ) (feed : Feed) : Type 0 where
 -- all lines and samples of a run were taken, and it ended so
 pub record Played (run : Run) (status : Status) (lines lines' pcm pcm' : Option (List ℕ)) : Type 0 where
   pub status_is : status ≡ run.status
-  pub lines_are : lines' ≡ grown lines run.passage.lines
-  pub samples_are : pcm' ≡ grown pcm run.passage.samples
+  pub lines_are : lines' ≡ grown lines (lines_of run.passage.items)
+  pub samples_are : pcm' ≡ grown pcm (samples_of run.passage.items)
 
--- a sink failed: a first part of a run's lines and samples was taken
+-- a sink failed: of what happens in a run, lines and samples in their order, the first items were taken
 pub record Cut (run : Run) (status : Status) (lines lines' pcm pcm' : Option (List ℕ)) : Type 0 where
   pub status_is : status ≡ WriteFault
   pub breaks_off : BreaksOff run.passage lines lines' pcm pcm'
@@ -45,8 +47,8 @@ Plays run status lines lines' pcm pcm' = Played run status lines lines' pcm pcm'
 -- Of a run that begins so, a part was played. Whatever the rest is, it goes on from this point.
 pub record GoesOn (run : (Point → Run) → Run) (p : Point) (lines lines' pcm pcm' : Option (List ℕ)) : Type 0 where
   pub part : Passage
-  pub lines_are : lines' ≡ grown lines part.lines
-  pub samples_are : pcm' ≡ grown pcm part.samples
+  pub lines_are : lines' ≡ grown lines (lines_of part.items)
+  pub samples_are : pcm' ≡ grown pcm (samples_of part.items)
   pub same : (rest : Point → Run) → run rest ≡ behind part (rest p)
 
 -- it goes on, or it ends by a status
@@ -70,8 +72,8 @@ pub record Moves (feed : Feed) (p : Point) (feed' : Feed) (p' : Point) (left lef
   pub given : List ℕ
   pub came : left ≡ with_front given left'
   pub part : Passage
-  pub lines_are : lines' ≡ grown lines part.lines
-  pub samples_are : pcm' ≡ grown pcm part.samples
+  pub lines_are : lines' ≡ grown lines (lines_of part.items)
+  pub samples_are : pcm' ≡ grown pcm (samples_of part.items)
   pub same : (ending : Ending) (more : List ℕ) → ahead ending feed p (given ++ more) ≡ behind part (ahead ending feed' p' more)
 
 -- The bytes that are still to come: all that the source has left, where it tells that; or none, where it failed.

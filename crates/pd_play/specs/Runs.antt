@@ -9,8 +9,8 @@ use Rattle.pd_script.specs.Scripts.{command_of}
 use Rattle.pd_script.specs.declared.commands.Command.{Command}
 use Rattle.pd_script.specs.declared.commands.Script.{Script}
 use Rattle.pd_script.specs.declared.commands.Script.TheVariants as script
-use Rattle.pd_engine.specs.Stages.{Stage, Passage, with_names, still, joined, followed_by}
-use Rattle.pd_engine.specs.Times.{advanced, finished}
+use Rattle.pd_stage.specs.Stages.{Stage, Passage, with_names, still, joined, followed_by}
+use Rattle.pd_stage.specs.Times.{advanced, finished}
 use Rattle.pd_engine.specs.Commands.{commanded}
 use Rattle.pd_play.specs.declared.status.Status.{Status}
 use Rattle.pd_play.specs.declared.status.Status.TheVariants.{Done, ScriptBad, ReadFault}

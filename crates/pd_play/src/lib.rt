@@ -10,16 +10,20 @@
 //! those of the run, and then comes the line of the status.
 //!
 //! Where the source fails, the script is what it gave until then: its whole records are run, and the status is
-//! `ReadFault`. Where a sink fails, the status is `WriteFault`, and what was taken is a first part of those lines,
-//! and of those samples. With `Done`, nothing is left of the script, where the source tells that, or the run met an
-//! `end`. Where the patch doesn't open, the line of its status follows, no script is read, and no sample is
-//! written. The folder is left alone (`folder`), and a status that tells of a fault comes only where that count of
+//! `ReadFault`. Lines and samples of the run, with the line of the status, stand in one list in their order. Where a
+//! sink fails, the status is `WriteFault`, and the sinks took the lines and the samples of one first part of it, and
+//! so no sample before a line that comes first. With `Done`, nothing is left of the script, where the source tells
+//! that, or the run met an `end`. Where the patch doesn't open, the line of its status follows, no script is read,
+//! and no sample is written.
+//!
+//! The folder holds what it held (`folder`), and a status that tells of a fault comes only where that count of
 //! faults rose (`causes`). The usage line is told where the words are none of the command, or ask for a made patch,
-//! unless memory is short or the line isn't taken (`unplayed`); the status for it comes nowhere else (`usage`). The
-//! exit code of each status is exact (`Status::code`).
+//! unless memory is short or the line isn't taken (`unplayed`); then the folder, the source of the script and the
+//! samples' sink are as they were (`untouched`). The status for it comes nowhere else (`usage`). The exit code of
+//! each status is exact (`Status::code`).
 //!
 //! Free: want of memory for the words or in opening. Once the patch is open, it plays to its end without: with
-//! `NoMemory` nothing of the script was read and no sample written (`short`).
+//! `NoMemory` the source and the samples' sink are as they were (`short`).
 //!
 //! Definitions: `Patches` (a play of a patch by a script), `Runs` (the run of a script), `Playing` (what was taken
 //! of it), `Ending` (statuses, lines, codes), `Refusing`, `Causes`, `Telling`.

@@ -22,7 +22,9 @@ use std::alloc::{AllocError, Global};
 /// `lines` and the samples to `pcm`, 16 bits little-endian, left then right.
 ///
 /// `plays` says what is printed and written: the lines of opening, the lines and samples of the script's run, and then the line of the
-/// status. Edits and saves are refused yet, there is nothing to undo, and words with `--make` give the usage line.
+/// status. Edits and saves are refused yet, there is nothing to undo, and words with `--make` give the usage line. After it the folder,
+/// the script and the samples' sink are as they were; where memory is short, the script and the samples' sink are, and what the folder
+/// holds.
 pub fn play<H: Shelf, S: Source, L: Sink, P: Sink>(
     alloc: Global,
     words: &[String],
@@ -34,10 +36,12 @@ pub fn play<H: Shelf, S: Source, L: Sink, P: Sink>(
     ensures folder { H.holds shelf.new ≡ H.holds shelf.old }
     ensures folder_counted { H.faults shelf.old ≤ H.faults shelf.new }
     ensures causes { HasCauses (H.faults shelf.old) (H.faults shelf.new) (S.faults script.old) (S.faults script.new) (L.faults lines.old) (L.faults lines.new) (P.faults pcm.old) (P.faults pcm.new) result }
-    ensures short { result ≡ Status.NoMemory → (S.left script.new ≡ S.left script.old) × (P.taken pcm.new ≡ P.taken pcm.old) }
+    ensures short { result ≡ Status.NoMemory → (script.new ≡ script.old) × (pcm.new ≡ pcm.old) }
     ensures usage { result ≡ Status.Usage → is_played (words_of (map (λ w. string_bytes w) words.now)) ≡ false }
     ensures unplayed { is_played (words_of (map (λ w. string_bytes w) words.now)) ≡ false →
         IsUnplayed result (L.taken lines.old) (L.taken lines.new) (L.faults lines.old) (L.faults lines.new) }
+    ensures untouched { is_played (words_of (map (λ w. string_bytes w) words.now)) ≡ false →
+        (shelf.new ≡ shelf.old) × (script.new ≡ script.old) × (pcm.new ≡ pcm.old) }
     ensures plays { PlaysAsked (words_of (map (λ w. string_bytes w) words.now)) (H.holds shelf.old) result (S.left script.old) (S.left script.new) (S.faults script.old) (S.faults script.new) (L.taken lines.old) (L.taken lines.new) (L.faults lines.old) (L.faults lines.new) (P.taken pcm.old) (P.taken pcm.new) }
 {
     let mut held = Held::new();
@@ -62,9 +66,10 @@ fn play_asked<H: Shelf, S: Source, L: Sink, P: Sink>(
     ensures folder { H.holds shelf.new ≡ H.holds shelf.old }
     ensures folder_counted { H.faults shelf.old ≤ H.faults shelf.new }
     ensures causes { HasCauses (H.faults shelf.old) (H.faults shelf.new) (S.faults script.old) (S.faults script.new) (L.faults lines.old) (L.faults lines.new) (P.faults pcm.old) (P.faults pcm.new) result }
-    ensures short { result ≡ Status.NoMemory → (S.left script.new ≡ S.left script.old) × (P.taken pcm.new ≡ P.taken pcm.old) }
+    ensures short { result ≡ Status.NoMemory → (script.new ≡ script.old) × (pcm.new ≡ pcm.old) }
     ensures usage { result ≡ Status.Usage → is_some asked.now.make ≡ true }
     ensures unplayed { is_some asked.now.make ≡ true → Answers (told [] Status.Usage) result (L.taken lines.old) (L.taken lines.new) (L.faults lines.old) (L.faults lines.new) }
+    ensures untouched { is_some asked.now.make ≡ true → (shelf.new ≡ shelf.old) × (script.new ≡ script.old) × (pcm.new ≡ pcm.old) }
     ensures plays { is_unmade asked.now.make ≡ true → PlaysPatch (H.holds shelf.old) asked.now.patch.now asked.now.rate result (S.left script.old) (S.left script.new) (S.faults script.old) (S.faults script.new) (L.taken lines.old) (L.taken lines.new) (L.faults lines.old) (L.faults lines.new) (P.taken pcm.old) (P.taken pcm.new) }
 {
     if asked.make.is_some() {
@@ -96,7 +101,7 @@ fn run<H: Shelf, S: Source, L: Sink, P: Sink>(
     ensures folder { H.holds shelf.new ≡ H.holds shelf.old }
     ensures folder_counted { H.faults shelf.old ≤ H.faults shelf.new }
     ensures causes { HasCauses (H.faults shelf.old) (H.faults shelf.new) (S.faults script.old) (S.faults script.new) (L.faults lines.old) (L.faults lines.new) (P.faults pcm.old) (P.faults pcm.new) result }
-    ensures short { result ≡ Status.NoMemory → (S.left script.new ≡ S.left script.old) × (P.taken pcm.new ≡ P.taken pcm.old) }
+    ensures short { result ≡ Status.NoMemory → (script.new ≡ script.old) × (pcm.new ≡ pcm.old) }
     ensures usage { result ≢ Status.Usage }
     ensures plays { PlaysPatch (H.holds shelf.old) patch.now rate result (S.left script.old) (S.left script.new) (S.faults script.old) (S.faults script.new) (L.taken lines.old) (L.taken lines.new) (L.faults lines.old) (L.faults lines.new) (P.taken pcm.old) (P.taken pcm.new) }
 {
@@ -119,7 +124,7 @@ fn play_whole<H: Shelf, S: Source, L: Sink, P: Sink>(
     ensures folder_counted { H.faults shelf.old ≤ H.faults shelf.new }
     ensures lines_counted { L.faults lines.old ≤ L.faults lines.new }
     ensures causes { HasCauses (H.faults shelf.old) (H.faults shelf.new) (S.faults script.old) (S.faults script.new) (L.faults lines.old) (L.faults lines.new) (P.faults pcm.old) (P.faults pcm.new) result }
-    ensures short { result ≡ Status.NoMemory → (S.left script.new ≡ S.left script.old) × (P.taken pcm.new ≡ P.taken pcm.old) }
+    ensures short { result ≡ Status.NoMemory → (script.new ≡ script.old) × (pcm.new ≡ pcm.old) }
     ensures usage { result ≢ Status.Usage }
     ensures runs { Runs (H.holds shelf.old) patch.now rate result (S.left script.old) (S.left script.new) (S.faults script.old) (S.faults script.new) (L.taken lines.old) (L.taken lines.new) (P.taken pcm.old) (P.taken pcm.new) }
 {

@@ -2,7 +2,8 @@
 ghost use Rattle.std.specs.Prelude.{◌≡◌, ◌+◌, ◌<◌, ◌≤◌, ◌⊎◌, false, Some, None, OnOk, OnErr};
 ghost use Rattle.pd_io.specs.Faults.{Rose};
 ghost use Rattle.pd_script.specs.Room.{IsWhole, IsWholeAfter, HasRest};
-ghost use Rattle.pd_engine.specs.Stages.{stage_of, Passes, BreaksOff};
+ghost use Rattle.pd_stage.specs.Stages.{Passes, BreaksOff};
+ghost use Rattle.pd_engine.specs.Stages.{stage_of};
 ghost use Rattle.pd_play.specs.Causes.{HasRunCauses};
 ghost use Rattle.pd_play.specs.Runs.{millionths as count_of_millionths, done, end_reached, reached, carried_out, goes_on, said_run, timed_run, record_run, counted};
 ghost use Rattle.pd_play.specs.Playing.{point_of, StaysBut, IsCounted, Plays, Leads, fed_run, Steps};

@@ -16,10 +16,10 @@ use Rattle.pd_guards.specs.Worlds.{AreKept, IsInOrder, IsStart, IsNamed}
 use Rattle.pd_guards.specs.Sounds.{HaveValues, IsSounding}
 use Rattle.pd_guards.specs.Freely.{outcome as free_outcome}
 use Rattle.pd_sized.specs.Sizes.{HaveSizes, IsWhole}
-use Rattle.pd_engine.specs.Stages.{Stage, Passage}
+use Rattle.pd_stage.specs.Stages.{Stage, Passage}
 use Rattle.pd_engine.specs.Messages.{message_in}
-use Rattle.pd_engine.specs.Events as engine
-use Rattle.pd_engine.specs.Events.{Beginning, Message, Firing, Loading, begun, delivered, after_deliveries, event}
+use Rattle.pd_stage.specs.Events as engine
+use Rattle.pd_stage.specs.Events.{Beginning, Message, Firing, Loading, begun, delivered, after_deliveries, event}
 use Rattle.pd_steady.specs.Freely.{deliveries, event_freely}
 use Rattle.pd_steady.specs.Steady.{IsSteady}
 

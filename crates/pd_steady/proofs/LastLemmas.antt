@@ -12,9 +12,9 @@ use Rattle.pd_sized.specs.Alike.{AreAlike}
 use Rattle.pd_sized.proofs.AlikeRunLemmas.{onward, outcome_alike}
 use Rattle.pd_sized.proofs.AlikeBlockLemmas.{block_alike}
 use Rattle.pd_sized.proofs.ServeLemmas.{goes_on}
-use Rattle.pd_engine.specs.Stages.{Stage, Passage, still, followed_by}
-use Rattle.pd_engine.specs.Events.{Beginning, Firing, begun, event}
-use Rattle.pd_engine.specs.Times.{block_units, most_fired, next_clock, taken_off, with_taken, with_fired, fires, fires_or_not, fires_below, clocks_fire, block_net, sound_at, block_sounds, block_runs, blocks_run, comes_to, advanced, finished}
+use Rattle.pd_stage.specs.Stages.{Stage, Passage, still, followed_by}
+use Rattle.pd_stage.specs.Events.{Beginning, Firing, begun, event}
+use Rattle.pd_stage.specs.Times.{block_units, most_fired, next_clock, taken_off, with_taken, with_fired, fires, fires_or_not, fires_below, clocks_fire, block_net, sound_at, block_sounds, block_runs, blocks_run, comes_to, advanced, finished}
 use Rattle.pd_engine.specs.Commands.{commanded}
 use Rattle.pd_engine.specs.Opening.{first_stage, opened}
 use Rattle.pd_steady.specs.Runs.{finished_by}

@@ -5,9 +5,9 @@ use Rattle.pd_atom.specs.Names.{Names}
 use Rattle.pd_patch.specs.declared.patch.Patch.{Patch}
 use Rattle.pd_script.specs.declared.commands.Command.{Command}
 use Rattle.pd_script.specs.declared.commands.Command.TheVariants as command
-use Rattle.pd_engine.specs.Stages.{Stage, Passage, still, joined, followed_by}
-use Rattle.pd_engine.specs.Events.{event}
-use Rattle.pd_engine.specs.Times.{block_units, most_fired, next_clock, fires, fires_or_not, fires_below, block_sounds, block_runs, blocks_run, time_is, comes_to, advanced, finished}
+use Rattle.pd_stage.specs.Stages.{Stage, Passage, still, joined, followed_by}
+use Rattle.pd_stage.specs.Events.{event}
+use Rattle.pd_stage.specs.Times.{block_units, most_fired, next_clock, fires, fires_or_not, fires_below, block_sounds, block_runs, blocks_run, time_is, comes_to, advanced, finished}
 use Rattle.pd_engine.specs.Commands.{commanded}
 use Rattle.pd_engine.specs.Opening.{opened}
 use Rattle.pd_steady.specs.Runs.{fires_or_not_by, fires_below_by, block_runs_by, blocks_run_by, comes_to_by, commanded_by, advanced_by, finished_by, opened_by}

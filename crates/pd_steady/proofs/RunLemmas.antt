@@ -18,10 +18,10 @@ use Rattle.pd_block.specs.Nets.{sound_of}
 use Rattle.pd_sized.specs.Sizes.{IsWhole}
 use Rattle.pd_guards.proofs.FactLemmas.{some-weaker}
 use Rattle.pd_guards.proofs.MoreLemmas.{longer, first_more, kind_more, kept_more}
-use Rattle.pd_engine.specs.Stages.{Stage, Passage, with_names, saying, joined, followed_by}
-use Rattle.pd_engine.specs.Events.{Beginning, Message, Loading, event}
+use Rattle.pd_stage.specs.Stages.{Stage, Passage, with_names, saying, joined, followed_by}
+use Rattle.pd_stage.specs.Events.{Beginning, Message, Loading, event}
 use Rattle.pd_engine.specs.Messages.{message_in}
-use Rattle.pd_engine.specs.Times.{block_units, advanced, finished}
+use Rattle.pd_stage.specs.Times.{block_units, advanced, finished}
 use Rattle.pd_engine.specs.Commands.{cut_text, commanded}
 use Rattle.pd_engine.specs.Remarks.{remarks_text}
 use Rattle.pd_engine.specs.Opening.{first_stage, opened}

@@ -6,9 +6,9 @@ use Rattle.pd_block.specs.Blocks.{block_of}
 use Rattle.pd_guards.specs.Worlds.{IsInOrder}
 use Rattle.pd_guards.specs.Sounds.{IsSounding}
 use Rattle.pd_guards.proofs.FactLemmas.{either_by}
-use Rattle.pd_engine.specs.Stages.{Stage, Passage, kept_at, still, joined, followed_by}
-use Rattle.pd_engine.specs.Events.{Firing, event}
-use Rattle.pd_engine.specs.Times.{block_units, most_fired, first_clock, if_below, next_clock, taken_off, with_taken, with_fired, fires, fires_or_not, fires_below, clocks_fire, block_net, sound_at, block_sounds, block_runs, blocks_run, with_time, time_is, comes_to, advanced, finished}
+use Rattle.pd_stage.specs.Stages.{Stage, Passage, kept_at, still, joined, followed_by}
+use Rattle.pd_stage.specs.Events.{Firing, event}
+use Rattle.pd_stage.specs.Times.{block_units, most_fired, first_clock, if_below, next_clock, taken_off, with_taken, with_fired, fires, fires_or_not, fires_below, clocks_fire, block_net, sound_at, block_sounds, block_runs, blocks_run, with_time, time_is, comes_to, advanced, finished}
 use Rattle.pd_sized.specs.Sizes.{IsWhole}
 use Rattle.pd_steady.specs.Runs.{fires_by, fires_or_not_by, fires_below_by, clocks_fire_by, block_runs_by, blocks_run_by, comes_to_by, advanced_by, finished_by}
 use Rattle.pd_steady.specs.Freely.{event_freely}

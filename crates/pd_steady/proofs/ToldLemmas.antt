@@ -9,8 +9,8 @@ use Rattle.pd_patch.specs.Telling.{order_in, number_in}
 use Rattle.pd_patch.specs.Values.{Blocks}
 use Rattle.pd_hearing.specs.Worlds.{Net, net_of}
 use Rattle.pd_block.specs.Nets as block
-use Rattle.pd_engine.specs.Stages.{Stage}
-use Rattle.pd_engine.specs.Times.{IsStageOf}
+use Rattle.pd_stage.specs.Stages.{Stage}
+use Rattle.pd_stage.specs.Times.{IsStageOf}
 use Rattle.pd_engine.specs.Commands.{most_boxes, step_to, led_to}
 use Rattle.pd_engine.proofs.ShowLemmas.{led_is}
 use Rattle.pd_steady.specs.Told.{TellsAll}

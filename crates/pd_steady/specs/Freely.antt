@@ -5,8 +5,8 @@ use Rattle.pd_hearing.specs.Worlds.{Net, Kept}
 use Rattle.pd_hearing.specs.Hearing.{fired_at}
 use Rattle.pd_stack.specs.Tasks.{to_name}
 use Rattle.pd_guards.specs.Freely.{ran, told_by, all_loaded}
-use Rattle.pd_engine.specs.Stages.{Stage, Passage}
-use Rattle.pd_engine.specs.Events.{Beginning, Message, Firing, Loading, begun, after_deliveries}
+use Rattle.pd_stage.specs.Stages.{Stage, Passage}
+use Rattle.pd_stage.specs.Events.{Beginning, Message, Firing, Loading, begun, after_deliveries}
 
 -- what becomes of deliveries, by the recursion over the objects' own definitions
 abbrev pub deliveries : Net → ℕ → World Kept → Beginning → World Kept

@@ -9,10 +9,10 @@ use Rattle.pd_script.specs.declared.commands.Command.TheVariants as command
 use Rattle.pd_grove.specs.TextOrder.{keys_in_order}
 use Rattle.pd_patch.specs.declared.patch.Patch.{Patch}
 use Rattle.pd_patch.specs.Report.{notices_in, loads_among}
-use Rattle.pd_engine.specs.Stages.{Stage, Passage, still, saying, joined, followed_by}
-use Rattle.pd_engine.specs.Events.{Beginning, Message, Firing, Loading}
+use Rattle.pd_stage.specs.Stages.{Stage, Passage, still, saying, joined, followed_by}
+use Rattle.pd_stage.specs.Events.{Beginning, Message, Firing, Loading}
 use Rattle.pd_engine.specs.Messages.{message_in}
-use Rattle.pd_engine.specs.Times.{block_units, most_fired, next_clock, taken_off, with_taken, with_fired, block_sounds, time_is}
+use Rattle.pd_stage.specs.Times.{block_units, most_fired, next_clock, taken_off, with_taken, with_fired, block_sounds, time_is}
 use Rattle.pd_engine.specs.Commands.{cut_text, commanded}
 use Rattle.pd_engine.specs.Remarks.{remarks_text}
 use Rattle.pd_engine.specs.Opening.{first_stage}

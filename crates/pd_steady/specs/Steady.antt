@@ -8,8 +8,8 @@ use Rattle.pd_guards.specs.Near.{AreNear}
 use Rattle.pd_guards.specs.Worlds.{IsInOrder}
 use Rattle.pd_guards.specs.Sounds.{IsSounding}
 use Rattle.pd_sized.specs.Sizes.{IsWhole}
-use Rattle.pd_engine.specs.Stages.{Stage, kept_at}
-use Rattle.pd_engine.specs.Times.{block_units, sound_at}
+use Rattle.pd_stage.specs.Stages.{Stage, kept_at}
+use Rattle.pd_stage.specs.Times.{block_units, sound_at}
 
 -- The time is at most so much; the canvases that own names are near; the patch is in order at that time; the values of signals are in
 -- their range, and there are as many as what keeps them was made for; and the next block ends no earlier than the first one.

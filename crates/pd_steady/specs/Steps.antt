@@ -3,8 +3,8 @@ use Rattle.std.specs.Prelude.{ℕ, ◌≤◌, List, [], ◌∷◌}
 use Rattle.pd_atom.specs.Names.{Names, Extends}
 use Rattle.pd_script.specs.declared.commands.Command.{Command}
 use Rattle.pd_patch.specs.declared.patch.Patch.{Patch}
-use Rattle.pd_engine.specs.Stages.{Stage, Passage, with_names, still, followed_by}
-use Rattle.pd_engine.specs.Events as engine
+use Rattle.pd_stage.specs.Stages.{Stage, Passage, with_names, still, followed_by}
+use Rattle.pd_stage.specs.Events as engine
 use Rattle.pd_steady.specs.Runs.{Events, commanded_by, advanced_by, finished_by, opened_by}
 use Rattle.pd_steady.specs.Steady.{IsCommand}
 

@@ -1,9 +1,9 @@
 //! `pdplay PATCH`: plays a patch of the working folder.
 //!
 //! Printed lines go to standard output, samples to the file `out.pcm`, and the exit code is that of the run's
-//! status. It is a thin `main` over the adapters of `pd_io` and the call `play` of `pd_play`, with a buffer before
-//! `out.pcm`: safe, and nothing more is said of it. The exit codes 9, 10 and 11 of what comes before `play` are
-//! neither proved nor tested.
+//! status. It is a thin `main` over the adapters of `pd_io` and the call `play` of `pd_faithful`, with a buffer
+//! before `out.pcm`: safe, and nothing more is said of it. The exit codes 9, 10 and 11 of what comes before `play`
+//! are neither proved nor tested.
 //!
 //! A standard stream that is closed stays closed: `out.pcm` never takes its place, so a run that has a line to
 //! print and no standard output ends with 7 (tried by hand). The one run that is stored beside it is a test.
@@ -12,8 +12,9 @@
 mod samples;
 
 use crate::samples::Samples;
+use pd_faithful::play;
 use pd_io::{FolderShelf, StdSink, StdSource};
-use pd_play::{Status, play};
+use pd_play::Status;
 use std::env::Env;
 use std::io::ErrorKind;
 use std::process::ExitCode;

@@ -1,7 +1,7 @@
 use Rattle.std.proofs.Common.{refl}
 use Rattle.pd_hearing.specs.Worlds.{states_of}
 use Rattle.pd_engine.specs.Opening.{first_stage, opened}
-use Rattle.pd_engine.specs.Events.{event}
+use Rattle.pd_stage.specs.Events.{event}
 use Rattle.pd_steady.specs.Steps.{steps_by, run_by}
 use Rattle.pd_steady.proofs.LastLemmas.{opened_lasts, run_lasts, serves_on}
 use Rattle.pd_steady.proofs.laws.owners_go_on.Goals as goal

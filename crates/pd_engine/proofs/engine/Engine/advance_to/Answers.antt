@@ -1,7 +1,8 @@
 use Rattle.std.proofs.Common.{◌<◌, refl, sym, ◌∙◌, subst, ℕ, arith}
 use Rattle.std.proofs.lemmas.Result.{err_from_is_err_and}
-use Rattle.pd_engine.specs.Stages.{stage_of, Passes}
-use Rattle.pd_engine.specs.Times.{advanced}
+use Rattle.pd_stage.specs.Stages.{Passes}
+use Rattle.pd_engine.specs.Stages.{stage_of}
+use Rattle.pd_stage.specs.Times.{advanced}
 use Rattle.pd_engine.proofs.TimeLemmas.{blocks_begin, block_goes_on, block_breaks, clocks_go_on, clocks_break, later_passes}
 use Rattle.pd_engine.proofs.engine.Engine.advance_to.Goals as goal
 

@@ -1,6 +1,6 @@
 use Rattle.std.proofs.Common.{◌≡◌, ◌≤◌, ◌+◌, ◌-◌}
 use Rattle.pd_engine.specs.Stages.{stage_of}
-use Rattle.pd_engine.specs.Times.{advanced}
+use Rattle.pd_stage.specs.Times.{advanced}
 use Rattle.pd_engine.proofs.TimeLemmas.{HasBlocksLeft}
 use Rattle.pd_engine.proofs.engine.Engine.advance_to.Given as goal
 

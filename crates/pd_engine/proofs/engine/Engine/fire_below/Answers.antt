@@ -2,7 +2,7 @@ use Rattle.std.proofs.Common.{◌≡◌, ◌+◌, refl, ◌∙◌, ap, arith}
 use Rattle.std.proofs.lemmas.Result.{err_from_is_err_and}
 use Rattle.pd_clock.specs.Queue.{ClockList}
 use Rattle.pd_engine.specs.Stages.{stage_of}
-use Rattle.pd_engine.proofs.PassageLemmas.{way_begins}
+use Rattle.pd_stage.proofs.PassageLemmas.{way_begins}
 use Rattle.pd_engine.proofs.ClockLemmas.{next_is, left_is, none_is, fires_none, fires_no_more, clocks_taken, clock_goes_on, clock_breaks, clocks_end, fired_says}
 use Rattle.pd_engine.proofs.engine.Engine.fire_below.Goals as goal
 

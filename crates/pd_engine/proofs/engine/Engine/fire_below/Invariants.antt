@@ -1,8 +1,8 @@
 use Rattle.std.proofs.Common.{◌≡◌, ◌≤◌, ◌-◌}
 use Rattle.std.specs.Prelude.{None}
 use Rattle.pd_engine.specs.Stages.{stage_of}
-use Rattle.pd_engine.specs.Times.{fires_below, clocks_fire}
-use Rattle.pd_engine.proofs.PassageLemmas.{IsOnTheWay}
+use Rattle.pd_stage.specs.Times.{fires_below, clocks_fire}
+use Rattle.pd_stage.proofs.PassageLemmas.{IsOnTheWay}
 use Rattle.pd_engine.proofs.engine.Engine.fire_below.Given as goal
 
 abbrev pub invariant-loop-self : goal.invariant-loop-self

@@ -1,6 +1,6 @@
 use Rattle.std.proofs.Common.{length, arith}
 use Rattle.std.proofs.lemmas.Result.{err_from_is_err_and}
-use Rattle.pd_engine.specs.Events.{refused_edit}
+use Rattle.pd_stage.specs.Events.{refused_edit}
 use Rattle.pd_engine.proofs.EventLemmas.{lines_more, lines_break}
 use Rattle.pd_engine.proofs.engine.Engine.refuse_queued.Goals as goal
 

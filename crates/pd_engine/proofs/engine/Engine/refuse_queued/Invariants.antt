@@ -1,7 +1,7 @@
 use Rattle.std.proofs.Common.{◌≡◌, ◌≤◌}
 use Rattle.pd_io.specs.Stream.{grown}
 use Rattle.pd_engine.specs.Stages.{stage_of}
-use Rattle.pd_engine.specs.Events.{repeated, refused_edit}
+use Rattle.pd_stage.specs.Events.{repeated, refused_edit}
 use Rattle.pd_engine.proofs.engine.Engine.refuse_queued.Given as goal
 
 abbrev pub invariant-loop : goal.invariant-loop

@@ -1,7 +1,8 @@
 use Rattle.std.proofs.Common.{refl, sym, subst}
 use Rattle.std.proofs.lemmas.Result.{err_from_is_err_and, on_ok_weaker, on_err_weaker}
-use Rattle.pd_engine.specs.Stages.{Stage, stage_of, Says}
-use Rattle.pd_engine.specs.Events.{event, beginning_of}
+use Rattle.pd_stage.specs.Stages.{Stage, Says}
+use Rattle.pd_engine.specs.Stages.{stage_of}
+use Rattle.pd_stage.specs.Events.{event, beginning_of}
 use Rattle.pd_engine.proofs.EventLemmas.{event_says, event_breaks, event_breaks_late}
 use Rattle.pd_engine.proofs.engine.Engine.run_event.Goals as goal
 

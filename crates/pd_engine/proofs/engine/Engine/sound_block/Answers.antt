@@ -1,11 +1,12 @@
-use Rattle.std.proofs.Common.{◌≡◌, ◌-◌, refl, ◌∙◌, ap, subst, ℕ, List, arith}
+use Rattle.std.proofs.Common.{◌≡◌, ◌-◌, refl, sym, ◌∙◌, ap, subst, ℕ, List, arith}
 use Rattle.std.proofs.lemmas.Result.{on_ok_weaker, on_err_weaker}
 use Rattle.pd_io.specs.Stream.{grown, TookPart}
 use Rattle.pd_mix.specs.Samples.{block_bytes}
 use Rattle.pd_block.specs.Nets as block
 use Rattle.pd_block.specs.Blocks.{Played, played, block_of}
 use Rattle.pd_engine.specs.Stages.{stage_of}
-use Rattle.pd_engine.specs.Times.{block_sounds, played_at}
+use Rattle.pd_stage.specs.Times.{block_sounds, played_at}
+use Rattle.pd_stage.proofs.ItemLemmas.{samples-heard}
 use Rattle.pd_engine.proofs.BlockLemmas.{played_net, played_stage}
 use Rattle.pd_engine.proofs.engine.Engine.sound_block.Goals as goal
 
@@ -29,7 +30,8 @@ returns-clause-ok g c =
     let ran : played (block.sound_of c.run_block.new.patch) c.run_block.new.out ≡ played_at (stage_of c.args.self.now) =
     c.run_block.ensures.played ∙ ap (λ (t : ℕ). block_of (block.net_of before) (block.sound_of before) t) begins in
     on_ok_weaker c.write_whole.result
-    (λ e. e ∙ ap (λ (x : List ℕ). grown (g.P.Sink.taken c.args.pcm.now) x) (c.write_samples.ensures ∙ ap (λ (x : Played). block_bytes x.out) ran))
+    (λ e. e ∙ ap (λ (x : List ℕ). grown (g.P.Sink.taken c.args.pcm.now) x)
+    (c.write_samples.ensures ∙ ap (λ (x : Played). block_bytes x.out) ran ∙ sym (samples-heard (block_bytes (played_at (stage_of c.args.self.now)).out))))
     c.write_whole.ensures.whole
 
 pub returns-clause-err : goal.returns-clause-err
@@ -40,5 +42,6 @@ returns-clause-err g c =
     let ran : played (block.sound_of c.run_block.new.patch) c.run_block.new.out ≡ played_at (stage_of c.args.self.now) =
     c.run_block.ensures.played ∙ ap (λ (t : ℕ). block_of (block.net_of before) (block.sound_of before) t) begins in
     on_err_weaker c.write_whole.result
-    (λ took. subst (λ (x : List ℕ). TookPart (g.P.Sink.taken c.args.pcm.now) (g.P.Sink.taken c.write_whole.new.sink) x) (c.write_samples.ensures ∙ ap (λ (x : Played). block_bytes x.out) ran) took)
+    (λ took. subst (λ (x : List ℕ). TookPart (g.P.Sink.taken c.args.pcm.now) (g.P.Sink.taken c.write_whole.new.sink) x)
+    (c.write_samples.ensures ∙ ap (λ (x : Played). block_bytes x.out) ran ∙ sym (samples-heard (block_bytes (played_at (stage_of c.args.self.now)).out))) took)
     c.write_whole.ensures.part

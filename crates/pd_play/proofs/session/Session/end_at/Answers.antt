@@ -1,5 +1,5 @@
 use Rattle.std.proofs.Common.{subst}
-use Rattle.pd_engine.specs.Stages.{Stage}
+use Rattle.pd_stage.specs.Stages.{Stage}
 use Rattle.pd_play.specs.Runs.{Point, reached, done}
 use Rattle.pd_play.specs.Playing.{point_of, Plays}
 use Rattle.pd_play.proofs.RunLemmas.{cut_early, played_behind}

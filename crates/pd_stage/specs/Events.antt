@@ -10,7 +10,8 @@ use Rattle.pd_walk.specs.declared.walker.Start.{Start}
 use Rattle.pd_walk.specs.declared.walker.Start.TheVariants as start
 use Rattle.pd_hearing.specs.Hearing.{fired_at}
 use Rattle.pd_walk.specs.Outcome.{world, ran, told_by, all_loaded, named_tasks}
-use Rattle.pd_engine.specs.Stages.{Stage, Passage, kept_at}
+use Rattle.pd_stage.specs.Items.{said}
+use Rattle.pd_stage.specs.Stages.{Stage, Passage, kept_at}
 
 -- what begins deliveries: a message to the receivers of a name, the clock of a box, or that boxes are loaded
 pub data Beginning : Type 0 where
@@ -62,7 +63,7 @@ with_kept s k = record {
 }
 
 abbrev pub after_deliveries : Stage → World Kept → Passage
-after_deliveries s w = record { stage = with_kept s w.kept; lines = w.said ++ refusals w.kept.queue; samples = [] }
+after_deliveries s w = record { stage = with_kept s w.kept; items = said (w.said ++ refusals w.kept.queue) }
 
 unfoldable pub event : Stage → Beginning → Passage
 event s b = after_deliveries s (delivered s b)

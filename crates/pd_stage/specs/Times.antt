@@ -6,8 +6,9 @@ use Rattle.pd_hearing.specs.Worlds.{Net}
 use Rattle.pd_patch.specs.declared.patch.Patch.{Patch}
 use Rattle.pd_block.specs.Nets as block
 use Rattle.pd_block.specs.Blocks.{Played, block_of}
-use Rattle.pd_engine.specs.Stages.{Stage, Passage, still, followed_by}
-use Rattle.pd_engine.specs.Events.{event, Firing}
+use Rattle.pd_stage.specs.Items.{heard}
+use Rattle.pd_stage.specs.Stages.{Stage, Passage, still, followed_by}
+use Rattle.pd_stage.specs.Events.{event, Firing}
 
 -- a block of 64 samples has so many units
 abbrev pub block_units : ℕ
@@ -146,7 +147,7 @@ with_played s p = record {
 }
 
 abbrev pub sounding : Stage → Played → Passage
-sounding s p = record { stage = with_played s p; lines = []; samples = block_bytes p.out }
+sounding s p = record { stage = with_played s p; items = heard (block_bytes p.out) }
 
 -- its samples are written
 unfoldable pub block_sounds : Stage → Passage

@@ -1,0 +1,222 @@
+-- A patch that can be played by a script is played to its end, but where memory is short.
+use Rattle.std.proofs.Common.{◌≡◌, ◌<◌, ◌≤◌, ◌⊎◌, inl, inr, ℕ, List, [], ◌∷◌, Option, Some, None, Result, Ok, Err, refl, sym, ap, subst, ◌∙◌, arith}
+use Rattle.pd_io.specs.Faults.{Rose}
+use Rattle.pd_io.specs.declared.files.FileRow.{FileRow}
+use Rattle.pd_atom.specs.Names.{Names, first_names}
+use Rattle.pd_canvas.specs.Pages.{Page}
+use Rattle.pd_clock.specs.declared.times.Rate.{Rate}
+use Rattle.pd_clock.specs.Rates.{samples}
+use Rattle.pd_feed.specs.Script.{script_of}
+use Rattle.pd_tree.specs.Trees.{Tree}
+use Rattle.pd_fit.specs.Fitting.{wires_fitting}
+use Rattle.pd_growth.specs.declared.growing.Stop.{Stop}
+use Rattle.pd_growth.specs.Steps.{Stock, Step, gives, ends}
+use Rattle.pd_gather.specs.declared.fetching.Fetch.{Fetch}
+use Rattle.pd_gather.specs.Gather.{Known, Gathering, Asks, Gathered, Full, known, asked, after, gathered, AreHeld, Gathers}
+use Rattle.pd_patch.specs.Sounds.{sound_of}
+use Rattle.pd_words.specs.Grammar.{Asked}
+use Rattle.pd_engine.specs.declared.refusals.OpenRefusal.{OpenRefusal}
+use Rattle.pd_engine.specs.declared.refusals.OpenRefusal.TheVariants as opening
+use Rattle.pd_engine.specs.declared.refusals.BadCause.{BadCause}
+use Rattle.pd_engine.specs.declared.refusals.BadCause.TheVariants as cause
+use Rattle.pd_engine.specs.Opening.{Reads, Grows, growth_of, file_read, Stops, IsUngathered, IsUngrown, IsRefused, IsUnread, IsFileRefused}
+use Rattle.pd_steady.specs.Freely.{event_freely}
+use Rattle.pd_play.specs.Causes.{HasCauses}
+use Rattle.pd_play.specs.Ending.{opened_as}
+use Rattle.pd_play.specs.Telling.{told, Answers}
+use Rattle.pd_play.specs.Runs.{Run, Ending, Whole, Broken}
+use Rattle.pd_play.specs.Patches.{Tells, IsScript, Refuses}
+use Rattle.pd_play.specs.declared.status.Status.{Status}
+use Rattle.pd_play.specs.declared.status.Status.TheVariants.{Done, ShelfFault, WriteFault, NoMemory}
+use Rattle.pd_faithful.specs.Scripts.{played_by}
+use Rattle.pd_faithful.specs.Whole.{PlaysFreely, PlaysAskedFreely}
+use Rattle.pd_faithful.specs.Complete.{GrowsWithin, IsPlayable, NoneRose, Completes}
+
+-- ---- what is held gives one answer
+
+reads_same : (rows : List FileRow) (name : List ℕ) (names : Names) (r s : Result (Page × Names) OpenRefusal)
+    → Reads (Some rows) name names r → Reads (Some rows) name names s → r ≡ s
+reads_same rows name names r s a b = sym a.reads ∙ ap (file_read names) (a.held ∙ sym b.held) ∙ b.reads
+
+-- gathering is over
+abbrev IsOver : Gathering → Type 0
+IsOver (Asks s k) = ⊥
+IsOver (Gathered k) = Unit {0}
+IsOver Full = Unit {0}
+
+gathered_same : (name : List ℕ) (p : Page) (rows : List FileRow) (fs hs : List Fetch) (g a b : Gathering) → AreHeld name p rows fs g → AreHeld name p rows hs g
+    → gathered name p fs g ≡ a → gathered name p hs g ≡ b → IsOver a → IsOver b → a ≡ b
+gathered_same name p rows [] [] g a b h k e d x y = sym e ∙ d
+gathered_same name p rows [] (f ∷ hs) (Asks s n) a b h k e d x y = absurd (subst (λ (z : Gathering). IsOver z) (sym e) x)
+gathered_same name p rows [] (f ∷ hs) (Gathered n) a b h k e d x y = absurd k.0
+gathered_same name p rows [] (f ∷ hs) Full a b h k e d x y = absurd k.0
+gathered_same name p rows (f ∷ fs) [] (Asks s n) a b h k e d x y = absurd (subst (λ (z : Gathering). IsOver z) (sym d) y)
+gathered_same name p rows (f ∷ fs) [] (Gathered n) a b h k e d x y = absurd h.0
+gathered_same name p rows (f ∷ fs) [] Full a b h k e d x y = absurd h.0
+gathered_same name p rows (f ∷ fs) (j ∷ hs) (Asks s n) a b h k e d x y =
+    let same : j ≡ f = k.0 ∙ sym h.0 in
+    gathered_same name p rows fs hs (after name p f (Asks s n)) a b h.1 (subst (λ (z : Fetch). AreHeld name p rows hs (after name p z (Asks s n))) same k.1) e
+    (subst (λ (z : Fetch). gathered name p hs (after name p z (Asks s n)) ≡ b) same d) x y
+gathered_same name p rows (f ∷ fs) (j ∷ hs) (Gathered n) a b h k e d x y = absurd h.0
+gathered_same name p rows (f ∷ fs) (j ∷ hs) Full a b h k e d x y = absurd h.0
+
+gathers_same : (rows : List FileRow) (name : List ℕ) (p : Page) (k : Known) (a b : Gathering) → IsOver a → IsOver b → Gathers (Some rows) name p k a
+    → Gathers (Some rows) name p k b → a ≡ b
+gathers_same rows name p k a b x y h j = gathered_same name p rows h.fetches j.fetches (asked name p k) a b h.held j.held h.comes j.comes x y
+
+-- ---- projections
+
+abbrev read_in : Page × Names → Result (Page × Names) OpenRefusal → Page × Names
+read_in x (Ok r) = r
+read_in x (Err e) = x
+
+abbrev known_in : Known → Gathering → Known
+known_in k (Asks s n) = k
+known_in k (Gathered n) = n
+known_in k Full = k
+
+abbrev tree_in : Tree → Result Tree Stop → Tree
+tree_in t (Ok r) = r
+tree_in t (Err e) = t
+
+-- growth that gives a tree doesn't end before
+never_ends : (s : Step Tree) (t : Tree) (w v : Stock) (e : Stop) → s ≡ gives t w → s ≡ ends e v → ⊥
+never_ends s t w v e h k =
+    let no : ◌≡◌ {A = Result Tree Stop} (Ok t) (Err e) = ap (λ (x : Step Tree). x.answer) (sym h ∙ k) in
+    cc
+
+one_tree : (s : Step Tree) (t u : Tree) (w v : Stock) → s ≡ gives t w → s ≡ gives u v → t ≡ u
+one_tree s t u w v h k = ap (λ (x : Step Tree). tree_in t x.answer) (sym h ∙ k)
+
+too_many : (a b limit : ℕ) → a ≡ b → a ≤ limit → limit < b → ⊥
+too_many a b limit e h k = omega arith
+
+-- ---- a patch that can be played is refused for a fault or for memory alone
+
+abbrev IsFree : OpenRefusal → Type 0
+IsFree e = (e ≡ opening.ShelfFault) ⊎ ((e ≡ opening.WriteFault) ⊎ (e ≡ opening.NoMemory))
+
+never_stops : (rows : List FileRow) (name : List ℕ) (rate : Rate) (d : Page) (names : Names) (w : GrowsWithin rows name rate d names) (c : BadCause)
+    → Stops (growth_of name d w.files) rate c → ⊥
+never_stops rows name rate d names w cause.BadRecord h = h
+never_stops rows name rate d names w cause.DataStructure h = h
+never_stops rows name rate d names w cause.TooDeep h = h
+never_stops rows name rate d names w cause.TooLong h = h
+never_stops rows name rate d names w cause.TooManyBoxes h = never_ends (growth_of name d w.files) w.tree w.after h.after _ w.step h.step
+never_stops rows name rate d names w cause.TooManyWires h =
+    too_many (wires_fitting w.tree.sheet w.tree.boxes) (wires_fitting h.tree.sheet h.tree.boxes) 65536
+    (ap (λ (t : Tree). wires_fitting t.sheet t.boxes) (one_tree (growth_of name d w.files) w.tree h.tree w.after h.after w.step h.step)) w.few_wires h.many
+never_stops rows name rate d names w cause.TooMuchSound h =
+    too_many (sound_of rate w.tree.boxes) (sound_of rate h.tree.boxes) 16777216
+    (ap (λ (t : Tree). sound_of rate t.boxes) (one_tree (growth_of name d w.files) w.tree h.tree w.after h.after w.step h.step)) w.few_values h.much
+never_stops rows name rate d names w cause.SymbolsFull h = h
+
+ungrown_free : (rows : List FileRow) (name : List ℕ) (rate : Rate) (d : Page) (names : Names) (w : GrowsWithin rows name rate d names) (e : OpenRefusal)
+    → IsUngrown (growth_of name d w.files) rate e → IsFree e
+ungrown_free rows name rate d names w opening.Absent h = absurd h
+ungrown_free rows name rate d names w (opening.Bad n c) h = absurd (never_stops rows name rate d names w c h.1)
+ungrown_free rows name rate d names w opening.ShelfFault h = absurd h
+ungrown_free rows name rate d names w opening.WriteFault h = absurd h
+ungrown_free rows name rate d names w opening.NoMemory h = inr (inr refl)
+
+ungathered_free : (rows : List FileRow) (name : List ℕ) (rate : Rate) (d : Page) (names : Names) (w : GrowsWithin rows name rate d names) (e : OpenRefusal)
+    → IsUngathered (Some rows) name d names e → IsFree e
+ungathered_free rows name rate d names w opening.Absent h = absurd h
+ungathered_free rows name rate d names w (opening.Bad n c) h =
+    let no : Full ≡ Gathered w.files = gathers_same rows name d (known [] names) Full (Gathered w.files) tt tt h.2 w.gathers in
+    absurd (cc)
+ungathered_free rows name rate d names w opening.ShelfFault h = inl refl
+ungathered_free rows name rate d names w opening.WriteFault h = absurd h
+ungathered_free rows name rate d names w opening.NoMemory h = inr (inr refl)
+
+refused_free : (rows : List FileRow) (name : List ℕ) (rate : Rate) (d : Page) (names : Names) (t t' : Option (List ℕ)) (w : GrowsWithin rows name rate d names)
+    (e : OpenRefusal) → IsRefused (Some rows) name rate d names t t' e → IsFree e
+refused_free rows name rate d names t t' w e (inl h) = ungathered_free rows name rate d names w e h
+refused_free rows name rate d names t t' w e (inr (inl h)) =
+    let same : Gathered h.files ≡ Gathered w.files = gathers_same rows name d (known [] names) (Gathered h.files) (Gathered w.files) tt tt h.gathers w.gathers in
+    ungrown_free rows name rate d names w e
+    (subst (λ (k : Known). IsUngrown (growth_of name d k) rate e) (ap (λ (g : Gathering). known_in h.files g) same) h.ungrown)
+refused_free rows name rate d names t t' w e (inr (inr h)) = inr (inl h.is)
+
+unread_free : (rows : List FileRow) (name : List ℕ) (r : Page × Names) (e : OpenRefusal) → Reads (Some rows) name first_names (Ok r)
+    → IsUnread (Some rows) name first_names e → IsFree e
+unread_free rows name r opening.Absent a h =
+    let no : Ok r ≡ Err opening.Absent = reads_same rows name first_names (Ok r) (Err opening.Absent) a h in
+    absurd (cc)
+unread_free rows name r (opening.Bad n c) a h =
+    let no : Ok r ≡ Err (opening.Bad n c) = reads_same rows name first_names (Ok r) (Err (opening.Bad n c)) a h in
+    absurd (cc)
+unread_free rows name r opening.ShelfFault a h = inl refl
+unread_free rows name r opening.WriteFault a h = absurd h
+unread_free rows name r opening.NoMemory a h = inr (inr refl)
+
+-- the document that is read is one
+one_document : (rows : List FileRow) (name : List ℕ) (r s : Page × Names) → Reads (Some rows) name first_names (Ok r) → Reads (Some rows) name first_names (Ok s) → s ≡ r
+one_document rows name r s a b = ap (read_in r) (reads_same rows name first_names (Ok s) (Ok r) b a)
+
+file_free : (rows : List FileRow) (name : List ℕ) (rate : Rate) (script : List ℕ) (t t' : Option (List ℕ)) (e : OpenRefusal) → IsPlayable rows name rate script
+    → IsFileRefused (Some rows) name rate t t' e → IsFree e
+file_free rows name rate script t t' e p (inl h) = unread_free rows name (p.document, p.names) e p.reads h
+file_free rows name rate script t t' e p (inr h) =
+    let same : ◌≡◌ {A = Page × Names} (h.document, h.names) (p.document, p.names) =
+    one_document rows name (p.document, p.names) (h.document, h.names) p.reads h.reads in
+    refused_free rows name rate p.document p.names t t' p.within e
+    (subst (λ (r : Page × Names). IsRefused (Some rows) name rate r.0 r.1 t t' e) same h.refused)
+
+-- ---- how the run ends
+
+told_free : (name : List ℕ) (why status : Status) (t t' : Option (List ℕ)) (x y : ℕ) (e : OpenRefusal) → why ≡ opened_as e → IsFree e
+    → (status ≡ ShelfFault → ⊥) → (status ≡ WriteFault → ⊥) → Answers (told name why) status t t' x y → status ≡ NoMemory
+told_free name why status t t' x y e is (inl h) f g (inl a) = absurd (f (a.0 ∙ is ∙ ap opened_as h))
+told_free name why status t t' x y e is (inr (inl h)) f g (inl a) = absurd (g (a.0 ∙ is ∙ ap opened_as h))
+told_free name why status t t' x y e is (inr (inr h)) f g (inl a) = a.0 ∙ is ∙ ap opened_as h
+told_free name why status t t' x y e is h f g (inr a) = absurd (g a.0)
+
+ends_done : (name : List ℕ) (ending : Ending) (bytes script : List ℕ) (left' : Option (List ℕ)) (read read' : ℕ) (run : Ending → List ℕ → Run) (status : Status)
+    (t t' u u' : Option (List ℕ)) → IsScript ending bytes (Some script) left' read read' → (Rose read read' → ⊥) → (status ≡ WriteFault → ⊥)
+    → (run Whole script).status ≡ Done → Tells name (run ending bytes) status t t' u u' → status ≡ Done
+ends_done name Whole bytes script left' read read' run status t t' u u' is f g d (inl h) =
+    h.status_is ∙ ap (λ (b : List ℕ). (run Whole b).status) (sym is) ∙ d
+ends_done name Whole bytes script left' read read' run status t t' u u' is f g d (inr h) = absurd (g h.status_is)
+ends_done name Broken bytes script left' read read' run status t t' u u' is f g d h = absurd (f is.1)
+
+module _ (rows : List FileRow) (name : List ℕ) (rate : Rate) (script : List ℕ) (left' : Option (List ℕ)) (status : Status) (folder folder' read read' x x' y y' : ℕ)
+    (t t' u u' : Option (List ℕ)) (p : IsPlayable rows name rate script) (none : NoneRose folder folder' read read' x x' y y')
+    (causes : HasCauses folder folder' read read' x x' y y' status) where
+  no_shelf : status ≡ ShelfFault → ⊥
+  no_shelf e = none.folder_stays (causes.shelf e)
+
+  written : Rose x x' ⊎ Rose y y' → ⊥
+  written (inl h) = none.lines_stay h
+  written (inr h) = none.samples_stay h
+
+  no_write : status ≡ WriteFault → ⊥
+  no_write e = written (causes.write e)
+
+  refused_short : Refuses (Some rows) name rate status (Some script) left' t t' x x' u u' → status ≡ NoMemory
+  refused_short h =
+      told_free name h.why status h.printed t' x x' h.refused.refusal h.refused.status_is
+      (file_free rows name rate script t h.printed h.refused.refusal p h.refused.refused) no_shelf no_write h.tells
+
+  played_done : PlaysFreely (Some rows) name rate status (Some script) left' read read' t t' u u' → status ≡ Done
+  played_done h =
+      let same : ◌≡◌ {A = Page × Names} (h.document, h.names) (p.document, p.names) =
+      one_document rows name (p.document, p.names) (h.document, h.names) p.reads h.reads in
+      let grows : Grows (Some rows) name rate p.document p.names h.patch h.table =
+      subst (λ (r : Page × Names). Grows (Some rows) name rate r.0 r.1 h.patch h.table) same h.grows in
+      ends_done name h.ending h.bytes script left' read read' (λ ending bytes. played_by event_freely h.patch h.table (samples rate) ending (script_of 0 0 bytes)) status
+      t t' u u' h.is_script none.script_stays no_write (p.commands h.patch h.table grows) h.tells
+
+  either_done : Refuses (Some rows) name rate status (Some script) left' t t' x x' u u' ⊎ PlaysFreely (Some rows) name rate status (Some script) left' read read' t t' u u'
+      → (status ≡ Done) ⊎ (status ≡ NoMemory)
+  either_done (inl h) = inr (refused_short h)
+  either_done (inr h) = inl (played_done h)
+
+pub completes : (o : Option Asked) (holds : Option (List FileRow)) (left left' : Option (List ℕ)) (status : Status) (folder folder' read read' x x' y y' : ℕ)
+    (t t' u u' : Option (List ℕ)) → PlaysAskedFreely o holds status left left' read read' t t' x x' u u'
+    → HasCauses folder folder' read read' x x' y y' status → Completes o holds left status folder folder' read read' x x' y y'
+completes None holds left left' status folder folder' read read' x x' y y' t t' u u' h causes = tt
+completes (Some a) None left left' status folder folder' read read' x x' y y' t t' u u' h causes = tt
+completes (Some a) (Some rows) None left' status folder folder' read read' x x' y y' t t' u u' h causes = tt
+completes (Some a) (Some rows) (Some script) left' status folder folder' read read' x x' y y' t t' u u' h causes = λ unmade rate is p none.
+    either_done rows a.patch rate script left' status folder folder' read read' x x' y y' t t' u u' p none causes (h unmade rate is)

@@ -1,0 +1,56 @@
+-- When a run is sure to come to its end.
+use Rattle.std.specs.Prelude.{◌≡◌, ◌≤◌, ◌⊎◌, ℕ, true, List, Option, Some, Ok, IfSome}
+use Rattle.pd_io.specs.Faults.{Rose}
+use Rattle.pd_io.specs.declared.files.FileRow.{FileRow}
+use Rattle.pd_atom.specs.Names.{Names, first_names}
+use Rattle.pd_canvas.specs.Pages.{Page}
+use Rattle.pd_clock.specs.declared.times.Rate.{Rate}
+use Rattle.pd_clock.specs.Rates.{samples}
+use Rattle.pd_feed.specs.Script.{script_of}
+use Rattle.pd_tree.specs.Trees.{Tree}
+use Rattle.pd_fit.specs.Fitting.{wires_fitting}
+use Rattle.pd_growth.specs.Steps.{Stock, gives}
+use Rattle.pd_gather.specs.Gather.{Known}
+use Rattle.pd_patch.specs.Sounds.{sound_of}
+use Rattle.pd_patch.specs.declared.patch.Patch.{Patch}
+use Rattle.pd_words.specs.Grammar.{Asked}
+use Rattle.pd_engine.specs.Opening.{Reads, Grows, GathersAll, growth_of}
+use Rattle.pd_steady.specs.Freely.{event_freely}
+use Rattle.pd_play.specs.Runs.{Whole}
+use Rattle.pd_play.specs.Telling.{is_unmade}
+use Rattle.pd_play.specs.declared.status.Status.{Status}
+use Rattle.pd_play.specs.declared.status.Status.TheVariants.{Done, NoMemory}
+use Rattle.pd_faithful.specs.Scripts.{played_by}
+
+-- the files that a document asks for are gathered from those that are held, and with them it grows within the limits
+pub record GrowsWithin (rows : List FileRow) (name : List ℕ) (rate : Rate) (d : Page) (names : Names) : Type 0 where
+  pub files : Known
+  pub gathers : GathersAll (Some rows) name d names files
+  pub tree : Tree
+  pub after : Stock
+  pub step : growth_of name d files ≡ gives tree after
+  pub few_wires : wires_fitting tree.sheet tree.boxes ≤ 65536
+  pub few_values : sound_of rate tree.boxes ≤ 16777216
+
+-- A patch is held that reads and grows within the limits, and in its run the script is commands up to its end, or up to an `end`.
+pub record IsPlayable (rows : List FileRow) (name : List ℕ) (rate : Rate) (script : List ℕ) : Type 0 where
+  pub document : Page
+  pub names : Names
+  pub reads : Reads (Some rows) name first_names (Ok (document, names))
+  pub within : GrowsWithin rows name rate document names
+  pub commands : (p : Patch) (table : Names) → Grows (Some rows) name rate document names p table
+      → (played_by event_freely p table (samples rate) Whole (script_of 0 0 script)).status ≡ Done
+
+-- no count of faults rose in the call
+pub record NoneRose (folder folder' read read' lines lines' pcm pcm' : ℕ) : Type 0 where
+  pub folder_stays : Rose folder folder' → ⊥
+  pub script_stays : Rose read read' → ⊥
+  pub lines_stay : Rose lines lines' → ⊥
+  pub samples_stay : Rose pcm pcm' → ⊥
+
+-- For words that ask for a patch that is there, a folder and a script that tell what they hold, a patch that can be played by the script, and
+-- without a fault, the run is done but where memory is short.
+abbrev pub Completes : Option Asked → Option (List FileRow) → Option (List ℕ) → Status → (folder folder' read read' lines lines' pcm pcm' : ℕ) → Type 0
+Completes asked holds left status folder folder' read read' lines lines' pcm pcm' =
+    IfSome asked (λ a. IfSome holds (λ rows. IfSome left (λ script. is_unmade a.make ≡ true → (rate : Rate) → samples rate ≡ a.rate →
+    IsPlayable rows a.patch rate script → NoneRose folder folder' read read' lines lines' pcm pcm' → (status ≡ Done) ⊎ (status ≡ NoMemory))))

@@ -1,0 +1,4 @@
+pub mod Items
+pub mod Stages
+pub mod Events
+pub mod Times

@@ -1,0 +1,18 @@
+//! Laws of parts of a run.
+
+ghost use Rattle.std.specs.Prelude.{◌≡◌, List};
+ghost use Rattle.pd_io.specs.Stream.{IsPrefix};
+ghost use Rattle.pd_stage.specs.Items.{Item, lines_of, samples_of, IsFront};
+ghost use Rattle.pd_stage.specs.Stages.{Passage, still, joined};
+
+/// It makes no difference which of several parts are taken together, and where nothing happens nothing is added.
+pub fn parts_join()
+    ensures together { (p q r : Passage) → joined (joined p q) r ≡ joined p (joined q r) }
+    ensures nothing { (p : Passage) → joined p (still p.stage) ≡ p }
+{}
+
+/// Of the first of some items each sink gets a first part of what it gets of all.
+pub fn fronts_are_fronts()
+    ensures lines { (part whole : List Item) → IsFront part whole → IsPrefix (lines_of part) (lines_of whole) }
+    ensures samples { (part whole : List Item) → IsFront part whole → IsPrefix (samples_of part) (samples_of whole) }
+{}
