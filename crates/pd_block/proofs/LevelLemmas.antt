@@ -26,7 +26,9 @@ use Rattle.pd_patch.specs.declared.patch.Patch.{Patch}
 use Rattle.pd_patch.specs.Telling.{order_in}
 use Rattle.pd_patch.specs.Values.{chain_by}
 use Rattle.pd_patch.specs.Orders.{is_signal_node, HasOrder, AreOrdered}
+use Rattle.pd_patch.specs.Built.{IsBuilt}
 use Rattle.pd_patch.specs.Grown.{IsFresh, IsTree}
+use Rattle.pd_patch.proofs.BuiltLemmas.{is_built}
 use Rattle.pd_patch.proofs.WayLemmas.{canvas_led, path_deep, root_stands}
 use Rattle.pd_block.specs.Nets.{Net, Sound, net_of, with_clocks, inner_at, chain_at, stuck_at}
 use Rattle.pd_block.specs.Blocks.{Played, played, each, silenced, ran_box, ran_one, down_chain, ran_canvas, block_within, block_of}
@@ -102,9 +104,14 @@ unfolding block_of
 levels_enough p s t G O l clocks sound start levels m =
     canvas_same p clocks start O levels 257 p.grove.root (record { sheet = s; boxes = t }) _ (root_stands p.grove s t G) m (omega (arith, l))
 
+pub levels_built : (p : Patch) (names : Names) (file : List ℕ) (rate : Rate) (grown : Step Tree) → IsTree p names rate grown → IsBuilt p names file rate
+    → (clocks : List Clock) (sound : Sound) (start levels : ℕ) → 256 ≤ levels
+    → block_within levels (with_clocks (net_of p) clocks) sound start ≡ block_of (with_clocks (net_of p) clocks) sound start
+levels_built p names file rate grown T B clocks sound start levels m =
+    let l = T.shallow in
+    levels_enough p T.tree.sheet T.tree.boxes T.stands B.orders (omega (arith, l)) clocks sound start levels (omega (arith, l, m))
+
 pub levels_grown : (p : Patch) (names : Names) (file : List ℕ) (rate : Rate) (grown : Step Tree) → IsTree p names rate grown → IsFresh p names file rate
     → (clocks : List Clock) (sound : Sound) (start levels : ℕ) → 256 ≤ levels
     → block_within levels (with_clocks (net_of p) clocks) sound start ≡ block_of (with_clocks (net_of p) clocks) sound start
-levels_grown p names file rate grown T F clocks sound start levels m =
-    let l = T.shallow in
-    levels_enough p T.tree.sheet T.tree.boxes T.stands F.orders (omega (arith, l)) clocks sound start levels (omega (arith, l, m))
+levels_grown p names file rate grown T F = levels_built p names file rate grown T (is_built p names file rate F)

@@ -11,7 +11,8 @@ ghost use Rattle.pd_grove.specs.Standing.{GroveStands};
 ghost use Rattle.pd_grove.specs.TextOrder.{deep};
 ghost use Rattle.pd_patch.specs.declared.patch.Patch.{Patch};
 ghost use Rattle.pd_patch.specs.Orders.{AreOrdered};
-ghost use Rattle.pd_patch.specs.Grown.{IsFresh, IsTree};
+ghost use Rattle.pd_patch.specs.Built.{IsBuilt};
+ghost use Rattle.pd_patch.specs.Grown.{IsTree};
 ghost use Rattle.pd_block.specs.Nets.{Sound, net_of, with_clocks};
 ghost use Rattle.pd_block.specs.Blocks.{block_within, block_of};
 
@@ -22,6 +23,6 @@ pub fn levels_are_enough()
         (clocks : List Clock) (sound : Sound) (start levels : ℕ) → deep t < levels →
         block_within levels (with_clocks (net_of p) clocks) sound start ≡ block_of (with_clocks (net_of p) clocks) sound start }
     ensures grown { (p : Patch) (names : Names) (file : List ℕ) (rate : Rate) (grown : Step Tree) → IsTree p names rate grown →
-        IsFresh p names file rate → (clocks : List Clock) (sound : Sound) (start levels : ℕ) → 256 ≤ levels →
+        IsBuilt p names file rate → (clocks : List Clock) (sound : Sound) (start levels : ℕ) → 256 ≤ levels →
         block_within levels (with_clocks (net_of p) clocks) sound start ≡ block_of (with_clocks (net_of p) clocks) sound start }
 {}

@@ -1,4 +1,4 @@
--- The canvases of a patch that has just grown are near, and tasks ask no others.
+-- The canvases of a patch that stands are near, and tasks ask no others.
 use Rattle.std.proofs.Common.{◌≡◌, ℕ, zero, suc, ◌+◌, ◌≤◌, ◌==◌, nat_le, max, Bool, true, false, List, [], ◌∷◌, ◌++◌, length, Option, Some, None, sym, ap, ◌∙◌, subst, arith}
 use Rattle.std.specs.Prelude.{option_map, option_and_then}
 use Rattle.std.specs.List.{AllByRecursion, filter, flat_map}
@@ -20,7 +20,7 @@ use Rattle.pd_growth.specs.Steps.{Step}
 use Rattle.pd_grove.specs.declared.nodes.Node.{Node}
 use Rattle.pd_grove.specs.declared.boards.Board.{Board}
 use Rattle.pd_grove.specs.declared.spots.Spot.{Spot}
-use Rattle.pd_grove.specs.Standing.{NodeSeen, node_seen, BoardSeen, board_seen, Stands}
+use Rattle.pd_grove.specs.Standing.{NodeSeen, node_seen, BoardSeen, board_seen, Stands, GroveStands}
 use Rattle.pd_grove.specs.Telling.{inner_in}
 use Rattle.pd_grove.specs.TextOrder.{deep, keys_standing, keys_of_spots, spots_in_order}
 use Rattle.pd_grove.proofs.SpotLemmas.{grove_spots, keys_stand}
@@ -31,8 +31,10 @@ use Rattle.pd_bind.specs.Naming.{owned, canvas_symbol}
 use Rattle.pd_web.specs.declared.web.Hop.{Hop}
 use Rattle.pd_patch.specs.declared.patch.Patch.{Patch}
 use Rattle.pd_patch.specs.Grown.{IsFresh, IsTree}
+use Rattle.pd_patch.specs.Built.{IsBuilt}
 use Rattle.pd_patch.specs.Paths.{spot_of, holder_in, around, outward, path_told}
 use Rattle.pd_patch.specs.Telling.{number_in}
+use Rattle.pd_patch.proofs.BuiltLemmas.{is_built}
 use Rattle.pd_hearing.specs.Worlds.{Net, Kept, bare, net_of}
 use Rattle.pd_hearing.specs.Hearing.{heard_at, resumed_at}
 use Rattle.pd_stack.specs.Tasks.{Task, Deliver, Ask, Resume, Nobody, owner_told, along, arrival, to_owners, unless_heard, to_name, wires_from, sent_to, sent, again_after}
@@ -143,7 +145,7 @@ one_owner : (P : ℕ → Type 0) (b : Bool) (k : ℕ) → P k → AllByRecursion
 one_owner P true k h = (h, tt)
 one_owner P false k h = tt
 
--- the canvases of a patch that has just grown
+-- the canvases of a patch
 module _ (p : Patch) where
   abbrev IsNearKey : ℕ → Type 0
   IsNearKey k = IsNearOwner (net_of p) (box_or_canvas k (inner_in (bare (get p.grove.nodes k))))
@@ -186,22 +188,23 @@ module _ (p : Patch) where
   owners_near root [] h = tt
   owners_near root (k ∷ ks) h = (owner_near root k h.0, owners_near root ks h.1)
 
-pub patch_near : (p : Patch) (names : Names) (file : List ℕ) (rate : Rate) (step : Step Tree) → IsTree p names rate step → IsFresh p names file rate → AreNear (net_of p)
-patch_near p names file rate step tree fresh name =
+pub built_near : (p : Patch) (names : Names) (file : List ℕ) (rate : Rate) (t : Tree) → GroveStands p.grove t.sheet t.boxes → deep t.boxes + 1 ≤ 256 → IsBuilt p names file rate → AreNear (net_of p)
+built_near p names file rate tree G low built name =
     let nodes = get p.grove.nodes in
     let boards = get p.grove.boards in
-    let t : Trees = tree.tree.boxes in
-    let G = tree.stands in
-    let low : deep t + 1 ≤ 256 = tree.shallow in
+    let t : Trees = tree.boxes in
     let root : IsIn p 0 p.grove.root = root_within (net_of p).nodes p.grove.boards p.numbers.items p.grove.root (holder_seen (get p.grove.boards p.grove.root) _ G.root) in
     let keys : keys_of_spots (spots_in_order p.grove) ≡ keys_standing nodes boards p.grove.root 0 G.keys t G.stands =
-    ap keys_of_spots (grove_spots p.grove tree.tree.sheet t G (omega (arith, low))) ∙ keys_stand nodes boards p.grove.root 0 true G.keys t G.stands in
+    ap keys_of_spots (grove_spots p.grove tree.sheet t G (omega (arith, low))) ∙ keys_stand nodes boards p.grove.root 0 true G.keys t G.stands in
     let all : AllByRecursion (IsNearKey p) (keys_of_spots (spots_in_order p.grove)) =
     subst (AllByRecursion (IsNearKey p)) (sym keys) (standing_near p p.grove.root 0 G.keys t G.stands root (omega (arith, low))) in
     let some : AllByRecursion (IsNearKey p) (boxes_owning names nodes Receiver name (spots_in_order p.grove)) =
     keys_kept (IsNearKey p) (λ x. is_owned Receiver name (owned_at names nodes x)) (spots_in_order p.grove) all in
-    let first : IsNearKey p root_owner = key_near p root_owner None (ap (λ (o : Option Node). inner_in (bare o)) fresh.apart) tt in
+    let first : IsNearKey p root_owner = key_near p root_owner None (ap (λ (o : Option Node). inner_in (bare o)) built.apart) tt in
     let both : AllByRecursion (IsNearKey p) (root_owning names file Receiver name ++ boxes_owning names nodes Receiver name (spots_in_order p.grove)) =
     all-append (IsNearKey p) (root_owning names file Receiver name) (boxes_owning names nodes Receiver name (spots_in_order p.grove))
     (one_owner (IsNearKey p) (is_owned Receiver name (owned Receiver (canvas_symbol names file))) root_owner first) some in
-    owners_near p root (owners_of p.names Receiver name) (subst (AllByRecursion (IsNearKey p)) (sym (fresh.owners Receiver name)) both)
+    owners_near p root (owners_of p.names Receiver name) (subst (AllByRecursion (IsNearKey p)) (sym (built.owners Receiver name)) both)
+
+pub patch_near : (p : Patch) (names : Names) (file : List ℕ) (rate : Rate) (step : Step Tree) → IsTree p names rate step → IsFresh p names file rate → AreNear (net_of p)
+patch_near p names file rate step tree fresh = built_near p names file rate tree.tree tree.stands tree.shallow (is_built p names file rate fresh)

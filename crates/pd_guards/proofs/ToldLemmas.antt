@@ -19,15 +19,17 @@ use Rattle.pd_chain.specs.Wires.{graph_of}
 use Rattle.pd_grove.specs.declared.nodes.Node.{Node}
 use Rattle.pd_grove.specs.declared.boards.Board.{Board}
 use Rattle.pd_grove.specs.declared.grove.Grove.{Grove}
-use Rattle.pd_grove.specs.Standing.{BoardSeen, board_seen, Stands}
+use Rattle.pd_grove.specs.Standing.{BoardSeen, board_seen, Stands, GroveStands}
 use Rattle.pd_grove.specs.Telling.{reached}
 use Rattle.pd_grove.specs.Places.{canvas_in_box, canvas_along}
 use Rattle.pd_grove.proofs.PlaceLemmas.{path_leads}
 use Rattle.pd_web.specs.declared.web.Web.{Web}
 use Rattle.pd_patch.specs.declared.patch.Patch.{Patch}
 use Rattle.pd_patch.specs.Grown.{IsFresh, IsTree}
+use Rattle.pd_patch.specs.Built.{IsBuilt}
 use Rattle.pd_patch.specs.Orders.{is_signal_node, signal_among, signal_wires_among, IsChain, HasOrder}
 use Rattle.pd_patch.specs.Telling.{order_in}
+use Rattle.pd_patch.proofs.BuiltLemmas.{is_built}
 use Rattle.pd_patch.proofs.WayLemmas.{canvas_led, root_stands}
 use Rattle.pd_guards.proofs.FactLemmas.{either}
 
@@ -97,16 +99,22 @@ path_weight [] t u h = let e : weight t.boxes ≡ weight u.boxes = ap (λ (x : T
 path_weight (n ∷ path) t u h =
     step_weight path u (canvas_in_box n t.boxes) (weight t.boxes) (λ x e. path_weight path x u e) (λ x e. box_weight n t.boxes x e) h
 
+pub built_few : (p : Patch) (names : Names) (file : List ℕ) (rate : Rate) (t : Tree) → GroveStands p.grove t.sheet t.boxes → IsBuilt p names file rate
+    → (path : List ℕ) (c : ℕ) (o : Listing) → reached p.grove (Some p.grove.root) path ≡ Some c → order_in p.orders.items c ≡ Some o → length o.chain + length o.stuck ≤ weight t.boxes
+built_few p names file rate t G built path c o leads order =
+    let g = p.grove in
+    let v = canvas_led g c (reached g (Some g.root) path) (canvas_along path t) (path_leads g path g.root t (root_stands g t.sheet t.boxes G)) leads in
+    let C = v.2 in
+    let l : length o.chain + length o.stuck ≤ length C.keys = order_short g p.web (get g.boards c) _ (order_in p.orders.items c) o C.board (built.orders c) order in
+    let m : length C.keys ≤ weight v.0.boxes = keys_few (get g.nodes) (get g.boards) c C.depth C.keys v.0.boxes C.stands in
+    let w : weight v.0.boxes ≤ weight t.boxes = path_weight path t v.0 v.1 in
+    omega (arith, l, m, w)
+
 pub orders_few : (lib : ℕ → Option Answer) (name : List ℕ) (root : Page) (before names : Names) (n : ℕ) (rate : Rate) (p : Patch)
     → IsTree p names rate (grown lib name root (beginning before n)) → IsFresh p names name rate
     → (path : List ℕ) (c : ℕ) (o : Listing) → reached p.grove (Some p.grove.root) path ≡ Some c → order_in p.orders.items c ≡ Some o → length o.chain + length o.stuck ≤ 16384
 orders_few lib name root before names n rate p tree fresh path c o leads order =
-    let g = p.grove in
     let t : Tree = tree.tree in
-    let v = canvas_led g c (reached g (Some g.root) path) (canvas_along path t) (path_leads g path g.root t (root_stands g t.sheet t.boxes tree.stands)) leads in
-    let C = v.2 in
-    let l : length o.chain + length o.stuck ≤ length C.keys = order_short g p.web (get g.boards c) _ (order_in p.orders.items c) o C.board (fresh.orders c) order in
-    let m : length C.keys ≤ weight v.0.boxes = keys_few (get g.nodes) (get g.boards) c C.depth C.keys v.0.boxes C.stands in
-    let w : weight v.0.boxes ≤ weight t.boxes = path_weight path t v.0 v.1 in
+    let few : length o.chain + length o.stuck ≤ weight t.boxes = built_few p names name rate t tree.stands (is_built p names name rate fresh) path c o leads order in
     let all : weight t.boxes ≤ 16384 = patch_small lib name root before n tree.given.after t tree.given.step in
-    omega (arith, l, m, w, all)
+    omega (arith, few, all)

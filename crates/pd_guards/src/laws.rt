@@ -18,14 +18,17 @@ ghost use Rattle.pd_canvas.specs.Proper.{IsSound, IsProper};
 ghost use Rattle.pd_library.specs.declared.answers.Answer.{Answer};
 ghost use Rattle.pd_library.specs.Files.{answer_in};
 ghost use Rattle.pd_gather.specs.Gather.{AreProper};
-ghost use Rattle.pd_tree.specs.Trees.{Tree};
+ghost use Rattle.pd_tree.specs.Trees.{Tree, weight};
 ghost use Rattle.pd_growth.specs.Steps.{Stock, Step, beginning, gives};
 ghost use Rattle.pd_growth.specs.Growth.{grown};
 ghost use Rattle.pd_patch.specs.declared.patch.Patch.{Patch};
+ghost use Rattle.pd_patch.specs.Built.{IsBuilt};
 ghost use Rattle.pd_patch.specs.Grown.{IsFresh, IsTree};
 ghost use Rattle.pd_patch.specs.Telling.{order_in};
 ghost use Rattle.pd_order.specs.Listing.{Listing};
+ghost use Rattle.pd_grove.specs.Standing.{GroveStands};
 ghost use Rattle.pd_grove.specs.Telling.{reached};
+ghost use Rattle.pd_grove.specs.TextOrder.{deep};
 ghost use Rattle.pd_queue.specs.Queue.{Waiting};
 ghost use Rattle.pd_turns.specs.Turns.{World};
 ghost use Rattle.pd_walk.specs.declared.walker.Start.{Start};
@@ -124,12 +127,27 @@ pub fn grown_patches_are_near()
     ensures { (p : Patch) (names : Names) (file : List ℕ) (rate : Rate) (s : Step Tree) → IsTree p names rate s → IsFresh p names file rate → AreNear (net_of p) }
 {}
 
+/// In a patch in which a tree stands, with the root at most 256 canvases deep, the canvases that own the names of receivers are near, whatever
+/// its boxes keep and whatever clocks it has.
+pub fn built_patches_are_near()
+    ensures { (p : Patch) (names : Names) (file : List ℕ) (rate : Rate) (t : Tree) → GroveStands p.grove t.sheet t.boxes → deep t.boxes + 1 ≤ 256 → IsBuilt p names file rate →
+        AreNear (net_of p) }
+{}
+
 /// In a patch that has just grown the signal order of each canvas to which a path leads has at most 16,384 boxes, those that are stuck too.
 pub fn orders_are_short()
     ensures { (lib : ℕ → Option Answer) (name : List ℕ) (root : Page) (before names : Names) (n : ℕ) (rate : Rate) (p : Patch) →
         IsTree p names rate (grown lib name root (beginning before n)) → IsFresh p names name rate →
         (path : List ℕ) (c : ℕ) (o : Listing) → reached p.grove (Some p.grove.root) path ≡ Some c → order_in p.orders.items c ≡ Some o →
         length o.chain + length o.stuck ≤ 16384 }
+{}
+
+/// In a patch in which a tree stands the signal order of each canvas to which a path leads has no more boxes than the tree, those that are
+/// stuck too.
+pub fn built_orders_are_short()
+    ensures { (p : Patch) (names : Names) (file : List ℕ) (rate : Rate) (t : Tree) → GroveStands p.grove t.sheet t.boxes → IsBuilt p names file rate →
+        (path : List ℕ) (c : ℕ) (o : Listing) → reached p.grove (Some p.grove.root) path ≡ Some c → order_in p.orders.items c ≡ Some o →
+        length o.chain + length o.stuck ≤ weight t.boxes }
 {}
 
 /// A command that is read and sends a message begins its event in order: its name and its atoms are of the table after reading, and the

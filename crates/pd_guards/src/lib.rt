@@ -33,8 +33,8 @@
 mod laws;
 
 pub use laws::{
-    blocks_stay_in_order, boxes_stay_in_order, commands_begin_in_order,
-    delivery_passes_nothing_over, grown_patches_are_in_order, grown_patches_are_near,
-    hearing_stays_in_order, messages_keep_values, order_lasts, orders_are_short,
-    what_grows_is_in_order,
+    blocks_stay_in_order, boxes_stay_in_order, built_orders_are_short, built_patches_are_near,
+    commands_begin_in_order, delivery_passes_nothing_over, grown_patches_are_in_order,
+    grown_patches_are_near, hearing_stays_in_order, messages_keep_values, order_lasts,
+    orders_are_short, what_grows_is_in_order,
 };

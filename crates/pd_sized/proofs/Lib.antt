@@ -6,6 +6,7 @@ pub mod RunLemmas
 pub mod LengthLemmas
 pub mod BlockLemmas
 pub mod FreshLemmas
+pub mod KindLemmas
 pub mod OwnerLemmas
 pub mod AlikeLemmas
 pub mod AlikeHeldLemmas

@@ -4,6 +4,7 @@ use Rattle.std.specs.List.{AllByRecursion, filter}
 use Rattle.slab.specs.Slab.{get}
 use Rattle.pd_atom.specs.Names.{Names}
 use Rattle.pd_clock.specs.declared.times.Rate.{Rate}
+use Rattle.pd_clock.specs.declared.times.Rate.TheVariants.{R44100}
 use Rattle.pd_name.specs.declared.Class.{Class}
 use Rattle.pd_name.specs.declared.Class.TheVariants.{Receiver, Table, Catch, Bus, Delay}
 use Rattle.pd_name.specs.Rows.{same_class, owners_of}
@@ -16,21 +17,18 @@ use Rattle.pd_object.specs.declared.kinds.Panel.TheVariants as panel
 use Rattle.pd_object.specs.declared.kinds.Spelling.{Spelling}
 use Rattle.pd_object.specs.declared.kinds.Signal.{Signal}
 use Rattle.pd_object.specs.declared.kinds.Signal.TheVariants as signal
-use Rattle.pd_kind.specs.declared.states.State.{State}
 use Rattle.pd_naming.specs.Naming.{name_at}
 use Rattle.pd_kind.specs.States.{start_of}
-use Rattle.pd_kind.specs.Tables.{started}
 use Rattle.pd_tree.specs.Trees.{Cell}
 use Rattle.pd_grove.specs.declared.nodes.Node.{Node}
 use Rattle.pd_grove.specs.declared.spots.Spot.{Spot}
 use Rattle.pd_grove.specs.Standing.{node_seen}
 use Rattle.pd_grove.specs.TextOrder.{is_sub, keys_of_spots, spots_in_order}
-use Rattle.pd_grove.specs.Telling.{kind_in, state_in}
+use Rattle.pd_grove.specs.Telling.{kind_in}
 use Rattle.pd_bind.specs.Naming.{Owned, owned, receive_name, glue_owned, signal_owned, panel_owned, canvas_owned, canvas_symbol, subpatch_symbol, owned_by_kind, owned_by}
 use Rattle.pd_bind.specs.Owning.{root_owner, is_owned, owned_at, boxes_owning, owner_if, root_owning, owners_in}
 use Rattle.pd_patch.specs.declared.patch.Patch.{Patch}
-use Rattle.pd_patch.specs.Grown.{IsFresh}
-use Rattle.pd_block.specs.Nets.{states_of}
+use Rattle.pd_patch.specs.Built.{IsBuilt}
 use Rattle.pd_block.specs.Blocks.{first_owner, owner_of}
 use Rattle.pd_guards.proofs.FactLemmas.{either, either_by, all-append, all-at}
 use Rattle.pd_sized.specs.Sizes.{LooksAt, Serves}
@@ -130,13 +128,13 @@ module _ (names : Names) (class : Class) (r : same_class class Receiver ≡ fals
       (owner_told (get p.grove.nodes) (is_owned class name (owned Receiver (canvas_symbol names file))) root_owner (other_class class Receiver name (canvas_symbol names file) r))
       (spots_told (get p.grove.nodes) (spots_in_order p.grove))
 
-module _ (p : Patch) (names : Names) (file : List ℕ) (rate : Rate) (fresh : IsFresh p names file rate) where
+module _ (p : Patch) (names : Names) (file : List ℕ) (rate : Rate) (built : IsBuilt p names file rate) where
   first_told : (class : Class) → same_class class Receiver ≡ false → same_class class Table ≡ false → (m : Option ℕ) (o : ℕ) → first_owner p.names class m ≡ Some o
       → IfSome (kind_in (get p.grove.nodes o)) (IsOwner class)
   first_told class r t None o e = absurd (true≢false (sym (ap (λ (x : Option ℕ). is_some x) e)))
   first_told class r t (Some name) o e =
       let all : AllByRecursion (IsOwnerAt names class r t name (get p.grove.nodes)) (owners_of p.names class name) =
-      subst (λ (xs : List ℕ). AllByRecursion (IsOwnerAt names class r t name (get p.grove.nodes)) xs) (sym (fresh.owners class name)) (owners_told names class r t name file p) in
+      subst (λ (xs : List ℕ). AllByRecursion (IsOwnerAt names class r t name (get p.grove.nodes)) xs) (sym (built.owners class name)) (owners_told names class r t name file p) in
       subst (λ (x : Option ℕ). IfSome x (IsOwnerAt names class r t name (get p.grove.nodes))) e (all-at (IsOwnerAt names class r t name (get p.grove.nodes)) (owners_of p.names class name) 0 all)
 
   -- what owns the name serves the box that looks for it
@@ -168,20 +166,13 @@ module _ (p : Patch) (names : Names) (file : List ℕ) (rate : Rate) (fresh : Is
   owner_serves (kind.Signal g) o e = signal_serves g o e
   owner_serves k o e = absurd (no_owner o e)
 
-  -- and keeps at first what that box looks at
-  looks_at-signal : (g h : Signal) → Serves (kind.Signal g) (kind.Signal h) → LooksAt (kind.Signal g) (started (start_of (kind.Signal h) rate) 0)
-  looks_at-signal (signal.Receive w m) (signal.Send v n) s = tt
-  looks_at-signal (signal.Throw m) (signal.Catch n) s = tt
-  looks_at-signal (signal.Delread m time) (signal.Delwrite n size) s = tt
-  looks_at-signal g h s = absurd s
+-- what serves a box keeps at first what that box looks at
+looks_first-signal : (g h : Signal) → Serves (kind.Signal g) (kind.Signal h) → LooksAt (kind.Signal g) (start_of (kind.Signal h) R44100)
+looks_first-signal (signal.Receive w m) (signal.Send v n) s = tt
+looks_first-signal (signal.Throw m) (signal.Catch n) s = tt
+looks_first-signal (signal.Delread m time) (signal.Delwrite n size) s = tt
+looks_first-signal g h s = absurd s
 
-  looks_at-start : (k j : Kind) → Serves k j → LooksAt k (started (start_of j rate) 0)
-  looks_at-start (kind.Signal g) (kind.Signal h) s = looks_at-signal g h s
-  looks_at-start k j s = absurd s
-
-  node_looks : (k : Kind) (o : Option Node) → ((n : Node) → o ≡ Some n → n.state ≡ Some (started (start_of n.kind rate) 0)) → IfSome (kind_in o) (Serves k) → IfSome (state_in o) (LooksAt k)
-  node_looks k None f s = tt
-  node_looks k (Some n) f s = subst (λ (x : Option State). IfSome x (LooksAt k)) (sym (f n refl)) (looks_at-start k n.kind s)
-
-  pub owner_looks : (k : Kind) (o : ℕ) → owner_of p.names k ≡ Some o → IfSome (states_of p o) (LooksAt k)
-  owner_looks k o e = node_looks k (get p.grove.nodes o) (fresh.states o) (owner_serves k o e)
+pub looks_first : (k j : Kind) → Serves k j → LooksAt k (start_of j R44100)
+looks_first (kind.Signal g) (kind.Signal h) s = looks_first-signal g h s
+looks_first k j s = absurd s

@@ -1,10 +1,11 @@
 -- Who owns a bus, a sum or a delay line goes on keeping one.
-use Rattle.std.proofs.Common.{◌≡◌, ℕ, Bool, true, false, ◌&&◌, nat_eq, List, [], ◌∷◌, Option, Some, None, IfSome, IsSome, option_map, refl, sym, subst}
+use Rattle.std.proofs.Common.{◌≡◌, ℕ, Bool, true, false, ◌&&◌, nat_eq, List, [], ◌∷◌, Option, Some, None, IfSome, IsSome, option_map, refl, sym, subst, true≢false}
 use Rattle.std.proofs.lemmas.Option.{none-some, same_Some}
 use Rattle.std.specs.List.{AllByRecursion, filter}
 use Rattle.slab.specs.Slab.{get}
 use Rattle.pd_atom.specs.Names.{Names}
 use Rattle.pd_clock.specs.declared.times.Rate.{Rate}
+use Rattle.pd_clock.specs.declared.times.Rate.TheVariants.{R44100}
 use Rattle.pd_name.specs.declared.Class.{Class}
 use Rattle.pd_name.specs.declared.Class.TheVariants.{Receiver, Catch, Bus, Delay}
 use Rattle.pd_name.specs.Rows.{same_class, owners_of}
@@ -16,22 +17,25 @@ use Rattle.pd_kind.specs.declared.states.State.{State}
 use Rattle.pd_kind.specs.declared.states.State.TheVariants as state
 use Rattle.pd_kind.specs.Fit.{blank}
 use Rattle.pd_kind.specs.States.{start_of}
-use Rattle.pd_kind.specs.Tables.{started}
 use Rattle.pd_grove.specs.declared.nodes.Node.{Node}
 use Rattle.pd_grove.specs.declared.spots.Spot.{Spot}
 use Rattle.pd_grove.specs.TextOrder.{keys_of_spots, spots_in_order}
-use Rattle.pd_grove.specs.Telling.{keys_in, state_in}
+use Rattle.pd_grove.specs.Telling.{keys_in, kind_in}
 use Rattle.pd_grove.proofs.SpotLemmas.{spots_live}
 use Rattle.pd_bind.specs.Naming.{owned, canvas_symbol}
 use Rattle.pd_bind.specs.Owning.{root_owner, is_owned, owned_at, boxes_owning, owner_if, root_owning}
 use Rattle.pd_patch.specs.declared.patch.Patch.{Patch}
+use Rattle.pd_patch.specs.Built.{IsBuilt}
 use Rattle.pd_patch.specs.Grown.{IsFresh}
+use Rattle.pd_patch.proofs.BuiltLemmas.{is_built}
 use Rattle.pd_block.specs.Nets.{states_of}
 use Rattle.pd_block.specs.Blocks.{first_owner, owner_of}
 use Rattle.pd_guards.proofs.FactLemmas.{either, all-append, all-at}
-use Rattle.pd_sized.specs.Sizes.{LooksAtSignal, LooksAt, Finds}
+use Rattle.pd_sized.specs.Sizes.{LooksAtSignal, LooksAt, Finds, Serves}
 use Rattle.pd_sized.specs.Alike.{IsAlike, AreAlike}
-use Rattle.pd_sized.proofs.OwnerLemmas.{owner_looks}
+use Rattle.pd_sized.specs.Kinds.{kinds_of, blank_of, KeepsOfKind}
+use Rattle.pd_sized.proofs.KindLemmas.{made_of_kind}
+use Rattle.pd_sized.proofs.OwnerLemmas.{owner_serves, looks_first}
 
 -- a box looks at objects, whatever their values
 to_blank : (g : Signal) (s : State) → LooksAtSignal g s → LooksAtSignal g (blank s)
@@ -63,6 +67,12 @@ some_stays (Some s) None e h = absurd (none-some (blank s) e)
 pub goes_on : (k : Kind) (old new : ℕ → Option State) (o : ℕ) → AreAlike old new → Finds k (old o) → Finds k (new o)
 goes_on k old new o a h = (some_stays (old o) (new o) (a o) h.0, some_looks k (old o) (new o) (a o) h.1)
 
+-- what serves a box, and keeps what is of its kind, keeps what the box looks at
+finds_of_kind : (k : Kind) (j : Option Kind) (s : Option State) → option_map blank s ≡ option_map blank_of j → IsSome j → IfSome j (Serves k) → Finds k s
+finds_of_kind k None s e there serves = absurd (true≢false (sym there))
+finds_of_kind k (Some j) None e there serves = absurd (none-some (blank_of j) e)
+finds_of_kind k (Some j) (Some s) e there serves = (refl, looks_on k (start_of j R44100) s (same_Some (blank s) (blank_of j) e) (looks_first k j serves))
+
 -- the boxes that own a name are there, in a class that no canvas has
 keys_kept : (P : ℕ → Type 0) (f : Spot → Bool) (spots : List Spot) → AllByRecursion P (keys_of_spots spots) → AllByRecursion P (keys_of_spots (filter f spots))
 keys_kept P f [] h = tt
@@ -74,14 +84,14 @@ no_root : (P : ℕ → Type 0) (class : Class) (name : ℕ) (m : Option ℕ) →
 no_root P class name None r = tt
 no_root P class name (Some m) r = subst (λ (b : Bool). AllByRecursion P (owner_if (b && nat_eq name m) root_owner)) (sym r) tt
 
-module _ (p : Patch) (names : Names) (file : List ℕ) (rate : Rate) (fresh : IsFresh p names file rate) where
+module _ (p : Patch) (names : Names) (file : List ℕ) (rate : Rate) (built : IsBuilt p names file rate) where
   abbrev IsThere : ℕ → Type 0
   IsThere k = IsSome (get p.grove.nodes k)
 
   owners_there : (class : Class) (name : ℕ) → same_class class Receiver ≡ false → AllByRecursion IsThere (owners_of p.names class name)
   owners_there class name r =
       let nodes = get p.grove.nodes in
-      subst (AllByRecursion IsThere) (sym (fresh.owners class name))
+      subst (AllByRecursion IsThere) (sym (built.owners class name))
       (all-append IsThere (root_owning names file class name) (boxes_owning names nodes class name (spots_in_order p.grove)) (no_root IsThere class name (canvas_symbol names file) r)
       (keys_kept IsThere (λ q. is_owned class name (owned_at names nodes q)) (spots_in_order p.grove) (spots_live nodes (get p.grove.boards) 257 true (keys_in (get p.grove.boards p.grove.root)))))
 
@@ -99,9 +109,14 @@ module _ (p : Patch) (names : Names) (file : List ℕ) (rate : Rate) (fresh : Is
   owner_there (kind.Signal g) o e = signal_there g o e
   owner_there k o e = absurd (none-some o e)
 
-  node_keeps : (o : Option Node) → ((n : Node) → o ≡ Some n → n.state ≡ Some (started (start_of n.kind rate) 0)) → IsSome o → IsSome (state_in o)
-  node_keeps None f h = h
-  node_keeps (Some n) f h = subst (λ (x : Option State). IsSome x) (sym (f n refl)) refl
+  node_kind : (o : Option Node) → IsSome o → IsSome (kind_in o)
+  node_kind None h = h
+  node_kind (Some n) h = refl
 
-  pub owner_found : (k : Kind) (o : ℕ) → owner_of p.names k ≡ Some o → Finds k (states_of p o)
-  owner_found k o e = (node_keeps (get p.grove.nodes o) (fresh.states o) (owner_there k o e), owner_looks p names file rate fresh k o e)
+  -- it keeps what the box looks at as long as what it keeps is of its kind
+  pub owner_finds : (states : ℕ → Option State) → KeepsOfKind (kinds_of p) states → (k : Kind) (o : ℕ) → owner_of p.names k ≡ Some o → Finds k (states o)
+  owner_finds states kept k o e =
+      finds_of_kind k (kind_in (get p.grove.nodes o)) (states o) (kept o) (node_kind (get p.grove.nodes o) (owner_there k o e)) (owner_serves p names file rate built k o e)
+
+pub owner_found : (p : Patch) (names : Names) (file : List ℕ) (rate : Rate) → IsFresh p names file rate → (k : Kind) (o : ℕ) → owner_of p.names k ≡ Some o → Finds k (states_of p o)
+owner_found p names file rate fresh k o e = owner_finds p names file rate (is_built p names file rate fresh) (states_of p) (made_of_kind p rate 0 fresh.states) k o e

@@ -18,7 +18,8 @@ ghost use Rattle.pd_grove.specs.States.{NodesFresh};
 ghost use Rattle.pd_grove.specs.Telling.{kind_in};
 ghost use Rattle.slab.specs.Slab.{get};
 ghost use Rattle.pd_patch.specs.declared.patch.Patch.{Patch};
-ghost use Rattle.pd_patch.specs.Grown.{IsTree, IsFresh};
+ghost use Rattle.pd_patch.specs.Built.{IsBuilt};
+ghost use Rattle.pd_patch.specs.Grown.{IsFresh, IsTree};
 ghost use Rattle.pd_growth.specs.Steps.{Step};
 ghost use Rattle.pd_tree.specs.Trees.{Tree};
 ghost use Rattle.pd_glue.specs.Rows.{resumed};
@@ -33,6 +34,7 @@ ghost use Rattle.pd_block.specs.Nets.{Net as BlockNet, Sound, states_of, sound_o
 ghost use Rattle.pd_block.specs.Blocks.{block_of, owner_of};
 ghost use Rattle.pd_guards.specs.Order.{IsKept};
 ghost use Rattle.pd_sized.specs.Alike.{IsAlike, AreAlike};
+ghost use Rattle.pd_sized.specs.Kinds.{kinds_of, KeepsOfKind};
 ghost use Rattle.pd_sized.specs.Sizes.{HasSizes, HaveSizes, HasSmallBoxes, LooksAt, Finds, IsWhole, Serves};
 
 /// What a box keeps when it is made has its sizes, where it counts at most 2^32 values. So does what all boxes keep of a patch whose boxes
@@ -97,11 +99,26 @@ pub fn blocks_keep_objects()
     ensures { (net : BlockNet) (start : ℕ) (s : Sound) → AreAlike s.states (block_of net s start).sound.states }
 {}
 
-/// In a patch that has just grown the first owner of the name that a box looks for is a box that has what it looks for, and keeps it. It
-/// goes on keeping it as long as what boxes keep is of the same objects.
+/// A box that was just made keeps the objects of its kind. So it does over all messages and blocks: over a whole delivery, whatever begins it,
+/// and over each block, as wherever what boxes keep stays of the same objects.
+pub fn boxes_keep_their_kinds()
+    ensures made { (p : Patch) (rate : Rate) (now : ℕ) → NodesFresh rate now (get p.grove.nodes) → KeepsOfKind (kinds_of p) (states_of p) }
+    ensures lasts { (kinds : ℕ → Option Kind) (old new : ℕ → Option State) → KeepsOfKind kinds old → AreAlike old new → KeepsOfKind kinds new }
+    ensures delivery { (kinds : ℕ → Option Kind) (net : Net) (now : ℕ) (w : World Kept) (s : Start) → KeepsOfKind kinds w.kept.states →
+        KeepsOfKind kinds (outcome net now w s).kept.states }
+    ensures left { (kinds : ℕ → Option Kind) (net : Net) (now : ℕ) (before after : Kept) (budget rest : Budget) (s : Start) (old new : Option (List ℕ)) →
+        KeepsOfKind kinds before.states → IsLeft after rest old new (outcome net now (world before budget []) s) → KeepsOfKind kinds after.states }
+    ensures block { (kinds : ℕ → Option Kind) (net : BlockNet) (start : ℕ) (s : Sound) → KeepsOfKind kinds s.states →
+        KeepsOfKind kinds (block_of net s start).sound.states }
+{}
+
+/// In a patch that stands the first owner of the name that a box looks for is a box that has what it looks for. It keeps it as long as
+/// boxes keep what is of their kinds; so it does in a patch that has just grown, and as long as what boxes keep is of the same objects.
 pub fn owners_serve()
-    ensures kind { (p : Patch) (names : Names) (file : List ℕ) (rate : Rate) (k : Kind) (o : ℕ) → IsFresh p names file rate →
+    ensures kind { (p : Patch) (names : Names) (file : List ℕ) (rate : Rate) (k : Kind) (o : ℕ) → IsBuilt p names file rate →
         owner_of p.names k ≡ Some o → IfSome (kind_in (get p.grove.nodes o)) (Serves k) }
+    ensures finds { (p : Patch) (names : Names) (file : List ℕ) (rate : Rate) (k : Kind) (o : ℕ) (states : ℕ → Option State) → IsBuilt p names file rate →
+        KeepsOfKind (kinds_of p) states → owner_of p.names k ≡ Some o → Finds k (states o) }
     ensures state { (p : Patch) (names : Names) (file : List ℕ) (rate : Rate) (k : Kind) (o : ℕ) → IsFresh p names file rate →
         owner_of p.names k ≡ Some o → IfSome (states_of p o) (LooksAt k) }
     ensures lasts { (p : Patch) (names : Names) (file : List ℕ) (rate : Rate) (k : Kind) (o : ℕ) (states : ℕ → Option State) → IsFresh p names file rate →

@@ -20,6 +20,6 @@
 mod laws;
 
 pub use laws::{
-    blocks_keep_objects, blocks_keep_sizes, messages_keep_objects, messages_keep_sizes,
-    owners_serve, turns_are_whole, what_is_made_has_sizes,
+    blocks_keep_objects, blocks_keep_sizes, boxes_keep_their_kinds, messages_keep_objects,
+    messages_keep_sizes, owners_serve, turns_are_whole, what_is_made_has_sizes,
 };
