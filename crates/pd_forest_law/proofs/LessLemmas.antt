@@ -15,7 +15,7 @@ use Rattle.pd_grove.proofs.ForestLemmas.{told_suc, held_there}
 use Rattle.pd_grove.proofs.NestLemmas.{around_is, lies_deep, out_first, boxes_same, canvas_changes}
 use Rattle.pd_grove.proofs.GraftLemmas.{raised, raised_at, place_behind, middle_at}
 use Rattle.pd_forest_law.proofs.MoreLemmas.{part_same, boxes_joined, get_first, get_behind, canvas_keys}
-use Rattle.pd_forest_law.proofs.PruneLemmas.{raised_apart}
+use Rattle.pd_grove.proofs.PruneLemmas.{raised_apart}
 use Rattle.pd_grove.proofs.NestLemmas.{box_deep}
 
 -- another box of the canvas

@@ -9,7 +9,11 @@ ghost use Rattle.pd_grove.specs.Standing.{GroveStands, NodesOf, Stands, node_see
 ghost use Rattle.pd_grove.specs.declared.nodes.Node.{Node};
 ghost use Rattle.pd_grove.specs.declared.boards.Board.{Board};
 ghost use Rattle.pd_grove.specs.Forest.{IsForest, tree_of, told, StaysAround, HasOther, HasLeafMore, HasBoxLess, HasBoxOther};
-ghost use Rattle.pd_grove.specs.Grafts.{AreAlike, HasBoxChanged, HasBoxMore, HasCanvasMore, HasPartMore, TakesBox};
+ghost use Rattle.pd_grove.specs.Grafts.{AreAlike, HasBoxChanged, HasBoxMore, HasCanvasMore, HasPartMore, LiesInBox, TakesBox};
+ghost use Rattle.pd_grove.specs.declared.seeds.Seed.{Seed};
+ghost use Rattle.pd_grove.specs.Owning.{board_in};
+ghost use Rattle.pd_grove.specs.Telling.{keys_in};
+ghost use Rattle.pd_grove.specs.Refits.{Refits};
 
 /// A forest tells a tree, which stands under its keys, and no other tree stands there; each box that lives is a box of it.
 pub fn forests_stand()
@@ -43,6 +47,9 @@ pub fn forests_change()
         (node_seen n).cell None (node_seen n).cell (Some (record { sheet = b.sheet; boxes = Done })) }
     ensures part { (nodes nodes' : ℕ → Option Node) (boards boards' : ℕ → Option Board) (root c k : ℕ) (before behind : List ℕ) →
         HasPartMore nodes nodes' boards boards' c k before behind → IsForest nodes boards root → IsForest nodes' boards' root }
+    ensures part_less { (nodes nodes' : ℕ → Option Node) (boards boards' : ℕ → Option Board) (root c k : ℕ) (n : Node) (before behind : List ℕ) →
+        HasPartMore nodes nodes' boards boards' c k before behind → IsForest nodes boards root → nodes' k ≡ Some n →
+        TakesBox nodes' nodes boards' boards c k n before behind }
     ensures alike { (nodes nodes' : ℕ → Option Node) (boards boards' : ℕ → Option Board) (root : ℕ) →
         AreAlike nodes nodes' boards boards' → IsForest nodes boards root → IsForest nodes' boards' root }
     ensures tree_refit { (nodes nodes' : ℕ → Option Node) (boards boards' : ℕ → Option Board) (root c k : ℕ) (n n' : Node) →
@@ -57,4 +64,16 @@ pub fn prunes()
     ensures tree { (nodes nodes' : ℕ → Option Node) (boards boards' : ℕ → Option Board) (root c k : ℕ) (n : Node) (before behind : List ℕ) →
         TakesBox nodes nodes' boards boards' c k n before behind → IsForest nodes boards root →
         HasBoxLess (told nodes boards 257 root) (told nodes' boards' 257 root) (node_seen n).cell }
+{}
+
+/// Where a box becomes another under its key a forest stays a forest, and what lay neither in the box nor is it stays.
+pub fn refits()
+    ensures forest { (nodes nodes' : ℕ → Option Node) (boards boards' : ℕ → Option Board) (root c k : ℕ) (n : Node) (before behind : List ℕ) (seeds seeds' : List Seed) →
+        Refits nodes nodes' boards boards' c k n before behind seeds seeds' → IsForest nodes boards root → IsForest nodes' boards' root }
+    ensures boxes_stay { (nodes nodes' : ℕ → Option Node) (boards boards' : ℕ → Option Board) (c k l x : ℕ) (n : Node) (before behind : List ℕ) (seeds seeds' : List Seed) →
+        Refits nodes nodes' boards boards' c k n before behind seeds seeds' → l ≢ k → board_in (nodes l) ≡ Some x → (LiesInBox nodes boards k x → ⊥) → nodes' l ≡ nodes l }
+    ensures canvases_stay { (nodes nodes' : ℕ → Option Node) (boards boards' : ℕ → Option Board) (c k x : ℕ) (n : Node) (before behind : List ℕ) (seeds seeds' : List Seed) →
+        Refits nodes nodes' boards boards' c k n before behind seeds seeds' → x ≢ c → IsSome (boards x) → (LiesInBox nodes boards k x → ⊥) → boards' x ≡ boards x }
+    ensures keys { (nodes nodes' : ℕ → Option Node) (boards boards' : ℕ → Option Board) (c k : ℕ) (n : Node) (before behind : List ℕ) (seeds seeds' : List Seed) →
+        Refits nodes nodes' boards boards' c k n before behind seeds seeds' → keys_in (boards' c) ≡ keys_in (boards c) }
 {}

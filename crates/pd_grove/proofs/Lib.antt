@@ -1,6 +1,7 @@
 pub mod TreeLemmas
 pub mod TreeBoxes
 pub mod Standings
+pub mod UseLemmas
 pub mod Plantings
 pub mod Freshness
 pub mod TextOrders
@@ -13,3 +14,7 @@ pub mod NestLemmas
 pub mod GraftLemmas
 pub mod OpenLemmas
 pub mod PruningLemmas
+pub mod GrowLemmas
+pub mod ComeLemmas
+pub mod PruneLemmas
+pub mod RefitLemmas

@@ -1,7 +1,8 @@
 -- Planting box by box.
 use Rattle.std.proofs.Common.{◌≡◌, ◌≢◌, ℕ, suc, ◌+◌, ◌-◌, ◌<◌, ◌≤◌, List, [], ◌∷◌, ◌++◌, append_assoc, length, Option, Some, None, IsSome, refl, sym, ap, ◌∙◌, subst, arith}
-use Rattle.std.specs.Prelude.{option_map}
+use Rattle.std.specs.Prelude.{option_map, max}
 use Rattle.std.proofs.lemmas.List.{append-nil}
+use Rattle.std.proofs.lemmas.Option.{none-some}
 use Rattle.slab.specs.Slab.{Slab, get}
 use Rattle.pd_clock.specs.declared.times.Rate.{Rate}
 use Rattle.pd_tree.specs.declared.rows.Sheet.{Sheet}
@@ -9,11 +10,14 @@ use Rattle.pd_tree.specs.Trees.{Cell, Trees, Done, Leaf, Holder, Stand, join, wi
 use Rattle.pd_grove.specs.declared.nodes.Node.{Node}
 use Rattle.pd_grove.specs.declared.boards.Board.{Board}
 use Rattle.pd_grove.specs.declared.seeds.Seed.{Seed}
-use Rattle.pd_grove.specs.Standing.{NodeSeen, node_seen, BoardSeen, board_seen, depth_of, board_room, with_inner, Gains, NodesOf}
-use Rattle.pd_grove.specs.Planting.{stands_ready, SeedsOf, AreRoomy, HaveRoom, Keeps, Plants, PlantsInside, with_keys}
+use Rattle.pd_grove.specs.Standing.{NodeSeen, node_seen, BoardSeen, board_seen, depth_of, board_room, with_inner, Gains, NodesOf, Stands}
+use Rattle.pd_grove.specs.Planting.{stands_ready, SeedsOf, AreRoomy, HaveRoom, Keeps, Plants, PlantsInside, Uses, with_keys}
 use Rattle.pd_grove.specs.States.{AreFresh, NodesFresh, SeedsSmall, NodesSmall}
 use Rattle.pd_grove.specs.Owning.{AreOwn}
-use Rattle.pd_grove.proofs.TreeLemmas.{width-join, join-assoc, first_box, other_boxes, first_other, first_width, first_stands, no_boxes}
+use Rattle.pd_grove.specs.TextOrder.{deep}
+use Rattle.pd_grove.specs.Forest.{IsForest}
+use Rattle.pd_grove.proofs.UseLemmas.{uses_none, uses_then, made_stays}
+use Rattle.pd_grove.proofs.TreeLemmas.{width-join, deep-join, join-assoc, first_box, other_boxes, first_other, first_width, first_stands, no_boxes}
 use Rattle.pd_grove.proofs.Standings.{stands_on, stands_join}
 
 -- of boxes to be planted the first i stand, and the others are ready
@@ -37,6 +41,9 @@ pub record Halfway (nodes₀ nodes₁ : Slab Node) (boards₀ boards₁ : Slab B
   pub small : SeedsSmall seeds₀ → NodesSmall (get nodes₀) → SeedsSmall seeds₁ × NodesSmall (get nodes₁)
   pub of_tree : (t : Trees) → SeedsOf t seeds₀ → NodesOf t (get nodes₀) → SeedsOf t seeds₁ × NodesOf t (get nodes₁)
   pub own : AreOwn (get nodes₀) (get boards₀) → AreOwn (get nodes₁) (get boards₁)
+  pub uses : Uses (get nodes₀) (get nodes₁) seeds₀ seeds₁
+  pub forest : (root : ℕ) (t : Trees) (more : List Stand) → stands_ready seeds₀ ≡ stands_of t ++ more → width t ≡ count → d + deep t < 257
+      → IsForest (get nodes₀) (get boards₀) root → IsForest (get nodes₁) (get boards₁) root
   pub splits : (t : Trees) (more : List Stand) → stands_ready seeds₀ ≡ stands_of t ++ more → width t ≡ count
       → Split (get nodes₀) (get nodes₁) (get boards₀) (get boards₁) seeds₁ b d i t more
 
@@ -92,6 +99,8 @@ halfway_start nodes boards seeds b d count l R A = record {
   small = λ f g. (f, g);
   of_tree = λ t f g. (f, g);
   own = λ h. h;
+  uses = uses_none (get nodes) seeds;
+  forest = λ root t more h w low F. F;
   splits = λ t more h w. record { done = Done; left = t; whole = refl; wide = refl; plants = plants_none (get nodes) (get boards) b d; ready = h };
 }
 
@@ -129,6 +138,20 @@ split_end n₀ n₁ b₀ b₁ seeds b d i t more w S =
     join_done (Leaf c rest) = ap (Leaf c) (join_done rest)
     join_done (Holder c s inner rest) = ap (Holder c s inner) (join_done rest)
 
+-- a forest stays one with the next box
+forest_next : (n₀ n₁ n₂ : ℕ → Option Node) (b₀ b₁ b₂ : ℕ → Option Board) (seeds : List Seed) (root b d i count : ℕ) (t : Trees) (more : List Stand)
+    → i < count → width t ≡ count → d + deep t < 257 → Split n₀ n₁ b₀ b₁ seeds b d i t more
+    → ((root : ℕ) (u : Trees) (rest : List Stand) → stands_ready seeds ≡ stands_of u ++ rest → width u ≡ 1 → d + deep u < 257 → IsForest n₁ b₁ root → IsForest n₂ b₂ root)
+    → IsForest n₁ b₁ root → IsForest n₂ b₂ root
+forest_next n₀ n₁ n₂ b₀ b₁ b₂ seeds root b d i count t more l w low S G =
+    let u = first_box S.left in
+    let v = other_boxes S.left in
+    let wide : width S.left ≡ suc (count - i - 1) = (let a = width-join S.done S.left in let c = ap width S.whole in let z = S.wide in omega (arith, a, c, z, w, l)) in
+    let whole : deep t ≡ max (deep S.done) (deep S.left) = ap deep (sym S.whole) ∙ deep-join S.done S.left in
+    let first : deep S.left ≡ max (deep u) (deep v) = ap deep (sym (first_other S.left)) ∙ deep-join u v in
+    G root u (stands_of v ++ more) (S.ready ∙ ap (λ x. x ++ more) (first_stands S.left) ∙ append_assoc (stands_of u) (stands_of v) more) (first_width S.left (count - i - 1) wide)
+    (omega (arith, whole, first, low))
+
 -- one box more has been planted
 pub halfway_next : (n₀ n₁ n₂ : Slab Node) (b₀ b₁ b₂ : Slab Board) (seeds₀ seeds₁ seeds₂ : List Seed) (b d i count : ℕ)
     → i < count → depth_of (get b₀ b) ≡ d
@@ -140,9 +163,11 @@ pub halfway_next : (n₀ n₁ n₂ : Slab Node) (b₀ b₁ b₂ : Slab Board) (s
     → (SeedsSmall seeds₁ → NodesSmall (get n₁) → SeedsSmall seeds₂ × NodesSmall (get n₂))
     → ((t : Trees) → SeedsOf t seeds₁ → NodesOf t (get n₁) → SeedsOf t seeds₂ × NodesOf t (get n₂))
     → (AreOwn (get n₁) (get b₁) → AreOwn (get n₂) (get b₂))
+    → Uses (get n₁) (get n₂) seeds₁ seeds₂
+    → ((root : ℕ) (u : Trees) (rest : List Stand) → stands_ready seeds₁ ≡ stands_of u ++ rest → width u ≡ 1 → d + deep u < 257 → IsForest (get n₁) (get b₁) root → IsForest (get n₂) (get b₂) root)
     → ((u : Trees) (rest : List Stand) → stands_ready seeds₁ ≡ stands_of u ++ rest → width u ≡ 1 → Plants (get n₁) (get n₂) (get b₁) (get b₂) b d u × (stands_ready seeds₂ ≡ rest))
     → Halfway n₀ n₂ b₀ b₂ seeds₀ seeds₂ b d (i + 1) count
-halfway_next n₀ n₁ n₂ b₀ b₁ b₂ seeds₀ seeds₁ seeds₂ b d i count l e H K O R A F N M T W P = record {
+halfway_next n₀ n₁ n₂ b₀ b₁ b₂ seeds₀ seeds₁ seeds₂ b d i count l e H K O R A F N M T W U G P = record {
   within = omega (arith, l);
   kept = keeps_then (get n₀) (get n₁) (get n₂) (get b₀) (get b₁) (get b₂) b H.kept K;
   own_room = (let o = H.own_room in omega (arith, o, O));
@@ -153,6 +178,8 @@ halfway_next n₀ n₁ n₂ b₀ b₁ b₂ seeds₀ seeds₁ seeds₂ b d i coun
   small = λ f g. let x = H.small f g in M x.0 x.1;
   of_tree = λ t f g. let x = H.of_tree t f g in T t x.0 x.1;
   own = λ h. W (H.own h);
+  uses = uses_then (get n₀) (get n₁) (get n₂) seeds₀ seeds₁ seeds₂ (λ k s m. made_stays (get n₁ k) (get n₂ k) s (K.nodes_stay k) m) H.uses U;
+  forest = λ root t more h w low F. forest_next (get n₀) (get n₁) (get n₂) (get b₀) (get b₁) (get b₂) seeds₁ root b d i count t more l w low (H.splits t more h w) G (H.forest root t more h w low F);
   splits = λ t more h w. split_next (get n₀) (get n₁) (get n₂) (get b₀) (get b₁) (get b₂) seeds₁ seeds₂ b d i count t more l w (H.kept.depth ∙ e) K P (H.splits t more h w);
 }
 
@@ -162,19 +189,19 @@ none_left Done more h w = absurd (omega (arith, w))
 none_left (Leaf c rest) more h w = absurd (cc)
 none_left (Holder c s inner rest) more h w = absurd (cc)
 
-abbrev first_cell : Cell → List Stand → Cell
+abbrev pub first_cell : Cell → List Stand → Cell
 first_cell c [] = c
 first_cell c (x ∷ xs) = x.cell
 
-abbrev first_sheet : Option Sheet → List Stand → Option Sheet
+abbrev pub first_sheet : Option Sheet → List Stand → Option Sheet
 first_sheet s [] = s
 first_sheet s (x ∷ xs) = x.sheet
 
-abbrev first_count : ℕ → List Stand → ℕ
+abbrev pub first_count : ℕ → List Stand → ℕ
 first_count n [] = n
 first_count n (x ∷ xs) = x.boxes
 
-abbrev behind : List Stand → List Stand
+abbrev pub behind : List Stand → List Stand
 behind [] = []
 behind (x ∷ xs) = xs
 
@@ -182,52 +209,53 @@ inner_seen : (j : ℕ) (o : Option Node) → option_map node_seen (option_map (w
 inner_seen j None = refl
 inner_seen j (Some n) = refl
 
-none_there : (o : Option Board) → o ≡ None → IsSome o → ⊥
-none_there None e h = absurd (cc)
-none_there (Some x) e h = absurd (cc)
-
--- a box that was put under the key k stands, with what it holds
-pub box_planted : (n₀ n₁ n₂ : ℕ → Option Node) (b₀ b₁ b₂ : ℕ → Option Board) (k b d boxes : ℕ) (c : Cell) (sheet : Option Sheet) (seeds seeds' : List Seed)
-    → IsSome (b₀ b) → depth_of (b₀ b) ≡ d
+-- a box that was put under the key k stands in its canvas, with what it holds
+pub box_stood : (n₁ n₂ : ℕ → Option Node) (b₁ b₂ : ℕ → Option Board) (k b d boxes : ℕ) (c : Cell) (sheet : Option Sheet) (seeds seeds' : List Seed)
     → option_map node_seen (n₁ k) ≡ Some (record { board = b; cell = c; inner = None })
     → (sheet ≡ None → (n₂ k ≡ n₁ k) × (seeds' ≡ seeds))
     → ((s : Sheet) (t : Trees) (more : List Stand) → sheet ≡ Some s → stands_ready seeds ≡ stands_of t ++ more → width t ≡ boxes
-    → PlantsInside n₁ n₂ b₀ b₁ k (d + 1) s t × (stands_ready seeds' ≡ more))
-    → ((j : ℕ) → IsSome (b₀ j) → b₁ j ≡ b₀ j)
-    → Gains b₁ b₂ b k
+    → PlantsInside n₁ n₂ b₁ b₂ k (d + 1) s t × (stands_ready seeds' ≡ more))
     → (t : Trees) (more : List Stand) → record { cell = c; sheet = sheet; boxes = boxes } ∷ stands_ready seeds ≡ stands_of t ++ more → width t ≡ 1
-    → Plants n₀ n₂ b₀ b₂ b d t × (stands_ready seeds' ≡ more)
-box_planted n₀ n₁ n₂ b₀ b₁ b₂ k b d boxes c sheet seeds seeds' l e N P I B G Done more h w = absurd (omega (arith, w))
-box_planted n₀ n₁ n₂ b₀ b₁ b₂ k b d boxes c sheet seeds seeds' l e N P I B G (Leaf c' (Leaf x rest)) more h w = absurd (omega (arith, w))
-box_planted n₀ n₁ n₂ b₀ b₁ b₂ k b d boxes c sheet seeds seeds' l e N P I B G (Leaf c' (Holder x y z rest)) more h w = absurd (omega (arith, w))
-box_planted n₀ n₁ n₂ b₀ b₁ b₂ k b d boxes c sheet seeds seeds' l e N P I B G (Holder c' s inner (Leaf x rest)) more h w = absurd (omega (arith, w))
-box_planted n₀ n₁ n₂ b₀ b₁ b₂ k b d boxes c sheet seeds seeds' l e N P I B G (Holder c' s inner (Holder x y z rest)) more h w = absurd (omega (arith, w))
-box_planted n₀ n₁ n₂ b₀ b₁ b₂ k b d boxes c sheet seeds seeds' l e N P I B G (Leaf c' Done) more h w =
+    → Stands n₂ b₂ b d (k ∷ []) t × (stands_ready seeds' ≡ more)
+box_stood n₁ n₂ b₁ b₂ k b d boxes c sheet seeds seeds' N P I Done more h w = absurd (omega (arith, w))
+box_stood n₁ n₂ b₁ b₂ k b d boxes c sheet seeds seeds' N P I (Leaf c' (Leaf x rest)) more h w = absurd (omega (arith, w))
+box_stood n₁ n₂ b₁ b₂ k b d boxes c sheet seeds seeds' N P I (Leaf c' (Holder x y z rest)) more h w = absurd (omega (arith, w))
+box_stood n₁ n₂ b₁ b₂ k b d boxes c sheet seeds seeds' N P I (Holder c' s inner (Leaf x rest)) more h w = absurd (omega (arith, w))
+box_stood n₁ n₂ b₁ b₂ k b d boxes c sheet seeds seeds' N P I (Holder c' s inner (Holder x y z rest)) more h w = absurd (omega (arith, w))
+box_stood n₁ n₂ b₁ b₂ k b d boxes c sheet seeds seeds' N P I (Leaf c' Done) more h w =
     let p = P (ap (first_sheet sheet) h) in (
-      record {
-        keys = k ∷ [];
-        gains = G.seen ∙ ap (λ o. option_map (with_keys (k ∷ [])) (option_map board_seen o)) (B b l);
-        stands = (ap (option_map node_seen) p.0 ∙ N ∙ ap (λ (x : Cell). Some (record { board = b; cell = x; inner = None })) (ap (first_cell c) h), tt);
-      },
+      (ap (option_map node_seen) p.0 ∙ N ∙ ap (λ (x : Cell). Some (record { board = b; cell = x; inner = None })) (ap (first_cell c) h), tt),
       ap stands_ready p.1 ∙ ap behind h,
     )
-box_planted n₀ n₁ n₂ b₀ b₁ b₂ k b d boxes c sheet seeds seeds' l e N P I B G (Holder c' s inner Done) more h w =
+box_stood n₁ n₂ b₁ b₂ k b d boxes c sheet seeds seeds' N P I (Holder c' s inner Done) more h w =
     let p = I s inner more (ap (first_sheet sheet) h) (ap behind h ∙ ap (λ x. x ++ more) (append-nil (stands_of inner))) (sym (ap (first_count boxes) h)) in
-    let q = p.0 in
-    let apart : q.inner ≢ b = (λ same. none_there (b₀ b) (ap b₀ (sym same) ∙ q.vacant) l) in
-    let E : depth_of (b₁ b) ≡ d = ap depth_of (B b l) ∙ e in (
-      record {
-        keys = k ∷ [];
-        gains = G.seen ∙ ap (λ o. option_map (with_keys (k ∷ [])) (option_map board_seen o)) (B b l);
-        stands = (
-          q.inner,
-          q.keys,
-          ap (option_map node_seen) q.node ∙ inner_seen q.inner (n₁ k) ∙ ap (option_map (λ (s : NodeSeen). record { board = s.board; cell = s.cell; inner = Some q.inner })) N
-              ∙ ap (λ (x : Cell). Some (record { board = b; cell = x; inner = Some q.inner })) (ap (first_cell c) h),
-          ap (option_map board_seen) (G.others q.inner apart) ∙ q.board,
-          stands_on n₂ n₂ b₁ b₂ q.inner (d + 1) q.keys inner (λ j i. refl) (λ j i m. G.others j (deep_differs b₁ b d j E (omega (arith, m)))) q.stands,
-          tt,
-        );
-      },
+    let q = p.0 in (
+      (
+        q.inner,
+        q.keys,
+        ap (option_map node_seen) q.node ∙ inner_seen q.inner (n₁ k) ∙ ap (option_map (λ (s : NodeSeen). record { board = s.board; cell = s.cell; inner = Some q.inner })) N
+            ∙ ap (λ (x : Cell). Some (record { board = b; cell = x; inner = Some q.inner })) (ap (first_cell c) h),
+        q.board,
+        q.stands,
+        tt,
+      ),
       p.1,
     )
+
+gained_live : (o o' : Option Board) (k : ℕ) → IsSome o → option_map board_seen o' ≡ option_map (with_keys (k ∷ [])) (option_map board_seen o) → IsSome o'
+gained_live None o' k l h = absurd (cc)
+gained_live (Some b) None k l h = absurd (none-some _ h)
+gained_live (Some b) (Some b') k l h = refl
+
+-- a canvas that gained a box is there
+pub gains_live : (b₀ b₁ : ℕ → Option Board) (b k : ℕ) → IsSome (b₀ b) → Gains b₀ b₁ b k → IsSome (b₁ b)
+gains_live b₀ b₁ b k l G = gained_live (b₀ b) (b₁ b) k l G.seen
+
+-- a box that came last in its canvas stands there, with what it holds
+pub box_planted : (n₀ n₁ n₂ : ℕ → Option Node) (b₀ b₁ b₂ : ℕ → Option Board) (k b d : ℕ) (seeds' : List Seed)
+    → IsSome (b₀ b) → Gains b₀ b₁ b k → ((j : ℕ) → IsSome (b₁ j) → b₂ j ≡ b₁ j)
+    → (t : Trees) (more : List Stand) → Stands n₂ b₂ b d (k ∷ []) t × (stands_ready seeds' ≡ more) → Plants n₀ n₂ b₀ b₂ b d t × (stands_ready seeds' ≡ more)
+box_planted n₀ n₁ n₂ b₀ b₁ b₂ k b d seeds' l G B t more S = (
+  record { keys = k ∷ []; gains = ap (option_map board_seen) (B b (gains_live b₀ b₁ b k l G)) ∙ G.seen; stands = S.0 },
+  S.1,
+)

@@ -1,11 +1,18 @@
 -- Boxes put one after another.
 use Rattle.std.proofs.Common.{◌≡◌, ℕ, suc, ◌+◌, List, [], ◌∷◌, ◌++◌, refl, sym, ap, Some, arith}
+use Rattle.std.specs.Prelude.{max}
 use Rattle.pd_tree.specs.Trees.{Trees, Done, Leaf, Holder, Stand, join, width, stands_of}
+use Rattle.pd_grove.specs.TextOrder.{deep}
 
 pub width-join : (a b : Trees) → width (join a b) ≡ width a + width b
 width-join Done b = omega arith
 width-join (Leaf c rest) b = let h = width-join rest b in omega (arith, h)
 width-join (Holder c s inner rest) b = let h = width-join rest b in omega (arith, h)
+
+pub deep-join : (a b : Trees) → deep (join a b) ≡ max (deep a) (deep b)
+deep-join Done b = omega arith
+deep-join (Leaf c rest) b = deep-join rest b
+deep-join (Holder c s inner rest) b = let h = deep-join rest b in omega (arith, h)
 
 pub join-assoc : (a b c : Trees) → join (join a b) c ≡ join a (join b c)
 join-assoc Done b c = refl

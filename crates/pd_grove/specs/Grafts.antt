@@ -1,5 +1,6 @@
 -- One box more under keys, or one canvas more.
-use Rattle.std.specs.Prelude.{◌≡◌, ◌≢◌, ◌<◌, ℕ, ◌+◌, List, [], ◌∷◌, ◌++◌, Option, Some, None, IsSome, slice_get}
+use Rattle.std.specs.Prelude.{◌≡◌, ◌≢◌, ◌<◌, ℕ, ◌+◌, List, [], ◌∷◌, ◌++◌, Option, Some, None, IsSome, option_map, slice_get}
+use Rattle.pd_tree.specs.declared.rows.Sheet.{Sheet}
 use Rattle.pd_grove.specs.declared.nodes.Node.{Node}
 use Rattle.pd_grove.specs.declared.boards.Board.{Board}
 use Rattle.pd_grove.specs.Standing.{with_inner, depth_of}
@@ -87,6 +88,9 @@ pub record HasBoxChanged (nodes nodes' : ℕ → Option Node) (boards boards' : 
   pub others : (l : ℕ) → l ≢ k → nodes' l ≡ nodes l
   pub stay : (x : ℕ) → IsSome (boards x) → boards' x ≡ boards x
 
+abbrev pub sheet_in : Option Board → Option Sheet
+sheet_in o = option_map (λ (b : Board). b.sheet) o
+
 -- a canvas has one box more, with all that lies in it, and all else stays: what is new is sound by itself
 pub record HasPartMore (nodes nodes' : ℕ → Option Node) (boards boards' : ℕ → Option Board) (c k : ℕ) (before behind : List ℕ) : Type 0 where
   pub vacant : nodes k ≡ None
@@ -97,6 +101,7 @@ pub record HasPartMore (nodes nodes' : ℕ → Option Node) (boards boards' : �
   pub lives : IsSome (boards' c)
   pub holder : holder_in (boards' c) ≡ holder_in (boards c)
   pub depth : depth_of (boards' c) ≡ depth_of (boards c)
+  pub sheet : sheet_in (boards' c) ≡ sheet_in (boards c)
   pub had : keys_in (boards c) ≡ before ++ behind
   pub has : keys_in (boards' c) ≡ before ++ k ∷ behind
   pub home : (x i l : ℕ) → boards x ≡ None → slice_get (keys_in (boards' x)) i ≡ Some l → board_in (nodes' l) ≡ Some x

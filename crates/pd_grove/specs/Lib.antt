@@ -11,3 +11,5 @@ pub mod Forest
 pub mod Grafts
 pub mod Pruning
 pub mod OwnPaths
+pub mod Room
+pub mod Refits

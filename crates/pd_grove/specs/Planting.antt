@@ -1,5 +1,5 @@
 -- What planting does.
-use Rattle.std.specs.Prelude.{◌≡◌, ◌≢◌, ℕ, ◌^◌, ◌≤◌, List, [], ◌∷◌, ◌++◌, map, Option, Some, None, option_map, IsSome, vec_len, vec_capacity}
+use Rattle.std.specs.Prelude.{◌≡◌, ◌≢◌, ℕ, ◌^◌, ◌≤◌, List, [], ◌∷◌, ◌++◌, map, Option, Some, None, option_map, IsSome, slice_get, vec_len, vec_capacity}
 use Rattle.std.specs.List.{AllByRecursion}
 use Rattle.slab.specs.Slab.{Slab, HasRoomFor}
 use Rattle.pd_tree.specs.declared.rows.Sheet.{Sheet}
@@ -64,3 +64,15 @@ pub record PlantsInside (nodes nodes' : ℕ → Option Node) (boards boards' : �
   pub vacant : boards inner ≡ None
   pub board : option_map board_seen (boards' inner) ≡ Some (record { holder = Some k; depth = d; sheet = s; keys = keys })
   pub stands : Stands nodes' boards' inner d keys t
+
+-- under a key there is the box that this seed becomes, whatever it holds
+abbrev pub IsMadeOf : Seed → Option Node → Type 0
+IsMadeOf s None = ⊥
+IsMadeOf s (Some n) =
+    (n.element ≡ s.row.element) × (n.text ≡ s.row.text) × (n.kind ≡ s.row.kind) × (n.fault ≡ s.row.fault) × (n.state ≡ Some s.state)
+
+-- the first seeds were used, and each box that came is made of one of them
+pub record Uses (nodes nodes' : ℕ → Option Node) (seeds seeds' : List Seed) : Type 0 where
+  pub used : List Seed
+  pub split : seeds ≡ used ++ seeds'
+  pub made : (k : ℕ) → nodes k ≡ None → IsSome (nodes' k) → (s : Seed) × (i : ℕ) × (slice_get used i ≡ Some s) × IsMadeOf s (nodes' k)

@@ -2,7 +2,7 @@
 
 ghost use Rattle.std.specs.Prelude.{◌≡◌, ◌≢◌, ◌+◌, ◌<◌, ◌≤◌, ◌^◌, ◌++◌, ◌∷◌, [], ℕ, vec_len, vec_capacity, length, take, drop, slice_get, Some, None};
 ghost use Rattle.slab.specs.Slab.{get, ContainsKey, HasRoomFor, slab_len};
-ghost use Rattle.pd_grove.specs.Standing.{Gains, board_room};
+ghost use Rattle.pd_grove.specs.Standing.{Gains, board_room, depth_of};
 ghost use Rattle.pd_grove.specs.Telling.{keys_in};
 ghost use Rattle.pd_grove.specs.Grafts.{HasOtherKeys};
 
@@ -19,6 +19,16 @@ pub struct Board {
     pub nodes: Vec<u32>,
 }
 
+/// In how many canvases a canvas lies.
+pub(crate) fn depth_at(boards: &Slab<Board>, board: u32) -> u32
+    ensures { result ≡ depth_of (get boards.now board) }
+{
+    match boards.get(board as usize) {
+        Some(board) => board.depth,
+        None => 0,
+    }
+}
+
 /// Puts a box last in a canvas that has room for it.
 pub(crate) fn put_last(boards: &mut Slab<Board>, board: u32, node: u32)
     requires here { ContainsKey boards.old board }
@@ -29,6 +39,20 @@ pub(crate) fn put_last(boards: &mut Slab<Board>, board: u32, node: u32)
 {
     let board = &mut boards[board as usize];
     board.nodes.push_reserved(node);
+}
+
+/// Puts a box at a number in a canvas that has room for it.
+pub(crate) fn put_at(boards: &mut Slab<Board>, board: u32, number: u32, node: u32)
+    requires here { ContainsKey boards.old board }
+    requires place { number ≤ length (keys_in (get boards.old board)) }
+    requires room { 0 < board_room (get boards.old board) }
+    ensures keys { let keys = keys_in (get boards.old board) in
+        HasOtherKeys (get boards.old) (get boards.new) board (take number keys ++ drop number keys) (take number keys ++ node ∷ drop number keys) }
+    ensures len { slab_len boards.new ≡ slab_len boards.old }
+    ensures capacity { boards.new.capacity ≡ boards.old.capacity }
+{
+    let board = &mut boards[board as usize];
+    board.nodes.insert(number as usize, node).unwrap();
 }
 
 /// Takes the box of a number out of a canvas's list, and gives its key.

@@ -6,6 +6,8 @@ ghost use Rattle.pd_tree.specs.Trees.{Trees, width, stands_of, stands_in};
 ghost use Rattle.pd_grove.specs.Standing.{GroveStands, NodesOf, IsEmpty};
 ghost use Rattle.pd_grove.specs.States.{AreSmall, NodesFresh, NodesSmall};
 ghost use Rattle.pd_grove.specs.Owning.{AreOwn};
+ghost use Rattle.pd_grove.specs.TextOrder.{deep};
+ghost use Rattle.pd_grove.specs.Forest.{IsForest};
 
 use crate::boards::{Board, open_root};
 use crate::nodes::Node;
@@ -44,6 +46,8 @@ impl Grove {
         ensures fresh { IfOk result (λ g. NodesFresh rate now (get g.nodes)) }
         ensures small { IfOk result (λ g. NodesSmall (get g.nodes)) }
         ensures own { IfOk result (λ g. AreOwn (get g.nodes) (get g.boards)) }
+        ensures forest { (t : Trees) → stands_in rows.items ≡ stands_of t → width t ≡ count → deep t < 257 →
+            IfOk result (λ g. IsForest (get g.nodes) (get g.boards) g.root) }
     {
         let most = rows.len();
         let mut nodes = with_room(alloc, most)?;

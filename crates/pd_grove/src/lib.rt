@@ -12,24 +12,29 @@
 //! inside it, and `spots` besides whether each is in the patch's own document. `take_state` and `put_state` change
 //! one box's state and nothing else.
 //!
-//! `own_canvas_at` tells where a path leads through subpatches alone. `take_box` takes a box out of its canvas with all
-//! that lies in it, and nothing else goes or changes (`TakesBox`); no memory is taken for it. Where each box and canvas
-//! is sound by itself (`IsForest`), the keys tell one tree: its laws are those of `pd_forest_law`.
+//! `own_canvas_at` tells where a path leads through subpatches alone. What is planted is a forest: each box and canvas is
+//! sound by itself (`IsForest`), and so the keys tell one tree, whose laws are those of `pd_forest_law`. A forest changes
+//! box by box, and every key, place and state that a call doesn't name stays. After `reserve`, `put_box` puts a grown box
+//! into a canvas at a number with all that lies in it (`HasPartMore`), each box made of its seed. `take_box` takes a box
+//! out with all that lies in it (`TakesBox`). `refit_box` is both at one number, under the same key (`Refits`).
+//! `retext_box` and `move_box` give a box another text or place (`Alters`). None of them but `reserve` takes memory.
 //!
 //! Free: want of memory.
 //!
 //! Definitions: `Standing` (a tree stands under keys), `Owning`, `States` (first states), `Ports`, `Places`, `OwnPaths`
 //! and `Telling` (what is told), `TextOrder`, `Planting`, `Lending`, `Forest` and `Grafts` (boxes sound by themselves,
-//! and what changes of one canvas are), `Pruning`.
+//! and what changes of one canvas are), `Pruning`, `Room`, `Refits`.
 #![tactic(auto)]
 
 mod boards;
+mod grafts;
 mod grove;
 mod laws;
 mod nodes;
 mod planting;
 mod ports;
 mod prunes;
+mod refits;
 mod seeds;
 mod spots;
 mod telling;

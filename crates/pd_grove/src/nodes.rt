@@ -27,6 +27,7 @@ pub struct Node {
 pub(crate) fn put_node(nodes: &mut Slab<Node>, node: Node) -> u32
     requires room { HasRoomFor nodes.old 1 }
     requires small { nodes.old.capacity ≤ 2 ^ 32 }
+    ensures key { result ≡ nodes.old.vacant_key }
     ensures vacant { get nodes.old result ≡ None }
     ensures is { get nodes.new result ≡ Some node }
     ensures others { (k : ℕ) → k ≢ result → get nodes.new k ≡ get nodes.old k }

@@ -1,15 +1,19 @@
 //! Planting: boxes in text order get keys.
 
-ghost use Rattle.std.specs.Prelude.{◌≡◌, ◌+◌, ◌-◌, ◌*◌, ◌^◌, ◌≤◌, ◌<◌, ℕ, List, length, ◌++◌, ◌≢◌, [], vec_len, vec_capacity, Some, None, IsSome};
+ghost use Rattle.std.specs.Prelude.{◌≡◌, ◌+◌, ◌-◌, ◌*◌, ◌^◌, ◌≤◌, ◌<◌, ℕ, List, length, ◌++◌, ◌∷◌, ◌≢◌, [], vec_len, vec_capacity, Some, None, IsSome};
 ghost use Rattle.slab.specs.Slab.{get, ContainsKey, HasRoomFor};
 ghost use Rattle.pd_tree.specs.Trees.{Trees, Stand, width, stands_of};
 ghost use Rattle.pd_grove.specs.Standing.{HasCell, NodesOf, depth_of, board_room};
-ghost use Rattle.pd_grove.specs.Planting.{seeds_in, SeedsOf, AreRoomy, IsRoomy, stands_ready, seed_stand, HaveRoom, Keeps, Plants, PlantsInside, one};
+ghost use Rattle.pd_grove.specs.Planting.{seeds_in, SeedsOf, AreRoomy, IsRoomy, stands_ready, seed_stand, HaveRoom, Keeps, Plants, PlantsInside, IsMadeOf, Uses, one};
 ghost use Rattle.pd_object.specs.Ports.{IsSmallKind};
 ghost use Rattle.pd_tree.specs.declared.rows.Sheet.{Sheet};
+ghost use Rattle.pd_grove.specs.declared.seeds.Seed.{Seed};
 ghost use Rattle.pd_clock.specs.declared.times.Rate.{Rate};
 ghost use Rattle.pd_grove.specs.States.{IsFresh, AreFresh, NodesFresh, SeedsSmall, NodesSmall};
 ghost use Rattle.pd_grove.specs.Owning.{board_in, AreOwn};
+ghost use Rattle.pd_grove.specs.Telling.{inner_in};
+ghost use Rattle.pd_grove.specs.TextOrder.{deep};
+ghost use Rattle.pd_grove.specs.Forest.{IsForest};
 
 use crate::boards::{Board, open_board, put_last};
 use crate::nodes::{Node, put_node, set_inner};
@@ -43,6 +47,9 @@ pub(crate) fn plant_boxes(
     ensures of_tree { (t : Trees) → SeedsOf t (seeds_in seeds.old) → NodesOf t (get nodes.old) → SeedsOf t (seeds_in seeds.new) × NodesOf t (get nodes.new) }
     ensures own { AreOwn (get nodes.old) (get boards.old) → AreOwn (get nodes.new) (get boards.new) }
     ensures fewer { length (seeds_in seeds.new) ≤ length (seeds_in seeds.old) }
+    ensures uses { Uses (get nodes.old) (get nodes.new) (seeds_in seeds.old) (seeds_in seeds.new) }
+    ensures forest { (root : ℕ) (t : Trees) (more : List Stand) → stands_ready (seeds_in seeds.old) ≡ stands_of t ++ more → width t ≡ count → depth + deep t < 257 →
+        IsForest (get nodes.old) (get boards.old) root → IsForest (get nodes.new) (get boards.new) root }
     ensures plants { (t : Trees) (more : List Stand) → stands_ready (seeds_in seeds.old) ≡ stands_of t ++ more → width t ≡ count →
         Plants (get nodes.old) (get nodes.new) (get boards.old) (get boards.new) board depth t × (stands_ready (seeds_in seeds.new) ≡ more) }
 {
@@ -76,6 +83,9 @@ fn plant_next(
     ensures of_tree { (t : Trees) → SeedsOf t (seeds_in seeds.old) → NodesOf t (get nodes.old) → SeedsOf t (seeds_in seeds.new) × NodesOf t (get nodes.new) }
     ensures own { AreOwn (get nodes.old) (get boards.old) → AreOwn (get nodes.new) (get boards.new) }
     ensures fewer { length (seeds_in seeds.new) ≤ length (seeds_in seeds.old) }
+    ensures uses { Uses (get nodes.old) (get nodes.new) (seeds_in seeds.old) (seeds_in seeds.new) }
+    ensures forest { (root : ℕ) (t : Trees) (more : List Stand) → stands_ready (seeds_in seeds.old) ≡ stands_of t ++ more → width t ≡ 1 → depth + deep t < 257 →
+        IsForest (get nodes.old) (get boards.old) root → IsForest (get nodes.new) (get boards.new) root }
     ensures plants { (t : Trees) (more : List Stand) → stands_ready (seeds_in seeds.old) ≡ stands_of t ++ more → width t ≡ 1 →
         Plants (get nodes.old) (get nodes.new) (get boards.old) (get boards.new) board depth t × (stands_ready (seeds_in seeds.new) ≡ more) }
 {
@@ -111,6 +121,9 @@ fn plant_box(
     ensures of_tree { (t : Trees) → HasCell t (seed_stand seed).cell → SeedsOf t (seeds_in seeds.old) → NodesOf t (get nodes.old) → SeedsOf t (seeds_in seeds.new) × NodesOf t (get nodes.new) }
     ensures own { AreOwn (get nodes.old) (get boards.old) → AreOwn (get nodes.new) (get boards.new) }
     ensures fewer { length (seeds_in seeds.new) ≤ length (seeds_in seeds.old) }
+    ensures uses { Uses (get nodes.old) (get nodes.new) (seed ∷ seeds_in seeds.old) (seeds_in seeds.new) }
+    ensures forest { (root : ℕ) (t : Trees) (more : List Stand) → one (seed_stand seed) (stands_ready (seeds_in seeds.old)) ≡ stands_of t ++ more → width t ≡ 1 → depth + deep t < 257 →
+        IsForest (get nodes.old) (get boards.old) root → IsForest (get nodes.new) (get boards.new) root }
     ensures plants { (t : Trees) (more : List Stand) → one (seed_stand seed) (stands_ready (seeds_in seeds.old)) ≡ stands_of t ++ more → width t ≡ 1 →
         Plants (get nodes.old) (get nodes.new) (get boards.old) (get boards.new) board depth t × (stands_ready (seeds_in seeds.new) ≡ more) }
 {
@@ -135,13 +148,13 @@ fn plant_box(
             inner: None,
         },
     );
-    plant_inside(nodes, boards, seeds, sheet, room, key, depth + 1, boxes);
     put_last(boards, board, key);
+    plant_inside(nodes, boards, seeds, sheet, room, key, depth + 1, boxes);
 }
 
 /// Plants what a box holds, where it holds a canvas.
 #[cycle(planting)]
-fn plant_inside(
+pub(crate) fn plant_inside(
     nodes: &mut Slab<Node>,
     boards: &mut Slab<Board>,
     seeds: &mut Seeds,
@@ -172,6 +185,12 @@ fn plant_inside(
     ensures of_tree { (t : Trees) → SeedsOf t (seeds_in seeds.old) → NodesOf t (get nodes.old) → SeedsOf t (seeds_in seeds.new) × NodesOf t (get nodes.new) }
     ensures own { AreOwn (get nodes.old) (get boards.old) → AreOwn (get nodes.new) (get boards.new) }
     ensures fewer { length (seeds_in seeds.new) ≤ length (seeds_in seeds.old) }
+    ensures uses { Uses (get nodes.old) (get nodes.new) (seeds_in seeds.old) (seeds_in seeds.new) }
+    ensures as_made { (s : Seed) → IsMadeOf s (get nodes.old key) → IsMadeOf s (get nodes.new key) }
+    ensures none { sheet ≡ None → (nodes.new ≡ nodes.old) × (boards.new ≡ boards.old) }
+    ensures forest { (root : ℕ) (s : Sheet) (t : Trees) (more : List Stand) → sheet ≡ Some s → stands_ready (seeds_in seeds.old) ≡ stands_of t ++ more → width t ≡ boxes →
+        depth + deep t < 257 → inner_in (get nodes.old key) ≡ None → ((c : ℕ) → board_in (get nodes.old key) ≡ Some c → depth ≡ depth_of (get boards.old c) + 1) →
+        IsForest (get nodes.old) (get boards.old) root → IsForest (get nodes.new) (get boards.new) root }
     ensures plain { sheet ≡ None → (get nodes.new key ≡ get nodes.old key) × (seeds_in seeds.new ≡ seeds_in seeds.old) }
     ensures plants { (s : Sheet) (t : Trees) (more : List Stand) → sheet ≡ Some s → stands_ready (seeds_in seeds.old) ≡ stands_of t ++ more → width t ≡ boxes →
         PlantsInside (get nodes.old) (get nodes.new) (get boards.old) (get boards.new) key depth s t × (stands_ready (seeds_in seeds.new) ≡ more) }

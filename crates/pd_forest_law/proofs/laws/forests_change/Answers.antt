@@ -8,6 +8,7 @@ use Rattle.pd_forest_law.proofs.MoreLemmas.{tree_more}
 use Rattle.pd_grove.proofs.OpenLemmas.{forest_bare, forest_opened, forest_alike}
 use Rattle.pd_forest_law.proofs.OtherLemmas.{tree_opened, tree_refit}
 use Rattle.pd_forest_law.proofs.PartLemmas.{forest_part}
+use Rattle.pd_forest_law.proofs.TakenBackLemmas.{taken_back}
 use Rattle.pd_forest_law.proofs.laws.forests_change.Goals as goal
 
 pub returns-clause-tree : goal.returns-clause-tree
@@ -39,3 +40,6 @@ returns-clause-bare c = λ nodes boards root b none is free top empty others. fo
 
 pub returns-clause-part : goal.returns-clause-part
 returns-clause-part c = λ nodes nodes' boards boards' root b k before behind M F. forest_part nodes nodes' boards boards' root b k before behind M F
+
+pub returns-clause-part_less : goal.returns-clause-part_less
+returns-clause-part_less c = λ nodes nodes' boards boards' root b k n before behind M F is. taken_back nodes nodes' boards boards' root b k n before behind M F is

@@ -1,4 +1,4 @@
-use Rattle.pd_forest_law.proofs.PruneLemmas.{forest_pruned}
+use Rattle.pd_grove.proofs.PruneLemmas.{forest_pruned}
 use Rattle.pd_forest_law.proofs.LessLemmas.{tree_less}
 use Rattle.pd_forest_law.proofs.laws.prunes.Goals as goal
 

@@ -1,23 +1,28 @@
-use Rattle.std.proofs.Common.{◌≡◌, Some, IsSome, sym, ap, ◌∙◌, subst, arith}
+use Rattle.std.proofs.Common.{◌≡◌, ◌≢◌, ℕ, List, [], ◌∷◌, Some, IsSome, refl, sym, ap, ◌∙◌, subst, arith}
+use mathlib.Core.Logic.{⊎_elim}
+use Rattle.std.proofs.lemmas.Bool.{cases_eq}
 use Rattle.std.specs.Prelude.{option_map, slice_get}
 use Rattle.slab.specs.Slab.{get}
 use Rattle.pd_canvas.specs.Views.{entry_of}
 use Rattle.pd_grove.specs.Standing.{node_seen, with_inner}
 use Rattle.pd_grove.specs.Telling.{keys_in}
-use Rattle.pd_grove.specs.Planting.{seeds_in, SeedsOf}
+use Rattle.pd_grove.specs.declared.seeds.Seed.{Seed}
+use Rattle.pd_grove.specs.Planting.{seeds_in, stands_ready, SeedsOf, IsMadeOf, Uses}
 use Rattle.pd_grove.specs.Owning.{board_in}
 use Rattle.pd_grove.specs.States.{AreFresh}
 use Rattle.pd_grove.proofs.Freshness.{fresh_put, fresh_inner, small_put, small_inner}
 use Rattle.pd_grove.proofs.TreeBoxes.{of_put, of_inner}
 use Rattle.pd_grove.proofs.OwnLemmas.{own_put, own_open, own_inner, own_gains, not_there, inner_board, inner_some}
-use Rattle.pd_grove.proofs.Plantings.{halfway_next, split_end, box_planted, some_on}
+use Rattle.pd_grove.proofs.Plantings.{halfway_next, split_end, box_stood, box_planted, some_on}
+use Rattle.pd_grove.proofs.UseLemmas.{uses_then, uses_one, uses_inside, made_stays, made_inner}
+use Rattle.pd_grove.proofs.GrowLemmas.{box_more, box_forest, opened_forest}
 use Rattle.pd_grove.proofs.planting.+planting.Goals as goal
 
 pub plant_boxes-loop-preserved : goal.plant_boxes-loop-preserved
 plant_boxes-loop-preserved t c =
     let p = c.plant_next.ensures in
     halfway_next c.args.nodes.now c.loop.nodes c.plant_next.new.nodes c.args.boards.now c.loop.boards c.plant_next.new.boards (seeds_in c.args.seeds.now) (seeds_in c.loop.seeds) (seeds_in c.plant_next.new.seeds)
-    c.args.board c.args.depth c.loop.counter c.args.count (omega arith) c.requires.depth c.loop.invariant p.kept p.own_room p.room p.roomy p.fewer p.fresh p.small p.of_tree p.own p.plants
+    c.args.board c.args.depth c.loop.counter c.args.count (omega arith) c.requires.depth c.loop.invariant p.kept p.own_room p.room p.roomy p.fewer p.fresh p.small p.of_tree p.own p.uses p.forest p.plants
 
 pub plant_boxes-returns-clause-plants : goal.plant_boxes-returns-clause-plants
 plant_boxes-returns-clause-plants t c = λ u more h w.
@@ -27,9 +32,64 @@ pub plant_box-returns-clause-plants : goal.plant_box-returns-clause-plants
 plant_box-returns-clause-plants t c = λ u more h w.
     let row = c.args.seed.row in
     let p = c.plant_inside.ensures in
-    box_planted (get c.args.nodes.now) (get c.put_node-key.new.nodes) (get c.plant_inside.new.nodes) (get c.args.boards.now) (get c.plant_inside.new.boards) (get c.put_last.new.boards)
-    c.put_node-key.result c.args.board c.args.depth row.boxes (record { head = (entry_of row.element).head; text = row.text; kind = row.kind; fault = row.fault }) row.sheet
-    (seeds_in c.args.seeds.now) (seeds_in c.plant_inside.new.seeds) c.requires.here c.requires.depth (ap (option_map node_seen) c.put_node-key.ensures.is) p.plain p.plants p.boards_stay c.put_last.ensures.gains u more h w
+    let n₁ = get c.put_node-key.new.nodes in
+    let n₂ = get c.plant_inside.new.nodes in
+    let b₁ = get c.put_last.new.boards in
+    let b₂ = get c.plant_inside.new.boards in
+    let seeds = seeds_in c.plant_inside.new.seeds in
+    box_planted (get c.args.nodes.now) n₁ n₂ (get c.args.boards.now) b₁ b₂ c.put_node-key.result c.args.board c.args.depth seeds c.requires.here c.put_last.ensures.gains p.boards_stay u more
+    (box_stood n₁ n₂ b₁ b₂ c.put_node-key.result c.args.board c.args.depth row.boxes (record { head = (entry_of row.element).head; text = row.text; kind = row.kind; fault = row.fault }) row.sheet
+    (seeds_in c.args.seeds.now) seeds (ap (option_map node_seen) c.put_node-key.ensures.is) p.plain p.plants u more h w)
+
+pub plant_box-returns-clause-forest : goal.plant_box-returns-clause-forest
+plant_box-returns-clause-forest t c = λ root u more h w low F.
+    let row = c.args.seed.row in
+    let k = c.put_node-key.result in
+    let b₀ = get c.args.boards.now in
+    box_forest (get c.args.nodes.now) c.put_node-key.new.nodes c.plant_inside.new.nodes b₀ c.put_last.new.boards c.plant_inside.new.boards root c.args.board k c.args.depth row.boxes _ (keys_in (b₀ c.args.board)) []
+    (record { head = (entry_of row.element).head; text = row.text; kind = row.kind; fault = row.fault }) row.sheet (stands_ready (seeds_in c.args.seeds.now))
+    (box_more (get c.args.nodes.now) (get c.put_node-key.new.nodes) b₀ (get c.put_last.new.boards) c.args.board k _ c.put_node-key.ensures.vacant c.put_node-key.ensures.is refl refl c.put_node-key.ensures.others c.requires.here c.put_last.ensures.gains)
+    c.requires.depth c.plant_inside.ensures.none c.plant_inside.ensures.forest u more h w low F
+
+pub plant_box-returns-clause-uses : goal.plant_box-returns-clause-uses
+plant_box-returns-clause-uses t c =
+    let n₀ = get c.args.nodes.now in
+    let n₁ = get c.put_node-key.new.nodes in
+    let n₂ = get c.plant_inside.new.nodes in
+    let k = c.put_node-key.result in
+    let p = c.plant_inside.ensures in
+    let made : IsMadeOf c.args.seed (n₁ k) = subst (IsMadeOf c.args.seed) (sym c.put_node-key.ensures.is) (refl, refl, refl, refl, refl) in
+    uses_then n₀ n₁ n₂ (c.args.seed ∷ seeds_in c.args.seeds.now) (seeds_in c.args.seeds.now) (seeds_in c.plant_inside.new.seeds)
+    (λ l s m. ⊎_elim (λ (e : l ≡ k). subst (λ i. IsMadeOf s (n₂ i)) (sym e) (p.as_made s (subst (λ i. IsMadeOf s (n₁ i)) e m)))
+    (λ (d : l ≢ k). made_stays (n₁ l) (n₂ l) s (p.nodes_stay l d) m) (cases_eq l k))
+    (uses_one n₀ n₁ k c.args.seed (seeds_in c.args.seeds.now) made c.put_node-key.ensures.others) p.uses
+
+pub plant_inside-returns-in-Some-clause-uses : goal.plant_inside-returns-in-Some-clause-uses
+plant_inside-returns-in-Some-clause-uses t c =
+    uses_inside (get c.args.nodes.now) (get c.set_inner.new.nodes) (get c.plant_boxes.new.nodes) c.args.key (seeds_in c.args.seeds.now) (seeds_in c.plant_boxes.new.seeds) c.requires.here c.set_inner.ensures.others c.plant_boxes.ensures.uses
+
+pub plant_inside-returns-in-Some-clause-as_made : goal.plant_inside-returns-in-Some-clause-as_made
+plant_inside-returns-in-Some-clause-as_made t c = λ s m.
+    let n₀ = get c.args.nodes.now in
+    let n₁ = get c.set_inner.new.nodes in
+    let n₂ = get c.plant_boxes.new.nodes in
+    let k = c.args.key in
+    made_stays (n₁ k) (n₂ k) s (c.plant_boxes.ensures.kept.nodes_stay k)
+    (subst (IsMadeOf s) (sym c.set_inner.ensures.is) (made_inner s c.open_board-inner.result (n₀ k) m))
+
+pub plant_inside-returns-in-Some-clause-forest : goal.plant_inside-returns-in-Some-clause-forest
+plant_inside-returns-in-Some-clause-forest t c = λ root s u more e h w low bare level F.
+    c.plant_boxes.ensures.forest root u more h w low
+    (opened_forest (get c.args.nodes.now) (get c.set_inner.new.nodes) (get c.args.boards.now) (get c.open_board-inner.new.boards) root c.args.key c.open_board-inner.result c.args.depth _
+    c.requires.here bare level c.set_inner.ensures.is c.set_inner.ensures.others c.open_board-inner.ensures.vacant c.open_board-inner.ensures.opened refl refl c.requires.none
+    c.open_board-inner.ensures.others (omega (arith, low)) F)
+
+pub plant_next-returns-in-Some-clause-uses : goal.plant_next-returns-in-Some-clause-uses
+plant_next-returns-in-Some-clause-uses t c =
+    subst (λ (x : List Seed). Uses (get c.args.nodes.now) (get c.plant_box.new.nodes) x (seeds_in c.plant_box.new.seeds)) (sym c.in-Some.ensures) c.plant_box.ensures.uses
+
+pub plant_next-returns-in-Some-clause-forest : goal.plant_next-returns-in-Some-clause-forest
+plant_next-returns-in-Some-clause-forest t c = λ root u more h w low F. c.plant_box.ensures.forest root u more (sym (ap stands_ready c.in-Some.ensures) ∙ h) w low F
 
 pub plant_box-returns-clause-fresh : goal.plant_box-returns-clause-fresh
 plant_box-returns-clause-fresh t c = λ rate now s f n.
@@ -59,16 +119,12 @@ pub plant_box-returns-clause-own : goal.plant_box-returns-clause-own
 plant_box-returns-clause-own t c = λ h.
     let n₀ = get c.args.nodes.now in
     let n₁ = get c.put_node-key.new.nodes in
-    let n₂ = get c.plant_inside.new.nodes in
     let b₀ = get c.args.boards.now in
-    let b₁ = get c.plant_inside.new.boards in
-    let b₂ = get c.put_last.new.boards in
     let k = c.put_node-key.result in
-    let b = c.args.board in
-    let same : b₁ b ≡ b₀ b = c.plant_inside.ensures.boards_stay b c.requires.here in
-    own_gains n₂ b₁ b₂ b k (some_on (b₀ b) (b₁ b) same c.requires.here) (c.plant_inside.ensures.lies ∙ ap board_in c.put_node-key.ensures.is)
-    (λ i at. not_there n₀ b₀ k b i c.put_node-key.ensures.vacant h (sym (ap (λ o. slice_get (keys_in o) i) same) ∙ at)) c.put_last.ensures.gains
-    (c.plant_inside.ensures.own (own_put n₀ n₁ b₀ k c.put_node-key.ensures.vacant c.put_node-key.ensures.others h))
+    c.plant_inside.ensures.own
+    (own_gains n₁ b₀ (get c.put_last.new.boards) c.args.board k c.requires.here (ap board_in c.put_node-key.ensures.is)
+    (λ i at. not_there n₀ b₀ k c.args.board i c.put_node-key.ensures.vacant h at) c.put_last.ensures.gains
+    (own_put n₀ n₁ b₀ k c.put_node-key.ensures.vacant c.put_node-key.ensures.others h))
 
 pub plant_inside-returns-in-Some-clause-own : goal.plant_inside-returns-in-Some-clause-own
 plant_inside-returns-in-Some-clause-own t c = λ h.

@@ -1,4 +1,4 @@
-use Rattle.std.proofs.Common.{ℕ, List, [], ◌++◌, Some, None, sym, ap, ◌∙◌, arith}
+use Rattle.std.proofs.Common.{ℕ, List, [], ◌++◌, Some, None, refl, sym, ap, ◌∙◌, arith}
 use Rattle.std.specs.Prelude.{option_map}
 use Rattle.std.proofs.lemmas.List.{append-nil}
 use Rattle.std.proofs.lemmas.Option.{none-some}
@@ -10,6 +10,7 @@ use Rattle.pd_grove.specs.Telling.{keys_in}
 use Rattle.pd_grove.proofs.Freshness.{as_many}
 use Rattle.pd_grove.proofs.TreeBoxes.{seeds_of}
 use Rattle.pd_grove.proofs.OwnLemmas.{own_bare, own_open}
+use Rattle.pd_grove.proofs.OpenLemmas.{forest_bare}
 use Rattle.pd_grove.proofs.grove.Grove.plant.Goals as goal
 
 pub plant_boxes-requires-clause-room : goal.plant_boxes-requires-clause-room
@@ -57,3 +58,9 @@ returns-clause-own c =
     c.plant_boxes.ensures.own
     (own_open nodes b₀ b₁ c.open_root-root.result (ap keys_in c.open_root-root.ensures.opened ∙ c.in_ok-room.ensures.items) c.open_root-root.ensures.others
     (own_bare nodes b₀ (λ k. ap keys_in (c.in_ok-boards.ensures.empty k))))
+
+pub returns-clause-forest : goal.returns-clause-forest
+returns-clause-forest c = λ t h w low.
+    let r = c.open_root-root in
+    c.plant_boxes.ensures.forest r.result t [] (c.in_ok-seeds.ensures.ready ∙ h ∙ sym (append-nil (stands_of t))) w (omega (arith, low))
+    (forest_bare (get c.in_ok-nodes.nodes) (get r.new.boards) r.result _ c.in_ok-nodes.ensures.empty r.ensures.opened refl refl c.in_ok-room.ensures.items (λ k d. r.ensures.others k d ∙ c.in_ok-boards.ensures.empty k))
