@@ -10,12 +10,13 @@ use Rattle.pd_naming.specs.Naming.{arguments_of, named_by}
 use Rattle.pd_canvas.specs.Pages.{Shape, Obj, Msg, Comment, FloatBox, SymbolBox, Sub, Array, Other, Head, Page, Entry, elements_of}
 use Rattle.pd_library.specs.declared.answers.Answer.{Answer}
 use Rattle.pd_library.specs.declared.answers.Answer.TheVariants.{Found, Absent, Bad}
-use Rattle.pd_tree.specs.Trees.{Done, Tree}
+use Rattle.pd_tree.specs.Trees.{Trees, Done}
 use Rattle.pd_growth.specs.declared.growing.Stop.{Stop}
 use Rattle.pd_growth.specs.declared.growing.Stop.TheVariants.{SymbolsFull, TooManyBoxes, Lacks, NoMemory}
 use Rattle.pd_growth.specs.Steps.{Stock, Step, gives, ends, goes_on, ◌>>=◌, counted, box_by_room, numbered, number_from, named_answer, named_step, brought, with_names, text_expanded}
 use Rattle.pd_growth.specs.Making.{Around, Making, Plain, Subpatch, File, is_inside, has_slash, answer_made, object_made, made, is_expanded}
-use Rattle.pd_growth.specs.Growth.{Inner, canvas_grown, receiver_bytes, receiver_named, brought_if, receiver_brought, around_instance, box_made, own_text, box_grown, boxes_grown, page_grown, without_ending, around_root, grown}
+use Rattle.pd_growth.specs.Growth.{Inner, canvas_grown, receiver_named, brought_if, receiver_brought, around_instance, box_made, own_text, box_grown, boxes_grown, page_grown}
+use Rattle.pd_growth.specs.Growing.{inside_grown}
 
 module _ (lib : ℕ → Option Answer) where
   -- it is a lack of a file of which nothing is known, or none
@@ -133,12 +134,11 @@ module _ (lib : ℕ → Option Answer) where
     page zero a p w = boxes zero (λ a p w. gives Done w) (λ a p w. tt) a (elements_of p) w
     page (suc n) a p w = boxes (suc n) (page_grown lib root n) (page n) a (elements_of p) w
 
-  patch : (name : List ℕ) (p : Page) (w : Stock) → MayLack (grown lib name p w).answer
-  patch name p w =
-      then_lacks (numbered w) _ (by_numbers w.zeros w) (λ z v.
-      then_lacks (brought (receiver_bytes name) v) _ (bring (receiver_bytes name) v) (λ _ u.
-      then_lacks (page_grown lib (without_ending name) 255 (around_root z) p u) _ (page (without_ending name) 255 (around_root z) p u) (λ boxes t. tt)))
+    inside : (left : ℕ) → InnerLacks (inside_grown lib root left)
+    inside zero a p w = tt
+    inside (suc n) a p w = page n a p w
 
-  -- of the file that growth lacks nothing is known
-  pub lacks_unknown : (name : List ℕ) (p : Page) (w v : Stock) (s : ℕ) → grown lib name p w ≡ ends (Lacks s) v → lib s ≡ None
-  lacks_unknown name p w v s e = subst (λ (t : Step Tree). MayLack t.answer) e (patch name p w)
+  -- of the file that a box lacks nothing is known
+  pub box_lacks_unknown : (root : List ℕ) (left : ℕ) (a : Around) (e : Entry) (w v : Stock) (s : ℕ)
+      → box_grown lib root left (inside_grown lib root left) a e w ≡ ends (Lacks s) v → lib s ≡ None
+  box_lacks_unknown root left a e w v s is = subst (λ (t : Step Trees). MayLack t.answer) is (box root left (inside_grown lib root left) (inside root left) a e w)

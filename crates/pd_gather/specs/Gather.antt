@@ -38,28 +38,32 @@ unfoldable pub growth : List ℕ → Page → Known → Step Tree
 growth name p k = grown (answer_in k.files) name p (beginning k.names 1001)
 
 -- Growth that lacks a file asks for it, with the names that it brought by then. Else all is gathered but where the table is full.
-abbrev pub asked_by : Known → Result Tree Stop → Names → Gathering
+abbrev pub asked_by : {A : Type 0} → Known → Result A Stop → Names → Gathering
 asked_by k (Err (Lacks s)) names = Asks s (known k.files names)
 asked_by k (Err SymbolsFull) names = Full
 asked_by k _ names = Gathered k
 
+-- what a growth asks for that begins with what is known
+abbrev pub asked_of : {A : Type 0} → (Known → Step A) → Known → Gathering
+asked_of grows k = asked_by k (grows k).answer (grows k).stock.names
+
 abbrev pub asked : List ℕ → Page → Known → Gathering
-asked name p k = asked_by k (growth name p k).answer (growth name p k).stock.names
+asked name p = asked_of (growth name p)
 
 -- this is known of a file, besides
 abbrev pub learned : ℕ → Known → Answer × Names → Known
 learned s k a = known (k.files ++ (s, a.0) ∷ []) a.1
 
--- what the shelf gives for the file that is asked for; then the document is grown anew
-abbrev pub after : List ℕ → Page → Fetch → Gathering → Gathering
-after name p f (Asks s k) = option_map_or (λ a. asked name p (learned s k a)) (answer_given k.names f) Full
-after name p f (Gathered k) = Gathered k
-after name p f Full = Full
+-- what the shelf gives for the file that is asked for; then growth begins anew
+abbrev pub after : (Known → Gathering) → Fetch → Gathering → Gathering
+after ask f (Asks s k) = option_map_or (λ a. ask (learned s k a)) (answer_given k.names f) Full
+after ask f (Gathered k) = Gathered k
+after ask f Full = Full
 
 -- what the shelf gives, in order
-abbrev pub gathered : List ℕ → Page → List Fetch → Gathering → Gathering
-gathered name p [] g = g
-gathered name p (f ∷ fs) g = gathered name p fs (after name p f g)
+abbrev pub gathered : (Known → Gathering) → List Fetch → Gathering → Gathering
+gathered ask [] g = g
+gathered ask (f ∷ fs) g = gathered ask fs (after ask f g)
 
 -- it is what the shelf holds, of the file that is asked for
 abbrev pub IsHeld : List FileRow → Fetch → Gathering → Type 0
@@ -68,15 +72,19 @@ IsHeld rows f (Gathered k) = ⊥
 IsHeld rows f Full = ⊥
 
 -- each is what the shelf holds, and nothing is given that isn't asked for
-abbrev pub AreHeld : List ℕ → Page → List FileRow → List Fetch → Gathering → Type 0
-AreHeld name p rows [] g = Unit {0}
-AreHeld name p rows (f ∷ fs) g = IsHeld rows f g × AreHeld name p rows fs (after name p f g)
+abbrev pub AreHeld : (Known → Gathering) → List FileRow → List Fetch → Gathering → Type 0
+AreHeld ask rows [] g = Unit {0}
+AreHeld ask rows (f ∷ fs) g = IsHeld rows f g × AreHeld ask rows fs (after ask f g)
 
 -- Gathering comes to this by what the shelf gives, which is what it holds, where it tells that.
-pub record Gathers (holds : Option (List FileRow)) (name : List ℕ) (p : Page) (k : Known) (g : Gathering) : Type 0 where
+pub record GathersBy (holds : Option (List FileRow)) (ask : Known → Gathering) (k : Known) (g : Gathering) : Type 0 where
   pub fetches : List Fetch
-  pub comes : gathered name p fetches (asked name p k) ≡ g
-  pub held : IfSome holds (λ rows. AreHeld name p rows fetches (asked name p k))
+  pub comes : gathered ask fetches (ask k) ≡ g
+  pub held : IfSome holds (λ rows. AreHeld ask rows fetches (ask k))
+
+-- the same for a document
+abbrev pub Gathers : Option (List FileRow) → List ℕ → Page → Known → Gathering → Type 0
+Gathers holds name p k g = GathersBy holds (asked name p) k g
 
 -- growth asks for no file of which nothing is known, and the table holds its names
 abbrev pub AnswersAll : List ℕ → Page → Known → Type 0

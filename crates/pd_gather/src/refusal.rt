@@ -1,4 +1,4 @@
-//! Why files are not gathered.
+//! Why files are not gathered, and why a box is refused.
 
 use pd_io::ShelfError;
 use std::alloc::{AllocError, AllocFailed};
@@ -50,6 +50,38 @@ impl From<ShelfError> for GatherRefusal {
         match error {
             ShelfError::Failed => GatherRefusal::ShelfFault,
             ShelfError::NoMemory => GatherRefusal::NoMemory,
+        }
+    }
+}
+
+/// Why a box that comes is refused.
+#[derive(Clone, Copy, Debug, PartialEq, Eq, Error)]
+pub enum BoxRefusal {
+    /// A box is one more than there is room for, or no `$0` is left.
+    #[error("too many boxes")]
+    TooManyBoxes,
+    /// The shelf failed, and counted it.
+    #[error("shelf fault")]
+    ShelfFault,
+    /// There is a name more than the table holds.
+    #[error("too many symbols")]
+    SymbolsFull,
+    /// Memory is wanting.
+    #[error("out of memory")]
+    NoMemory,
+}
+
+impl From<GatherRefusal> for BoxRefusal {
+    ghost use Rattle.std.specs.Prelude.{◌≡◌};
+    ghost use Rattle.pd_gather.specs.Refusals.{box_refusal};
+
+    ghost from_gives = { λ refusal e. e ≡ box_refusal refusal };
+
+    fn from(refusal: GatherRefusal) -> BoxRefusal {
+        match refusal {
+            GatherRefusal::ShelfFault => BoxRefusal::ShelfFault,
+            GatherRefusal::SymbolsFull => BoxRefusal::SymbolsFull,
+            GatherRefusal::NoMemory => BoxRefusal::NoMemory,
         }
     }
 }

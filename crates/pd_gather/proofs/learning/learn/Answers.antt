@@ -1,7 +1,7 @@
 use Rattle.std.proofs.Common.{sym, subst}
 use Rattle.pd_gather.specs.Gather.{AreProper}
 use Rattle.pd_gather.proofs.SuitLemmas.{still_found, found_more}
-use Rattle.pd_gather.proofs.gathering.learn.Goals as goal
+use Rattle.pd_gather.proofs.learning.learn.Goals as goal
 
 pub returns-clause-found : goal.returns-clause-found
 returns-clause-found g c =
