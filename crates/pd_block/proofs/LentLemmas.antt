@@ -38,7 +38,7 @@ lent_keeps p k n s is =
 lent_net : (p : Patch) (k : ℕ) (n : Node) (s : Option State) → get p.grove.nodes k ≡ Some n → net_of (with_box p k (with_state s n)) ≡ net_of p
 lent_net p k n s is =
     keeps_net p (with_box p k (with_state s n)) k s (lent_keeps p k n s is)
-    (record { web = refl; names = refl; orders = refl; numbers = refl; values = refl; rate = refl; present = refl }) refl
+    (record { web = refl; names = refl; links = refl; orders = refl; numbers = refl; values = refl; rate = refl; present = refl }) refl
 
 lent_states : (p : Patch) (k : ℕ) (n : Node) (s : Option State) → get p.grove.nodes k ≡ Some n → states_of (with_box p k (with_state s n)) ≡ set_at (states_of p) k s
 lent_states p k n s is =

@@ -123,7 +123,7 @@ lent-keeps p k n s is =
 pub lent-net : (p : Patch) (k : ℕ) (n : Node) (s : Option State) → get p.grove.nodes k ≡ Some n → net_of (with_box p k (with_state s n)) ≡ net_of p
 lent-net p k n s is =
     keeps-net p (with_box p k (with_state s n)) k s (lent-keeps p k n s is)
-    (record { web = refl; names = refl; orders = refl; numbers = refl; values = refl; rate = refl; present = refl }) refl
+    (record { web = refl; names = refl; links = refl; orders = refl; numbers = refl; values = refl; rate = refl; present = refl }) refl
 
 pub lent-states : (p : Patch) (k : ℕ) (n : Node) (s : Option State) → get p.grove.nodes k ≡ Some n → states_of (with_box p k (with_state s n)) ≡ set_at (states_of p) k s
 lent-states p k n s is =

@@ -1,13 +1,14 @@
 -- Orders over links, against those over the wires of a canvas.
-use Rattle.std.proofs.Common.{◌≡◌, ℕ, ◌+◌, ◌<◌, ◌≤◌, ◌==◌, Bool, cond, true, List, ◌∷◌, length, refl, sym, ◌∙◌, ap, subst, arith}
+use Rattle.std.proofs.Common.{◌≡◌, ℕ, ◌+◌, ◌<◌, ◌≤◌, ◌==◌, Bool, cond, true, List, [], ◌∷◌, ◌++◌, length, take, get_or, refl, sym, ◌∙◌, ap, subst, arith}
+use Rattle.std.proofs.lemmas.List.{take_more, take_all}
 use Rattle.pd_order.specs.Graph.{Graph, tally, take_out, IsLawful, IsOrder, cut_wire, add_wire}
-use Rattle.pd_order.proofs.Basics.{by_test, same_node, same_test, other_node, other_test, ltb', ltb-true', ltb-false', tally-take_out}
+use Rattle.pd_order.proofs.Basics.{by_test, same_node, same_test, other_node, other_test, ltb', ltb-true', ltb-false', tally-take_out, tally-append}
 use Rattle.pd_order.proofs.SameLemmas.{same_order}
 use Rattle.pd_chain.specs.declared.graph.SignalWire.{SignalWire}
 use Rattle.pd_chain.specs.Wires.{place_of, sources_into, sinks_from, graph_of, IsCanvas}
 use Rattle.pd_chain.proofs.WireLemmas.{drawn_lawful}
 use Rattle.pd_links.specs.declared.links.Links.{Links}
-use Rattle.pd_links.specs.Linked.{label_at, feeders_of, followers_of, link_graph, AreLinked, HasOneMore, RiseAlong}
+use Rattle.pd_links.specs.Linked.{label_at, feeders_of, followers_of, link_graph, SameLinks, AreLinked, HasOneMore, RiseAlong}
 
 -- the links with boxes ranked by their numbers
 abbrev numbered : List ℕ → Links → Graph
@@ -64,12 +65,12 @@ test_turned x y = by_test (x == y)
 turned : (f : ℕ → List ℕ) (x k v u : ℕ) → tally u (cond (x == k) (v ∷ f x) (f x)) ≡ tally u (cond (k == x) (v ∷ f x) (f x))
 turned f x k v u = ap (λ b. tally u (cond b (v ∷ f x) (f x))) (test_turned x k)
 
-more_of : (v u : ℕ) (xs ys zs : List ℕ) (b : Bool) → tally u xs ≡ tally u (cond b (v ∷ ys) ys) → tally u ys ≡ tally u zs → tally u xs ≡ tally u (cond b (v ∷ zs) zs)
+pub more_of : (v u : ℕ) (xs ys zs : List ℕ) (b : Bool) → tally u xs ≡ tally u (cond b (v ∷ ys) ys) → tally u ys ≡ tally u zs → tally u xs ≡ tally u (cond b (v ∷ zs) zs)
 more_of v u xs ys zs b h e = by_test b
     (λ t. let k : tally u xs ≡ tally u (v ∷ ys) = rw t at h in rw t (omega arith))
     (λ t. let k : tally u xs ≡ tally u ys = rw t at h in rw t (k ∙ e))
 
-less_of : (v u : ℕ) (xs ys zs : List ℕ) (b : Bool) → tally u xs ≡ tally u (cond b (v ∷ ys) ys) → tally u xs ≡ tally u (cond b (v ∷ zs) zs) → tally u ys ≡ tally u zs
+pub less_of : (v u : ℕ) (xs ys zs : List ℕ) (b : Bool) → tally u xs ≡ tally u (cond b (v ∷ ys) ys) → tally u xs ≡ tally u (cond b (v ∷ zs) zs) → tally u ys ≡ tally u zs
 less_of v u xs ys zs b h e = by_test b
     (λ t. let k : tally u xs ≡ tally u (v ∷ ys) = rw t at h in let j : tally u xs ≡ tally u (v ∷ zs) = rw t at e in omega arith)
     (λ t. let k : tally u xs ≡ tally u ys = rw t at h in let j : tally u xs ≡ tally u zs = rw t at e in sym k ∙ j)
@@ -95,7 +96,7 @@ wire_there l m s t h =
     let k' : tally s (feeders_of m t) ≡ tally s (s ∷ feeders_of l t) = rw (same_test t) at k in
     let e : tally s (s ∷ feeders_of l t) ≡ 1 + tally s (feeders_of l t) = rw (same_test s) refl in omega arith
 
-taken : (v u : ℕ) (xs ys : List ℕ) (b : Bool) → tally u xs ≡ tally u (cond b (v ∷ ys) ys) → (b ≡ true → 0 < tally v xs) → tally u ys ≡ tally u (cond b (take_out v xs) xs)
+pub taken : (v u : ℕ) (xs ys : List ℕ) (b : Bool) → tally u xs ≡ tally u (cond b (v ∷ ys) ys) → (b ≡ true → 0 < tally v xs) → tally u ys ≡ tally u (cond b (take_out v xs) xs)
 taken v u xs ys b h there = by_test b
     (λ t. let k : tally u xs ≡ cond (v == u) 1 0 + tally u ys = rw t at h in
     let o : tally u (take_out v xs) + cond (v == u) 1 0 ≡ tally u xs = tally-take_out u v xs (there t) in rw t (omega arith))
@@ -115,3 +116,41 @@ after_cut labels l m s t ss chain stuck h o = same_order (link_graph labels m) (
       ranks = λ x y _ _. rank_same labels x y;
       feeders = λ x u _. h.feeders x u;
     }) (λ x. refl) o
+
+pub into_parts : (ws vs : List SignalWire) (x : ℕ) → sources_into (ws ++ vs) x ≡ sources_into ws x ++ sources_into vs x
+into_parts [] vs x = refl
+into_parts (w ∷ ws) vs x = by_test (w.sink == x)
+    (λ t. rw (t, into_parts ws vs x) refl)
+    (λ t. rw t (into_parts ws vs x))
+
+pub from_parts : (ws vs : List SignalWire) (x : ℕ) → sinks_from (ws ++ vs) x ≡ sinks_from ws x ++ sinks_from vs x
+from_parts [] vs x = refl
+from_parts (w ∷ ws) vs x = by_test (w.source == x)
+    (λ t. rw (t, from_parts ws vs x) refl)
+    (λ t. rw t (from_parts ws vs x))
+
+-- lists that are put together in either order have the same keys
+turned_parts : (u : ℕ) (xs ys : List ℕ) → tally u (xs ++ ys) ≡ tally u (ys ++ xs)
+turned_parts u xs ys = let a = tally-append u xs ys in let b = tally-append u ys xs in omega arith
+
+put_last : (l : Links) (w : SignalWire) (ws : List SignalWire) → AreLinked l (w ∷ ws) → AreLinked l (ws ++ w ∷ [])
+put_last l w ws a = record {
+  feeders = λ x u. a.feeders x u ∙ ap (tally u) (into_parts (w ∷ []) ws x) ∙ turned_parts u (sources_into (w ∷ []) x) (sources_into ws x) ∙ sym (ap (tally u) (into_parts ws (w ∷ []) x));
+  followers = λ x u. a.followers x u ∙ ap (tally u) (from_parts (w ∷ []) ws x) ∙ turned_parts u (sinks_from (w ∷ []) x) (sinks_from ws x) ∙ sym (ap (tally u) (from_parts ws (w ∷ []) x));
+}
+
+-- the links of the wires so far, and one wire more
+pub linked_next : (l m : Links) (ws : List SignalWire) (i : ℕ) (d : SignalWire) → i < length ws → AreLinked l (take i ws) → HasOneMore l m (get_or ws i d).source (get_or ws i d).sink → AreLinked m (take (i + 1) ws)
+linked_next l m ws i d h a more =
+    let w = get_or ws i d in
+    subst (λ (vs : List SignalWire). AreLinked m vs) (sym (take_more ws i d h)) (put_last m w (take i ws) (more_linked l m w.source w.sink (take i ws) more a))
+
+pub linked_all : (l : Links) (ws : List SignalWire) (i : ℕ) → length ws ≤ i → AreLinked l (take i ws) → AreLinked l ws
+linked_all l ws i h a = subst (λ (vs : List SignalWire). AreLinked l vs) (take_all i ws h) a
+
+-- room set aside changes no links
+pub same_then_more : (l k m : Links) (s t : ℕ) → SameLinks l k → HasOneMore k m s t → HasOneMore l m s t
+same_then_more l k m s t same more = record {
+  feeders = λ x u. more.feeders x u ∙ ap (λ (xs : List ℕ). tally u (cond (x == t) (s ∷ xs) xs)) (same.feeders x);
+  followers = λ x u. more.followers x u ∙ ap (λ (xs : List ℕ). tally u (cond (x == s) (t ∷ xs) xs)) (same.followers x);
+}

@@ -1,5 +1,5 @@
 -- The graph that links and labels tell, and how it stands to the wires of a canvas.
-use Rattle.std.specs.Prelude.{◌≡◌, ℕ, ◌<◌, ◌≤◌, ◌==◌, ◌↔◌, cond, List, ◌∷◌, slice_index_or}
+use Rattle.std.specs.Prelude.{◌≡◌, ℕ, ◌+◌, ◌<◌, ◌≤◌, ◌^◌, ◌==◌, ◌↔◌, cond, List, ◌∷◌, length, slice_index_or}
 use Rattle.pd_order.specs.Graph.{Graph, tally}
 use Rattle.pd_chain.specs.declared.graph.SignalWire.{SignalWire}
 use Rattle.pd_chain.specs.Wires.{place_of, sources_into, sinks_from}
@@ -38,6 +38,13 @@ pub record SameLinks (old new : Links) : Type 0 where
   pub followers : (x : ℕ) → followers_of new x ≡ followers_of old x
   pub spare_into : (x : ℕ) → spare_into old x ≤ spare_into new x
   pub spare_from : (x : ℕ) → spare_from old x ≤ spare_from new x
+
+-- there is room for a wire more from the source to the sink, and it can be counted
+pub record TakesOne (l : Links) (source sink : ℕ) : Type 0 where
+  pub room_from : 0 < spare_from l source
+  pub room_into : 0 < spare_into l sink
+  pub few_from : length (followers_of l source) + 2 < 2 ^ 32
+  pub few_into : length (feeders_of l sink) + 2 < 2 ^ 32
 
 -- `more` has one wire more from the source to the sink, and else the same
 pub record HasOneMore (links more : Links) (source sink : ℕ) : Type 0 where

@@ -1,11 +1,14 @@
 // Signal wires that come and go.
-ghost use Rattle.std.specs.Prelude.{◌≡◌, ℕ, ◌+◌, ◌<◌, ◌≤◌, ◌^◌, [], length, slice_index, IfOk, OnOk};
+ghost use Rattle.std.specs.Prelude.{◌≡◌, ℕ, true, ◌+◌, ◌<◌, ◌≤◌, ◌^◌, [], length, slice_index, IfOk, OnOk};
 ghost use Rattle.pd_order.specs.Graph.{tally};
-ghost use Rattle.pd_links.specs.Linked.{feeders_of, followers_of, spare_into, spare_from, SameLinks, HasOneMore};
+ghost use Rattle.pd_links.specs.Linked.{feeders_of, followers_of, spare_into, spare_from, SameLinks, TakesOne, HasOneMore};
 
 use crate::links::Links;
 use crate::rows::{count_at, key_at, make_room, put, take};
 use std::alloc::{AllocError, Global};
+
+/// A box has fewer wires than this on each side.
+const MOST_WIRES: u32 = 4_294_967_294;
 
 impl Links {
     /// No wires. It takes no memory yet.
@@ -28,6 +31,30 @@ impl Links {
     {
         make_room(self.alloc, &mut self.from, source, wires)?;
         make_room(self.alloc, &mut self.into, sink, wires)
+    }
+
+    /// Makes room for one wire more.
+    ///
+    /// # Errors
+    ///
+    /// `AllocError` where memory ran out, or where one of the two boxes has as many wires as can be counted.
+    pub fn reserve_one(&mut self, source: u32, sink: u32) -> Result<(), AllocError>
+        ensures same { SameLinks self.old self.new }
+        ensures room { OnOk result (TakesOne self.new source sink) }
+    {
+        self.reserve(source, sink, 1)?;
+        if self.has_number(source, sink) {
+            return Ok(());
+        }
+        Err(AllocError)
+    }
+
+    // Whether one wire more can be counted at both its boxes.
+    fn has_number(&self, source: u32, sink: u32) -> bool
+        ensures from { result ≡ true → length (followers_of self.now source) + 2 < 2 ^ 32 }
+        ensures into { result ≡ true → length (feeders_of self.now sink) + 2 < 2 ^ 32 }
+    {
+        self.follower_count(source) < MOST_WIRES && self.feeder_count(sink) < MOST_WIRES
     }
 
     /// A wire more. At each of its two boxes it is listed last.

@@ -13,6 +13,7 @@ use Rattle.pd_patch.specs.declared.patch.Patch.{Patch}
 use Rattle.pd_patch.specs.Values.{AreSilent, Blocks, block_count, blocks_told}
 use Rattle.pd_patch.specs.Built.{HaveBlocks, block_sizes, IsBuilt, IsAtStart}
 use Rattle.pd_patch.specs.Grown.{IsFresh}
+use Rattle.pd_patch.proofs.LinkingLemmas.{laid_inside}
 
 silent_count : length silent_block ≡ 64
 unfolding silent_block
@@ -39,6 +40,8 @@ is_built p names file rate fresh = record {
   };
   owners = fresh.owners;
   apart = fresh.apart;
+  inside = laid_inside p.grove p.web fresh.wires;
+  linked = fresh.linked;
   orders = fresh.orders;
   numbers = fresh.numbers;
   blocks = silent_blocks p.grove p.web (blocks_told p) fresh.blocks;

@@ -56,7 +56,7 @@ fewer_kept p (y ∷ ys) x = let rest = fewer_kept p ys x in by_test (p y)
     (λ f. rw f (omega (arith, rest)))
 
 -- what passes is left
-kept_there : (p : ℕ → Bool) (xs : List ℕ) (x : ℕ) → p x ≡ true → 0 < tally x xs → 0 < tally x (filter p xs)
+pub kept_there : (p : ℕ → Bool) (xs : List ℕ) (x : ℕ) → p x ≡ true → 0 < tally x xs → 0 < tally x (filter p xs)
 kept_there p [] x h l = absurd (omega (arith, l))
 kept_there p (y ∷ ys) x h l = by_test (y == x)
     (λ t. let passes : p y ≡ true = ap p (same_node y x t) ∙ h in rw (passes, t) (omega arith))
@@ -65,23 +65,23 @@ kept_there p (y ∷ ys) x h l = by_test (y == x)
     let rest = kept_there p ys x h (omega (arith, less)) in
     by_test (p y) (λ t. rw t (omega (arith, rest))) (λ g. rw g (omega (arith, rest))))
 
-all_append : {X : Type 0} (P : X → Type 0) (xs ys : List X) → AllByRecursion P xs → AllByRecursion P ys → AllByRecursion P (xs ++ ys)
+pub all_append : {X : Type 0} (P : X → Type 0) (xs ys : List X) → AllByRecursion P xs → AllByRecursion P ys → AllByRecursion P (xs ++ ys)
 all_append P [] ys h k = k
 all_append P (x ∷ xs) ys h k = (h.0, all_append P xs ys h.1 k)
 
-all_kept : {X : Type 0} (P : X → Type 0) (p : X → Bool) (xs : List X) → AllByRecursion P xs → AllByRecursion P (filter p xs)
+pub all_kept : {X : Type 0} (P : X → Type 0) (p : X → Bool) (xs : List X) → AllByRecursion P xs → AllByRecursion P (filter p xs)
 all_kept P p [] h = tt
 all_kept P p (x ∷ xs) h = by_test (p x)
     (λ t. rw t (h.0, all_kept P p xs h.1))
     (λ f. rw f (all_kept P p xs h.1))
 
-all_passing : {X : Type 0} (P : X → Type 0) (p : X → Bool) (xs : List X) → ((x : X) → p x ≡ true → P x) → AllByRecursion P (filter p xs)
+pub all_passing : {X : Type 0} (P : X → Type 0) (p : X → Bool) (xs : List X) → ((x : X) → p x ≡ true → P x) → AllByRecursion P (filter p xs)
 all_passing P p [] h = tt
 all_passing P p (x ∷ xs) h = by_test (p x)
     (λ t. rw t (h x t, all_passing P p xs h))
     (λ f. rw f (all_passing P p xs h))
 
-all_map : {X Y : Type 0} (P : Y → Type 0) (f : X → Y) (xs : List X) → AllByRecursion (λ x. P (f x)) xs → AllByRecursion P (map f xs)
+pub all_map : {X Y : Type 0} (P : Y → Type 0) (f : X → Y) (xs : List X) → AllByRecursion (λ x. P (f x)) xs → AllByRecursion P (map f xs)
 all_map P f [] h = tt
 all_map P f (x ∷ xs) h = (h.0, all_map P f xs h.1)
 
@@ -118,7 +118,7 @@ sink_by f w (Some s) None h = cc
 sink_by f w s (Some x) h = (x, refl)
 
 -- a wire that fits leads to a box of the canvas
-sink_there : (f : ℕ → Seen) (keys : List ℕ) (w : Wire) → fits (map f keys) w ≡ true → slice_get keys w.sink ≡ Some (slice_index_or keys w.sink 0)
+pub sink_there : (f : ℕ → Seen) (keys : List ℕ) (w : Wire) → fits (map f keys) w ≡ true → slice_get keys w.sink ≡ Some (slice_index_or keys w.sink 0)
 sink_there f keys w h =
     let s = sink_by f w (slice_get (map f keys) w.source) (slice_get keys w.sink) (ap (λ o. fits_between (slice_get (map f keys) w.source) o w) (sym (slice_get-map f keys w.sink)) ∙ h) in
     s.1 ∙ ap (λ x. Some x) (sym (get_or_from_slice_get keys w.sink s.0 0 s.1))

@@ -14,3 +14,4 @@ pub mod KindLemmas
 pub mod CanvasLemmas
 pub mod BlockLemmas
 pub mod BuiltLemmas
+pub mod LinkingLemmas

@@ -19,6 +19,7 @@ use Rattle.pd_web.specs.Homes.{IsPortOf}
 use Rattle.pd_web.specs.Canvases.{keys_at}
 use Rattle.pd_patch.specs.declared.patch.Patch.{Patch}
 use Rattle.pd_patch.specs.Numbers.{AreUnder}
+use Rattle.pd_patch.specs.Linked.{HasLinks, StayInside}
 use Rattle.pd_patch.specs.Orders.{AreOrdered}
 use Rattle.pd_patch.specs.Values.{Blocks, AreSilent, HasNoOthers, block_count, blocks_told}
 
@@ -37,14 +38,16 @@ pub record HasPorts (g : Grove) (w : Web) : Type 0 where
   pub homes : (j k i : ℕ) → port_told w j ≡ Some (k, i) → IsPortOf g j k i
   pub homes_found : (j k i : ℕ) → IsPortOf g j k i → IsSome (port_told w j)
 
--- What a patch has as long as it runs: boxes that lie in one canvas each, and their ports; under each name its owners, in text order; the signal order of
--- each canvas; each box's number; of each box as many blocks of 64 values as its outlets ask for, and none under another key; and room
+-- What a patch has as long as it runs: boxes that lie in one canvas each, and their ports; under each name its owners, in text order; wires that
+-- stay in their canvases, the signal wires as links, and the signal order of each canvas; each box's number; of each box as many blocks of 64 values as its outlets ask for, and none under another key; and room
 -- for one clock of each box.
 pub record IsBuilt (p : Patch) (names : Names) (file : List ℕ) (rate : Rate) : Type 0 where
   pub own : AreOwn (get p.grove.nodes) (get p.grove.boards)
   pub ports : HasPorts p.grove p.web
   pub owners : (class : Class) (name : ℕ) → owners_of p.names class name ≡ owners_in names file p.grove class name
   pub apart : get p.grove.nodes root_owner ≡ None
+  pub inside : StayInside p.grove p.web
+  pub linked : HasLinks p.web p.links
   pub orders : AreOrdered p.grove p.web p.orders.items
   pub numbers : (c : ℕ) → AreUnder p.numbers.items (keys_at p.grove c)
   pub blocks : HaveBlocks p.grove p.web (blocks_told p)

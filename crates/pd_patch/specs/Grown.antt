@@ -28,6 +28,7 @@ use Rattle.pd_patch.specs.declared.patch.Patch.{Patch}
 use Rattle.pd_patch.specs.declared.refusal.GrowRefusal.{GrowRefusal}
 use Rattle.pd_patch.specs.declared.refusal.GrowRefusal.TheVariants.{SymbolsFull, TooManyBoxes, TooManyWires, TooMuchSound, NoMemory}
 use Rattle.pd_patch.specs.Numbers.{AreUnder}
+use Rattle.pd_patch.specs.Linked.{HasLinks}
 use Rattle.pd_patch.specs.Orders.{AreOrdered}
 use Rattle.pd_patch.specs.Sounds.{sound_of}
 use Rattle.pd_patch.specs.Values.{AreSilent, HasNoOthers, blocks_told}
@@ -44,13 +45,14 @@ pub record AreLaid (g : Grove) (w : Web) : Type 0 where
   pub few : length (all_lines g) ≤ 65536
 
 -- What a patch has whose tree was just planted: boxes that lie in one canvas each; its wires; under each name its owners, in text order;
--- the signal order of each canvas; each box's number; no clock, and room for one of each box; and of each box the first state and,
+-- its signal wires as links; the signal order of each canvas; each box's number; no clock, and room for one of each box; and of each box the first state and,
 -- where it has signal outlets, a silent block for each outlet. No key but a box's has a block.
 pub record IsFresh (p : Patch) (names : Names) (file : List ℕ) (rate : Rate) : Type 0 where
   pub own : AreOwn (get p.grove.nodes) (get p.grove.boards)
   pub wires : AreLaid p.grove p.web
   pub owners : (class : Class) (name : ℕ) → owners_of p.names class name ≡ owners_in names file p.grove class name
   pub apart : get p.grove.nodes root_owner ≡ None
+  pub linked : HasLinks p.web p.links
   pub orders : AreOrdered p.grove p.web p.orders.items
   pub numbers : (c : ℕ) → AreUnder p.numbers.items (keys_at p.grove c)
   pub clocks : p.timers.clocks.clocks ≡ []

@@ -15,3 +15,4 @@ pub mod Built
 pub mod Wires
 pub mod Document
 pub mod Looks
+pub mod Linked

@@ -66,6 +66,7 @@ stuck_in p canvas = stuck_by (order_in p.orders.items canvas)
 pub record SilentRest (old new : Patch) : Type 0 where
   pub web : new.web ≡ old.web
   pub names : new.names ≡ old.names
+  pub links : new.links ≡ old.links
   pub orders : new.orders ≡ old.orders
   pub numbers : new.numbers ≡ old.numbers
   pub rate : new.rate ≡ old.rate

@@ -8,10 +8,11 @@ use Rattle.pd_grove.specs.declared.grove.Grove.{Grove}
 use Rattle.pd_grove.specs.Telling.{state_in, Keeps}
 use Rattle.pd_patch.specs.declared.patch.Patch.{Patch}
 
--- the wires, names, signal orders, numbers of boxes, blocks of outlets, the rate and the time of the event stay
+-- the wires, names, links, signal orders, numbers of boxes, blocks of outlets, the rate and the time of the event stay
 pub record RestStays (old new : Patch) : Type 0 where
   pub web : new.web ≡ old.web
   pub names : new.names ≡ old.names
+  pub links : new.links ≡ old.links
   pub orders : new.orders ≡ old.orders
   pub numbers : new.numbers ≡ old.numbers
   pub values : new.values ≡ old.values
@@ -24,6 +25,7 @@ pub record AllButTime (old new : Patch) : Type 0 where
   pub web : new.web ≡ old.web
   pub names : new.names ≡ old.names
   pub timers : new.timers ≡ old.timers
+  pub links : new.links ≡ old.links
   pub orders : new.orders ≡ old.orders
   pub numbers : new.numbers ≡ old.numbers
   pub values : new.values ≡ old.values

@@ -18,6 +18,7 @@ ghost use Rattle.pd_grove.specs.TextOrder.{keys_in_order};
 ghost use Rattle.pd_patch.specs.Report.{notices_in, loads_among};
 ghost use Rattle.pd_patch.specs.Grown.{AreLaid, IsFresh, IsTree, HasCause};
 
+use crate::linking::links_of;
 use crate::numbers::{box_end, numbers_of};
 use crate::orders::orders_of;
 use crate::patch::Patch;
@@ -100,6 +101,7 @@ fn plant_whole(
     let grove = Grove::plant(alloc, sheet, rows, count, rate, Time::of_units(0))?;
     let web = web_of(alloc, &grove)?;
     let names = bind_names(alloc, &grove, name, symbols)?;
+    let links = links_of(alloc, &grove, &web)?;
     let orders = orders_of(alloc, &grove, &web)?;
     let numbers = numbers_of(alloc, &grove)?;
     let values = values_of(alloc, &grove, &web)?;
@@ -109,6 +111,7 @@ fn plant_whole(
         web,
         names,
         timers,
+        links,
         orders,
         numbers,
         values,

@@ -4,7 +4,8 @@
 //! keys that growth of the document gives, with the names that growth left; with the root at most 256 canvases lie
 //! in one another in it (`tree`). Its wires are those of the tree that fit, told by paths and numbers of boxes
 //! (`IsWired`); under each name stand its owners, each canvas has its signal order and each box its number, no
-//! clock is set and there is room for one of each box, and each box has its first state and, where one of its
+//! clock is set and there is room for one of each box, each wire leads to a box of its own canvas and the links are the
+//! signal wires, at both their boxes, and each box has its first state and, where one of its
 //! outlets carries signals, a silent block for each outlet, and no key but a box's has a block (`fresh`). The lines
 //! to print and the load boxes are those of this tree (`notices`, `loads`): the boxes that aren't made, the wires
 //! that don't fit and the canvases with loops, each in text order.
@@ -31,7 +32,7 @@
 //! document, no more do in what grows from it, whatever files there are, and one more at most from any other
 //! (`growth_is_shallow`).
 //!
-//! Definitions: `Grown` (what a grown patch is, and why it is refused), `Wired`, `Orders`, `Numbers`, `Report`
+//! Definitions: `Grown` (what a grown patch is, and why it is refused), `Wired`, `Orders`, `Linked`, `Numbers`, `Report`
 //! (lines and load boxes), `Paths`, `Sounds` (values of tables and lines), `Telling`, `Walking` and `Values` (what
 //! calls tell and change), `Listing`, `Lending`, `Refusals`.
 #![tactic(auto)]
@@ -39,6 +40,7 @@
 mod document;
 mod growing;
 mod laws;
+mod linking;
 mod listing;
 mod numbers;
 mod orders;

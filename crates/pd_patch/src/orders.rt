@@ -169,7 +169,11 @@ fn signal_wires(alloc: Global, web: &Web, signal: &[u32]) -> Result<Vec<SignalWi
 }
 
 /// Adds the signal wires that leave a box.
-fn push_box_wires(web: &Web, node: u32, wires: &mut Vec<SignalWire>) -> Result<(), AllocError>
+pub(crate) fn push_box_wires(
+    web: &Web,
+    node: u32,
+    wires: &mut Vec<SignalWire>,
+) -> Result<(), AllocError>
     requires few { (outlet : ℕ) → length (fan_hops web.now node outlet) ≤ 65536 }
     ensures { OnOk result (wires.new.items ≡ wires.old.items ++ box_wires web.now node) }
 {

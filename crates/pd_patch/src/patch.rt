@@ -21,6 +21,7 @@ use pd_canvas::Doc;
 use pd_clock::{Rate, Time};
 use pd_gather::Library;
 use pd_grove::Grove;
+use pd_links::Links;
 use pd_name::Names;
 use pd_order::Order;
 use pd_timers::Timers;
@@ -30,19 +31,21 @@ use std::alloc::Global;
 /// A running patch: its boxes and canvases, their wires, names, clocks and signal orders.
 #[derive(Drop)]
 pub struct Patch {
-    pub(crate) grove: Grove,
-    pub(crate) web: Web,
-    pub(crate) names: Names,
-    pub(crate) timers: Timers,
+    pub grove: Grove,
+    pub web: Web,
+    pub names: Names,
+    pub timers: Timers,
+    /// The signal wires, by the keys of their boxes.
+    pub links: Links,
     /// By the key of the canvas.
-    pub(crate) orders: Vec<Option<Order>>,
+    pub orders: Vec<Option<Order>>,
     /// By the key of the box: its number in its canvas.
-    pub(crate) numbers: Vec<u32>,
+    pub numbers: Vec<u32>,
     /// By the key of the box: the blocks of its outlets.
-    pub(crate) values: Vec<Blocks>,
-    pub(crate) rate: Rate,
+    pub values: Vec<Blocks>,
+    pub rate: Rate,
     /// The time of the present event.
-    pub(crate) present: Time,
+    pub present: Time,
 }
 
 impl Patch {

@@ -14,6 +14,7 @@ returns-clause-fresh c =
       wires = c.in_ok-web.ensures;
       owners = λ class name. c.in_ok-names.ensures.owners class name;
       apart = c.in_ok-names.ensures.apart;
+      linked = c.in_ok-links.ensures;
       orders = c.in_ok-orders.ensures;
       numbers = λ k. c.in_ok-numbers.ensures k (own_canvas c.in_ok-grove.grove k c.in_ok-grove.ensures.own);
       clocks = c.in_ok-timers.ensures.clocks;

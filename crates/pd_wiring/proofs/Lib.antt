@@ -1,0 +1,9 @@
+pub mod HeardLemmas
+pub mod GraphLemmas
+pub mod MendLemmas
+pub mod CountLemmas
+pub mod WebLemmas
+pub mod BuiltLemmas
+pub mod EditLemmas
+pub mod SlotLemmas
+pub mod FeedLemmas

@@ -1,0 +1,92 @@
+use Rattle.std.proofs.Common.{arith, ◌≡◌, ℕ, List, length, true, false, refl, sym, ◌∙◌, subst}
+use Rattle.pd_web.specs.declared.web.Web.{Web}
+use Rattle.pd_web.specs.Hops.{fan_keys, feed_hops}
+use Rattle.pd_web.specs.Changes.{Joins}
+use Rattle.pd_seek.specs.Places.{IsPlace}
+use Rattle.pd_wiring.proofs.EditLemmas.{orders_linked, was_signal, sink_sounds, attach_wired, attach_built, attach_control}
+use Rattle.pd_wiring.proofs.attaching.attach.Goals as goal
+
+pub join-key-requires-clause-next : goal.join-key-requires-clause-next
+join-key-requires-clause-next g c = (c.feed_place-next.ensures.place.0, c.feed_place-next.ensures.place.1)
+
+pub link-requires-clause-wired : goal.link-requires-clause-wired
+link-requires-clause-wired g c =
+    let p = c.args.patch.now in
+    let at = c.feed_place-next.ensures.place in
+    let J = c.join-key.ensures at.0 at.1 in
+    let b = c.requires.runs in
+    λ ls h. attach_wired p c.join-key.new.self c.args.line c.join-key.result (length (fan_keys p.web c.args.line.source c.args.line.outlet)) at.0 c.requires.route J c.requires.together
+    b.names b.file p.rate b.built (sym c.is_signal_line.ensures ∙ c.if-is_signal_line.true) ls h
+
+pub link-requires-clause-signal : goal.link-requires-clause-signal
+link-requires-clause-signal g c =
+    let p = c.args.patch.now in
+    let at = c.feed_place-next.ensures.place in
+    let J = c.join-key.ensures at.0 at.1 in
+    let b = c.requires.runs in
+    sink_sounds p c.args.line b.names b.file p.rate b.built
+    (sym (was_signal p c.join-key.new.self c.args.line c.join-key.result (length (fan_keys p.web c.args.line.source c.args.line.outlet)) at.0 c.requires.route J c.requires.together)
+    ∙ sym c.is_signal_line.ensures ∙ c.if-is_signal_line.true)
+
+pub link-requires-clause-orders : goal.link-requires-clause-orders
+link-requires-clause-orders g c = let b = c.requires.runs in orders_linked c.args.patch.now b.names b.file c.args.patch.now.rate b.built
+
+pub returns-then-is_signal_line-clause-joins : goal.returns-then-is_signal_line-clause-joins
+returns-then-is_signal_line-clause-joins g c =
+    let p = c.args.patch.now in
+    let at = c.feed_place-next.ensures.place in
+    let l = c.args.line in (
+      at.0,
+      subst (λ (ns : List ℕ). IsPlace ns l (feed_hops p.web l.sink l.inlet) at.0) c.as_slice.ensures.value at.2,
+      subst (λ (x : Web). Joins p.web x c.join-key.result l (length (fan_keys p.web l.source l.outlet)) at.0) (sym c.link.ensures.web) (c.join-key.ensures at.0 at.1),
+    )
+
+pub returns-then-is_signal_line-clause-rest : goal.returns-then-is_signal_line-clause-rest
+returns-then-is_signal_line-clause-rest g c =
+    let r = c.link.ensures.rest in
+    record { grove = r.grove; names = r.names; timers = r.timers; numbers = r.numbers; values = r.values; rate = r.rate; present = r.present; orders = r.orders }
+
+pub returns-then-is_signal_line-clause-built : goal.returns-then-is_signal_line-clause-built
+returns-then-is_signal_line-clause-built g c =
+    let p = c.args.patch.now in
+    let at = c.feed_place-next.ensures.place in
+    let J = c.join-key.ensures at.0 at.1 in
+    let r = c.link.ensures.rest in
+    λ names file rate b. attach_built p c.join-key.new.self c.args.line c.join-key.result (length (fan_keys p.web c.args.line.source c.args.line.outlet)) at.0 c.requires.route J c.requires.together c.link.new.patch names file rate
+    (sym c.is_signal_line.ensures ∙ c.if-is_signal_line.true)
+    (record { grove = r.grove; names = r.names; timers = r.timers; numbers = r.numbers; values = r.values; rate = r.rate; present = r.present; orders = r.orders })
+    c.link.ensures.web c.link.ensures.links c.link.ensures.orders b
+
+pub returns-then-is_signal_line-clause-control : goal.returns-then-is_signal_line-clause-control
+returns-then-is_signal_line-clause-control g c =
+    let p = c.args.patch.now in
+    let at = c.feed_place-next.ensures.place in
+    let J = c.join-key.ensures at.0 at.1 in
+    let t =
+    sym (was_signal p c.join-key.new.self c.args.line c.join-key.result (length (fan_keys p.web c.args.line.source c.args.line.outlet)) at.0 c.requires.route J c.requires.together)
+    ∙ sym c.is_signal_line.ensures ∙ c.if-is_signal_line.true in
+    λ f. absurd (contrary (sym t ∙ f)) where
+      contrary : true ≡ false → ⊥
+      contrary q = cc
+
+pub returns-clause-joins : goal.returns-clause-joins
+returns-clause-joins g c =
+    let p = c.args.patch.now in
+    let at = c.feed_place-next.ensures.place in
+    let l = c.args.line in
+    (at.0, subst (λ (ns : List ℕ). IsPlace ns l (feed_hops p.web l.sink l.inlet) at.0) c.as_slice.ensures.value at.2, c.join-key.ensures at.0 at.1)
+
+pub returns-clause-rest : goal.returns-clause-rest
+returns-clause-rest g c = record { grove = refl; names = refl; timers = refl; numbers = refl; values = refl; rate = refl; present = refl; orders = λ k differ. refl }
+
+pub returns-clause-built : goal.returns-clause-built
+returns-clause-built g c =
+    let p = c.args.patch.now in
+    let at = c.feed_place-next.ensures.place in
+    let J = c.join-key.ensures at.0 at.1 in
+    λ names file rate b. attach_control p c.join-key.new.self c.args.line c.join-key.result (length (fan_keys p.web c.args.line.source c.args.line.outlet)) at.0 c.requires.route J c.requires.together
+    (record p { web = c.join-key.new.self }) names file rate (sym c.is_signal_line.ensures ∙ c.if-is_signal_line.false)
+    (record { grove = refl; names = refl; timers = refl; numbers = refl; values = refl; rate = refl; present = refl; orders = λ k differ. refl }) refl refl refl b
+
+pub returns-clause-looks : goal.returns-clause-looks
+returns-clause-looks g c = λ k lies. omega arith

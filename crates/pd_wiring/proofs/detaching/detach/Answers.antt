@@ -1,0 +1,86 @@
+use Rattle.std.proofs.Common.{◌≡◌, true, false, refl, sym, ap, ◌∙◌, subst, arith}
+use Rattle.std.specs.Prelude.{is_some}
+use Rattle.pd_web.specs.declared.web.Web.{Web}
+use Rattle.pd_web.specs.Changes.{CutsWire}
+use Rattle.pd_wiring.proofs.WebLemmas.{HasLaws, line_here, line_inside}
+use Rattle.pd_wiring.proofs.EditLemmas.{orders_linked, sink_sounds, linked_from, linked_into, detach_wired, detach_built, detach_control}
+use Rattle.pd_wiring.proofs.detaching.detach.Goals as goal
+
+pub cut-requires : goal.cut-requires
+cut-requires g c =
+    let w = c.args.patch.now.web in
+    let laws : HasLaws w = record { fans = c.laws.ensures.fans; once = c.laws.ensures.once } in
+    ap is_some (line_here w c.args.key c.args.line laws c.requires.wire)
+
+pub unlink-requires-clause-from : goal.unlink-requires-clause-from
+unlink-requires-clause-from g c =
+    let p = c.args.patch.now in
+    let laws : HasLaws p.web = record { fans = c.laws.ensures.fans; once = c.laws.ensures.once } in
+    let b = c.requires.runs in
+    linked_from p c.cut.new.self c.args.line c.args.key laws c.requires.wire c.cut.ensures b.names b.file p.rate b.built (sym c.is_signal_line-signal.ensures ∙ c.if-not-signal.false)
+
+pub unlink-requires-clause-into : goal.unlink-requires-clause-into
+unlink-requires-clause-into g c =
+    let p = c.args.patch.now in
+    let laws : HasLaws p.web = record { fans = c.laws.ensures.fans; once = c.laws.ensures.once } in
+    let b = c.requires.runs in
+    linked_into p c.cut.new.self c.args.line c.args.key laws c.requires.wire c.cut.ensures b.names b.file p.rate b.built (sym c.is_signal_line-signal.ensures ∙ c.if-not-signal.false)
+
+pub unlink-requires-clause-wired : goal.unlink-requires-clause-wired
+unlink-requires-clause-wired g c =
+    let p = c.args.patch.now in
+    let laws : HasLaws p.web = record { fans = c.laws.ensures.fans; once = c.laws.ensures.once } in
+    let b = c.requires.runs in
+    λ ls h. detach_wired p c.cut.new.self c.args.line c.args.key laws c.requires.wire c.cut.ensures b.names b.file p.rate b.built (sym c.is_signal_line-signal.ensures ∙ c.if-not-signal.false) ls h
+
+pub unlink-requires-clause-together : goal.unlink-requires-clause-together
+unlink-requires-clause-together g c =
+    let p = c.args.patch.now in
+    line_inside p.grove p.web c.args.key c.args.line c.requires.runs.built.inside c.requires.wire
+
+pub unlink-requires-clause-signal : goal.unlink-requires-clause-signal
+unlink-requires-clause-signal g c =
+    let p = c.args.patch.now in
+    let b = c.requires.runs in
+    sink_sounds p c.args.line b.names b.file p.rate b.built (sym c.is_signal_line-signal.ensures ∙ c.if-not-signal.false)
+
+pub unlink-requires-clause-orders : goal.unlink-requires-clause-orders
+unlink-requires-clause-orders g c = let b = c.requires.runs in orders_linked c.args.patch.now b.names b.file c.args.patch.now.rate b.built
+
+pub returns-then-not-signal-clause-rest : goal.returns-then-not-signal-clause-rest
+returns-then-not-signal-clause-rest g c = record { grove = refl; names = refl; timers = refl; numbers = refl; values = refl; rate = refl; present = refl; orders = λ k differ. refl }
+
+pub returns-then-not-signal-clause-built : goal.returns-then-not-signal-clause-built
+returns-then-not-signal-clause-built g c =
+    let p = c.args.patch.now in
+    let laws : HasLaws p.web = record { fans = c.laws.ensures.fans; once = c.laws.ensures.once } in
+    λ names file rate b. detach_control p c.cut.new.self c.args.line c.args.key laws c.requires.wire c.cut.ensures (record p { web = c.cut.new.self }) names file rate
+    (sym c.is_signal_line-signal.ensures ∙ c.if-not-signal.true)
+    (record { grove = refl; names = refl; timers = refl; numbers = refl; values = refl; rate = refl; present = refl; orders = λ k differ. refl }) refl refl refl b
+
+pub returns-then-not-signal-clause-looks : goal.returns-then-not-signal-clause-looks
+returns-then-not-signal-clause-looks g c = λ k lies. omega arith
+
+pub returns-clause-cuts : goal.returns-clause-cuts
+returns-clause-cuts g c = subst (λ (x : Web). CutsWire c.args.patch.now.web x c.args.key) (sym c.unlink.ensures.web) c.cut.ensures
+
+pub returns-clause-rest : goal.returns-clause-rest
+returns-clause-rest g c =
+    let r = c.unlink.ensures.rest in
+    record { grove = r.grove; names = r.names; timers = r.timers; numbers = r.numbers; values = r.values; rate = r.rate; present = r.present; orders = r.orders }
+
+pub returns-clause-built : goal.returns-clause-built
+returns-clause-built g c =
+    let p = c.args.patch.now in
+    let laws : HasLaws p.web = record { fans = c.laws.ensures.fans; once = c.laws.ensures.once } in
+    let r = c.unlink.ensures.rest in
+    λ names file rate b. detach_built p c.cut.new.self c.args.line c.args.key laws c.requires.wire c.cut.ensures c.unlink.new.patch names file rate (sym c.is_signal_line-signal.ensures ∙ c.if-not-signal.false)
+    (record { grove = r.grove; names = r.names; timers = r.timers; numbers = r.numbers; values = r.values; rate = r.rate; present = r.present; orders = r.orders })
+    c.unlink.ensures.web c.unlink.ensures.links c.unlink.ensures.orders b
+
+pub returns-clause-control : goal.returns-clause-control
+returns-clause-control g c =
+    let t = sym c.is_signal_line-signal.ensures ∙ c.if-not-signal.false in
+    λ f. absurd (contrary (sym t ∙ f)) where
+      contrary : true ≡ false → ⊥
+      contrary q = cc

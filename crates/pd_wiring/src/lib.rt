@@ -1,0 +1,35 @@
+//! One wire more or less on a running patch.
+//!
+//! `reserve_wire` sets room aside for a wire between two boxes, and alone can fail: whatever it answers, all that the
+//! patch tells stays. `attach` then puts the wire in: last in the fan-out of its outlet, among the feeds of its inlet
+//! at its place by the numbers of boxes and outlets (`Joins`, `IsPlace`). `detach` takes a wire out (`CutsWire`).
+//! Neither can fail. Every other wire and key, every box and what it keeps, the names, the clocks, the blocks and the
+//! orders of the other canvases stay (`StaysButWire`), and a patch that runs goes on to be one (`IsBuilt`): the links
+//! are the signal wires, and each canvas has the order that it has from nothing. Where the wire carries no signal no
+//! look is taken; else at most as many as mending the order of its canvas takes (`most_mending`).
+//!
+//! `line_of` gives the line by keys of a wire that is told by numbers of boxes, or the first reason why it can't be put
+//! in. Law: feeds that are in the order of their boxes and outlets still are with one more or less
+//! (`feeds_stay_in_order`).
+//!
+//! Free: want of memory in `reserve_wire`. Whether there are too many wires is for the caller to decide.
+//!
+//! Definitions: `Changes` (what stays, room, looks), `Graphs` (the graph and the order of a canvas), `Asking`.
+#![tactic(auto)]
+
+mod asking;
+mod attaching;
+mod detaching;
+mod graph;
+mod laws;
+mod lines;
+mod link;
+mod mend;
+mod room;
+
+pub use asking::{WireRefusal, line_of};
+pub use attaching::attach;
+pub use detaching::detach;
+pub use graph::CanvasGraph;
+pub use laws::feeds_stay_in_order;
+pub use room::reserve_wire;
