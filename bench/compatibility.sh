@@ -3,7 +3,8 @@
 #
 # Each patch is played in a copy of its folder that ./play --complete has completed from library/, for half a second and 20 ms for each touch. After
 # 200 ms a script touches, in the order of the file, each box of the patch that no wire and no name feeds, as a hand would: a click on a message box
-# (but those that begin with a semicolon), bng or tgl; for a number box, slider or row of buttons the middle of its range, or 60 where it has none.
+# (but those that send to a canvas, or to pd anything but `dsp 1`), bng or tgl; for a number box, slider or row of buttons the middle of its range, or
+# 60 where it has none.
 # To that end the copy has receive boxes behind the others (bench/hands.py). A line is printed for each patch:
 #
 #   opens    whether it opens without a line `error: ..`
@@ -38,7 +39,7 @@ prepare() {
 # Plays the two copies; ends with the exit code of pdplay.
 play_both() {
   if command -v pd >/dev/null; then
-    (cd "$room/theirs" && timeout "$limit" pd -nogui -noprefs -nosound -batch -open "$1" -open hands-run.pd) >/dev/null 2>&1
+    (cd "$room/theirs" && timeout "$limit" pd -nogui -noprefs -nosound -nrt -batch -open "$1" -open hands-run.pd) >/dev/null 2>&1
   fi
   (cd "$room/ours" && timeout "$limit" "$program" "$1" <hands-script) >"$room/lines"
 }
@@ -59,7 +60,7 @@ while IFS= read -r -d '' file; do
   read -r itself sounds theirs alike < <(python3 "$top/bench/hands.py" look "$room/ours" "$room/theirs")
   [ "$code" -ne 124 ] || sounds="$sounds(cut)"
   printf '%-40s %-6s %-7s %-7s %-4s %-10s %s\n' "$name" "$opens" "$itself" "$sounds" "$theirs" "$alike" "$left"
-done < <(find "$@" -name '*.pd' -print0 | sort -z) | tee "$room/table"
+done < <(find -H "$@" -name '*.pd' -print0 | sort -z) | tee "$room/table"
 awk '{
     patches++; opens += $2 == "yes"; itself += $3 == "yes"; sounds += $4 ~ /^yes/; theirs += $5 == "yes"; alike += $4 ~ /^yes/ && $6 == "yes"
   }

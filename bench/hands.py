@@ -13,7 +13,8 @@ import struct
 import sys
 
 RATE, BLOCK = 44100, 64
-QUIET_MS, STEP_MS, REST_MS = 200, 20, 300
+# No round time, at which a clock of the patch may fire too: Pd and pdplay take them in another order.
+QUIET_MS, STEP_MS, REST_MS = 200.37, 20, 300
 RECORD = re.compile(rb"((?:\\.|[^;\\])*);", re.S)
 CLICKED, TURNED = ("bng", "tgl"), {"nbx": (2, 3, 7), "hsl": (2, 3, 7), "vsl": (2, 3, 7), "hradio": (None, 3, 5), "vradio": (None, 3, 5)}
 RECEIVES = {"bng": 5, "tgl": 3} | {name: at for name, (_, _, at) in TURNED.items()}
@@ -35,11 +36,17 @@ def middle(low, high):
     return (low + high) / 2 if low < high and abs(low) < 1e9 and abs(high) < 1e9 else 60
 
 
+def is_clicked(atoms):
+    """Whether a message box is clicked: not where it is empty, or sends to a canvas, or to Pd itself anything but what turns the sound on."""
+    messages = " ".join(atoms).split("\\;")
+    sent = [message.split() for message in messages[1:]]
+    return len(atoms) > 0 and not any(it and (it[0].startswith("pd-") or it[0] == "pd" and it[1:] != ["dsp", "1"]) for it in sent)
+
+
 def touch_of(words):
     """What a hand does with a box, as the atoms of a message, or None."""
     if words[1] == "msg":
-        # A message that stops the sound of Pd, or asks for a window, is not clicked.
-        return "bang" if len(words) > 4 and not words[4].startswith("\\;") else None
+        return "bang" if is_clicked(words[4:]) else None
     if words[1] == "floatatom":
         return f"{middle(number(words, 5), number(words, 6)):g}" if len(words) < 10 or words[9] in ("-", "empty") else None
     if words[1] != "obj" or len(words) < 5 or words[4] not in RECEIVES:
@@ -156,9 +163,9 @@ def touch(patch, ours, theirs):
     for file in theirs.glob("*.pd"):
         file.write_bytes(recorded(file.read_bytes()))
     (theirs / "hands-dac~.pd").write_text(hands_dac())
-    (theirs / "hands-run.pd").write_text(hands_run((length + 10) * RATE // 1000))
+    (theirs / "hands-run.pd").write_text(hands_run(int((length + 10) * RATE / 1000)))
     (theirs / "hands-script.txt").write_text("\n".join(lines) + "\n")
-    print(length)
+    print(f"{length:g}")
 
 
 def text_boxes(text):
@@ -205,7 +212,7 @@ def difference(ours, theirs, lag):
 def look(ours, theirs):
     mine = our_samples(ours / "out.pcm")
     # The first touch comes before the block in which its time falls.
-    quiet = QUIET_MS * RATE // 1000 // BLOCK * BLOCK
+    quiet = int(QUIET_MS * RATE / 1000) // BLOCK * BLOCK
     by_itself = any(any(channel[:quiet]) for channel in mine)
     sounds = any(any(channel) for channel in mine)
     other = their_samples(theirs / "hands.wav")

@@ -1,5 +1,1 @@
 mod ClockLemmas
-mod HeldLemmas
-mod NumberLemmas
-mod RowLemmas
-mod VoiceLemmas

@@ -1,29 +1,21 @@
 //! The benchmarks by name.
 
 use crate::patches::Filling;
-use crate::{clocks, document, fold, growth, hearing, mend, objects, wires};
+use crate::{clocks, document, growth, hearing, objects};
 use anyhow::Result;
-use std::time::CpuClock;
+use pd_measure::Measures;
 
 pub(crate) const USAGE: &str =
-    "usage: pd_bench document BYTES | clocks OWNERS FIRINGS | wires COUNT | fold BOXES | mend BOXES | hear MESSAGES | signal BLOCKS | growth BOXES [WIRES] | full messages BOXES | full packs BOXES";
+    "usage: pd_bench document BYTES | clocks OWNERS FIRINGS | hear MESSAGES | signal BLOCKS | growth BOXES [WIRES] | full messages BOXES | full packs BOXES";
 
 /// How many wires a box has in a patch that grows, where the words don't tell.
 const WIRES_EACH: u32 = 2;
-
-/// What a benchmark uses of the runtime.
-pub(crate) trait Measures: AllocGlobal + CpuClock + Print {}
-
-impl<R: AllocGlobal + CpuClock + Print> Measures for R {}
 
 /// A benchmark and its sizes.
 #[derive(Clone, Copy)]
 pub(crate) enum Benchmark {
     Document { bytes: u32 },
     Clocks { owners: u32, firings: u32 },
-    Wires { count: u32 },
-    Fold { boxes: u32 },
-    Mend { boxes: u32 },
     Hear { messages: u32 },
     Signal { blocks: u32 },
     Growth { boxes: u32, wires: u32 },
@@ -45,17 +37,8 @@ impl Benchmark {
             [name, bytes] if name.as_str() == "document" => Some(Benchmark::Document {
                 bytes: size(bytes.as_str())?,
             }),
-            [name, count] if name.as_str() == "wires" => Some(Benchmark::Wires {
-                count: size(count.as_str())?,
-            }),
-            [name, boxes] if name.as_str() == "fold" => Some(Benchmark::Fold {
-                boxes: size(boxes.as_str())?,
-            }),
             [name, blocks] if name.as_str() == "signal" => Some(Benchmark::Signal {
                 blocks: size(blocks.as_str())?,
-            }),
-            [name, boxes] if name.as_str() == "mend" => Some(Benchmark::Mend {
-                boxes: size(boxes.as_str())?,
             }),
             [name, messages] if name.as_str() == "hear" => Some(Benchmark::Hear {
                 messages: size(messages.as_str())?,
@@ -81,9 +64,6 @@ impl Benchmark {
         match self {
             Benchmark::Clocks { owners, firings } => clocks::run(rt, owners, firings),
             Benchmark::Document { bytes } => document::run(rt, bytes),
-            Benchmark::Wires { count } => wires::run(rt, count),
-            Benchmark::Fold { boxes } => fold::run(rt, boxes),
-            Benchmark::Mend { boxes } => mend::run(rt, boxes),
             Benchmark::Hear { messages } => hearing::run(rt, messages),
             Benchmark::Signal { blocks } => objects::run(rt, blocks),
             Benchmark::Growth { boxes, wires } => growth::run(rt, boxes, wires),

@@ -2,10 +2,9 @@
 
 ghost use Rattle.std.specs.Prelude.{◌+◌, ◌<◌, length};
 
-use crate::benchmark::Measures;
-use crate::timing::{Nanos, RUNS, Stopwatch};
 use anyhow::Result;
 use pd_clock::{Clocks, Time};
+use pd_measure::{Measures, Nanos, RUNS, Stopwatch};
 use std::alloc::{AllocError, Global};
 
 /// A block of 64 samples.

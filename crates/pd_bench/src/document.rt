@@ -4,11 +4,10 @@ ghost use Rattle.std.specs.Prelude.{IfOk};
 ghost use Rattle.pd_canvas.specs.Proper.{IsProper};
 ghost use Rattle.pd_doc.specs.Atoms.{PageOf};
 
-use crate::benchmark::Measures;
-use crate::timing::{Nanos, RUNS, Stopwatch};
 use anyhow::{Result, bail, ensure};
 use pd_atom::Symbols;
 use pd_doc::Doc;
+use pd_measure::{Measures, Nanos, RUNS, Stopwatch};
 use std::alloc::{AllocError, Global};
 use std::fmt::Write;
 

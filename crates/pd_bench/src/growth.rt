@@ -5,16 +5,15 @@ ghost use Rattle.pd_atom.specs.Names.{Extends};
 ghost use Rattle.pd_canvas.specs.Proper.{IsProper};
 ghost use Rattle.pd_gather.specs.Gather.{AreProper};
 
-use crate::benchmark::Measures;
 use crate::document::document;
 use crate::patches::{Filling, Size, full, groups};
-use crate::timing::{Nanos, RUNS, Stopwatch};
 use anyhow::{Result, bail, ensure};
 use pd_atom::Symbols;
 use pd_clock::Rate;
 use pd_doc::{Doc, proper_extended};
 use pd_gather::Library;
 use pd_io::{Files, MemShelf, Shelf};
+use pd_measure::{Measures, Nanos, RUNS, Stopwatch};
 use pd_patch::{Patch, Report};
 use std::alloc::Global;
 

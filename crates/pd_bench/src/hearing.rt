@@ -4,14 +4,13 @@ ghost use Rattle.std.specs.Prelude.{◌<◌, length, IfOk};
 ghost use Rattle.pd_glue.specs.Rows.{IsSmall};
 ghost use Rattle.pd_bench.specs.Boxes.{IsFit};
 
-use crate::benchmark::Measures;
-use crate::timing::{Nanos, RUNS, Stopwatch};
 use anyhow::Result;
 use pd_atom::{Atom, Sym, Symbols};
 use pd_clock::{Rate, Time};
 use pd_kind::{
     Arith, Around, Glue, Items, Kind, Message, Operation, Sends, Slot, Spelling, State, Trigger,
 };
+use pd_measure::{Measures, Nanos, RUNS, Stopwatch};
 use pd_num::Num;
 use std::alloc::{AllocError, Global};
 

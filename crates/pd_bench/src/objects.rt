@@ -5,11 +5,10 @@ ghost use Rattle.pd_object.specs.declared.kinds.Kind.TheVariants as kind;
 ghost use Rattle.pd_object.specs.Ports.{IsSmallKind, IsSmallSignal};
 ghost use Rattle.pd_bench.specs.Objects.{HasSmallKinds};
 
-use crate::benchmark::Measures;
-use crate::timing::{Nanos, RUNS, Stopwatch};
 use anyhow::Result;
 use pd_clock::{Rate, Time};
 use pd_kind::{Kind, Signal, SignalFunction, SignalOperation, Slope, Spelling, State, Tone};
+use pd_measure::{Measures, Nanos, RUNS, Stopwatch};
 use pd_num::{Num, Sig};
 use pd_turn::{Manner, few_ports, manner_of, run_own, run_pair, run_table};
 

@@ -1,6 +1,7 @@
 //! A case, and its answer.
 
-use crate::{documents, edits, hearing, naming, orders, playing, refusals, shown, trees};
+use crate::harms::Harm;
+use crate::{documents, edits, harms, hearing, naming, orders, playing, refusals, shown, trees};
 use anyhow::{Result, bail};
 use pd_atom::Symbols;
 use pd_clock::Rate;
@@ -24,6 +25,8 @@ enum Case<'a> {
     Refusals,
     /// The text of the document of a text.
     Document { parts: &'a str },
+    /// What is read of a text harmed at each place.
+    Harms { harm: Harm, text: &'a str },
     /// What a record of the script says.
     Command { record: &'a str },
     /// The document of a text after edits.
@@ -52,6 +55,14 @@ fn case_of(line: &str) -> Option<Case<'_>> {
         "tree" => Some(Case::Tree { parts: rest }),
         "refusals" => Some(Case::Refusals),
         "document" => Some(Case::Document { parts: rest }),
+        "cuts" => Some(Case::Harms {
+            harm: Harm::Cut,
+            text: rest,
+        }),
+        "semicolons" => Some(Case::Harms {
+            harm: Harm::Semicolon,
+            text: rest,
+        }),
         "command" => Some(Case::Command { record: rest }),
         "edit" => Some(Case::Edit { parts: rest }),
         "order" => Some(Case::Order { parts: rest }),
@@ -90,6 +101,7 @@ fn answered(alloc: Global, case: Case<'_>, symbols: &mut Symbols) -> Result<Stri
         Case::Tree { parts } => trees::tree(alloc, parts),
         Case::Refusals => refusals::texts(alloc),
         Case::Document { parts } => documents::document(alloc, parts, symbols),
+        Case::Harms { harm, text } => harms::harms(alloc, text, harm, symbols),
         Case::Command { record } => edits::command(alloc, record, symbols),
         Case::Edit { parts } => edits::edits(alloc, parts, symbols),
         Case::Order { parts } => orders::orders(alloc, parts),

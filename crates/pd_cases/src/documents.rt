@@ -9,7 +9,7 @@ use pd_doc::{Doc, DocRefusal, read, write};
 use std::alloc::Global;
 
 /// The number of the record that is refused, 0 for want of memory.
-fn record_of(refusal: DocRefusal) -> u32 {
+pub(crate) fn record_of(refusal: DocRefusal) -> u32 {
     match refusal {
         DocRefusal::BadRecord { number }
         | DocRefusal::DataStructure { number }

@@ -6,7 +6,9 @@
 //! COUNT` (so many blanks of the script), `pieces BYTES` (of the script, at a time), `fails WHAT CALL` (`shelf`,
 //! `script`, `lines` or `pcm`), or `times COUNT TEXT` (so often more of the last file). `tree PART | PART ..` grows
 //! the first file, as `main.pd`, and tells its tree; `refusals` tells the texts of the refusals of growth.
-//! `document TEXT` reads a document and writes it, and `times COUNT TEXT` behind a bar is more of its text;
+//! `document TEXT` reads a document and writes it, and `times COUNT TEXT` behind a bar is more of its text; `cuts
+//! TEXT` and `semicolons TEXT` do so with each beginning of a text whose line breaks are told by `¶`, and with a
+//! semicolon in place of each byte in turn, and tell what comes of it in short, where it changes;
 //! `command RECORD` tells what a record of the script says; `edit TEXT | RECORD | RECORD ..` makes each record's
 //! edit in the document of a text. `order COUNT | SOURCE SINK, .. | CHANGE | CHANGE ..` tells the order of a graph
 //! of wires, and mends it after each change: `+ SOURCE SINK` or `- PLACE`, where the wire at that place goes. Words
@@ -23,6 +25,7 @@
 mod case;
 mod documents;
 mod edits;
+mod harms;
 mod hearing;
 mod naming;
 mod orders;

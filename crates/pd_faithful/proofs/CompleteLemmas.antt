@@ -44,8 +44,8 @@ IsOver (Asks s k) = ⊥
 IsOver (Gathered k) = Unit {0}
 IsOver Full = Unit {0}
 
-gathered_same : (name : List ℕ) (p : Page) (rows : List FileRow) (fs hs : List Fetch) (g a b : Gathering) → AreHeld name p rows fs g → AreHeld name p rows hs g
-    → gathered name p fs g ≡ a → gathered name p hs g ≡ b → IsOver a → IsOver b → a ≡ b
+gathered_same : (name : List ℕ) (p : Page) (rows : List FileRow) (fs hs : List Fetch) (g a b : Gathering) → AreHeld (asked name p) rows fs g → AreHeld (asked name p) rows hs g
+    → gathered (asked name p) fs g ≡ a → gathered (asked name p) hs g ≡ b → IsOver a → IsOver b → a ≡ b
 gathered_same name p rows [] [] g a b h k e d x y = sym e ∙ d
 gathered_same name p rows [] (f ∷ hs) (Asks s n) a b h k e d x y = absurd (subst (λ (z : Gathering). IsOver z) (sym e) x)
 gathered_same name p rows [] (f ∷ hs) (Gathered n) a b h k e d x y = absurd k.0
@@ -55,8 +55,8 @@ gathered_same name p rows (f ∷ fs) [] (Gathered n) a b h k e d x y = absurd h.
 gathered_same name p rows (f ∷ fs) [] Full a b h k e d x y = absurd h.0
 gathered_same name p rows (f ∷ fs) (j ∷ hs) (Asks s n) a b h k e d x y =
     let same : j ≡ f = k.0 ∙ sym h.0 in
-    gathered_same name p rows fs hs (after name p f (Asks s n)) a b h.1 (subst (λ (z : Fetch). AreHeld name p rows hs (after name p z (Asks s n))) same k.1) e
-    (subst (λ (z : Fetch). gathered name p hs (after name p z (Asks s n)) ≡ b) same d) x y
+    gathered_same name p rows fs hs (after (asked name p) f (Asks s n)) a b h.1 (subst (λ (z : Fetch). AreHeld (asked name p) rows hs (after (asked name p) z (Asks s n))) same k.1) e
+    (subst (λ (z : Fetch). gathered (asked name p) hs (after (asked name p) z (Asks s n)) ≡ b) same d) x y
 gathered_same name p rows (f ∷ fs) (j ∷ hs) (Gathered n) a b h k e d x y = absurd h.0
 gathered_same name p rows (f ∷ fs) (j ∷ hs) Full a b h k e d x y = absurd h.0
 

@@ -25,6 +25,8 @@
 //! Free: want of memory for the words or in opening. Once the patch is open, it plays to its end without: with
 //! `NoMemory` the source and the samples' sink are as they were (`short`).
 //!
+//! `RecordFeed` and what it answers, `Fed`, are `pd_feed`'s.
+//!
 //! Definitions: `Patches` (a play of a patch by a script), `Runs` (the run of a script), `Playing` (what was taken
 //! of it), `Ending` (statuses, lines, codes), `Refusing`, `Causes`, `Telling`.
 #![tactic(auto)]
@@ -36,5 +38,6 @@ mod status;
 mod steps;
 
 pub use pd_engine::BadCause;
+pub use pd_feed::{Fed, RecordFeed};
 pub use player::play;
 pub use status::Status;

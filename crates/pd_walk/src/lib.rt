@@ -23,6 +23,8 @@
 //! it keeps after such a failure isn't promised: the engine is stopped from then on. Free: want of memory in `new`,
 //! and time, which is measured (`docs/BENCHMARKS.md`).
 //!
+//! `EditQueue` is `pd_queue`'s, and stands here too since `deliver` takes it.
+//!
 //! Definitions: `Acts` (what a task leaves, says and causes), `Outcome` (what becomes of an event); `Ways` and
 //! `Relays` are of the loop inside.
 #![tactic(auto)]
@@ -34,4 +36,5 @@ mod relay;
 mod routes;
 mod walker;
 
+pub use pd_queue::EditQueue;
 pub use walker::{Budget, Start, Walker};

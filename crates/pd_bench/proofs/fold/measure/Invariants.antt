@@ -1,4 +1,0 @@
-use Rattle.pd_bench.proofs.fold.measure.Given as goal
-
-abbrev pub ghosts-measure_in : goal.ghosts-measure_in
-ghosts-measure_in g a = record { name = a.blank.name; parts = a.blank.parts }

@@ -1,0 +1,2 @@
+mod NetLemmas
+mod PortLemmas

@@ -1,0 +1,3 @@
+mod HeldLemmas
+mod RowLemmas
+mod VoiceLemmas
