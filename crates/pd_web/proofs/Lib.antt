@@ -5,6 +5,7 @@ mod WireLemmas
 mod HopLemmas
 mod BehindLemmas
 mod ChangeLemmas
+mod CountLemmas
 mod RoomLemmas
 mod LineLemmas
 mod FanLemmas

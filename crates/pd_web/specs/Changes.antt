@@ -1,7 +1,7 @@
 -- One wire more or less.
 use Rattle.std.specs.Prelude.{◌≡◌, ◌≢◌, ◌≤◌, ◌+◌, ℕ, not, ◌==◌, List, filter, length, Option, Some, None, option_map}
 use Rattle.std.specs.List.{insert}
-use Rattle.pd_wire.specs.Book.{wire_at}
+use Rattle.pd_wire.specs.Book.{wire_at, live_wires}
 use Rattle.pd_grove.specs.declared.ports.Side.{Side}
 use Rattle.pd_web.specs.declared.web.Hop.{Hop}
 use Rattle.pd_web.specs.declared.web.Web.{Web}
@@ -15,6 +15,10 @@ line_by from to = record { source = from.node; outlet = from.port; sink = to.nod
 -- from where the wire of a key comes and where it leads
 abbrev pub line_told : Web → ℕ → Option Line
 line_told w key = option_map (λ _. line_by (hop_from w key) (hop_to w key)) (wire_at w.book key)
+
+-- how many wires there are
+abbrev pub wires_told : Web → ℕ
+wires_told w = live_wires w.book
 
 -- the boxes have the ports that they had, and are the ports that they were
 pub record KeepsPorts (w w' : Web) : Type 0 where

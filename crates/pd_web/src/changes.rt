@@ -6,7 +6,7 @@ ghost use Rattle.pd_web.specs.Sockets.{IsThere, Gives, Writes, end_at as end_tol
 ghost use Rattle.pd_web.specs.declared.web.Hop.{Hop};
 ghost use Rattle.pd_web.specs.Lines.{IsRoute};
 ghost use Rattle.pd_web.specs.Hops.{fan_keys, feed_keys, fan_hops, feed_hops};
-ghost use Rattle.pd_web.specs.Changes.{line_told, line_by, hop_at, HasRoom, IsSame, Joins, CutsWire};
+ghost use Rattle.pd_web.specs.Changes.{line_told, wires_told, line_by, hop_at, HasRoom, IsSame, Joins, CutsWire};
 
 use crate::ends::{end_at, put_end};
 use crate::lines::Line;
@@ -47,6 +47,13 @@ impl Web {
             sink: to.node,
             inlet: to.port,
         })
+    }
+
+    /// How many wires there are. It goes over all that the book of wires holds, so it is for a patch that opens.
+    pub fn wire_count(&self) -> usize
+        ensures { result ≡ wires_told self.now }
+    {
+        self.book.wire_count()
     }
 
     /// What is true of each web. It does nothing.

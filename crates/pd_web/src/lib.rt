@@ -9,10 +9,11 @@
 //!
 //! `reserve` sets room aside, and leaves every port and wire as it was whatever it answers. `join` and `rejoin` then
 //! put one wire more at its place in both of its lists, and `cut` takes one away: every other wire, list and port
-//! stays (`Joins`, `CutsWire`), no memory is taken, and no list is walked. `line_at` tells whether a key is a wire's.
+//! stays (`Joins`, `CutsWire`), no memory is taken, and no list is walked. `line_at` tells whether a key is a wire's,
+//! and `wire_count` how many wires there are.
 //!
 //! Laws: `canvases_wire_their_own_boxes` and `standing_canvases_are_trimmed` lead from keys to the tree's own
-//! wires. Free: want of memory.
+//! wires, and `wires_are_counted` says how a change of wires changes their number. Free: want of memory.
 //!
 //! Definitions: `Hops` (ports and wires as they are told), `Changes` (one wire more or less, and room), `Canvases`,
 //! `Homes`, `Sockets`; `Spares`, `Jacks`, `Lines` and `Wiring` help.
@@ -36,7 +37,7 @@ mod wires;
 
 pub use jacks::Jack;
 pub use joints::Joint;
-pub use laws::{canvases_wire_their_own_boxes, standing_canvases_are_trimmed};
+pub use laws::{canvases_wire_their_own_boxes, standing_canvases_are_trimmed, wires_are_counted};
 pub use lay::{MOST_WIRES, Unlaid};
 pub use lines::Line;
 pub use sockets::{Port, Sockets, Spot};

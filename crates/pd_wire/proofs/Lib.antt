@@ -5,5 +5,6 @@ pub mod Sides
 pub mod Seen
 pub mod Changes
 pub mod Cutting
+pub mod Counting
 pub mod WireLemmas
 pub mod WalkLemmas

@@ -1,5 +1,5 @@
 -- What a contract sees of a `WireBook`.
-use Rattle.std.specs.Prelude.{◌≡◌, ◌≢◌, ℕ, ◌+◌, ◌<◌, ◌≤◌, max, not, ◌==◌, filter, List, [], length, Option, Some, None, IsSome, slice_get, slice_index_or, refl}
+use Rattle.std.specs.Prelude.{◌≡◌, ◌≢◌, ℕ, ◌+◌, ◌<◌, ◌≤◌, max, not, ◌==◌, filter, List, [], length, Option, Some, None, IsSome, is_some, slice_get, slice_index_or, refl}
 use Rattle.std.specs.List.{insert, remove}
 use Rattle.std.specs.Coded.{Coded, code_by, coded×, coded_ℕ, coded_list, coded_option}
 
@@ -35,6 +35,10 @@ end_at b e = slice_index_or b.ends e None
 -- the source and the sink of a live wire
 abbrev pub wire_at : Book → ℕ → Option (ℕ × ℕ)
 wire_at b k = slice_index_or b.wires k None
+
+-- how many wires are live
+abbrev pub live_wires : Book → ℕ
+live_wires b = length (filter is_some b.wires)
 
 -- a live end
 abbrev pub IsEnd : Book → ℕ → Type 0

@@ -4,9 +4,9 @@
 //! `add` puts a wire last in the fan-out, `insert_at` at its places in both lists, `add_before` and `insert_before`
 //! before wires of these lists, with no walk along them, and `cut` takes one entry out of each list; every other
 //! list, key and end stays. `fan_first`, `fan_next`, `feed_first` and `feed_next` give a list's next key, and None
-//! exactly at its end; `feed_last` and `feed_before` go the other way. `reserve` sets numbers of ends and of wires
-//! aside, each counted by itself, and the calls that use them up can't fail. Dropping an end or cutting a wire
-//! gives its room back.
+//! exactly at its end; `feed_last` and `feed_before` go the other way. `wire_count` tells how many wires there are, by
+//! one pass over all that the book holds. `reserve` sets numbers of ends and of wires aside, each counted by itself,
+//! and the calls that use them up can't fail. Dropping an end or cutting a wire gives its room back.
 //!
 //! That each live wire stands exactly once in its two lists is kept by every call (`laws`). Free: how long a call
 //! takes, which is measured (`docs/BENCHMARKS.md`).
@@ -17,8 +17,6 @@
 mod book;
 mod keys;
 mod links;
-#[cfg(test)]
-mod tests;
 mod walks;
 
 pub use book::WireBook;

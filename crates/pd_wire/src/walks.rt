@@ -1,7 +1,7 @@
 //! Walks along the lists of a book.
 
 ghost use Rattle.std.specs.Prelude.{ℕ, Some, is_some, slice_get, length, ◌≡◌, ◌-◌};
-ghost use Rattle.pd_wire.specs.Book.{IsEnd, IsWire, fan_of, feeds_of, wire_at, IsNext, IsPrevious};
+ghost use Rattle.pd_wire.specs.Book.{IsEnd, IsWire, fan_of, feeds_of, wire_at, live_wires, IsNext, IsPrevious};
 
 use crate::book::WireBook;
 use crate::keys::{End, WireKey};
@@ -16,6 +16,22 @@ impl WireBook {
             Some(node) => !node.is_end,
             None => false,
         }
+    }
+
+    /// How many wires there are. It goes once over all that the book holds and takes no memory, so it is for a patch that
+    /// opens, not for each change.
+    pub fn wire_count(&self) -> usize
+        ensures { result ≡ live_wires self.now }
+    {
+        // There are no more wires than the slab holds, so the count fits.
+        let _most = self.nodes.len();
+        let mut count = 0;
+        for (_, node) in self.nodes.iter() {
+            if !node.is_end {
+                count += 1;
+            }
+        }
+        count
     }
 
     /// The first wire of an outlet's fan-out.
