@@ -32,6 +32,7 @@ lent_keeps p k n s is =
       node = u.changed ∙ sym (ap (λ (o : Option Node). option_map (with_state s) o) is);
       others = u.others;
       boards = refl;
+      labels = refl;
       root = refl;
     }
 

@@ -53,19 +53,19 @@ nodes_stay old new k s keeps =
     (λ other. ap bare (keeps.others j other)))
 
 same_net : (old new : Patch) → bares new.grove ≡ bares old.grove → new.grove.boards ≡ old.grove.boards → new.grove.root ≡ old.grove.root
-    → new.web ≡ old.web → new.names ≡ old.names → new.orders ≡ old.orders → new.numbers ≡ old.numbers → new.rate ≡ old.rate → new.timers ≡ old.timers
+    → new.web ≡ old.web → new.links ≡ old.links → new.names ≡ old.names → new.orders ≡ old.orders → new.numbers ≡ old.numbers → new.rate ≡ old.rate → new.timers ≡ old.timers
     → net_of new ≡ net_of old
-same_net old new nodes boards root web names orders numbers rate timers = rw (nodes, boards, root, web, names, orders, numbers, rate, timers) refl
+same_net old new nodes boards root web links names orders numbers rate timers = rw (nodes, boards, root, web, links, names, orders, numbers, rate, timers) refl
 
 -- the state of a box changed
 pub keeps_net : (old new : Patch) (k : ℕ) (s : Option State) → Keeps old.grove new.grove k s → RestStays old new → new.timers ≡ old.timers → net_of new ≡ net_of old
 keeps_net old new k s keeps rest timers =
-    same_net old new (nodes_stay old.grove new.grove k s keeps) keeps.boards keeps.root rest.web rest.names rest.orders rest.numbers rest.rate timers
+    same_net old new (nodes_stay old.grove new.grove k s keeps) keeps.boards keeps.root rest.web rest.links rest.names rest.orders rest.numbers rest.rate timers
 
 -- a block changed
 pub blocks_net : (old new : Patch) → new.grove ≡ old.grove → SilentRest old new → net_of new ≡ net_of old
 blocks_net old new grove rest =
-    same_net old new (ap bares grove) (ap (λ (g : Grove). g.boards) grove) (ap (λ (g : Grove). g.root) grove) rest.web rest.names rest.orders rest.numbers rest.rate rest.timers
+    same_net old new (ap bares grove) (ap (λ (g : Grove). g.boards) grove) (ap (λ (g : Grove). g.root) grove) rest.web rest.links rest.names rest.orders rest.numbers rest.rate rest.timers
 
 pub blocks_states : (old new : Patch) → new.grove ≡ old.grove → states_of new ≡ states_of old
 blocks_states old new grove = ap keeps_of grove

@@ -18,3 +18,5 @@ pub mod GrowLemmas
 pub mod ComeLemmas
 pub mod PruneLemmas
 pub mod RefitLemmas
+pub mod LabelledLemmas
+pub mod RoomLemmas

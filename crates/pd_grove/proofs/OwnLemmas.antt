@@ -119,3 +119,9 @@ own_gains nodes old new b k live lies absent G O =
           (λ (n : c ≢ b). O.once c i m j (other c i j n at) (other c m j n also))
           (cases_eq c b);
     }
+
+-- a box comes last in a canvas
+pub own_box : (n₀ n₁ : ℕ → Option Node) (b₀ b₁ : ℕ → Option Board) (b k : ℕ) (n : Node) → n₀ k ≡ None → n₁ k ≡ Some n → n.board ≡ b → ((i : ℕ) → i ≢ k → n₁ i ≡ n₀ i) → IsSome (b₀ b) → Gains b₀ b₁ b k
+    → AreOwn n₀ b₀ → AreOwn n₁ b₁
+own_box n₀ n₁ b₀ b₁ b k n vacant is lies others live G O =
+    own_gains n₁ b₀ b₁ b k live (ap board_in is ∙ ap (λ x. Some x) lies) (λ i at. not_there n₀ b₀ k b i vacant O at) G (own_put n₀ n₁ b₀ k vacant others O)

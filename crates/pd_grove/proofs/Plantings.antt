@@ -16,6 +16,7 @@ use Rattle.pd_grove.specs.States.{AreFresh, NodesFresh, SeedsSmall, NodesSmall}
 use Rattle.pd_grove.specs.Owning.{AreOwn}
 use Rattle.pd_grove.specs.TextOrder.{deep}
 use Rattle.pd_grove.specs.Forest.{IsForest}
+use Rattle.pd_grove.specs.Labelled.{HaveLabels}
 use Rattle.pd_grove.proofs.UseLemmas.{uses_none, uses_then, made_stays}
 use Rattle.pd_grove.proofs.TreeLemmas.{width-join, deep-join, join-assoc, first_box, other_boxes, first_other, first_width, first_stands, no_boxes}
 use Rattle.pd_grove.proofs.Standings.{stands_on, stands_join}
@@ -30,7 +31,7 @@ pub record Split (nodes₀ nodes₁ : ℕ → Option Node) (boards₀ boards₁ 
   pub ready : stands_ready seeds ≡ stands_of left ++ more
 
 -- planting after i of the boxes
-pub record Halfway (nodes₀ nodes₁ : Slab Node) (boards₀ boards₁ : Slab Board) (seeds₀ seeds₁ : List Seed) (b d i count : ℕ) : Type 0 where
+pub record Halfway (nodes₀ nodes₁ : Slab Node) (boards₀ boards₁ : Slab Board) (labels₀ labels₁ : List ℕ) (seeds₀ seeds₁ : List Seed) (b d i count : ℕ) : Type 0 where
   pub within : i ≤ count
   pub kept : Keeps (get nodes₀) (get nodes₁) (get boards₀) (get boards₁) b
   pub own_room : board_room (get boards₀ b) ≤ board_room (get boards₁ b) + i
@@ -41,6 +42,7 @@ pub record Halfway (nodes₀ nodes₁ : Slab Node) (boards₀ boards₁ : Slab B
   pub small : SeedsSmall seeds₀ → NodesSmall (get nodes₀) → SeedsSmall seeds₁ × NodesSmall (get nodes₁)
   pub of_tree : (t : Trees) → SeedsOf t seeds₀ → NodesOf t (get nodes₀) → SeedsOf t seeds₁ × NodesOf t (get nodes₁)
   pub own : AreOwn (get nodes₀) (get boards₀) → AreOwn (get nodes₁) (get boards₁)
+  pub labelled : AreOwn (get nodes₀) (get boards₀) → HaveLabels nodes₀.capacity labels₀ (get boards₀) → HaveLabels nodes₁.capacity labels₁ (get boards₁)
   pub uses : Uses (get nodes₀) (get nodes₁) seeds₀ seeds₁
   pub forest : (root : ℕ) (t : Trees) (more : List Stand) → stands_ready seeds₀ ≡ stands_of t ++ more → width t ≡ count → d + deep t < 257
       → IsForest (get nodes₀) (get boards₀) root → IsForest (get nodes₁) (get boards₁) root
@@ -86,9 +88,9 @@ plants_then n₀ n₁ n₂ b₀ b₁ b₂ b d t u e K P Q = record {
       (stands_on n₁ n₂ b₁ b₂ b d P.keys t K.nodes_stay (λ j l h. K.boards_stay j (deep_differs b₁ b d j e h) l) P.stands) Q.stands;
 }
 
-pub halfway_start : (nodes : Slab Node) (boards : Slab Board) (seeds : List Seed) (b d count : ℕ) → IsSome (get boards b) → HaveRoom nodes boards (length seeds) → AreRoomy seeds
-    → Halfway nodes nodes boards boards seeds seeds b d 0 count
-halfway_start nodes boards seeds b d count l R A = record {
+pub halfway_start : (nodes : Slab Node) (boards : Slab Board) (labels : List ℕ) (seeds : List Seed) (b d count : ℕ) → IsSome (get boards b) → HaveRoom nodes boards (length seeds) → AreRoomy seeds
+    → Halfway nodes nodes boards boards labels labels seeds seeds b d 0 count
+halfway_start nodes boards labels seeds b d count l R A = record {
   within = omega arith;
   kept = keeps_same (get nodes) (get boards) b l;
   own_room = omega arith;
@@ -99,6 +101,7 @@ halfway_start nodes boards seeds b d count l R A = record {
   small = λ f g. (f, g);
   of_tree = λ t f g. (f, g);
   own = λ h. h;
+  labelled = λ o h. h;
   uses = uses_none (get nodes) seeds;
   forest = λ root t more h w low F. F;
   splits = λ t more h w. record { done = Done; left = t; whole = refl; wide = refl; plants = plants_none (get nodes) (get boards) b d; ready = h };
@@ -153,9 +156,9 @@ forest_next n₀ n₁ n₂ b₀ b₁ b₂ seeds root b d i count t more l w low 
     (omega (arith, whole, first, low))
 
 -- one box more has been planted
-pub halfway_next : (n₀ n₁ n₂ : Slab Node) (b₀ b₁ b₂ : Slab Board) (seeds₀ seeds₁ seeds₂ : List Seed) (b d i count : ℕ)
+pub halfway_next : (n₀ n₁ n₂ : Slab Node) (b₀ b₁ b₂ : Slab Board) (l₀ l₁ l₂ : List ℕ) (seeds₀ seeds₁ seeds₂ : List Seed) (b d i count : ℕ)
     → i < count → depth_of (get b₀ b) ≡ d
-    → Halfway n₀ n₁ b₀ b₁ seeds₀ seeds₁ b d i count
+    → Halfway n₀ n₁ b₀ b₁ l₀ l₁ seeds₀ seeds₁ b d i count
     → Keeps (get n₁) (get n₂) (get b₁) (get b₂) b
     → board_room (get b₁ b) ≤ board_room (get b₂ b) + 1
     → HaveRoom n₂ b₂ (length seeds₂) → AreRoomy seeds₂ → length seeds₂ ≤ length seeds₁
@@ -163,11 +166,12 @@ pub halfway_next : (n₀ n₁ n₂ : Slab Node) (b₀ b₁ b₂ : Slab Board) (s
     → (SeedsSmall seeds₁ → NodesSmall (get n₁) → SeedsSmall seeds₂ × NodesSmall (get n₂))
     → ((t : Trees) → SeedsOf t seeds₁ → NodesOf t (get n₁) → SeedsOf t seeds₂ × NodesOf t (get n₂))
     → (AreOwn (get n₁) (get b₁) → AreOwn (get n₂) (get b₂))
+    → (AreOwn (get n₁) (get b₁) → HaveLabels n₁.capacity l₁ (get b₁) → HaveLabels n₂.capacity l₂ (get b₂))
     → Uses (get n₁) (get n₂) seeds₁ seeds₂
     → ((root : ℕ) (u : Trees) (rest : List Stand) → stands_ready seeds₁ ≡ stands_of u ++ rest → width u ≡ 1 → d + deep u < 257 → IsForest (get n₁) (get b₁) root → IsForest (get n₂) (get b₂) root)
     → ((u : Trees) (rest : List Stand) → stands_ready seeds₁ ≡ stands_of u ++ rest → width u ≡ 1 → Plants (get n₁) (get n₂) (get b₁) (get b₂) b d u × (stands_ready seeds₂ ≡ rest))
-    → Halfway n₀ n₂ b₀ b₂ seeds₀ seeds₂ b d (i + 1) count
-halfway_next n₀ n₁ n₂ b₀ b₁ b₂ seeds₀ seeds₁ seeds₂ b d i count l e H K O R A F N M T W U G P = record {
+    → Halfway n₀ n₂ b₀ b₂ l₀ l₂ seeds₀ seeds₂ b d (i + 1) count
+halfway_next n₀ n₁ n₂ b₀ b₁ b₂ l₀ l₁ l₂ seeds₀ seeds₁ seeds₂ b d i count l e H K O R A F N M T W Q U G P = record {
   within = omega (arith, l);
   kept = keeps_then (get n₀) (get n₁) (get n₂) (get b₀) (get b₁) (get b₂) b H.kept K;
   own_room = (let o = H.own_room in omega (arith, o, O));
@@ -178,6 +182,7 @@ halfway_next n₀ n₁ n₂ b₀ b₁ b₂ seeds₀ seeds₁ seeds₂ b d i coun
   small = λ f g. let x = H.small f g in M x.0 x.1;
   of_tree = λ t f g. let x = H.of_tree t f g in T t x.0 x.1;
   own = λ h. W (H.own h);
+  labelled = λ o h. Q (H.own o) (H.labelled o h);
   uses = uses_then (get n₀) (get n₁) (get n₂) seeds₀ seeds₁ seeds₂ (λ k s m. made_stays (get n₁ k) (get n₂ k) s (K.nodes_stay k) m) H.uses U;
   forest = λ root t more h w low F. forest_next (get n₀) (get n₁) (get n₂) (get b₀) (get b₁) (get b₂) seeds₁ root b d i count t more l w low (H.splits t more h w) G (H.forest root t more h w low F);
   splits = λ t more h w. split_next (get n₀) (get n₁) (get n₂) (get b₀) (get b₁) (get b₂) seeds₁ seeds₂ b d i count t more l w (H.kept.depth ∙ e) K P (H.splits t more h w);

@@ -13,3 +13,4 @@ pub mod Pruning
 pub mod OwnPaths
 pub mod Room
 pub mod Refits
+pub mod Labelled

@@ -22,6 +22,7 @@ pub record Alters (old new : Grove) (k : ℕ) (f : Node → Node) : Type 0 where
   pub box : get new.nodes k ≡ option_map f (get old.nodes k)
   pub others : (l : ℕ) → l ≢ k → get new.nodes l ≡ get old.nodes l
   pub boards : new.boards ≡ old.boards
+  pub labels : new.labels ≡ old.labels
   pub root : new.root ≡ old.root
 
 -- The box k is gone from the canvas c with all that lay in it, and then a box made of the first seed has come under the same key at

@@ -39,4 +39,5 @@ pub record Keeps (old new : Grove) (k : ℕ) (s : Option State) : Type 0 where
   pub node : get new.nodes k ≡ option_map (with_state s) (get old.nodes k)
   pub others : (j : ℕ) → j ≢ k → get new.nodes j ≡ get old.nodes j
   pub boards : new.boards ≡ old.boards
+  pub labels : new.labels ≡ old.labels
   pub root : new.root ≡ old.root

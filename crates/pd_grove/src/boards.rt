@@ -5,7 +5,9 @@ ghost use Rattle.slab.specs.Slab.{get, ContainsKey, HasRoomFor, slab_len};
 ghost use Rattle.pd_grove.specs.Standing.{Gains, board_room, depth_of};
 ghost use Rattle.pd_grove.specs.Telling.{keys_in};
 ghost use Rattle.pd_grove.specs.Grafts.{HasOtherKeys};
+ghost use Rattle.pd_label.specs.Labels.{PutsLabel};
 
+use pd_label::Labels;
 use pd_tree::Sheet;
 use slab::Slab;
 
@@ -53,6 +55,26 @@ pub(crate) fn put_at(boards: &mut Slab<Board>, board: u32, number: u32, node: u3
 {
     let board = &mut boards[board as usize];
     board.nodes.insert(number as usize, node).unwrap();
+}
+
+/// Labels the last box of a canvas, so that it stands behind the others.
+pub(crate) fn label_last(labels: &mut Labels, boards: &Slab<Board>, board: u32)
+    requires { ContainsKey boards.now board }
+    ensures { let keys = keys_in (get boards.now board) in (n : ℕ) → length keys ≡ n + 1 → PutsLabel labels.old labels.new keys n }
+{
+    let keys = boards[board as usize].nodes.as_slice();
+    if let Some(last) = keys.len().checked_sub(1) {
+        labels.put(keys, last);
+    }
+}
+
+/// Labels the box of a number of a canvas, so that it stands between those around it.
+pub(crate) fn label_at(labels: &mut Labels, boards: &Slab<Board>, board: u32, number: u32)
+    requires { number < length (keys_in (get boards.now board)) }
+    ensures { PutsLabel labels.old labels.new (keys_in (get boards.now board)) number }
+{
+    let keys = boards[board as usize].nodes.as_slice();
+    labels.put(keys, number as usize);
 }
 
 /// Takes the box of a number out of a canvas's list, and gives its key.

@@ -9,9 +9,10 @@ ghost use Rattle.pd_grove.specs.Telling.{keys_in};
 ghost use Rattle.pd_grove.specs.TextOrder.{deep};
 ghost use Rattle.pd_grove.specs.Forest.{IsForest};
 ghost use Rattle.pd_grove.specs.Grafts.{HasPartMore};
+ghost use Rattle.pd_grove.specs.Labelled.{HaveLabels, IsLabelled};
 ghost use Rattle.pd_grove.specs.Room.{HasPlace, IsSameButRoom};
 
-use crate::boards::{depth_at, put_at};
+use crate::boards::{depth_at, label_at, put_at};
 use crate::grove::Grove;
 use crate::nodes::{Node, put_node};
 use crate::planting::plant_inside;
@@ -38,6 +39,7 @@ impl Grove {
         if self.nodes.capacity() > KEYS_END || self.boards.capacity() > KEYS_END {
             return Err(AllocError);
         }
+        self.labels.reach(self.nodes.capacity())?;
         self.boards[canvas as usize].nodes.reserve(1)
     }
 
@@ -56,6 +58,8 @@ impl Grove {
         ensures stands { (t : Trees) (more : List Stand) → one (seed_stand seed) (stands_ready (seeds_in seeds.old)) ≡ stands_of t ++ more → width t ≡ 1 →
             Stands (get self.new.nodes) (get self.new.boards) canvas (depth_of (get self.old.boards canvas)) (result ∷ []) t × (stands_ready (seeds_in seeds.new) ≡ more) }
         ensures uses { Uses (get self.old.nodes) (get self.new.nodes) (seed ∷ seeds_in seeds.old) (seeds_in seeds.new) }
+        ensures labelled { IsForest (get self.old.nodes) (get self.old.boards) self.old.root → IsLabelled self.old →
+            HaveLabels self.new.nodes.capacity self.new.labels (get self.new.boards) }
         ensures key { result ≡ self.old.nodes.vacant_key }
         ensures root { self.new.root ≡ self.old.root }
         ensures roomy { AreRoomy (seeds_in seeds.new) }
@@ -84,9 +88,11 @@ impl Grove {
             },
         );
         put_at(&mut self.boards, canvas, number, key);
+        label_at(&mut self.labels, &self.boards, canvas, number);
         plant_inside(
             &mut self.nodes,
             &mut self.boards,
+            &mut self.labels,
             seeds,
             sheet,
             room,

@@ -8,21 +8,24 @@ ghost use Rattle.pd_grove.specs.States.{AreSmall, NodesFresh, NodesSmall};
 ghost use Rattle.pd_grove.specs.Owning.{AreOwn};
 ghost use Rattle.pd_grove.specs.TextOrder.{deep};
 ghost use Rattle.pd_grove.specs.Forest.{IsForest};
+ghost use Rattle.pd_grove.specs.Labelled.{IsLabelled};
 
 use crate::boards::{Board, open_root};
 use crate::nodes::Node;
 use crate::planting::plant_boxes;
 use crate::seeds::Seeds;
 use pd_clock::{Rate, Time};
+use pd_label::Labels;
 use pd_tree::{Row, Sheet};
 use slab::Slab;
 use std::alloc::{AllocError, Global};
 
-/// Boxes and canvases under keys, and the key of the root canvas.
+/// Boxes and canvases under keys, the labels by which boxes stand in order, and the key of the root canvas.
 #[derive(Drop)]
 pub struct Grove {
     pub(crate) nodes: Slab<Node>,
     pub(crate) boards: Slab<Board>,
+    pub(crate) labels: Labels,
     pub(crate) root: u32,
 }
 
@@ -48,17 +51,29 @@ impl Grove {
         ensures own { IfOk result (λ g. AreOwn (get g.nodes) (get g.boards)) }
         ensures forest { (t : Trees) → stands_in rows.items ≡ stands_of t → width t ≡ count → deep t < 257 →
             IfOk result (λ g. IsForest (get g.nodes) (get g.boards) g.root) }
+        ensures labelled { IfOk result IsLabelled }
     {
         let most = rows.len();
         let mut nodes = with_room(alloc, most)?;
         let mut boards = with_room(alloc, most + 1)?;
+        let mut labels = Labels::new(alloc);
+        labels.reach(nodes.capacity())?;
         let mut seeds = Seeds::prepare(alloc, rows, rate, now)?;
         let room = Vec::with_capacity(alloc, count as usize)?;
         let root = open_root(&mut boards, sheet, room);
-        plant_boxes(&mut nodes, &mut boards, &mut seeds, root, 0, count);
+        plant_boxes(
+            &mut nodes,
+            &mut boards,
+            &mut labels,
+            &mut seeds,
+            root,
+            0,
+            count,
+        );
         Ok(Grove {
             nodes,
             boards,
+            labels,
             root,
         })
     }

@@ -5,7 +5,11 @@ ghost use Rattle.pd_tree.specs.declared.rows.Sheet.{Sheet};
 ghost use Rattle.pd_tree.specs.Trees.{Trees, Tree};
 ghost use Rattle.pd_grove.specs.declared.grove.Grove.{Grove};
 ghost use Rattle.pd_grove.specs.Standing.{GroveStands};
+ghost use Rattle.slab.specs.Slab.{get};
 ghost use Rattle.pd_grove.specs.Telling.{reached};
+ghost use Rattle.pd_grove.specs.Forest.{IsForest};
+ghost use Rattle.pd_grove.specs.Labelled.{IsLabelled};
+ghost use Rattle.pd_grove.specs.Room.{IsSameButRoom};
 ghost use Rattle.pd_grove.specs.OwnPaths.{sub_reached, sub_along};
 ghost use Rattle.pd_grove.specs.Places.{canvas_along, cell_at, cell_seen, CanvasStands, LeadsTo};
 
@@ -17,4 +21,10 @@ pub fn trees_are_told()
     ensures own { (g : Grove) (s : Sheet) (t : Trees) → GroveStands g s t →
         (path : List ℕ) → LeadsTo g (sub_reached g (Some g.root) path) (sub_along path (record { sheet = s; boxes = t })) }
     ensures boxes { (g : Grove) (c : ℕ) (u : Tree) → CanvasStands g c u → (n : ℕ) → cell_seen g c n ≡ cell_at n u.boxes }
+{}
+
+/// Where room is set aside nothing that is told changes: a forest stays a forest, and labels rise along the boxes of each canvas as before.
+pub fn room_changes_nothing()
+    ensures forest { (old new : Grove) → IsSameButRoom old new → IsForest (get old.nodes) (get old.boards) old.root → IsForest (get new.nodes) (get new.boards) new.root }
+    ensures labelled { (old new : Grove) → IsSameButRoom old new → IsLabelled old → IsLabelled new }
 {}

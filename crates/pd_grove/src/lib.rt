@@ -17,13 +17,18 @@
 //! box by box, and every key, place and state that a call doesn't name stays. After `reserve`, `put_box` puts a grown box
 //! into a canvas at a number with all that lies in it (`HasPartMore`), each box made of its seed. `take_box` takes a box
 //! out with all that lies in it (`TakesBox`). `refit_box` is both at one number, under the same key (`Refits`).
-//! `retext_box` and `move_box` give a box another text or place (`Alters`). None of them but `reserve` takes memory.
+//! `retext_box` and `move_box` give a box another text or place (`Alters`). None of them but `reserve` takes memory, and
+//! `reserve` changes nothing else (law `room_changes_nothing`).
 //!
-//! Free: want of memory.
+//! Labels rise along the boxes of each canvas from planting on (`IsLabelled`), so `number_at` finds a box's number by
+//! halving, and `is_before` tells which of two boxes of a canvas comes first. A box that goes changes no label.
+//!
+//! Free: want of memory, and which labels boxes get.
 //!
 //! Definitions: `Standing` (a tree stands under keys), `Owning`, `States` (first states), `Ports`, `Places`, `OwnPaths`
 //! and `Telling` (what is told), `TextOrder`, `Planting`, `Lending`, `Forest` and `Grafts` (boxes sound by themselves,
-//! and what changes of one canvas are), `Pruning`, `Room`, `Refits`.
+//! and what changes of one canvas are), `Pruning`, `Room`, `Refits`,
+//! `Labelled`.
 #![tactic(auto)]
 
 mod boards;
@@ -31,6 +36,7 @@ mod grafts;
 mod grove;
 mod laws;
 mod nodes;
+mod places;
 mod planting;
 mod ports;
 mod prunes;
@@ -42,7 +48,7 @@ mod text_order;
 
 pub use boards::Board;
 pub use grove::Grove;
-pub use laws::trees_are_told;
+pub use laws::{room_changes_nothing, trees_are_told};
 pub use nodes::Node;
 pub use ports::{PortSpot, Side, ports_of};
 pub use seeds::{Seed, Seeds};

@@ -1,6 +1,6 @@
 //! A running box under its key.
 
-ghost use Rattle.std.specs.Prelude.{◌≡◌, ◌≢◌, ◌+◌, ◌≤◌, ◌^◌, ℕ, Some, None, option_map};
+ghost use Rattle.std.specs.Prelude.{◌≡◌, ◌≢◌, ◌+◌, ◌<◌, ◌≤◌, ◌^◌, ℕ, Some, None, option_map};
 ghost use Rattle.slab.specs.Slab.{get, ContainsKey, HasRoomFor, slab_len};
 ghost use Rattle.pd_grove.specs.Standing.{with_inner};
 
@@ -28,6 +28,7 @@ pub(crate) fn put_node(nodes: &mut Slab<Node>, node: Node) -> u32
     requires room { HasRoomFor nodes.old 1 }
     requires small { nodes.old.capacity ≤ 2 ^ 32 }
     ensures key { result ≡ nodes.old.vacant_key }
+    ensures below { result < nodes.new.capacity }
     ensures vacant { get nodes.old result ≡ None }
     ensures is { get nodes.new result ≡ Some node }
     ensures others { (k : ℕ) → k ≢ result → get nodes.new k ≡ get nodes.old k }

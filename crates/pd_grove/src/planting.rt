@@ -14,10 +14,12 @@ ghost use Rattle.pd_grove.specs.Owning.{board_in, AreOwn};
 ghost use Rattle.pd_grove.specs.Telling.{inner_in};
 ghost use Rattle.pd_grove.specs.TextOrder.{deep};
 ghost use Rattle.pd_grove.specs.Forest.{IsForest};
+ghost use Rattle.pd_grove.specs.Labelled.{HaveLabels};
 
-use crate::boards::{Board, open_board, put_last};
+use crate::boards::{Board, label_last, open_board, put_last};
 use crate::nodes::{Node, put_node, set_inner};
 use crate::seeds::{Seed, Seeds};
+use pd_label::Labels;
 use pd_tree::{Row, Sheet};
 use slab::Slab;
 
@@ -26,6 +28,7 @@ use slab::Slab;
 pub(crate) fn plant_boxes(
     nodes: &mut Slab<Node>,
     boards: &mut Slab<Board>,
+    labels: &mut Labels,
     seeds: &mut Seeds,
     board: u32,
     depth: u32,
@@ -47,6 +50,7 @@ pub(crate) fn plant_boxes(
     ensures of_tree { (t : Trees) → SeedsOf t (seeds_in seeds.old) → NodesOf t (get nodes.old) → SeedsOf t (seeds_in seeds.new) × NodesOf t (get nodes.new) }
     ensures own { AreOwn (get nodes.old) (get boards.old) → AreOwn (get nodes.new) (get boards.new) }
     ensures fewer { length (seeds_in seeds.new) ≤ length (seeds_in seeds.old) }
+    ensures labelled { AreOwn (get nodes.old) (get boards.old) → HaveLabels nodes.old.capacity labels.old (get boards.old) → HaveLabels nodes.new.capacity labels.new (get boards.new) }
     ensures uses { Uses (get nodes.old) (get nodes.new) (seeds_in seeds.old) (seeds_in seeds.new) }
     ensures forest { (root : ℕ) (t : Trees) (more : List Stand) → stands_ready (seeds_in seeds.old) ≡ stands_of t ++ more → width t ≡ count → depth + deep t < 257 →
         IsForest (get nodes.old) (get boards.old) root → IsForest (get nodes.new) (get boards.new) root }
@@ -54,7 +58,7 @@ pub(crate) fn plant_boxes(
         Plants (get nodes.old) (get nodes.new) (get boards.old) (get boards.new) board depth t × (stands_ready (seeds_in seeds.new) ≡ more) }
 {
     for _ in 0..count {
-        plant_next(nodes, boards, seeds, board, depth);
+        plant_next(nodes, boards, labels, seeds, board, depth);
     }
 }
 
@@ -63,6 +67,7 @@ pub(crate) fn plant_boxes(
 fn plant_next(
     nodes: &mut Slab<Node>,
     boards: &mut Slab<Board>,
+    labels: &mut Labels,
     seeds: &mut Seeds,
     board: u32,
     depth: u32,
@@ -83,6 +88,7 @@ fn plant_next(
     ensures of_tree { (t : Trees) → SeedsOf t (seeds_in seeds.old) → NodesOf t (get nodes.old) → SeedsOf t (seeds_in seeds.new) × NodesOf t (get nodes.new) }
     ensures own { AreOwn (get nodes.old) (get boards.old) → AreOwn (get nodes.new) (get boards.new) }
     ensures fewer { length (seeds_in seeds.new) ≤ length (seeds_in seeds.old) }
+    ensures labelled { AreOwn (get nodes.old) (get boards.old) → HaveLabels nodes.old.capacity labels.old (get boards.old) → HaveLabels nodes.new.capacity labels.new (get boards.new) }
     ensures uses { Uses (get nodes.old) (get nodes.new) (seeds_in seeds.old) (seeds_in seeds.new) }
     ensures forest { (root : ℕ) (t : Trees) (more : List Stand) → stands_ready (seeds_in seeds.old) ≡ stands_of t ++ more → width t ≡ 1 → depth + deep t < 257 →
         IsForest (get nodes.old) (get boards.old) root → IsForest (get nodes.new) (get boards.new) root }
@@ -90,7 +96,7 @@ fn plant_next(
         Plants (get nodes.old) (get nodes.new) (get boards.old) (get boards.new) board depth t × (stands_ready (seeds_in seeds.new) ≡ more) }
 {
     if let Some(seed) = seeds.next() {
-        plant_box(nodes, boards, seeds, seed, board, depth);
+        plant_box(nodes, boards, labels, seeds, seed, board, depth);
     }
 }
 
@@ -99,6 +105,7 @@ fn plant_next(
 fn plant_box(
     nodes: &mut Slab<Node>,
     boards: &mut Slab<Board>,
+    labels: &mut Labels,
     seeds: &mut Seeds,
     seed: Seed,
     board: u32,
@@ -121,6 +128,7 @@ fn plant_box(
     ensures of_tree { (t : Trees) → HasCell t (seed_stand seed).cell → SeedsOf t (seeds_in seeds.old) → NodesOf t (get nodes.old) → SeedsOf t (seeds_in seeds.new) × NodesOf t (get nodes.new) }
     ensures own { AreOwn (get nodes.old) (get boards.old) → AreOwn (get nodes.new) (get boards.new) }
     ensures fewer { length (seeds_in seeds.new) ≤ length (seeds_in seeds.old) }
+    ensures labelled { AreOwn (get nodes.old) (get boards.old) → HaveLabels nodes.old.capacity labels.old (get boards.old) → HaveLabels nodes.new.capacity labels.new (get boards.new) }
     ensures uses { Uses (get nodes.old) (get nodes.new) (seed ∷ seeds_in seeds.old) (seeds_in seeds.new) }
     ensures forest { (root : ℕ) (t : Trees) (more : List Stand) → one (seed_stand seed) (stands_ready (seeds_in seeds.old)) ≡ stands_of t ++ more → width t ≡ 1 → depth + deep t < 257 →
         IsForest (get nodes.old) (get boards.old) root → IsForest (get nodes.new) (get boards.new) root }
@@ -149,7 +157,18 @@ fn plant_box(
         },
     );
     put_last(boards, board, key);
-    plant_inside(nodes, boards, seeds, sheet, room, key, depth + 1, boxes);
+    label_last(labels, boards, board);
+    plant_inside(
+        nodes,
+        boards,
+        labels,
+        seeds,
+        sheet,
+        room,
+        key,
+        depth + 1,
+        boxes,
+    );
 }
 
 /// Plants what a box holds, where it holds a canvas.
@@ -157,6 +176,7 @@ fn plant_box(
 pub(crate) fn plant_inside(
     nodes: &mut Slab<Node>,
     boards: &mut Slab<Board>,
+    labels: &mut Labels,
     seeds: &mut Seeds,
     sheet: Option<Sheet>,
     room: Vec<u32>,
@@ -185,6 +205,7 @@ pub(crate) fn plant_inside(
     ensures of_tree { (t : Trees) → SeedsOf t (seeds_in seeds.old) → NodesOf t (get nodes.old) → SeedsOf t (seeds_in seeds.new) × NodesOf t (get nodes.new) }
     ensures own { AreOwn (get nodes.old) (get boards.old) → AreOwn (get nodes.new) (get boards.new) }
     ensures fewer { length (seeds_in seeds.new) ≤ length (seeds_in seeds.old) }
+    ensures labelled { AreOwn (get nodes.old) (get boards.old) → HaveLabels nodes.old.capacity labels.old (get boards.old) → HaveLabels nodes.new.capacity labels.new (get boards.new) }
     ensures uses { Uses (get nodes.old) (get nodes.new) (seeds_in seeds.old) (seeds_in seeds.new) }
     ensures as_made { (s : Seed) → IsMadeOf s (get nodes.old key) → IsMadeOf s (get nodes.new key) }
     ensures none { sheet ≡ None → (nodes.new ≡ nodes.old) × (boards.new ≡ boards.old) }
@@ -198,6 +219,6 @@ pub(crate) fn plant_inside(
     if let Some(sheet) = sheet {
         let inner = open_board(boards, key, depth, sheet, room);
         set_inner(nodes, key, inner);
-        plant_boxes(nodes, boards, seeds, inner, depth, boxes);
+        plant_boxes(nodes, boards, labels, seeds, inner, depth, boxes);
     }
 }

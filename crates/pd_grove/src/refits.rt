@@ -8,6 +8,7 @@ ghost use Rattle.pd_grove.specs.Planting.{seeds_in, seed_stand, stands_ready, on
 ghost use Rattle.pd_grove.specs.Telling.{keys_in};
 ghost use Rattle.pd_grove.specs.TextOrder.{deep};
 ghost use Rattle.pd_grove.specs.Forest.{IsForest};
+ghost use Rattle.pd_grove.specs.Labelled.{HaveLabels, IsLabelled};
 ghost use Rattle.pd_grove.specs.Refits.{at_place, with_text, Alters, Refits};
 
 use crate::grove::Grove;
@@ -25,6 +26,7 @@ impl Grove {
         requires here { number < length (keys_in (get self.old.boards canvas)) }
         requires deep { depth_of (get self.old.boards canvas) + 1 + length (seeds_in seeds.old) < 2 ^ 32 }
         requires place { HaveRoom self.old.nodes self.old.boards (length (seeds_in seeds.old) + 1) }
+        requires labels { self.old.nodes.capacity ≤ length self.old.labels }
         requires roomy { AreRoomy (seeds_in seeds.old) }
         requires seed { IsRoomy seed }
         ensures refits { let keys = keys_in (get self.old.boards canvas) in
@@ -35,6 +37,7 @@ impl Grove {
         ensures stands { (k : ℕ) (t : Trees) (more : List Stand) → slice_get (keys_in (get self.old.boards canvas)) number ≡ Some k →
             one (seed_stand seed) (stands_ready (seeds_in seeds.old)) ≡ stands_of t ++ more → width t ≡ 1 →
             Stands (get self.new.nodes) (get self.new.boards) canvas (depth_of (get self.old.boards canvas)) (k ∷ []) t × (stands_ready (seeds_in seeds.new) ≡ more) }
+        ensures labelled { IsLabelled self.old → HaveLabels self.new.nodes.capacity self.new.labels (get self.new.boards) }
         ensures root { self.new.root ≡ self.old.root }
         ensures roomy { AreRoomy (seeds_in seeds.new) }
         ensures room { HaveRoom self.new.nodes self.new.boards (length (seeds_in seeds.new)) }

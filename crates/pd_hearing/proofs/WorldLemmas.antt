@@ -68,7 +68,7 @@ nodes-stay old new k s keeps =
 
 pub same-net : (old new : Patch) → bares new.grove ≡ bares old.grove → new.grove.boards ≡ old.grove.boards → new.grove.root ≡ old.grove.root
     → RestStays old new → new.timers.end ≡ old.timers.end → net_of new ≡ net_of old
-same-net old new nodes boards root rest end = rw (nodes, boards, root, rest.web, rest.names, rest.orders, rest.numbers, rest.values, rest.rate, end) refl
+same-net old new nodes boards root rest end = rw (nodes, boards, root, rest.web, rest.links, rest.names, rest.orders, rest.numbers, rest.values, rest.rate, end) refl
 
 pub keeps-net : (old new : Patch) (k : ℕ) (s : Option State) → Keeps old.grove new.grove k s → RestStays old new → new.timers ≡ old.timers → net_of new ≡ net_of old
 keeps-net old new k s keeps rest timers = same-net old new (nodes-stay old.grove new.grove k s keeps) keeps.boards keeps.root rest (ap (λ t. t.end) timers)
@@ -117,6 +117,7 @@ lent-keeps p k n s is =
       node = u.changed ∙ sym (ap (λ (o : Option Node). option_map (with_state s) o) is);
       others = u.others;
       boards = refl;
+      labels = refl;
       root = refl;
     }
 

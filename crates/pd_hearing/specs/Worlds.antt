@@ -14,17 +14,19 @@ use Rattle.pd_grove.specs.declared.nodes.Node.{Node}
 use Rattle.pd_grove.specs.declared.boards.Board.{Board}
 use Rattle.pd_grove.specs.Telling.{state_in, with_state}
 use Rattle.pd_web.specs.declared.web.Web.{Web}
+use Rattle.pd_links.specs.declared.links.Links.{Links}
 use Rattle.pd_queue.specs.Queue.{Waiting}
 use Rattle.pd_patch.specs.declared.patch.Patch.{Patch}
 use Rattle.pd_patch.specs.Values.{Blocks, blocks_told}
 
--- What stays: the boxes by their keys, without what they keep; the canvases; the wires; who owns the names; the signal orders and the
--- numbers of the boxes; the blocks of their outlets; the rate; and for how many boxes there is room for a clock.
+-- What stays: the boxes by their keys, without what they keep; the canvases; the wires, and the signal wires as links; who owns the names;
+-- the signal orders and the numbers of the boxes; the blocks of their outlets; the rate; and for how many boxes there is room for a clock.
 pub record Net : Type 0 where
   pub nodes : ℕ → Option Node
   pub boards : Slab Board
   pub root : ℕ
   pub web : Web
+  pub links : Links
   pub owners : List Row
   pub orders : Vec (Option Listing) Global
   pub numbers : Vec ℕ Global
@@ -49,6 +51,7 @@ net_of p = record {
   boards = p.grove.boards;
   root = p.grove.root;
   web = p.web;
+  links = p.links;
   owners = p.names;
   orders = p.orders;
   numbers = p.numbers;

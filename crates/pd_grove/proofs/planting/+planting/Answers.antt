@@ -1,4 +1,4 @@
-use Rattle.std.proofs.Common.{◌≡◌, ◌≢◌, ℕ, List, [], ◌∷◌, Some, IsSome, refl, sym, ap, ◌∙◌, subst, arith}
+use Rattle.std.proofs.Common.{◌≡◌, ◌≢◌, ℕ, List, [], ◌∷◌, ◌++◌, ◌+◌, ◌<◌, ◌≤◌, length, Some, IsSome, refl, sym, ap, ◌∙◌, subst, arith}
 use mathlib.Core.Logic.{⊎_elim}
 use Rattle.std.proofs.lemmas.Bool.{cases_eq}
 use Rattle.std.specs.Prelude.{option_map, slice_get}
@@ -12,7 +12,9 @@ use Rattle.pd_grove.specs.Owning.{board_in}
 use Rattle.pd_grove.specs.States.{AreFresh}
 use Rattle.pd_grove.proofs.Freshness.{fresh_put, fresh_inner, small_put, small_inner}
 use Rattle.pd_grove.proofs.TreeBoxes.{of_put, of_inner}
-use Rattle.pd_grove.proofs.OwnLemmas.{own_put, own_open, own_inner, own_gains, not_there, inner_board, inner_some}
+use Rattle.pd_grove.proofs.OwnLemmas.{own_box, own_open, own_inner, inner_board, inner_some}
+use Rattle.pd_grove.proofs.LabelledLemmas.{labels_put, labels_open, one_longer}
+use Rattle.pd_grove.proofs.GraftLemmas.{keys_has}
 use Rattle.pd_grove.proofs.Plantings.{halfway_next, split_end, box_stood, box_planted, some_on}
 use Rattle.pd_grove.proofs.UseLemmas.{uses_then, uses_one, uses_inside, made_stays, made_inner}
 use Rattle.pd_grove.proofs.GrowLemmas.{box_more, box_forest, opened_forest}
@@ -21,8 +23,8 @@ use Rattle.pd_grove.proofs.planting.+planting.Goals as goal
 pub plant_boxes-loop-preserved : goal.plant_boxes-loop-preserved
 plant_boxes-loop-preserved t c =
     let p = c.plant_next.ensures in
-    halfway_next c.args.nodes.now c.loop.nodes c.plant_next.new.nodes c.args.boards.now c.loop.boards c.plant_next.new.boards (seeds_in c.args.seeds.now) (seeds_in c.loop.seeds) (seeds_in c.plant_next.new.seeds)
-    c.args.board c.args.depth c.loop.counter c.args.count (omega arith) c.requires.depth c.loop.invariant p.kept p.own_room p.room p.roomy p.fewer p.fresh p.small p.of_tree p.own p.uses p.forest p.plants
+    halfway_next c.args.nodes.now c.loop.nodes c.plant_next.new.nodes c.args.boards.now c.loop.boards c.plant_next.new.boards c.args.labels.now c.loop.labels c.plant_next.new.labels (seeds_in c.args.seeds.now) (seeds_in c.loop.seeds) (seeds_in c.plant_next.new.seeds)
+    c.args.board c.args.depth c.loop.counter c.args.count (omega arith) c.requires.depth c.loop.invariant p.kept p.own_room p.room p.roomy p.fewer p.fresh p.small p.of_tree p.own p.labelled p.uses p.forest p.plants
 
 pub plant_boxes-returns-clause-plants : goal.plant_boxes-returns-clause-plants
 plant_boxes-returns-clause-plants t c = λ u more h w.
@@ -117,14 +119,33 @@ plant_inside-returns-in-Some-clause-of_tree t c = λ tree f n.
 
 pub plant_box-returns-clause-own : goal.plant_box-returns-clause-own
 plant_box-returns-clause-own t c = λ h.
+    c.plant_inside.ensures.own
+    (own_box (get c.args.nodes.now) (get c.put_node-key.new.nodes) (get c.args.boards.now) (get c.put_last.new.boards) c.args.board c.put_node-key.result _ c.put_node-key.ensures.vacant c.put_node-key.ensures.is refl
+    c.put_node-key.ensures.others c.requires.here c.put_last.ensures.gains h)
+
+pub plant_box-returns-clause-labelled : goal.plant_box-returns-clause-labelled
+plant_box-returns-clause-labelled t c = λ h L.
     let n₀ = get c.args.nodes.now in
     let n₁ = get c.put_node-key.new.nodes in
     let b₀ = get c.args.boards.now in
+    let b₁ = get c.put_last.new.boards in
     let k = c.put_node-key.result in
-    c.plant_inside.ensures.own
-    (own_gains n₁ b₀ (get c.put_last.new.boards) c.args.board k c.requires.here (ap board_in c.put_node-key.ensures.is)
-    (λ i at. not_there n₀ b₀ k c.args.board i c.put_node-key.ensures.vacant h at) c.put_last.ensures.gains
-    (own_put n₀ n₁ b₀ k c.put_node-key.ensures.vacant c.put_node-key.ensures.others h))
+    let b = c.args.board in
+    let ks = keys_in (b₀ b) in
+    let e = c.put_node-key.ensures in
+    let G = c.put_last.ensures.gains in
+    let O = own_box n₀ n₁ b₀ b₁ b k _ e.vacant e.is refl e.others c.requires.here G h in
+    let M = box_more n₀ n₁ b₀ b₁ b k _ e.vacant e.is refl refl e.others c.requires.here G in
+    let has = keys_has b₀ b₁ b (ks ++ []) (ks ++ k ∷ []) M.keys in
+    let P = c.label_last.ensures (length ks) (one_longer (keys_in (b₁ b)) ks k has) in
+    let long = L.long in
+    let below = e.below in
+    let cap = e.capacity in
+    let same = P.long in
+    c.plant_inside.ensures.labelled O (record {
+      long = omega (arith, long, cap, same);
+      are = labels_put c.args.labels.now c.label_last.new.labels n₁ b₀ b₁ b k (length ks) ks [] M.keys O (omega (arith, long, below, cap)) refl P L.are;
+    })
 
 pub plant_inside-returns-in-Some-clause-own : goal.plant_inside-returns-in-Some-clause-own
 plant_inside-returns-in-Some-clause-own t c = λ h.
@@ -133,6 +154,19 @@ plant_inside-returns-in-Some-clause-own t c = λ h.
     c.plant_boxes.ensures.own
     (own_inner (get c.args.nodes.now) (get c.set_inner.new.nodes) b₁ c.args.key c.open_board-inner.result c.set_inner.ensures.is c.set_inner.ensures.others
     (own_open (get c.args.nodes.now) b₀ b₁ c.open_board-inner.result (ap keys_in c.open_board-inner.ensures.opened ∙ c.requires.none) c.open_board-inner.ensures.others h))
+
+pub plant_inside-returns-in-Some-clause-labelled : goal.plant_inside-returns-in-Some-clause-labelled
+plant_inside-returns-in-Some-clause-labelled t c = λ h L.
+    let b₀ = get c.args.boards.now in
+    let b₁ = get c.open_board-inner.new.boards in
+    let j = c.open_board-inner.result in
+    let none = ap keys_in c.open_board-inner.ensures.opened ∙ c.requires.none in
+    let long = L.long in
+    let cap = c.set_inner.ensures.capacity in
+    c.plant_boxes.ensures.labelled
+    (own_inner (get c.args.nodes.now) (get c.set_inner.new.nodes) b₁ c.args.key j c.set_inner.ensures.is c.set_inner.ensures.others
+    (own_open (get c.args.nodes.now) b₀ b₁ j none c.open_board-inner.ensures.others h))
+    (record { long = omega (arith, long, cap); are = labels_open c.args.labels.now b₀ b₁ j none c.open_board-inner.ensures.others L.are })
 
 pub plant_inside-returns-in-Some-clause-lies : goal.plant_inside-returns-in-Some-clause-lies
 plant_inside-returns-in-Some-clause-lies t c =

@@ -16,4 +16,4 @@ abbrev pub decreases-plant_boxes : goal.decreases-plant_boxes
 decreases-plant_boxes l = 4 * length (seeds_in l.seeds.now) + 1
 
 abbrev pub invariant-plant_boxes-loop : goal.invariant-plant_boxes-loop
-invariant-plant_boxes-loop l = Halfway l.fn.nodes l.nodes l.fn.boards l.boards (seeds_in l.fn.seeds) (seeds_in l.seeds) l.board l.depth l.counter l.count
+invariant-plant_boxes-loop l = Halfway l.fn.nodes l.nodes l.fn.boards l.boards l.fn.labels l.labels (seeds_in l.fn.seeds) (seeds_in l.seeds) l.board l.depth l.counter l.count

@@ -1,5 +1,7 @@
-use Rattle.std.proofs.Common.{ℕ, List, [], ◌++◌, Some, None, refl, sym, ap, ◌∙◌, arith}
+use Rattle.std.proofs.Common.{◌≡◌, ◌≢◌, ◌≤◌, length, ℕ, List, [], ◌++◌, Some, None, refl, sym, ap, ◌∙◌, arith}
 use Rattle.std.specs.Prelude.{option_map}
+use mathlib.Core.Logic.{⊎_elim}
+use Rattle.std.proofs.lemmas.Bool.{cases_eq}
 use Rattle.std.proofs.lemmas.List.{append-nil}
 use Rattle.std.proofs.lemmas.Option.{none-some}
 use Rattle.slab.specs.Slab.{get}
@@ -11,6 +13,7 @@ use Rattle.pd_grove.proofs.Freshness.{as_many}
 use Rattle.pd_grove.proofs.TreeBoxes.{seeds_of}
 use Rattle.pd_grove.proofs.OwnLemmas.{own_bare, own_open}
 use Rattle.pd_grove.proofs.OpenLemmas.{forest_bare}
+use Rattle.pd_grove.proofs.LabelledLemmas.{labels_bare}
 use Rattle.pd_grove.proofs.grove.Grove.plant.Goals as goal
 
 pub plant_boxes-requires-clause-room : goal.plant_boxes-requires-clause-room
@@ -64,3 +67,19 @@ returns-clause-forest c = λ t h w low.
     let r = c.open_root-root in
     c.plant_boxes.ensures.forest r.result t [] (c.in_ok-seeds.ensures.ready ∙ h ∙ sym (append-nil (stands_of t))) w (omega (arith, low))
     (forest_bare (get c.in_ok-nodes.nodes) (get r.new.boards) r.result _ c.in_ok-nodes.ensures.empty r.ensures.opened refl refl c.in_ok-room.ensures.items (λ k d. r.ensures.others k d ∙ c.in_ok-boards.ensures.empty k))
+
+pub returns-clause-labelled : goal.returns-clause-labelled
+returns-clause-labelled c =
+    let nodes = get c.in_ok-nodes.nodes in
+    let b₀ = get c.in_ok-boards.boards in
+    let r = c.open_root-root in
+    let b₁ = get r.new.boards in
+    let none : keys_in (b₁ r.result) ≡ [] = ap keys_in r.ensures.opened ∙ c.in_ok-room.ensures.items in
+    let bare : (k : ℕ) → keys_in (b₁ k) ≡ [] = (λ k. ⊎_elim
+    (λ (e : k ≡ r.result). ap (λ x. keys_in (b₁ x)) e ∙ none)
+    (λ (d : k ≢ r.result). ap keys_in (r.ensures.others k d ∙ c.in_ok-boards.ensures.empty k)) (cases_eq k r.result)) in
+    let reach = c.in_ok-reach.ensures.reach in
+    let all = c.capacity.ensures.value in
+    (c.plant_boxes.ensures.labelled
+    (own_open nodes b₀ b₁ r.result none r.ensures.others (own_bare nodes b₀ (λ k. ap keys_in (c.in_ok-boards.ensures.empty k))))
+    (record { long = omega (arith, reach, all); are = labels_bare _ b₁ bare })).are

@@ -6,6 +6,7 @@ use Rattle.pd_grove.specs.Standing.{Stands, depth_of}
 use Rattle.pd_grove.specs.Planting.{seeds_in, stands_ready}
 use Rattle.pd_grove.specs.Telling.{keys_in}
 use Rattle.pd_grove.specs.TextOrder.{deep}
+use Rattle.pd_grove.specs.Forest.{IsForest}
 use Rattle.pd_grove.proofs.RefitLemmas.{left_lives, left_depth, left_keys, put_again, within_left}
 use Rattle.pd_grove.proofs.PruneLemmas.{forest_pruned}
 use Rattle.pd_grove.proofs.grove.Grove.refit_box.Goals as goal
@@ -30,6 +31,8 @@ put_box-requires c =
     let bc = t.boards_capacity in
     let own = t.own_room in
     let deep = c.requires.deep in
+    let reach = c.requires.labels in
+    let same = ap (λ (xs : List ℕ). length xs) t.labels in
     record {
       here = left_lives (get g.nodes) (get h.nodes) (get g.boards) (get h.boards) c.args.canvas h.nodes.vacant_key c.take_box-taken.result (take i ks) (drop (i + 1) ks) T;
       number = within_left (keys_in (get h.boards c.args.canvas)) ks i c.requires.here
@@ -37,6 +40,7 @@ put_box-requires c =
       deep = omega (arith, e, deep);
       place = record {
         room = record { nodes_fit = omega (arith, nf, nr, nc); boards_fit = omega (arith, bf, br, bc); nodes_small = omega (arith, ns, nc); boards_small = omega (arith, bs, bc) };
+        labels_reach = omega (arith, reach, same, nc);
         own_room = omega (arith, own);
       };
       roomy = c.requires.roomy;
@@ -84,3 +88,15 @@ returns-clause-stands c = λ k tree more at ready wide.
           (subst (λ x. Stands n₂ b₂ b (depth_of (get h.boards b)) (x ∷ []) tree) (c.put_box.ensures.key ∙ same_Some h.nodes.vacant_key k (sym t.next ∙ at)) P.0),
       P.1,
     )
+
+pub returns-clause-labelled : goal.returns-clause-labelled
+returns-clause-labelled c = λ A.
+    let g = c.args.self.now in
+    let h = c.take_box-taken.new.self in
+    let t = c.take_box-taken.ensures in
+    let i = c.args.number in
+    let b = c.args.canvas in
+    let ks = keys_in (get g.boards b) in
+    let k = h.nodes.vacant_key in
+    let F = forest_pruned (get g.nodes) (get h.nodes) (get g.boards) (get h.boards) g.root b k c.take_box-taken.result (take i ks) (drop (i + 1) ks) (t.takes k t.next) c.requires.forest in
+    c.put_box.ensures.labelled (subst (IsForest (get h.nodes) (get h.boards)) (sym t.root) F) (t.labelled A)

@@ -1,0 +1,33 @@
+//! The places of boxes in their canvases, by labels.
+
+ghost use Rattle.std.specs.Prelude.{◌≡◌, ◌<◌, ◌↔◌, ℕ, Some, IsTrue, slice_get};
+ghost use Rattle.slab.specs.Slab.{get, ContainsKey};
+ghost use Rattle.pd_grove.specs.Telling.{keys_in};
+ghost use Rattle.pd_grove.specs.Owning.{board_in};
+ghost use Rattle.pd_grove.specs.Forest.{IsForest};
+ghost use Rattle.pd_grove.specs.Labelled.{IsLabelled};
+
+use crate::grove::Grove;
+
+impl Grove {
+    /// The number of a live box in its canvas, found by halving.
+    pub fn number_at(&self, node: u32) -> usize
+        requires forest { IsForest (get self.now.nodes) (get self.now.boards) self.now.root }
+        requires labelled { IsLabelled self.now }
+        requires here { ContainsKey self.now.nodes node }
+        ensures { (c : ℕ) → board_in (get self.now.nodes node) ≡ Some c → slice_get (keys_in (get self.now.boards c)) result ≡ Some node }
+    {
+        let board = self.nodes[node as usize].board;
+        let keys = self.boards[board as usize].nodes.as_slice();
+        self.labels.place(keys, node)
+    }
+
+    /// Whether a box of a canvas comes before another one of the same canvas.
+    pub fn is_before(&self, node: u32, other: u32) -> bool
+        requires { IsLabelled self.now }
+        ensures { (c i j : ℕ) → slice_get (keys_in (get self.now.boards c)) i ≡ Some node → slice_get (keys_in (get self.now.boards c)) j ≡ Some other →
+            (IsTrue result ↔ (i < j)) }
+    {
+        self.labels.label(node) < self.labels.label(other)
+    }
+}
