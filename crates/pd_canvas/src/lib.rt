@@ -12,8 +12,8 @@
 //!
 //! Laws: in sorted wires a new wire goes last in its outlet's fan-out and every other outlet keeps its own
 //! (`fan_outs`); an edit keeps a proper document proper where what it brings is ready and the limits hold
-//! (`edits_keep_proper`). No layer above makes these edits yet; `pd_doc`, `pd_script` and `pd_play` stand on the
-//! types. Free: want of memory.
+//! (`edits_keep_proper`). No layer above makes these edits of a document; the edits of wires of a running patch are
+//! `pd_edit`'s. Free: want of memory.
 //!
 //! Definitions: `Pages` (a canvas as a value), `Views`, `Paths`, `Wiring`, `Edits`, `Turns`, `Proper`; `Arrays`, `Codes` and
 //! `Falls` help these.

@@ -2,8 +2,9 @@
 //!
 //! `read` gives the document of the text's records, or the first refusal with its record and cause, and after any
 //! refusal the table of names is as before; what it gives is proper in the table after it. `write` takes a document
-//! whose atoms are of the table, as those of a proper one are (`proper_pages`), and appends the canonical text, or
-//! leaves what was there.
+//! whose atoms are of the table, as those of a proper one are (`proper_pages`), and appends its text, or leaves what
+//! was there. The text is canonical where the wires are sorted, which `write` leaves to its caller: it writes them
+//! in the order in which they stand, and those of a proper document are sorted.
 //!
 //! Laws: reading the text of a proper document gives it back and leaves the table (`written_read`); what reading
 //! any text gives is proper, and the table after it is one (`read_proper`); so what was read and is written is read
@@ -11,7 +12,7 @@
 //! (`proper_extended`).
 //!
 //! Free: want of memory, and how deep `write` goes on the machine's stack, which is as deep as the canvases nest,
-//! in a proper document at most 256. No layer above writes yet. The speed is measured: `docs/BENCHMARKS.md`.
+//! in a proper document at most 256. The speed is measured: `docs/BENCHMARKS.md`.
 //!
 //! Definitions: `Reading`, over `Records`, `Kinds`, `Fields`, `Lines` (what a text is read as); `Writing` (the
 //! canonical text); `Atoms`; the others help.

@@ -18,6 +18,8 @@ use std::alloc::AllocError;
 /// Appends the text of a document: each record on one line, its atoms separated by one space.
 ///
 /// A canvas is written in the order header, kept records, elements each with its tail rows, connects, coords.
+/// Connects stand in the order of the canvas's wires. Give wires that are sorted by source, then outlet, as those of a
+/// proper document are: reading the text of others sorts them, and so doesn't give the same document back.
 /// After a refusal for want of memory `out` is as before.
 #[tactic(auto, using(crate::proofs::LineLemmas::page_lines))]
 pub fn write(doc: &Doc, symbols: &Symbols, out: &mut Vec<u8>) -> Result<(), AllocError>

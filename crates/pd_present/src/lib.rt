@@ -4,7 +4,7 @@
 //! wires that there are, by the numbers of their boxes; a message box with the text that it keeps, an array whose
 //! flags save its values with these, a toggle whose text is whole with its value and other value. Where more than
 //! 257 canvases lie in one another, which no patch has that grew, those inside are empty. Free: want of memory.
-//! `present_box` gives one box of it, with what it holds. Nothing saves it yet.
+//! `present_box` gives one box of it, with what it holds. `pd_save` writes the document.
 //!
 //! Definitions: `Presents` (the document), `Contents` (a box).
 #![tactic(auto)]

@@ -1,7 +1,7 @@
 //! An edit that waits, with its own room.
 
 ghost use Rattle.std.specs.Prelude.{◌≡◌, ◌≤◌, length, IfOk, None, vec_capacity};
-ghost use Rattle.pd_queue.specs.Entries.{edit_of};
+ghost use Rattle.pd_queue.specs.Entries.{edit_of, wire_edit};
 ghost use Rattle.pd_queue.specs.Asking.{box_edit};
 
 use crate::asking::BoxVerb;
@@ -96,6 +96,17 @@ impl QueuedEdit {
         ensures { result.now ≡ self.now.0 }
     {
         self.path.as_slice()
+    }
+
+    /// The edit, where it joins or cuts a wire. It takes no memory.
+    pub fn wire_edit(&self) -> Option<Edit>
+        ensures { result ≡ wire_edit self.now.1 }
+    {
+        match self.change {
+            Change::Box { .. } => None,
+            Change::Connect { wire } => Some(Edit::Connect { wire }),
+            Change::Disconnect { wire } => Some(Edit::Disconnect { wire }),
+        }
     }
 
     /// The edit and its place in the running patch, in lists of their own.

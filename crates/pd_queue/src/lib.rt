@@ -2,8 +2,8 @@
 //!
 //! `verb_of` is the verb of a selector; `ask` adds an edit where the arguments are the verb's and there is room, at
 //! most 256 edits in an event, and says which it isn't (it asks for at most 1,024 atoms and a path of at most 255
-//! numbers); `get` lends the i-th edit and `copy` makes one of its own. Only `new` and `copy` take memory. The
-//! engine refuses these edits yet, one line each.
+//! numbers); `get` lends the i-th edit and `copy` makes one of its own; `wire_edit` is what an edit is to a wire, if
+//! it is one of wires. Only `new` and `copy` take memory.
 //!
 //! Definitions: `Asking` (verbs, and the edit that a message asks for), `Queue`, `Entries`.
 #![tactic(auto)]
@@ -11,8 +11,6 @@
 mod asking;
 mod entries;
 mod queue;
-#[cfg(test)]
-mod tests;
 
 pub use asking::{BoxVerb, Verb, verb_of};
 pub use entries::QueuedEdit;

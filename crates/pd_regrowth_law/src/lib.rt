@@ -19,8 +19,8 @@
 //! (`boxes_ask_as_named`, `asking_laws`), and a published document leaves the answers for all other names
 //! (`published_documents_answer`).
 //!
-//! That is what edits of a running patch, saves and undo will stand on; nothing above makes them yet. The other
-//! laws are steps on the way.
+//! `pd_gather`, `pd_guards` and `pd_steady` use some of these laws. Edits of boxes, the law that a saved patch loads as
+//! it stood, and undo will stand on the others; none of these is made yet. What is left are steps on the way.
 //!
 //! Definitions: `Regrowth`, `Rewiring` (trees with other wires), `Canvases` and `Filling` (other contents of a
 //! canvas), `Asking` and `Renewal` (which boxes ask for a file, and their growth anew), `Suits`.

@@ -1,6 +1,7 @@
 //! An edit that a command holds.
 
 ghost use Rattle.std.specs.Prelude.{◌≡◌, IfOk};
+ghost use Rattle.pd_queue.specs.Entries.{wire_edit};
 ghost use Rattle.pd_script.specs.Changes.{made_box as made_box_of};
 ghost use Rattle.pd_script.specs.Edits.{edit_of};
 
@@ -45,6 +46,20 @@ impl CommandEdit {
     /// The list of atoms that the edit holds.
     pub(crate) fn into_text(self) -> CommandAtoms {
         self.text
+    }
+
+    /// The edit, where it joins or cuts a wire. It takes no memory.
+    pub fn wire_edit(&self) -> Option<Edit>
+        ensures { result ≡ wire_edit self.now }
+    {
+        match self.change {
+            Change::Connect { wire } => Some(Edit::Connect { wire }),
+            Change::Disconnect { wire } => Some(Edit::Disconnect { wire }),
+            Change::Box { .. }
+            | Change::Delete { .. }
+            | Change::Retype { .. }
+            | Change::Move { .. } => None,
+        }
     }
 
     /// The edit with a text of its own.
