@@ -26,7 +26,7 @@ use Rattle.pd_patch.specs.Orders.{is_heard, wires_by, wires_from, wires_below, b
 use Rattle.pd_patch.specs.Telling.{order_in}
 use Rattle.pd_patch.specs.Values.{Blocks, block_count, blocks_told}
 use Rattle.std.specs.List.{AllByRecursion}
-use Rattle.pd_wiring.specs.Changes.{SameButRoom}
+use Rattle.pd_wiring.specs.Changes.{CanRewire, SameButRoom, StaysBuilt}
 use Rattle.pd_wiring.specs.Graphs.{AreWired}
 use Rattle.pd_wiring.proofs.HeardLemmas.{sinks_of}
 
@@ -41,22 +41,37 @@ ports_kept g w v K P = record {
 blocks_kept : (g : Grove) (w v : Web) (blocks : Blocks) → KeepsPorts w v → HaveBlocks g w blocks → HaveBlocks g v blocks
 blocks_kept g w v blocks K h k live = h k live ∙ ap (λ (js : List Jack). Some (replicate (block_count js) 64)) (sym (K.ports Outlets k))
 
--- the parts of what lasts that a graph of a canvas rests on
-pub wired_parts : (p : Patch) (names : Names) (file : List ℕ) (rate : Rate) → IsBuilt p names file rate → AreWired p.grove p.web p.numbers.items p.links
-wired_parts p names file rate b = record { own = b.own; ports = b.ports.ports; numbered = b.numbers; inside = b.inside; linked = b.linked }
+-- what runs has what an edit of wires asks
+pub runs_rewire : (p : Patch) (names : Names) (file : List ℕ) (rate : Rate) → IsBuilt p names file rate → CanRewire p
+runs_rewire p names file rate b = record { own = b.own; ports = b.ports; inside = b.inside; linked = b.linked; orders = b.orders; numbers = b.numbers }
 
--- a patch of the same boxes and ports, with wires that stay inside, links and orders, is built as it was
-pub rebuilt : (p q : Patch) (names : Names) (file : List ℕ) (rate : Rate) → q.grove ≡ p.grove → q.names ≡ p.names → q.timers ≡ p.timers → q.numbers ≡ p.numbers → q.values ≡ p.values → q.rate ≡ p.rate
-    → KeepsPorts p.web q.web → StayInside p.grove q.web → HasLinks q.web q.links → AreOrdered p.grove q.web q.orders.items → IsBuilt p names file rate → IsBuilt q names file rate
-rebuilt p q names file rate grove same_names timers numbers values same_rate K inside linked orders b = record {
+-- the parts of it that a graph of a canvas rests on
+pub wired_parts : (p : Patch) → CanRewire p → AreWired p.grove p.web p.numbers.items p.links
+wired_parts p b = record { own = b.own; ports = b.ports.ports; numbered = b.numbers; inside = b.inside; linked = b.linked }
+
+-- a patch of the same boxes and ports, with wires that stay inside, links and orders, can be rewired as it could
+pub still_rewires : (p q : Patch) → q.grove ≡ p.grove → q.numbers ≡ p.numbers → KeepsPorts p.web q.web → StayInside p.grove q.web → HasLinks q.web q.links → AreOrdered p.grove q.web q.orders.items → CanRewire p → CanRewire q
+still_rewires p q grove numbers K inside linked orders b = record {
   own = rw grove b.own;
   ports = rw grove (ports_kept p.grove p.web q.web K b.ports);
-  owners = λ class name. rw (same_names, grove) (b.owners class name);
-  apart = rw grove b.apart;
   inside = rw grove inside;
   linked = linked;
   orders = rw grove orders;
   numbers = λ c. rw (numbers, grove) (b.numbers c);
+}
+
+-- where it can, it is built as it was
+pub rebuilt : (p q : Patch) (names : Names) (file : List ℕ) (rate : Rate) → q.grove ≡ p.grove → q.names ≡ p.names → q.timers ≡ p.timers → q.values ≡ p.values → q.rate ≡ p.rate → KeepsPorts p.web q.web → CanRewire q
+    → IsBuilt p names file rate → IsBuilt q names file rate
+rebuilt p q names file rate grove same_names timers values same_rate K can b = record {
+  own = can.own;
+  ports = can.ports;
+  owners = λ class name. rw (same_names, grove) (b.owners class name);
+  apart = rw grove b.apart;
+  inside = can.inside;
+  linked = can.linked;
+  orders = can.orders;
+  numbers = can.numbers;
   blocks = rw (grove, values) (blocks_kept p.grove p.web q.web (blocks_told p) K b.blocks);
   no_others = rw (grove, values) b.no_others;
   room = λ k live. rw timers (b.room k (rw grove at live));
@@ -111,12 +126,15 @@ links_alike w v l m same S H = record {
 pub same_links : (l : Links) → SameLinks l l
 same_links l = record { feeders = λ x. refl; followers = λ x. refl; spare_into = λ x. omega arith; spare_from = λ x. omega arith }
 
--- a patch with more room is built as it was
-pub roomed : (p q : Patch) (names : Names) (file : List ℕ) (rate : Rate) → SameButRoom p q → IsBuilt p names file rate → IsBuilt q names file rate
-roomed p q names file rate S b =
+-- a patch with more room can be rewired as it could, and is built as it was
+pub roomed : (p q : Patch) → SameButRoom p q → CanRewire p → CanRewire q
+roomed p q S b =
     let same = box_alike p.web q.web S.web.kept S.web.fans in
-    rebuilt p q names file rate S.grove S.names S.timers S.numbers S.values S.rate S.web.kept
+    still_rewires p q S.grove S.numbers S.web.kept
     (λ k o. subst (AllByRecursion (λ (h : Hop). ShareCanvas p.grove k h.node)) (sym (S.web.fans k o)) (b.inside k o))
     (links_alike p.web q.web p.links q.links same S.links b.linked)
     (λ c. rw S.orders (order_alike p.grove p.web q.web same (get p.grove.boards c) (order_in p.orders.items c) (b.orders c)))
     b
+
+pub roomed_built : (p q : Patch) → SameButRoom p q → StaysBuilt p q
+roomed_built p q S = λ names file rate b. rebuilt p q names file rate S.grove S.names S.timers S.values S.rate S.web.kept (roomed p q S (runs_rewire p names file rate b)) b

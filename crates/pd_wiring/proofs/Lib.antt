@@ -7,3 +7,5 @@ pub mod BuiltLemmas
 pub mod EditLemmas
 pub mod SlotLemmas
 pub mod FeedLemmas
+pub mod AlikeLemmas
+pub mod AskingLemmas

@@ -31,6 +31,10 @@ line_by_keys w v fit None sink = Err (NoBox v.source)
 line_by_keys w v fit (Some k) None = Err (NoBox v.sink)
 line_by_keys w v fit (Some k) (Some j) = line_between w v fit k j
 
--- the line of a wire that is told by numbers of the boxes of a canvas, or the first reason why it can't be put in
+-- the line of a wire that is told by numbers of the boxes of a canvas, whether it fits or not
+abbrev pub line_there : Grove → Web → ℕ → Wire → Result Line WireRefusal
+line_there g w c v = line_by_keys w v true (slice_get (keys_at g c) v.source) (slice_get (keys_at g c) v.sink)
+
+-- the same, or the first reason why it can't be put in
 abbrev pub line_asked : Grove → Web → ℕ → Wire → Result Line WireRefusal
 line_asked g w c v = line_by_keys w v (fits (boxes_told w (keys_at g c)) v) (slice_get (keys_at g c) v.source) (slice_get (keys_at g c) v.sink)

@@ -1,5 +1,5 @@
 -- A running patch with one wire more or less.
-use Rattle.std.specs.Prelude.{◌≡◌, ◌≢◌, ◌+◌, ◌*◌, ℕ, Bool, ◌&&◌, List, Option, Some, None, slice_get}
+use Rattle.std.specs.Prelude.{◌≡◌, ◌≢◌, ◌+◌, ◌*◌, ℕ, Bool, ◌&&◌, List, Option, Some, None, slice_get, option_map}
 use Rattle.slab.specs.Slab.{get}
 use Rattle.pd_atom.specs.Names.{Names}
 use Rattle.pd_clock.specs.declared.times.Rate.{Rate}
@@ -8,22 +8,40 @@ use Rattle.pd_order.specs.Spots.{nodes_of}
 use Rattle.pd_order.specs.Window.{changed_places, changed_ends}
 use Rattle.pd_order.specs.Listing.{Listing}
 use Rattle.pd_links.specs.Linked.{SameLinks, TakesOne}
-use Rattle.pd_grove.specs.Owning.{board_in}
+use Rattle.pd_grove.specs.Owning.{AreOwn, board_in}
+use Rattle.pd_grove.specs.Telling.{with_state}
 use Rattle.pd_grove.specs.declared.ports.Side.TheVariants.{Inlets, Outlets}
 use Rattle.pd_web.specs.declared.web.Web.{Web}
 use Rattle.pd_web.specs.declared.lines.Line.{Line}
 use Rattle.pd_web.specs.Hops.{jack_told, signal_in, fan_hops}
+use Rattle.pd_web.specs.Canvases.{keys_at}
 use Rattle.pd_web.specs.Changes.{hop_at, HasRoom, IsSame}
 use Rattle.pd_patch.specs.declared.patch.Patch.{Patch}
-use Rattle.pd_patch.specs.Built.{IsBuilt}
+use Rattle.pd_patch.specs.Built.{IsBuilt, HasPorts}
+use Rattle.pd_patch.specs.Linked.{HasLinks, StayInside}
+use Rattle.pd_patch.specs.Numbers.{AreUnder}
+use Rattle.pd_patch.specs.Orders.{AreOrdered}
 use Rattle.pd_patch.specs.Telling.{order_in}
 use Rattle.pd_wiring.specs.Graphs.{canvas_graph, AreOrderedBy}
 
--- a patch that runs, under some name of its file
-pub record Runs (p : Patch) : Type 0 where
-  pub names : Names
-  pub file : List ℕ
-  pub built : IsBuilt p names file p.rate
+-- What a wire more or less asks of a patch: boxes that lie in one canvas each, their ports and their numbers, wires that stay in their
+-- canvases, the signal wires as links, and the signal order of each canvas.
+pub record CanRewire (p : Patch) : Type 0 where
+  pub own : AreOwn (get p.grove.nodes) (get p.grove.boards)
+  pub ports : HasPorts p.grove p.web
+  pub inside : StayInside p.grove p.web
+  pub linked : HasLinks p.web p.links
+  pub orders : AreOrdered p.grove p.web p.orders.items
+  pub numbers : (c : ℕ) → AreUnder p.numbers.items (keys_at p.grove c)
+
+-- But for what the boxes keep, and for names, clocks and blocks, the patches are alike.
+pub record AreAlike (p q : Patch) : Type 0 where
+  pub nodes : (k : ℕ) → option_map (with_state None) (get q.grove.nodes k) ≡ option_map (with_state None) (get p.grove.nodes k)
+  pub boards : q.grove.boards ≡ p.grove.boards
+  pub web : q.web ≡ p.web
+  pub links : q.links ≡ p.links
+  pub orders : q.orders ≡ p.orders
+  pub numbers : q.numbers ≡ p.numbers
 
 -- what a patch has as long as it runs, it still has
 abbrev pub StaysBuilt : Patch → Patch → Type 0

@@ -1,3 +1,4 @@
 pub mod Graphs
 pub mod Changes
 pub mod Asking
+pub mod Plans

@@ -3,7 +3,7 @@
 ghost use Rattle.std.specs.Prelude.{◌≡◌, IfOk};
 ghost use Rattle.pd_web.specs.Lines.{IsRoute};
 ghost use Rattle.pd_patch.specs.Linked.{ShareCanvas};
-ghost use Rattle.pd_wiring.specs.Asking.{line_asked};
+ghost use Rattle.pd_wiring.specs.Asking.{line_asked, line_there as there_told};
 
 use pd_canvas::Wire;
 use pd_patch::Patch;
@@ -36,6 +36,23 @@ pub fn line_of(patch: &Patch, canvas: u32, wire: &Wire) -> Result<Line, WireRefu
     ensures route { IfOk result (IsRoute patch.now.web.sockets.items) }
     ensures together { IfOk result (λ l. ShareCanvas patch.now.grove l.source l.sink) }
 {
+    let line = line_there(patch, canvas, wire)?;
+    if !patch.web.fits(&patch.grove, canvas, wire) {
+        return Err(WireRefusal::SignalIntoControl);
+    }
+    Ok(line)
+}
+
+/// The line by keys of a wire that is told by numbers of the boxes of a canvas, whether it fits or not.
+///
+/// # Errors
+///
+/// The first of its boxes or ports that isn't there.
+pub fn line_there(patch: &Patch, canvas: u32, wire: &Wire) -> Result<Line, WireRefusal>
+    ensures line { result ≡ there_told patch.now.grove patch.now.web canvas wire.now }
+    ensures route { IfOk result (IsRoute patch.now.web.sockets.items) }
+    ensures together { IfOk result (λ l. ShareCanvas patch.now.grove l.source l.sink) }
+{
     let Some(source) = patch.grove.box_key(canvas, wire.source) else {
         return Err(WireRefusal::NoBox {
             number: wire.source,
@@ -57,9 +74,6 @@ pub fn line_of(patch: &Patch, canvas: u32, wire: &Wire) -> Result<Line, WireRefu
             port: wire.inlet,
             outlet: false,
         });
-    }
-    if !patch.web.fits(&patch.grove, canvas, wire) {
-        return Err(WireRefusal::SignalIntoControl);
     }
     Ok(Line {
         source,

@@ -9,7 +9,7 @@ ghost use Rattle.pd_web.specs.Changes.{Joins};
 ghost use Rattle.pd_seek.specs.Places.{IsPlace};
 ghost use Rattle.pd_patch.specs.Linked.{ShareCanvas};
 ghost use Rattle.pd_patch.specs.Telling.{order_in};
-ghost use Rattle.pd_wiring.specs.Changes.{is_signal_line as is_signal_so, graph_in, most_mending, Runs, TakesWire, StaysButWire, StaysBuilt};
+ghost use Rattle.pd_wiring.specs.Changes.{is_signal_line as is_signal_so, graph_in, most_mending, CanRewire, TakesWire, StaysButWire, StaysBuilt};
 
 use crate::lines::is_signal_line;
 use crate::link::link;
@@ -24,13 +24,14 @@ use std::sync::ledger::Ledger;
 /// Puts a wire in along a line, for which room was set aside, and gives its key: it stands last in the fan-out of its
 /// outlet. The line is within one canvas, and its ports are there. Looks at signal wires are counted in `steps`.
 pub fn attach<L: Ledger>(patch: &mut Patch, line: Line, steps: &mut Steps<L>) -> WireKey
-    requires runs { Runs patch.old }
+    requires runs { CanRewire patch.old }
     requires together { ShareCanvas patch.old.grove line.source line.sink }
     requires route { IsRoute patch.old.web.sockets.items line }
     requires room { TakesWire patch.old line }
     ensures joins { (place : ℕ) × IsPlace patch.old.numbers.items line (feed_hops patch.old.web line.sink line.inlet) place
         × Joins patch.old.web patch.new.web result line (length (fan_keys patch.old.web line.source line.outlet)) place }
     ensures rest { StaysButWire patch.old patch.new line.source }
+    ensures rewires { CanRewire patch.new }
     ensures built { StaysBuilt patch.old patch.new }
     ensures control { is_signal_so patch.old.web line ≡ false → steps.new ≡ steps.old }
     ensures looks { (c : ℕ) → board_in (get patch.old.grove.nodes line.source) ≡ Some c → steps.new ≤ steps.old

@@ -6,7 +6,7 @@ ghost use Rattle.pd_order.specs.Graph.{add_wire};
 ghost use Rattle.pd_grove.specs.Owning.{board_in};
 ghost use Rattle.pd_web.specs.Changes.{CutsWire};
 ghost use Rattle.pd_patch.specs.Telling.{order_in};
-ghost use Rattle.pd_wiring.specs.Changes.{is_signal_line as is_signal_so, graph_in, most_mending, Runs, LeadsAlong, StaysButWire, StaysBuilt};
+ghost use Rattle.pd_wiring.specs.Changes.{is_signal_line as is_signal_so, graph_in, most_mending, CanRewire, LeadsAlong, StaysButWire, StaysBuilt};
 
 use crate::lines::is_signal_line;
 use crate::link::unlink;
@@ -19,10 +19,11 @@ use std::sync::ledger::Ledger;
 
 /// Takes out the wire of a key, which leads along this line. Looks at signal wires are counted in `steps`.
 pub fn detach<L: Ledger>(patch: &mut Patch, line: Line, key: WireKey, steps: &mut Steps<L>)
-    requires runs { Runs patch.old }
+    requires runs { CanRewire patch.old }
     requires wire { LeadsAlong patch.old.web key line }
     ensures cuts { CutsWire patch.old.web patch.new.web key }
     ensures rest { StaysButWire patch.old patch.new line.source }
+    ensures rewires { CanRewire patch.new }
     ensures built { StaysBuilt patch.old patch.new }
     ensures control { is_signal_so patch.old.web line ≡ false → steps.new ≡ steps.old }
     ensures looks { (c : ℕ) → board_in (get patch.old.grove.nodes line.source) ≡ Some c → steps.new ≤ steps.old

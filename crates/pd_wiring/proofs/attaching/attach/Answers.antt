@@ -3,7 +3,8 @@ use Rattle.pd_web.specs.declared.web.Web.{Web}
 use Rattle.pd_web.specs.Hops.{fan_keys, feed_hops}
 use Rattle.pd_web.specs.Changes.{Joins}
 use Rattle.pd_seek.specs.Places.{IsPlace}
-use Rattle.pd_wiring.proofs.EditLemmas.{orders_linked, was_signal, sink_sounds, attach_wired, attach_built, attach_control}
+use Rattle.pd_wiring.specs.Changes.{CanRewire, StaysButWire}
+use Rattle.pd_wiring.proofs.EditLemmas.{orders_linked, stays_built, was_signal, sink_sounds, attach_wired, attach_signal, attach_control}
 use Rattle.pd_wiring.proofs.attaching.attach.Goals as goal
 
 pub join-key-requires-clause-next : goal.join-key-requires-clause-next
@@ -14,22 +15,20 @@ link-requires-clause-wired g c =
     let p = c.args.patch.now in
     let at = c.feed_place-next.ensures.place in
     let J = c.join-key.ensures at.0 at.1 in
-    let b = c.requires.runs in
     λ ls h. attach_wired p c.join-key.new.self c.args.line c.join-key.result (length (fan_keys p.web c.args.line.source c.args.line.outlet)) at.0 c.requires.route J c.requires.together
-    b.names b.file p.rate b.built (sym c.is_signal_line.ensures ∙ c.if-is_signal_line.true) ls h
+    c.requires.runs (sym c.is_signal_line.ensures ∙ c.if-is_signal_line.true) ls h
 
 pub link-requires-clause-signal : goal.link-requires-clause-signal
 link-requires-clause-signal g c =
     let p = c.args.patch.now in
     let at = c.feed_place-next.ensures.place in
     let J = c.join-key.ensures at.0 at.1 in
-    let b = c.requires.runs in
-    sink_sounds p c.args.line b.names b.file p.rate b.built
+    sink_sounds p c.args.line c.requires.runs
     (sym (was_signal p c.join-key.new.self c.args.line c.join-key.result (length (fan_keys p.web c.args.line.source c.args.line.outlet)) at.0 c.requires.route J c.requires.together)
     ∙ sym c.is_signal_line.ensures ∙ c.if-is_signal_line.true)
 
 pub link-requires-clause-orders : goal.link-requires-clause-orders
-link-requires-clause-orders g c = let b = c.requires.runs in orders_linked c.args.patch.now b.names b.file c.args.patch.now.rate b.built
+link-requires-clause-orders g c = orders_linked c.args.patch.now c.requires.runs
 
 pub returns-then-is_signal_line-clause-joins : goal.returns-then-is_signal_line-clause-joins
 returns-then-is_signal_line-clause-joins g c =
@@ -46,16 +45,27 @@ returns-then-is_signal_line-clause-rest g c =
     let r = c.link.ensures.rest in
     record { grove = r.grove; names = r.names; timers = r.timers; numbers = r.numbers; values = r.values; rate = r.rate; present = r.present; orders = r.orders }
 
+pub returns-then-is_signal_line-clause-rewires : goal.returns-then-is_signal_line-clause-rewires
+returns-then-is_signal_line-clause-rewires g c =
+    let p = c.args.patch.now in
+    let at = c.feed_place-next.ensures.place in
+    let J = c.join-key.ensures at.0 at.1 in
+    let r = c.link.ensures.rest in
+    attach_signal p c.join-key.new.self c.args.line c.join-key.result (length (fan_keys p.web c.args.line.source c.args.line.outlet)) at.0 c.requires.route J c.requires.together c.link.new.patch
+    (sym c.is_signal_line.ensures ∙ c.if-is_signal_line.true)
+    (record { grove = r.grove; names = r.names; timers = r.timers; numbers = r.numbers; values = r.values; rate = r.rate; present = r.present; orders = r.orders })
+    c.link.ensures.web c.link.ensures.links c.link.ensures.orders c.requires.runs
+
 pub returns-then-is_signal_line-clause-built : goal.returns-then-is_signal_line-clause-built
 returns-then-is_signal_line-clause-built g c =
     let p = c.args.patch.now in
     let at = c.feed_place-next.ensures.place in
     let J = c.join-key.ensures at.0 at.1 in
     let r = c.link.ensures.rest in
-    λ names file rate b. attach_built p c.join-key.new.self c.args.line c.join-key.result (length (fan_keys p.web c.args.line.source c.args.line.outlet)) at.0 c.requires.route J c.requires.together c.link.new.patch names file rate
-    (sym c.is_signal_line.ensures ∙ c.if-is_signal_line.true)
-    (record { grove = r.grove; names = r.names; timers = r.timers; numbers = r.numbers; values = r.values; rate = r.rate; present = r.present; orders = r.orders })
-    c.link.ensures.web c.link.ensures.links c.link.ensures.orders b
+    let S : StaysButWire p c.link.new.patch c.args.line.source = record { grove = r.grove; names = r.names; timers = r.timers; numbers = r.numbers; values = r.values; rate = r.rate; present = r.present; orders = r.orders } in
+    stays_built p c.link.new.patch c.join-key.new.self c.args.line.source S c.link.ensures.web J.kept
+    (λ (b : CanRewire p). attach_signal p c.join-key.new.self c.args.line c.join-key.result (length (fan_keys p.web c.args.line.source c.args.line.outlet)) at.0 c.requires.route J c.requires.together c.link.new.patch
+    (sym c.is_signal_line.ensures ∙ c.if-is_signal_line.true) S c.link.ensures.web c.link.ensures.links c.link.ensures.orders b)
 
 pub returns-then-is_signal_line-clause-control : goal.returns-then-is_signal_line-clause-control
 returns-then-is_signal_line-clause-control g c =
@@ -79,14 +89,25 @@ returns-clause-joins g c =
 pub returns-clause-rest : goal.returns-clause-rest
 returns-clause-rest g c = record { grove = refl; names = refl; timers = refl; numbers = refl; values = refl; rate = refl; present = refl; orders = λ k differ. refl }
 
+pub returns-clause-rewires : goal.returns-clause-rewires
+returns-clause-rewires g c =
+    let p = c.args.patch.now in
+    let at = c.feed_place-next.ensures.place in
+    let J = c.join-key.ensures at.0 at.1 in
+    attach_control p c.join-key.new.self c.args.line c.join-key.result (length (fan_keys p.web c.args.line.source c.args.line.outlet)) at.0 c.requires.route J c.requires.together
+    (record p { web = c.join-key.new.self }) (sym c.is_signal_line.ensures ∙ c.if-is_signal_line.false)
+    (record { grove = refl; names = refl; timers = refl; numbers = refl; values = refl; rate = refl; present = refl; orders = λ k differ. refl }) refl refl refl c.requires.runs
+
 pub returns-clause-built : goal.returns-clause-built
 returns-clause-built g c =
     let p = c.args.patch.now in
     let at = c.feed_place-next.ensures.place in
     let J = c.join-key.ensures at.0 at.1 in
-    λ names file rate b. attach_control p c.join-key.new.self c.args.line c.join-key.result (length (fan_keys p.web c.args.line.source c.args.line.outlet)) at.0 c.requires.route J c.requires.together
-    (record p { web = c.join-key.new.self }) names file rate (sym c.is_signal_line.ensures ∙ c.if-is_signal_line.false)
-    (record { grove = refl; names = refl; timers = refl; numbers = refl; values = refl; rate = refl; present = refl; orders = λ k differ. refl }) refl refl refl b
+    let S : StaysButWire p (record p { web = c.join-key.new.self }) c.args.line.source =
+    record { grove = refl; names = refl; timers = refl; numbers = refl; values = refl; rate = refl; present = refl; orders = λ k differ. refl } in
+    stays_built p (record p { web = c.join-key.new.self }) c.join-key.new.self c.args.line.source S refl J.kept
+    (λ (b : CanRewire p). attach_control p c.join-key.new.self c.args.line c.join-key.result (length (fan_keys p.web c.args.line.source c.args.line.outlet)) at.0 c.requires.route J c.requires.together
+    (record p { web = c.join-key.new.self }) (sym c.is_signal_line.ensures ∙ c.if-is_signal_line.false) S refl refl refl b)
 
 pub returns-clause-looks : goal.returns-clause-looks
 returns-clause-looks g c = λ k lies. omega arith
