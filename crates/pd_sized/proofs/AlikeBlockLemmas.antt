@@ -127,10 +127,10 @@ module _ (net : Net) (start : ℕ) where
 
   -- boxes and canvases, since what the boxes kept at first
   module _ (base : ℕ → Option State) where
-    abbrev Alike : Played → Type 0
+    abbrev pub Alike : Played → Type 0
     Alike p = AreAlike base p.sound.states
 
-    box_alike : (inside : Played → ℕ → Played) → ((p : Played) (c : ℕ) → Alike p → Alike (inside p c)) → (p : Played) (node : ℕ) (o : Option ℕ) → Alike p → Alike (ran_box net start inside p node o)
+    pub box_alike : (inside : Played → ℕ → Played) → ((p : Played) (c : ℕ) → Alike p → Alike (inside p c)) → (p : Played) (node : ℕ) (o : Option ℕ) → Alike p → Alike (ran_box net start inside p node o)
     box_alike inside k p node None a = onward base p.sound.states (ran_plain net start p node).sound.states a (plain_alike p node)
     box_alike inside k p node (Some inner) a = k (played (silenced p.sound node) p.out) inner a
 
@@ -138,11 +138,11 @@ module _ (net : Net) (start : ℕ) where
     each_alike one k p [] a = a
     each_alike one k p (n ∷ ns) a = each_alike one k (one p n) ns (k p n a)
 
-    silent_alike : (s : Sound) (ns : List ℕ) → AreAlike base s.states → AreAlike base (each silenced s ns).states
+    pub silent_alike : (s : Sound) (ns : List ℕ) → AreAlike base s.states → AreAlike base (each silenced s ns).states
     silent_alike s [] a = a
     silent_alike s (n ∷ ns) a = silent_alike (silenced s n) ns a
 
-    canvas_alike : (levels : ℕ) (p : Played) (canvas : ℕ) → Alike p → Alike (ran_canvas net start levels p canvas)
+    pub canvas_alike : (levels : ℕ) (p : Played) (canvas : ℕ) → Alike p → Alike (ran_canvas net start levels p canvas)
     unfolding ran_canvas
     canvas_alike zero p canvas a = a
     canvas_alike (suc levels) p canvas a =
@@ -157,7 +157,7 @@ module _ (net : Net) (start : ℕ) where
   begun_some None = refl
   begun_some (Some s) = ap Some (begun_state s)
 
-  begun_alike : (s : Sound) → AreAlike s.states (begun s).states
+  pub begun_alike : (s : Sound) → AreAlike s.states (begun s).states
   begun_alike s k = either (λ (o : Option State). option_map blank o ≡ option_map blank (s.states k)) (nat_lt k 4294967296) (option_map block_begun (s.states k)) (s.states k) (begun_some (s.states k)) refl
 
   block_from : (s : Sound) → AreAlike s.states (block_of net s start).sound.states

@@ -54,10 +54,10 @@ use Rattle.pd_sized.proofs.TurnLemmas.{first_true, second_true, some_same}
 use Rattle.pd_sized.proofs.LengthLemmas.{zip_block, map_block, same_block, low_block, kept_block, ramp_block, made_block, phases_block, noise_block, written_count, within_on, read_block}
 
 -- blocks of 64 values
-abbrev AreWhole : List (List ℤ) → Type 0
+abbrev pub AreWhole : List (List ℤ) → Type 0
 AreWhole blocks = AllByRecursion IsBlock blocks
 
-abbrev AreBlocks : Blocks → Type 0
+abbrev pub AreBlocks : Blocks → Type 0
 AreBlocks blocks = AllByRecursion AreWhole blocks
 
 -- there are so many at least
@@ -433,12 +433,12 @@ pair_by-in k s ins other line (Some values) e h i j =
     record { ran = w.is; other = shared_sized other values (by_values k s ins line values).values e w.count j }
 
 -- what all boxes keep, and the blocks of their outlets
-abbrev AllIn : (ℕ → Option State) → Type 0
+abbrev pub AllIn : (ℕ → Option State) → Type 0
 AllIn states = (k : ℕ) → IfSome (states k) HasSizes
 
-record SoundIn (s : Sound) : Type 0 where
-  is : AllIn s.states
-  blocks : AreBlocks s.blocks
+pub record SoundIn (s : Sound) : Type 0 where
+  pub is : AllIn s.states
+  pub blocks : AreBlocks s.blocks
 
 set_in : (states : ℕ → Option State) (node : ℕ) (o : Option State) → AllIn states → IfSome o HasSizes → AllIn (set_at states node o)
 set_in states node o a h j = either (λ (x : Option State). IfSome x HasSizes) (j == node) o (states j) h (a j)
@@ -536,8 +536,8 @@ module _ (net : Net) (start : ℕ) where
       }
 
   -- boxes and canvases
-  record PlayedIn (p : Played) : Type 0 where
-    is : SoundIn p.sound
+  pub record PlayedIn (p : Played) : Type 0 where
+    pub is : SoundIn p.sound
 
   as_in : (p : Played) (node : ℕ) (k : Option Kind) (m : Manner) → PlayedIn p → PlayedIn (ran_as net start p node k m)
   as_in p node k Own a = record { is = own_sound p.sound node k (p.sound.states node) a.is (a.is.is node) }
@@ -555,7 +555,7 @@ module _ (net : Net) (start : ℕ) where
   silenced_in : (s : Sound) (node : ℕ) → SoundIn s → SoundIn (silenced s node)
   silenced_in s node a = record { is = a.is; blocks = quiet_in s.blocks node a.blocks }
 
-  box_in : (inside : Played → ℕ → Played) → ((p : Played) (c : ℕ) → PlayedIn p → PlayedIn (inside p c)) → (p : Played) (node : ℕ) (o : Option ℕ) → PlayedIn p → PlayedIn (ran_box net start inside p node o)
+  pub box_in : (inside : Played → ℕ → Played) → ((p : Played) (c : ℕ) → PlayedIn p → PlayedIn (inside p c)) → (p : Played) (node : ℕ) (o : Option ℕ) → PlayedIn p → PlayedIn (ran_box net start inside p node o)
   box_in inside k p node None a = plain_in p node a
   box_in inside k p node (Some inner) a = k (played (silenced p.sound node) p.out) inner (record { is = silenced_in p.sound node a.is })
 
@@ -563,11 +563,11 @@ module _ (net : Net) (start : ℕ) where
   each_in one k p [] a = a
   each_in one k p (n ∷ ns) a = each_in one k (one p n) ns (k p n a)
 
-  silent_in : (s : Sound) (ns : List ℕ) → SoundIn s → SoundIn (each silenced s ns)
+  pub silent_in : (s : Sound) (ns : List ℕ) → SoundIn s → SoundIn (each silenced s ns)
   silent_in s [] a = a
   silent_in s (n ∷ ns) a = silent_in (silenced s n) ns (silenced_in s n a)
 
-  canvas_in : (levels : ℕ) (p : Played) (canvas : ℕ) → PlayedIn p → PlayedIn (ran_canvas net start levels p canvas)
+  pub canvas_in : (levels : ℕ) (p : Played) (canvas : ℕ) → PlayedIn p → PlayedIn (ran_canvas net start levels p canvas)
   unfolding ran_canvas
   canvas_in zero p canvas a = a
   canvas_in (suc levels) p canvas a =
@@ -582,7 +582,7 @@ module _ (net : Net) (start : ℕ) where
   begun_some None h = tt
   begun_some (Some s) h = begun_state s h
 
-  begun_in : (s : Sound) → SoundIn s → SoundIn (begun s)
+  pub begun_in : (s : Sound) → SoundIn s → SoundIn (begun s)
   begun_in s a =
       record { is = λ k. either (λ (o : Option State). IfSome o HasSizes) (nat_lt k 4294967296) (option_map block_begun (s.states k)) (s.states k) (begun_some (s.states k) (a.is k)) (a.is k); blocks = a.blocks }
 

@@ -1,0 +1,2 @@
+pub mod Freely
+pub mod Ready
