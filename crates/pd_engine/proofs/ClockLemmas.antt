@@ -1,5 +1,5 @@
 -- The next clock, and the clocks that are left.
-use Rattle.std.proofs.Common.{◌≡◌, ◌<◌, ◌≤◌, ◌+◌, ◌-◌, ℕ, zero, suc, Bool, true, false, List, [], ◌∷◌, ◌++◌, refl, sym, ◌∙◌, ap, subst, cond, ltb, arith, Option, Some, None}
+use Rattle.std.proofs.Common.{◌≡◌, ◌<◌, ◌≤◌, ◌+◌, ◌-◌, ℕ, zero, suc, Bool, true, false, List, [], ◌∷◌, ◌++◌, refl, sym, ◌∙◌, ap, subst, cond, ltb, max, arith, Option, Some, None}
 use Rattle.std.proofs.lemmas.Bool.{le-ltb, lt-ltb}
 use Rattle.std.specs.List.{AllByRecursion}
 use Rattle.pd_clock.specs.Queue.{Clock, IsTaken}
@@ -7,16 +7,16 @@ use Rattle.slab.specs.Slab.{get}
 use Rattle.pd_atom.specs.Names.{Names}
 use Rattle.pd_grove.specs.declared.grove.Grove.{Grove}
 use Rattle.pd_grove.specs.Telling.{state_in}
-use Rattle.pd_io.specs.Stream.{TookPart}
 use Rattle.pd_patch.specs.declared.patch.Patch.{Patch}
-use Rattle.pd_patch.specs.Walking.{RestStays}
+use Rattle.pd_patch.specs.Walking.{RestStays, AllButTime}
 use Rattle.pd_hearing.specs.Worlds.{Net, net_of, states_of}
 use Rattle.pd_hearing.proofs.WorldLemmas.{clocks-net}
-use Rattle.pd_stage.specs.Stages.{Stage, Passage, still, followed_by, Says}
+use Rattle.pd_stage.specs.Choices.{Choice}
+use Rattle.pd_stage.specs.Stages.{Stage, Passage, choices_of, still, with_ahead, followed_by}
+use Rattle.pd_stage.specs.Leads.{Sinks, Leads, BreaksOff, Comes, Stops}
 use Rattle.pd_stage.specs.Events.{event, Firing}
-use Rattle.pd_stage.specs.Items.{lines_of}
-use Rattle.pd_engine.proofs.EventLemmas.{event_told}
-use Rattle.pd_stage.proofs.PassageLemmas.{IsOnTheWay, way_goes_on, way_breaks, way_ends, unsounded, soundless_off, lines_took}
+use Rattle.pd_stage.proofs.EditLemmas.{event_times}
+use Rattle.pd_stage.proofs.LeadLemmas.{leads_to, way_goes_on, way_breaks}
 use Rattle.pd_stage.specs.Times.{earlier, first_clock, taken_off, off_or_on, if_below, next_clock, with_taken, with_fired, fires_at, fires, fires_below, fires_or_not}
 
 -- no clock is earlier than a time
@@ -90,55 +90,123 @@ pub fires_no_more : (n limit : ℕ) (s : Stage) → n ≡ 0 → fires_below n li
 unfolding fires_below
 fires_no_more n limit s is = rw is refl
 
+-- where a patch stands
+abbrev pub stage_with : List ℕ → Patch → Names → ℕ → ℕ → ℕ → List Choice → Stage
+stage_with file p names time block_end fired ahead = record {
+  file = file;
+  net = net_of p;
+  states = states_of p;
+  clocks = p.timers.clocks.clocks;
+  names = names;
+  time = time;
+  block_end = block_end;
+  fired = fired;
+  ahead = ahead;
+}
+
 -- a clock was taken off the patch
-pub clocks_taken : (p p' : Patch) (names : Names) (time block_end fired : ℕ) (cs : List Clock) → p'.grove ≡ p.grove → RestStays p p' → p'.timers.end ≡ p.timers.end
-    → p'.timers.clocks.clocks ≡ cs
-    → ◌≡◌ {A = Stage} (record { net = net_of p'; states = states_of p'; clocks = p'.timers.clocks.clocks; names = names; time = time; block_end = block_end; fired = fired })
-    (record { net = net_of p; states = states_of p; clocks = cs; names = names; time = time; block_end = block_end; fired = fired })
-clocks_taken p p' names time block_end fired cs grove rest end is =
-    ap (λ (n : Net). record { net = n; states = states_of p'; clocks = p'.timers.clocks.clocks; names = names; time = time; block_end = block_end; fired = fired }) (clocks-net p p' grove rest end)
-    ∙ ap (λ (g : Grove). record { net = net_of p; states = λ k. state_in (get g.nodes k); clocks = p'.timers.clocks.clocks; names = names; time = time; block_end = block_end; fired = fired }) grove
-    ∙ ap (λ (c : List Clock). record { net = net_of p; states = states_of p; clocks = c; names = names; time = time; block_end = block_end; fired = fired }) is
+abbrev parted : List ℕ → Net → Grove → List Clock → Names → ℕ → ℕ → ℕ → List Choice → Stage
+parted file net grove clocks names time block_end fired ahead = record {
+  file = file;
+  net = net;
+  states = λ k. state_in (get grove.nodes k);
+  clocks = clocks;
+  names = names;
+  time = time;
+  block_end = block_end;
+  fired = fired;
+  ahead = ahead;
+}
+
+pub clocks_taken : (p p' : Patch) (file : List ℕ) (names : Names) (time block_end fired : ℕ) (ahead : List Choice) (cs : List Clock) → p'.grove ≡ p.grove → RestStays p p' → p'.timers.end ≡ p.timers.end
+    → p'.timers.clocks.clocks ≡ cs → stage_with file p' names time block_end fired ahead ≡ with_taken (stage_with file p names time block_end fired ahead) cs
+clocks_taken p p' file names time block_end fired ahead cs grove rest end is =
+    ap (λ (n : Net). parted file n p'.grove p'.timers.clocks.clocks names time block_end fired ahead) (clocks-net p p' grove rest end)
+    ∙ ap (λ (g : Grove). parted file (net_of p) g p'.timers.clocks.clocks names time block_end fired ahead) grove
+    ∙ ap (λ (c : List Clock). parted file (net_of p) p.grove c names time block_end fired ahead) is
+
+-- the time of the event was set
+pub now_set : (p p' : Patch) (file : List ℕ) (names : Names) (time block_end fired : ℕ) (ahead : List Choice) → AllButTime p p'
+    → stage_with file p' names time block_end fired ahead ≡ stage_with file p names time block_end fired ahead
+now_set p p' file names time block_end fired ahead h =
+    let q : Patch = record {
+      grove = p'.grove;
+      web = p'.web;
+      names = p'.names;
+      timers = p'.timers;
+      links = p'.links;
+      orders = p'.orders;
+      numbers = p'.numbers;
+      values = p'.values;
+      rate = p'.rate;
+      present = p.present;
+    } in
+    clocks_taken p q file names time block_end fired ahead p.timers.clocks.clocks h.tree
+    (record { web = h.web; names = h.names; links = h.links; orders = h.orders; numbers = h.numbers; values = h.values; rate = h.rate; present = refl })
+    (ap (λ t. t.end) h.timers) (ap (λ t. t.clocks.clocks) h.timers)
 
 counted : (limit : ℕ) (s : Stage) (c : Clock) (n : ℕ) → 10000 - s.fired ≡ suc n → next_clock limit s.clocks ≡ Some c
     → fires_below (10000 - s.fired) limit s ≡ followed_by (fires s c) (fires_below n limit)
 counted limit s c n is next = ap (λ (k : ℕ). fires_below k limit s) is ∙ fires_one n limit s c next
 
-one_less : (limit : ℕ) (s s' : Stage) (c : Clock) → s.fired < 10000 → next_clock limit s.clocks ≡ Some c → s'.fired ≡ s.fired + 1
-    → fires_below (10000 - s.fired) limit s ≡ followed_by (fires s c) (fires_below (10000 - s'.fired) limit)
-one_less limit s s' c few next more =
-    let is : 10000 - s.fired ≡ suc (10000 - s'.fired) = omega arith in
-    counted limit s c (10000 - s'.fired) is next
+one_less : (limit : ℕ) (s : Stage) (fired : ℕ) (c : Clock) → s.fired < 10000 → next_clock limit s.clocks ≡ Some c → fired ≡ s.fired + 1
+    → fires_below (10000 - s.fired) limit s ≡ followed_by (fires s c) (fires_below (10000 - fired) limit)
+one_less limit s fired c few next more =
+    let is : 10000 - s.fired ≡ suc (10000 - fired) = omega arith in
+    counted limit s c (10000 - fired) is next
 
-pub fired_more : (s s1 s' : Stage) (c : Clock) → s1 ≡ with_taken s (taken_off s.clocks) → s' ≡ (fires_at s1 c.time c.owner).stage → s'.fired ≡ s.fired + 1
-unfolding event
-fired_more s s1 s' c taken is = ap (λ (x : Stage). x.fired) is ∙ ap (λ (x : Stage). x.fired + 1) taken
+-- at a time, and with so many clocks that fired
+abbrev pub timed : Stage → ℕ → ℕ → Stage
+timed s time fired = record {
+  file = s.file;
+  net = s.net;
+  states = s.states;
+  clocks = s.clocks;
+  names = s.names;
+  time = time;
+  block_end = s.block_end;
+  fired = fired;
+  ahead = s.ahead;
+}
+
+-- a clock that was taken off fires, with the time raised to its own
+pub fires_so : (s : Stage) (time owner later fired : ℕ) (s' : List Choice → Stage) (x y : Sinks) → later ≡ max s.time time → fired ≡ s.fired + 1
+    → Comes (λ r. event r (Firing owner)) (with_ahead (timed s later fired)) s' x y → Comes (λ r. fires_at r time owner) (with_ahead s) s' x y
+fires_so s time owner later fired s' x y is more c =
+    subst (λ (t : ℕ). Comes (λ r. event r (Firing owner)) (with_ahead (timed s t (s.fired + 1))) s' x y) is
+    (subst (λ (n : ℕ). Comes (λ r. event r (Firing owner)) (with_ahead (timed s later n)) s' x y) more c)
+
+pub fires_broken : (s : Stage) (time owner later fired : ℕ) (x y : Sinks) → later ≡ max s.time time → fired ≡ s.fired + 1
+    → Stops (λ r. event r (Firing owner)) (with_ahead (timed s later fired)) x y → Stops (λ r. fires_at r time owner) (with_ahead s) x y
+fires_broken s time owner later fired x y is more c =
+    subst (λ (t : ℕ). Stops (λ r. event r (Firing owner)) (with_ahead (timed s t (s.fired + 1))) x y) is
+    (subst (λ (n : ℕ). Stops (λ r. event r (Firing owner)) (with_ahead (timed s later n)) x y) more c)
+
+-- one more has fired
+pub fired_more : (s s1 : Stage) (c : Clock) (s' : List Choice → Stage) (x y : Sinks) → s1 ≡ with_taken s (taken_off s.clocks) → Comes (λ r. fires_at r c.time c.owner) (with_ahead s1) s' x y
+    → (s' []).fired ≡ s.fired + 1
+fired_more s s1 c s' x y taken came =
+    sym (ap (λ (p : Passage). p.stage.fired) (came.same [])) ∙ (event_times (with_fired (with_ahead s1 (choices_of came.edits ++ [])) c.time) (Firing c.owner)).fired
+    ∙ ap (λ (r : Stage). r.fired + 1) taken
 
 -- a clock fires: one more of those that may
-pub clock_goes_on : (limit : ℕ) (whole : Passage) (s s1 s' : Stage) (c : Clock) (t₁ t₂ t₃ : Option (List ℕ)) → s.fired < 10000
-    → next_clock limit s.clocks ≡ Some c → s1 ≡ with_taken s (taken_off s.clocks)
-    → IsOnTheWay whole (fires_below (10000 - s.fired) limit) s t₁ t₂ None None → Says (fires_at s1 c.time c.owner) s' t₂ t₃
-    → IsOnTheWay whole (fires_below (10000 - s'.fired) limit) s' t₁ t₃ None None
-clock_goes_on limit whole s s1 s' c t₁ t₂ t₃ few next taken way says =
-    way_goes_on whole (fires_below (10000 - s.fired) limit) (fires_below (10000 - s'.fired) limit) (fires s c) s s' t₁ t₂ t₃ None None None way
-    (one_less limit s s' c few next (fired_more s s1 s' c taken says.stage_is))
-    (unsounded (fires s c) s' t₂ t₃ (subst (λ (x : Stage). Says (fires_at x c.time c.owner) s' t₂ t₃) taken says))
+module _ (limit : ℕ) (whole : List Choice → Passage) (s s1 : Stage) (c : Clock) (x y z : Sinks) (few : s.fired < 10000) (next : next_clock limit s.clocks ≡ Some c)
+    (taken : s1 ≡ with_taken s (taken_off s.clocks)) (way : Leads whole (λ m. fires_below (10000 - s.fired) limit (with_ahead s m)) x y) where
+  pub clock_goes_on : (s' : List Choice → Stage) (fired : ℕ) → fired ≡ s.fired + 1 → Comes (λ r. fires_at r c.time c.owner) (with_ahead s1) s' y z
+      → Leads whole (λ m. fires_below (10000 - fired) limit (s' m)) x z
+  clock_goes_on s' fired more came =
+      way_goes_on whole (fires_below (10000 - s.fired) limit) (λ r. fires r c) (fires_below (10000 - fired) limit) (with_ahead s) s' x y z way
+      (λ m. one_less limit (with_ahead s m) fired c few next more)
+      (subst (λ (r : Stage). Comes (λ q. fires_at q c.time c.owner) (with_ahead r) s' y z) taken came)
 
-pub clock_breaks : (limit : ℕ) (whole : Passage) (s s1 : Stage) (c : Clock) (t₁ t₂ t₃ : Option (List ℕ)) → s.fired < 10000
-    → next_clock limit s.clocks ≡ Some c → s1 ≡ with_taken s (taken_off s.clocks)
-    → IsOnTheWay whole (fires_below (10000 - s.fired) limit) s t₁ t₂ None None → TookPart t₂ t₃ (lines_of (fires_at s1 c.time c.owner).items) → TookPart t₁ t₃ (lines_of whole.items)
-clock_breaks limit whole s s1 c t₁ t₂ t₃ few next taken way took =
-    lines_took whole t₁ t₃ None None
-    (way_breaks whole (fires_below (10000 - s.fired) limit) (fires_below (10000 - (s.fired + 1)) limit) (fires s c) s t₁ t₂ t₃ None None None way
-    (counted limit s c (10000 - (s.fired + 1)) (omega arith) next)
-    (soundless_off (fires s c) t₂ t₃ None (event_told (with_fired (with_taken s (taken_off s.clocks)) c.time) (Firing c.owner))
-    (subst (λ (x : Stage). TookPart t₂ t₃ (lines_of (fires_at x c.time c.owner).items)) taken took)))
+  pub clock_breaks : Stops (λ r. fires_at r c.time c.owner) (with_ahead s1) y z → BreaksOff whole x z
+  clock_breaks off =
+      way_breaks whole (fires_below (10000 - s.fired) limit) (λ r. fires r c) (fires_below (10000 - (s.fired + 1)) limit) (with_ahead s) x y z way
+      (λ m. counted limit (with_ahead s m) c (10000 - (s.fired + 1)) (omega arith) next)
+      (subst (λ (r : Stage). Stops (λ q. fires_at q c.time c.owner) (with_ahead r) y z) taken off)
 
 -- nothing more fires
-pub clocks_end : (limit n : ℕ) (whole : Passage) (s s' : Stage) (t₁ t₂ : Option (List ℕ)) → s' ≡ s → fires_below n limit s ≡ still s
-    → IsOnTheWay whole (fires_below n limit) s t₁ t₂ None None → Says whole s' t₁ t₂
-clocks_end limit n whole s s' t₁ t₂ same none way =
-    subst (λ (x : Stage). Says whole x t₁ t₂) (sym same) (way_ends whole (fires_below n limit) s t₁ t₂ None None way none).says
-
-pub fired_says : (s s1 s' : Stage) (c : Clock) (t t' : Option (List ℕ)) → s1 ≡ with_taken s (taken_off s.clocks) → Says (fires_at s1 c.time c.owner) s' t t' → s'.fired ≡ s.fired + 1
-fired_says s s1 s' c t t' taken says = fired_more s s1 s' c taken says.stage_is
+pub clocks_end : (limit n : ℕ) (whole : List Choice → Passage) (s s' : List Choice → Stage) (x y : Sinks) → ((m : List Choice) → s' m ≡ s m)
+    → ((m : List Choice) → fires_below n limit (s m) ≡ still (s m)) → Leads whole (λ m. fires_below n limit (s m)) x y → Leads whole (λ m. still (s' m)) x y
+clocks_end limit n whole s s' x y same none way =
+    leads_to whole (λ m. fires_below n limit (s m)) (λ m. still (s' m)) x y (λ m. none m ∙ ap (λ (r : Stage). still r) (sym (same m))) way

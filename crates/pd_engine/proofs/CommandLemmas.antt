@@ -1,61 +1,102 @@
--- A message that is sent by a command.
-use Rattle.std.proofs.Common.{◌≡◌, ℕ, Bool, List, length, nat_lt, refl, ◌∙◌, ap, subst, Option}
+-- Commands.
+use Rattle.std.proofs.Common.{◌≡◌, ℕ, Bool, List, ◌++◌, length, nat_lt, sym, ◌∙◌, ap, subst, Option, Result, Ok, Err, OnOk, OnErr, IfOk}
 use Rattle.pd_io.specs.Stream.{grown, TookPart}
+use Rattle.pd_io.specs.declared.files.FileRow.{FileRow}
 use Rattle.pd_atom.specs.declared.Atom.{Atom}
 use Rattle.pd_kind.specs.Forming.{cut_atoms}
-use Rattle.pd_stage.specs.Stages.{Stage, Passage, saying, Says}
-use Rattle.pd_stage.specs.Events.{event, Message}
-use Rattle.pd_engine.specs.Messages.{message_in}
-use Rattle.pd_engine.specs.Commands.{cut_line, cut_text, sent, shown, commanded}
-use Rattle.pd_stage.specs.Items.{lines_of}
-use Rattle.pd_say.specs.Lines.{refusal_text}
-use Rattle.pd_say.specs.declared.refusals.Request.TheVariants as request
-use Rattle.pd_say.specs.declared.refusals.Why.TheVariants as why
 use Rattle.pd_script.specs.declared.commands.Command.{Command}
-use Rattle.pd_script.specs.declared.commands.Command.TheVariants as command
-use Rattle.pd_engine.proofs.EventLemmas.{event_told}
-use Rattle.pd_stage.proofs.PassageLemmas.{IsTold, told_lines, told_joined, says_lines, says_followed, lines_torn, lines_broke, lines_broke_after}
+use Rattle.pd_stage.specs.Choices.{Wanted, Choice}
+use Rattle.pd_stage.specs.Stages.{Stage, Taken, Passage, saying, choices_of}
+use Rattle.pd_stage.specs.Leads.{Sinks, sinks, Comes, Stops, Says, SaysPart}
+use Rattle.pd_stage.specs.Events.{event, Message, edit_taken}
+use Rattle.pd_engine.specs.declared.refusals.Outcome.{Outcome}
+use Rattle.pd_engine.specs.declared.refusals.Outcome.TheVariants.{Done}
+use Rattle.pd_engine.specs.Messages.{message_in}
+use Rattle.pd_engine.specs.Commands.{cut_line, cut_text, sent, commanded, first_outcome, answered, IsCarriedOut}
+use Rattle.pd_engine.specs.Edits.{IsTakenSo}
+use Rattle.pd_stage.proofs.LeadLemmas.{broke_same, written_leads, written_breaks, comes_then, stops_first, stops_then}
 
-event_same : (s s1 : Stage) (name selector selector' : ℕ) (atoms atoms' : List Atom) → s1 ≡ s → selector ≡ selector' → atoms ≡ atoms'
-    → event s1 (Message name selector atoms) ≡ event s (Message name selector' atoms')
-event_same s s1 name selector selector' atoms atoms' stage sel same =
-    ap (λ (x : Stage). event x (Message name selector atoms)) stage ∙ ap (λ (k : ℕ). event s (Message name k atoms)) sel ∙ ap (λ (a : List Atom). event s (Message name selector' a)) same
+-- a message that is sent by a command
+module _ (s s₁ s₂ : List Choice → Stage) (name selector : ℕ) (atoms given : List Atom) (is_cut : Bool) (t₁ t₂ u : Option (List ℕ)) (k : ℕ) (h : Option (List FileRow)) (f : ℕ) (z : Sinks)
+    (cut : is_cut ≡ nat_lt 1024 (length (message_in atoms).atoms)) where
+  abbrev cut_first : Stage → Passage
+  cut_first x = saying x (cut_text (message_in atoms).atoms)
 
-pub sent_says : (s s1 s' : Stage) (name selector : ℕ) (atoms given : List Atom) (is_cut : Bool) (t₁ t₂ t₃ : Option (List ℕ)) → s1 ≡ s
-    → selector ≡ (message_in atoms).selector → given ≡ cut_atoms (message_in atoms).atoms → is_cut ≡ nat_lt 1024 (length (message_in atoms).atoms)
-    → t₂ ≡ grown t₁ (cut_line is_cut) → Says (event s1 (Message name selector given)) s' t₂ t₃ → Says (sent name atoms s) s' t₁ t₃
-sent_says s s1 s' name selector atoms given is_cut t₁ t₂ t₃ stage sel same cut said says =
-    let m = message_in atoms in
-    says_followed (saying s (cut_text m.atoms)) (λ x. event x (Message name m.selector (cut_atoms m.atoms))) s s' t₁ t₂ t₃
-    (says_lines s s (cut_text m.atoms) t₁ t₂ refl (said ∙ ap (λ (b : Bool). grown t₁ (cut_line b)) cut))
-    (subst (λ (p : Passage). Says p s' t₂ t₃) (event_same s s1 name selector m.selector given (cut_atoms m.atoms) stage sel same) says)
+  abbrev then_sent : Stage → Passage
+  then_sent x = event x (Message name (message_in atoms).selector (cut_atoms (message_in atoms).atoms))
 
--- the line that it was cut was taken in part, or it was taken and then those of the event in part
-pub sent_breaks_first : (s : Stage) (name : ℕ) (atoms : List Atom) (is_cut : Bool) (t₁ t₂ : Option (List ℕ)) → is_cut ≡ nat_lt 1024 (length (message_in atoms).atoms)
-    → TookPart t₁ t₂ (cut_line is_cut) → TookPart t₁ t₂ (lines_of (sent name atoms s).items)
-sent_breaks_first s name atoms is_cut t₁ t₂ cut took =
-    let m = message_in atoms in
-    lines_broke (saying s (cut_text m.atoms)) (λ x. event x (Message name m.selector (cut_atoms m.atoms))) t₁ t₂
-    (lines_torn s (cut_text m.atoms) t₁ t₂ (subst (λ (b : Bool). TookPart t₁ t₂ (cut_line b)) cut took))
+  -- the line that it was cut was taken in part, or it was taken and then those of the event in part
+  pub sent_breaks_first : TookPart t₁ t₂ (cut_line is_cut) → Stops (sent name atoms) s (sinks t₁ u k h f) (sinks t₂ u k h f)
+  sent_breaks_first took =
+      stops_first cut_first then_sent s (sinks t₁ u k h f) (sinks t₂ u k h f)
+      (written_breaks s (cut_text (message_in atoms).atoms) t₁ t₂ u k h f (subst (λ (b : Bool). TookPart t₁ t₂ (cut_line b)) cut took))
 
-pub sent_breaks : (s s1 : Stage) (name selector : ℕ) (atoms given : List Atom) (is_cut : Bool) (t₁ t₂ t₃ : Option (List ℕ)) → s1 ≡ s
-    → selector ≡ (message_in atoms).selector → given ≡ cut_atoms (message_in atoms).atoms → is_cut ≡ nat_lt 1024 (length (message_in atoms).atoms)
-    → t₂ ≡ grown t₁ (cut_line is_cut) → TookPart t₂ t₃ (lines_of (event s1 (Message name selector given)).items) → TookPart t₁ t₃ (lines_of (sent name atoms s).items)
-sent_breaks s s1 name selector atoms given is_cut t₁ t₂ t₃ stage sel same cut said took =
-    let m = message_in atoms in
-    lines_broke_after (saying s (cut_text m.atoms)) (λ x. event x (Message name m.selector (cut_atoms m.atoms))) s t₁ t₂ t₃
-    (says_lines s s (cut_text m.atoms) t₁ t₂ refl (said ∙ ap (λ (b : Bool). grown t₁ (cut_line b)) cut))
-    (subst (λ (p : Passage). TookPart t₂ t₃ (lines_of p.items)) (event_same s s1 name selector m.selector given (cut_atoms m.atoms) stage sel same) took)
+  module _ (stage : s₁ ≡ s) (sel : selector ≡ (message_in atoms).selector) (same : given ≡ cut_atoms (message_in atoms).atoms) (said : t₂ ≡ grown t₁ (cut_line is_cut)) where
+    comes : Comes cut_first s s (sinks t₁ u k h f) (sinks t₂ u k h f)
+    comes = written_leads s (cut_text (message_in atoms).atoms) t₁ t₂ u k h f (said ∙ ap (λ (b : Bool). grown t₁ (cut_line b)) cut)
 
--- a command says lines alone
-pub commanded_told : (c : Command) (s : Stage) → IsTold (commanded c s)
-unfolding commanded
-commanded_told (command.Send name atoms) s =
-    let m = message_in atoms in
-    let b = Message name m.selector (cut_atoms m.atoms) in
-    told_joined (saying s (cut_text m.atoms)) (event s b) (told_lines s (cut_text m.atoms)) (event_told s b)
-commanded_told (command.Edit place edit) s = told_lines s (refusal_text request.Edit why.NoDocument)
-commanded_told (command.Save document) s = told_lines s (refusal_text request.Save why.NoDocument)
-commanded_told (command.Show path) s = told_lines s (shown s.net path)
-commanded_told command.Undo s = told_lines s (refusal_text request.Undo why.NothingToUndo)
-commanded_told command.Redo s = told_lines s (refusal_text request.Redo why.NothingToRedo)
+    pub sent_says : Comes (λ x. event x (Message name selector given)) s₁ s₂ (sinks t₂ u k h f) z → Comes (sent name atoms) s s₂ (sinks t₁ u k h f) z
+    sent_says c =
+        comes_then cut_first then_sent s s s₂ (sinks t₁ u k h f) (sinks t₂ u k h f) z comes
+        (subst (λ (r : List Choice → Stage). Comes then_sent r s₂ (sinks t₂ u k h f) z) stage
+        (subst (λ (a : List Atom). Comes (λ x. event x (Message name (message_in atoms).selector a)) s₁ s₂ (sinks t₂ u k h f) z) same
+        (subst (λ (l : ℕ). Comes (λ x. event x (Message name l given)) s₁ s₂ (sinks t₂ u k h f) z) sel c)))
+
+    pub sent_breaks : Stops (λ x. event x (Message name selector given)) s₁ (sinks t₂ u k h f) z → Stops (sent name atoms) s (sinks t₁ u k h f) z
+    sent_breaks c =
+        stops_then cut_first then_sent s s (sinks t₁ u k h f) (sinks t₂ u k h f) z comes
+        (subst (λ (r : List Choice → Stage). Stops then_sent r (sinks t₂ u k h f) z) stage
+        (subst (λ (a : List Atom). Stops (λ x. event x (Message name (message_in atoms).selector a)) s₁ (sinks t₂ u k h f) z) same
+        (subst (λ (l : ℕ). Stops (λ x. event x (Message name l given)) s₁ (sinks t₂ u k h f) z) sel c)))
+
+-- ---- a command that is told by another part
+
+carried : (cmd : Command) (o : Outcome) (part : Stage → Passage) (from to : List Choice → Stage) (x y : Sinks) → ((s : Stage) → commanded cmd s ≡ part s)
+    → (c : Comes part from to x y) → o ≡ answered cmd c.edits → IsCarriedOut cmd o from to x y
+carried cmd o part from to x y e c is = record {
+  comes = record {
+    items = c.items;
+    edits = c.edits;
+    same = λ more. e (from (choices_of c.edits ++ more)) ∙ c.same more;
+    took = c.took;
+    lawful = c.lawful;
+  };
+  answer = is;
+}
+
+-- it says lines, and is done
+pub says_carried : {E : Type 0} (r : Result Outcome E) (cmd : Command) (part : Stage → Passage) (from to : List Choice → Stage) (t t' : Option (List ℕ)) (k k' : ℕ) (h : Option (List FileRow)) (f : ℕ)
+    → ((s : Stage) → commanded cmd s ≡ part s) → ((edits : List Taken) → answered cmd edits ≡ Done) → OnOk r (Says part from to t t' k k') → IfOk r (λ o. o ≡ Done)
+    → IfOk r (λ o. (samples : Option (List ℕ)) → IsCarriedOut cmd o from to (sinks t samples k h f) (sinks t' samples k' h f))
+says_carried (Ok o) cmd part from to t t' k k' h f e done says is = λ samples.
+    let c : Comes part from to (sinks t samples k h f) (sinks t' samples k' h f) = says samples h f in
+    carried cmd o part from to (sinks t samples k h f) (sinks t' samples k' h f) e c (is ∙ sym (done c.edits))
+says_carried (Err x) cmd part from to t t' k k' h f e done says is = tt
+
+-- it is one edit that is taken, and answers what that came to
+pub taken_carried : {E : Type 0} (r : Result Outcome E) (cmd : Command) (wanted : Wanted) (from to : List Choice → Stage) (x y : Option (List ℕ) → Sinks)
+    → ((s : Stage) → commanded cmd s ≡ edit_taken wanted s) → ((edits : List Taken) → answered cmd edits ≡ first_outcome edits)
+    → IfOk r (λ o. (samples : Option (List ℕ)) → IsTakenSo wanted o from to (x samples) (y samples))
+    → IfOk r (λ o. (samples : Option (List ℕ)) → IsCarriedOut cmd o from to (x samples) (y samples))
+taken_carried (Ok o) cmd wanted from to x y e answers so = λ samples.
+    let so : IsTakenSo wanted o from to (x samples) (y samples) = so samples in
+    carried cmd o (edit_taken wanted) from to (x samples) (y samples) e so.comes (so.answer ∙ sym (answers so.comes.edits))
+taken_carried (Err z) cmd wanted from to x y e answers so = tt
+
+pub if_ok_weaker : {A E : Type 0} {P Q : A → Type 0} (r : Result A E) → ((a : A) → P a → Q a) → IfOk r P → IfOk r Q
+if_ok_weaker (Ok a) f h = f a h
+if_ok_weaker (Err e) f h = tt
+
+-- a part broke off
+pub part_stops : {A E : Type 0} (r : Result A E) (cmd : Command) (part : Stage → Passage) (from : List Choice → Stage) (t t' : Option (List ℕ)) (k k' : ℕ) (h : Option (List FileRow)) (f : ℕ)
+    → ((s : Stage) → commanded cmd s ≡ part s) → OnErr r (SaysPart part from t t' k k')
+    → OnErr r ((samples : Option (List ℕ)) → Stops (commanded cmd) from (sinks t samples k h f) (sinks t' samples k' h f))
+part_stops (Ok x) cmd part from t t' k k' h f e broke = tt
+part_stops (Err x) cmd part from t t' k k' h f e broke = λ samples.
+    broke_same (λ m. part (from m)) (λ m. commanded cmd (from m)) (sinks t samples k h f) (sinks t' samples k' h f) (λ m. e (from m)) (broke samples h f)
+
+pub taken_stops : {A E : Type 0} (r : Result A E) (cmd : Command) (part : Stage → Passage) (from : List Choice → Stage) (x y : Option (List ℕ) → Sinks)
+    → ((s : Stage) → commanded cmd s ≡ part s) → OnErr r ((samples : Option (List ℕ)) → Stops part from (x samples) (y samples))
+    → OnErr r ((samples : Option (List ℕ)) → Stops (commanded cmd) from (x samples) (y samples))
+taken_stops (Ok z) cmd part from x y e broke = tt
+taken_stops (Err z) cmd part from x y e broke = λ samples. broke_same (λ m. part (from m)) (λ m. commanded cmd (from m)) (x samples) (y samples) (λ m. e (from m)) (broke samples)

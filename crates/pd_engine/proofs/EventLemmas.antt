@@ -1,22 +1,21 @@
--- Events, blocks, and where the patch stands after them.
-use Rattle.std.proofs.Common.{false, ◌≡◌, ◌≤◌, ◌<◌, ◌+◌, ◌-◌, ℕ, zero, suc, List, [], ◌++◌, refl, sym, ◌∙◌, ap, subst, append_assoc, Option, arith}
+-- Events, and where the patch stands after them.
+use Rattle.std.proofs.Common.{false, ◌≡◌, ℕ, List, [], refl, sym, ◌∙◌, ap, subst, Option}
 use Rattle.std.proofs.lemmas.List.{append-nil}
-use Rattle.std.proofs.lemmas.Bool.{le-leb, lt-leb}
 use Rattle.pd_io.specs.Stream.{grown, TookPart}
+use Rattle.pd_io.specs.declared.files.FileRow.{FileRow}
 use Rattle.pd_queue.specs.Queue.{Waiting}
-use Rattle.pd_say.proofs.GatheringLemmas.{grown-grown, took_more}
 use Rattle.pd_turns.specs.Turns.{World}
 use Rattle.pd_walk.specs.declared.walker.Budget.{Budget}
 use Rattle.pd_walk.specs.declared.walker.Start.{Start}
 use Rattle.pd_walk.specs.declared.walker.Start.TheVariants as start
 use Rattle.pd_hearing.specs.Worlds.{Net, Kept}
 use Rattle.pd_walk.specs.Outcome.{outcome, world, IsLeft}
-use Rattle.pd_stage.specs.Stages.{Stage, still, followed_by, Says}
-use Rattle.pd_stage.specs.Events.{Beginning, beginning_of, deliveries, delivered, begun, repeated, refusals, with_kept, event}
-use Rattle.pd_stage.specs.Times.{blocks_run, block_runs}
-use Rattle.pd_stage.specs.Items.{lines_of, said}
-use Rattle.pd_stage.proofs.ItemLemmas.{lines-said}
-use Rattle.pd_stage.proofs.PassageLemmas.{took_after, IsTold}
+use Rattle.pd_stage.specs.Choices.{Choice}
+use Rattle.pd_stage.specs.Stages.{Stage, with_ahead}
+use Rattle.pd_stage.specs.Leads.{Sinks, sinks, Comes, Stops}
+use Rattle.pd_stage.specs.Events.{beginning_of, deliveries, delivered, begun, with_kept, after_deliveries, edits_taken, event}
+use Rattle.pd_stage.specs.Items.{Item, said}
+use Rattle.pd_stage.proofs.LeadLemmas.{took_said, comes_then, stops_first, stops_then, written_breaks}
 
 pub outcome_is : (net : Net) (now : ℕ) (w : World Kept) (st : Start) → outcome net now w st ≡ deliveries net now w (beginning_of st)
 unfolding outcome
@@ -36,95 +35,66 @@ final_is : (s : Stage) (st : Start) (q : Waiting) (b : Budget) → q ≡ [] → 
 final_is s st q b none whole =
     ap (λ (w : World Kept). outcome s.net s.time w st) (from_is s q b none whole) ∙ outcome_is s.net s.time (begun s) st
 
--- deliveries are done, and the edits that were asked for are refused
-pub event_says : (s s' : Stage) (st : Start) (q queue : Waiting) (b budget : Budget) (t₁ t₂ t₃ : Option (List ℕ))
-    → q ≡ [] → b ≡ record { left = 1000000; cut = false }
-    → IsLeft (record { states = s'.states; clocks = s'.clocks; names = s'.names; queue = queue }) budget t₁ t₂ (outcome s.net s.time (from s q b) st)
-    → s'.net ≡ s.net → s'.time ≡ s.time → s'.block_end ≡ s.block_end → s'.fired ≡ s.fired
-    → t₃ ≡ grown t₂ (refusals queue) → Says (event s (beginning_of st)) s' t₁ t₃
-unfolding event
-event_says s s' st q queue b budget t₁ t₂ t₃ none whole left net time block_end fired more =
-    let is = final_is s st q b none whole in
-    let kept : record { states = s'.states; clocks = s'.clocks; names = s'.names; queue = queue } ≡ (delivered s (beginning_of st)).kept =
-    left.kept_is ∙ ap (λ (w : World Kept). w.kept) is in
-    let asked : queue ≡ (delivered s (beginning_of st)).kept.queue = ap (λ (k : Kept). k.queue) kept in
-    record {
-      stage_is = stays s s' queue net time block_end fired ∙ ap (with_kept s) kept;
-      lines_are = more ∙ ap (λ (x : Waiting). grown t₂ (refusals x)) asked
-          ∙ ap (λ (o : Option (List ℕ)). grown o (refusals (delivered s (beginning_of st)).kept.queue)) left.said
-          ∙ grown-grown t₁ (outcome s.net s.time (from s q b) st).said (refusals (delivered s (beginning_of st)).kept.queue)
-          ∙ ap (λ (w : World Kept). grown t₁ (w.said ++ refusals (delivered s (beginning_of st)).kept.queue)) is
-          ∙ ap (grown t₁) (sym (lines-said ((delivered s (beginning_of st)).said ++ refusals (delivered s (beginning_of st)).kept.queue)));
-    }
-  where
-    stays : (s s' : Stage) (q : Waiting) → s'.net ≡ s.net → s'.time ≡ s.time → s'.block_end ≡ s.block_end → s'.fired ≡ s.fired
-        → s' ≡ with_kept s (record { states = s'.states; clocks = s'.clocks; names = s'.names; queue = q })
-    stays s s' q net time block_end fired =
-        ap (λ (n : Net). record { net = n; states = s'.states; clocks = s'.clocks; names = s'.names; time = s'.time; block_end = s'.block_end; fired = s'.fired }) net
-        ∙ ap (λ (t : ℕ). record { net = s.net; states = s'.states; clocks = s'.clocks; names = s'.names; time = t; block_end = s'.block_end; fired = s'.fired }) time
-        ∙ ap (λ (t : ℕ). record { net = s.net; states = s'.states; clocks = s'.clocks; names = s'.names; time = s.time; block_end = t; fired = s'.fired }) block_end
-        ∙ ap (λ (t : ℕ). record { net = s.net; states = s'.states; clocks = s'.clocks; names = s'.names; time = s.time; block_end = s.block_end; fired = t }) fired
+stays : (s s' : Stage) (q : Waiting) → s'.file ≡ s.file → s'.net ≡ s.net → s'.time ≡ s.time → s'.block_end ≡ s.block_end → s'.fired ≡ s.fired
+    → (more : List Choice) → with_ahead s' more ≡ with_kept (with_ahead s more) (record { states = s'.states; clocks = s'.clocks; names = s'.names; queue = q })
+stays s s' q file net time block_end fired more = rw (file, net, time, block_end, fired) refl
 
--- the lines of the deliveries were taken in part, or those of the refused edits
-pub event_breaks : (s : Stage) (st : Start) (q : Waiting) (b : Budget) (t₁ t₂ : Option (List ℕ)) → q ≡ [] → b ≡ record { left = 1000000; cut = false }
-    → TookPart t₁ t₂ (outcome s.net s.time (from s q b) st).said → TookPart t₁ t₂ (lines_of (event s (beginning_of st)).items)
-unfolding event
-event_breaks s st q b t₁ t₂ none whole took =
-    let w : World Kept = delivered s (beginning_of st) in
-    subst (λ (x : List ℕ). TookPart t₁ t₂ x) (sym (lines-said (w.said ++ refusals w.kept.queue)))
-    (took_more t₁ t₂ w.said (refusals w.kept.queue) (subst (λ (v : World Kept). TookPart t₁ t₂ v.said) (final_is s st q b none whole) took))
+-- what is kept at a stage, with the edits that wait
+abbrev kept_with : Stage → Waiting → Kept
+kept_with s queue = record { states = s.states; clocks = s.clocks; names = s.names; queue = queue }
 
-pub event_breaks_late : (s : Stage) (st : Start) (q : Waiting) (b : Budget) (k : Kept) (budget : Budget) (t₁ t₂ t₃ : Option (List ℕ)) → q ≡ [] → b ≡ record { left = 1000000; cut = false }
-    → IsLeft k budget t₁ t₂ (outcome s.net s.time (from s q b) st)
-    → TookPart t₂ t₃ (refusals k.queue) → TookPart t₁ t₃ (lines_of (event s (beginning_of st)).items)
-unfolding event
-event_breaks_late s st q b k budget t₁ t₂ t₃ none whole left took =
-    let is = final_is s st q b none whole in
-    let kept : k ≡ (delivered s (beginning_of st)).kept = left.kept_is ∙ ap (λ (w : World Kept). w.kept) is in
-    subst (λ (x : List ℕ). TookPart t₁ t₃ x) (sym (lines-said ((delivered s (beginning_of st)).said ++ refusals (delivered s (beginning_of st)).kept.queue)))
-    (took_after t₁ t₂ t₃ (delivered s (beginning_of st)).said (refusals (delivered s (beginning_of st)).kept.queue)
-    (left.said ∙ ap (λ (w : World Kept). grown t₁ w.said) is)
-    (subst (λ (x : Waiting). TookPart t₂ t₃ (refusals x)) (ap (λ (x : Kept). x.queue) kept) took))
+-- deliveries are done
+delivers : (s s' : Stage) (w : World Kept) (queue : Waiting) (t₁ t₂ u : Option (List ℕ)) (k : ℕ) (h : Option (List FileRow)) (f : ℕ) → kept_with s' queue ≡ w.kept → t₂ ≡ grown t₁ w.said
+    → s'.file ≡ s.file → s'.net ≡ s.net → s'.time ≡ s.time → s'.block_end ≡ s.block_end → s'.fired ≡ s.fired
+    → Comes (λ x. after_deliveries x w) (with_ahead s) (with_ahead s') (sinks t₁ u k h f) (sinks t₂ u k h f)
+delivers s s' w queue t₁ t₂ u k h f kept says file net time block_end fired = record {
+  items = said w.said;
+  edits = [];
+  same = λ more.
+      ap (λ (x : Kept). record { stage = with_kept (with_ahead s more) x; items = said w.said; edits = [] }) (sym kept)
+      ∙ ap (λ (r : Stage). record { stage = r; items = said w.said; edits = [] }) (sym (stays s s' queue file net time block_end fired more))
+      ∙ ap (λ (i : List Item). record { stage = with_ahead s' more; items = i; edits = [] }) (sym (append-nil (said w.said)));
+  took = took_said t₁ t₂ u k h f w.said says;
+  lawful = tt;
+}
 
--- a text once more
-pub repeated_more : (n : ℕ) (text : List ℕ) → repeated n text ++ text ≡ repeated (suc n) text
-repeated_more zero text = sym (append-nil text)
-repeated_more (suc n) text = append_assoc text (repeated n text) text ∙ ap (λ (x : List ℕ). text ++ x) (repeated_more n text)
+-- an event: its deliveries, and then the edits that were asked for
+module _ (s s' : Stage) (st : Start) (q queue : Waiting) (b budget : Budget) (t₁ t₂ u : Option (List ℕ)) (k : ℕ) (h : Option (List FileRow)) (f : ℕ)
+    (none : q ≡ []) (whole : b ≡ record { left = 1000000; cut = false }) where
+  abbrev w : World Kept
+  w = delivered s (beginning_of st)
 
-pub repeated_parts : (i j n : ℕ) (text : List ℕ) → i + j ≡ n → repeated n text ≡ repeated i text ++ repeated j text
-repeated_parts zero j n text is = let e : n ≡ j = omega arith in ap (λ (k : ℕ). repeated k text) e
-repeated_parts (suc i) j n text is =
-    let e : n ≡ suc (i + j) = omega arith in
-    ap (λ (k : ℕ). repeated k text) e ∙ ap (λ (x : List ℕ). text ++ x) (repeated_parts i j (i + j) text refl) ∙ sym (append_assoc text (repeated i text) (repeated j text))
+  module _ (left : IsLeft (kept_with s' queue) budget t₁ t₂ (outcome s.net s.time (from s q b) st))
+      (file : s'.file ≡ s.file) (net : s'.net ≡ s.net) (time : s'.time ≡ s.time) (block_end : s'.block_end ≡ s.block_end) (fired : s'.fired ≡ s.fired) where
+    kept : kept_with s' queue ≡ w.kept
+    kept = left.kept_is ∙ ap (λ (v : World Kept). v.kept) (final_is s st q b none whole)
 
-pub lines_more : (i : ℕ) (text : List ℕ) (t₁ t₂ t₃ : Option (List ℕ)) → t₂ ≡ grown t₁ (repeated i text) → t₃ ≡ grown t₂ text → t₃ ≡ grown t₁ (repeated (i + 1) text)
-lines_more i text t₁ t₂ t₃ is more =
-    let e : suc i ≡ i + 1 = omega arith in
-    more ∙ ap (λ (o : Option (List ℕ)). grown o text) is ∙ grown-grown t₁ (repeated i text) text
-    ∙ ap (grown t₁) (repeated_more i text ∙ ap (λ (k : ℕ). repeated k text) e)
+    comes : Comes (λ x. after_deliveries x w) (with_ahead s) (with_ahead s') (sinks t₁ u k h f) (sinks t₂ u k h f)
+    comes = delivers s s' w queue t₁ t₂ u k h f kept (left.said ∙ ap (λ (v : World Kept). grown t₁ v.said) (final_is s st q b none whole)) file net time block_end fired
 
-pub lines_break : (i n : ℕ) (text : List ℕ) (t₁ t₂ t₃ : Option (List ℕ)) → i < n → t₂ ≡ grown t₁ (repeated i text) → TookPart t₂ t₃ text → TookPart t₁ t₃ (repeated n text)
-lines_break i n text t₁ t₂ t₃ lt is took =
-    let rest = repeated_parts i (suc (n - i - 1)) n text (omega arith) in
-    subst (λ (x : List ℕ). TookPart t₁ t₃ x) (sym rest)
-    (took_after t₁ t₂ t₃ (repeated i text) (repeated (suc (n - i - 1)) text) is (took_more t₂ t₃ text (repeated (n - i - 1) text) took))
+    asked : queue ≡ w.kept.queue
+    asked = ap (λ (x : Kept). x.queue) kept
 
--- an event says lines alone
-pub event_told : (s : Stage) (b : Beginning) → IsTold (event s b)
-unfolding event
-event_told s b = let w : World Kept = delivered s b in ap said (sym (lines-said (w.said ++ refusals w.kept.queue)))
+    pub event_comes : (s₂ : List Choice → Stage) (z : Sinks) → Comes (edits_taken queue) (with_ahead s') s₂ (sinks t₂ u k h f) z
+        → Comes (λ x. event x (beginning_of st)) (with_ahead s) s₂ (sinks t₁ u k h f) z
+    unfolding event
+    event_comes s₂ z c =
+        comes_then (λ x. after_deliveries x w) (edits_taken w.kept.queue) (with_ahead s) (with_ahead s') s₂ (sinks t₁ u k h f) (sinks t₂ u k h f) z comes
+        (subst (λ (x : Waiting). Comes (edits_taken x) (with_ahead s') s₂ (sinks t₂ u k h f) z) asked c)
 
--- an event leaves the time, the next block and the count of clocks
-pub event_fired : (s : Stage) (b : Beginning) → (event s b).stage.fired ≡ s.fired
-unfolding event
-event_fired s b = refl
+    pub event_breaks_late : (z : Sinks) → Stops (edits_taken queue) (with_ahead s') (sinks t₂ u k h f) z
+        → Stops (λ x. event x (beginning_of st)) (with_ahead s) (sinks t₁ u k h f) z
+    unfolding event
+    event_breaks_late z c =
+        stops_then (λ x. after_deliveries x w) (edits_taken w.kept.queue) (with_ahead s) (with_ahead s') (sinks t₁ u k h f) (sinks t₂ u k h f) z comes
+        (subst (λ (x : Waiting). Stops (edits_taken x) (with_ahead s') (sinks t₂ u k h f) z) asked c)
 
--- blocks
-pub blocks_none : (n to : ℕ) (s : Stage) → to < s.block_end → blocks_run n to s ≡ still s
-unfolding blocks_run
-blocks_none zero to s later = refl
-blocks_none (suc n) to s later = rw (lt-leb s.block_end to later) refl
+  -- the lines of the deliveries were taken in part
+  broke : TookPart t₁ t₂ w.said → Stops (λ x. after_deliveries x w) (with_ahead s) (sinks t₁ u k h f) (sinks t₂ u k h f)
+  broke took = written_breaks (λ m. with_kept (with_ahead s m) w.kept) w.said t₁ t₂ u k h f took
 
-pub blocks_one : (n to : ℕ) (s : Stage) → s.block_end ≤ to → blocks_run (suc n) to s ≡ followed_by (block_runs s) (blocks_run n to)
-unfolding blocks_run
-blocks_one n to s due = rw (le-leb s.block_end to due) refl
+  pub event_breaks : TookPart t₁ t₂ (outcome s.net s.time (from s q b) st).said → Stops (λ x. event x (beginning_of st)) (with_ahead s) (sinks t₁ u k h f) (sinks t₂ u k h f)
+  unfolding event
+  event_breaks took =
+      stops_first (λ x. after_deliveries x w) (edits_taken w.kept.queue) (with_ahead s) (sinks t₁ u k h f) (sinks t₂ u k h f)
+      (broke (subst (λ (v : World Kept). TookPart t₁ t₂ v.said) (final_is s st q b none whole) took))

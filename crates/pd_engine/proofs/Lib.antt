@@ -2,8 +2,10 @@ pub mod BlockLemmas
 pub mod ClockLemmas
 pub mod CommandLemmas
 pub mod EventLemmas
+pub mod MakingLemmas
 pub mod OpeningLemmas
+pub mod RewireLemmas
+pub mod SavingLemmas
 pub mod ShowLemmas
-pub mod StoppedLemmas
 pub mod TimeLemmas
 pub mod WholeLemmas

@@ -1,5 +1,5 @@
 -- How files are read, documents refused, and patches opened.
-use Rattle.std.proofs.Common.{◌≡◌, ℕ, Bool, true, false, List, [], length, nat_le, refl, sym, ◌∙◌, ap, subst, Option, Some, None, Result, Ok, Err, IfSome, IfOk, IfErr, OnErr, inr, if◌then◌else◌}
+use Rattle.std.proofs.Common.{◌≡◌, arith, ℕ, Bool, true, false, List, [], length, nat_le, refl, sym, ◌∙◌, ap, subst, Option, Some, None, Result, Ok, Err, IfSome, IfOk, IfErr, OnErr, inr, if◌then◌else◌}
 use Rattle.pd_io.specs.Rows.{held_at, answer_of, handed_out}
 use Rattle.pd_io.specs.Stream.{TookPart, grown as lines_grown}
 use Rattle.pd_io.specs.declared.files.FileRow.{FileRow}
@@ -33,14 +33,17 @@ use Rattle.pd_engine.specs.declared.engine.Engine.{Engine}
 use Rattle.pd_engine.specs.declared.refusals.OpenRefusal.{OpenRefusal}
 use Rattle.pd_engine.specs.declared.refusals.OpenRefusal.TheVariants.{Absent, Bad, ShelfFault, WriteFault, NoMemory}
 use Rattle.pd_engine.specs.Refusals.{unread, ungathered, ungrown}
-use Rattle.pd_stage.specs.Stages.{Stage, saying, Says}
-use Rattle.pd_engine.specs.Stages.{stage_of}
-use Rattle.pd_stage.specs.Events.{Beginning, event, Loading}
-use Rattle.pd_engine.proofs.EventLemmas.{event_told}
+use Rattle.pd_stage.specs.Choices.{Choice}
+use Rattle.pd_stage.specs.Items.{Item}
+use Rattle.pd_stage.specs.Stages.{Stage, Taken, Passage, still, saying}
+use Rattle.pd_stage.specs.Leads.{sinks, Took, Comes, Stops, Says, SaysPart}
+use Rattle.pd_engine.specs.Stages.{stage_at}
+use Rattle.pd_stage.specs.Events.{event, Loading}
+use Rattle.pd_stage.specs.Times.{block_units}
+use Rattle.pd_engine.proofs.ClockLemmas.{stage_with}
 use Rattle.pd_engine.specs.Remarks.{remarks_text}
-use Rattle.pd_engine.specs.Opening.{first_stage, loaded, opened, growth_of, Grows, Opens, IsUngathered, IsUngrown, IsRefused, text_read, IsUnreadText, IsUnread, Reads}
-use Rattle.pd_stage.specs.Items.{lines_of}
-use Rattle.pd_stage.proofs.PassageLemmas.{IsTold, told_lines, told_joined, says_followed, says_lines, lines_torn, lines_broke, lines_broke_after}
+use Rattle.pd_engine.specs.Opening.{first_stage, loaded, opening, growth_of, Grows, Opens, IsUngathered, IsUngrown, IsRefused, text_read, IsUnreadText, IsUnread, Reads}
+use Rattle.pd_stage.proofs.LeadLemmas.{leads_same, broke_same, comes_then, stops_first, stops_then, written_leads, written_breaks}
 
 -- the shelf's answer to a fetch, and what it hands out
 found_if : (t : Bool) (b bytes : List ℕ) → fetched.Found ≡ (if t then fetched.Found else fetched.TooLong) → bytes ≡ (if t then b else [])
@@ -111,47 +114,77 @@ grow_refused s rate grow.TooManyWires none h = (refl, h)
 grow_refused s rate grow.TooMuchSound none h = (refl, h)
 grow_refused s rate grow.NoMemory none h = tt
 
--- an opening says lines alone
-pub opened_told : (p : Patch) (table : Names) → IsTold (opened p table)
-opened_told p table =
-    let s : Stage = first_stage p table in
-    let lines : List ℕ = remarks_text table p (notices_in p.grove p.web p.orders.items) in
-    let b : Beginning = Loading (loads_among p.grove (keys_in_order p.grove)) in
-    told_joined (saying s lines) (event s b) (told_lines s lines) (event_told s b)
+-- a patch that has grown stands at its first stage
+pub begins_at : (file : List ℕ) (p : Patch) (names : Names) (time end : ℕ) → time ≡ 0 → end ≡ block_units → stage_with file p names time end 0 ≡ first_stage file p names
+begins_at file p names time end zero one = ap (λ (t : ℕ). stage_with file p names t end 0) zero ∙ ap (λ (t : ℕ). stage_with file p names 0 t 0) one
+
+-- nobody reads how many looks there were
+took_unlooked : (t t' u : Option (List ℕ)) (k k' n : ℕ) (h : Option (List FileRow)) (f : ℕ) (items : List Item) (edits : List Taken) → Took (sinks t u k h f) (sinks t' u k' h f) items edits
+    → Took (sinks t u n h f) (sinks t' u n h f) items edits
+took_unlooked t t' u k k' n h f items edits a =
+    record { lines_are = a.lines_are; samples_are = a.samples_are; few_looks = omega arith; held_are = a.held_are; few_faults = a.few_faults }
+
+pub says_unlooked : (part : Stage → Passage) (from to : List Choice → Stage) (t t' : Option (List ℕ)) (k k' : ℕ) → Says part from to t t' k k' → (n : ℕ) → Says part from to t t' n n
+says_unlooked part from to t t' k k' says n = λ samples held faults.
+    let a : Comes part from to (sinks t samples k held faults) (sinks t' samples k' held faults) = says samples held faults in
+    record { items = a.items; edits = a.edits; same = a.same; took = took_unlooked t t' samples k k' n held faults a.items a.edits a.took; lawful = a.lawful }
+
+pub part_unlooked : (part : Stage → Passage) (from : List Choice → Stage) (t t' : Option (List ℕ)) (k k' : ℕ) → SaysPart part from t t' k k' → (n : ℕ) → SaysPart part from t t' n n
+part_unlooked part from t t' k k' says n = λ samples held faults.
+    let a : Stops part from (sinks t samples k held faults) (sinks t' samples k' held faults) = says samples held faults in
+    record { items = a.items; edits = a.edits; begins = a.begins; took = took_unlooked t t' samples k k' n held faults a.items a.edits a.took; lawful = a.lawful }
 
 -- lines are said, and then boxes are loaded
-pub loads_after : (s s' : Stage) (text boxes told : List ℕ) (t₁ t₂ t₃ : Option (List ℕ)) → t₂ ≡ lines_grown t₁ text → told ≡ boxes
-    → Says (event s (Loading told)) s' t₂ t₃ → Says (loaded s text boxes) s' t₁ t₃
-loads_after s s' text boxes told t₁ t₂ t₃ is same says =
-    says_followed (saying s text) (λ (x : Stage). event x (Loading boxes)) s s' t₁ t₂ t₃ (says_lines s s text t₁ t₂ refl is)
-    (subst (λ (b : List ℕ). Says (event s (Loading b)) s' t₂ t₃) same says)
+module _ (s s₂ : List Choice → Stage) (text boxes told : List ℕ) (t₁ t₂ t₃ u : Option (List ℕ)) (k : ℕ) (h : Option (List FileRow)) (f : ℕ) where
+  abbrev loads : Stage → Passage
+  loads x = event x (Loading boxes)
 
-pub loads_torn : (s : Stage) (text boxes told : List ℕ) (t₁ t₂ t₃ : Option (List ℕ)) → t₂ ≡ lines_grown t₁ text → told ≡ boxes
-    → TookPart t₂ t₃ (lines_of (event s (Loading told)).items) → TookPart t₁ t₃ (lines_of (loaded s text boxes).items)
-loads_torn s text boxes told t₁ t₂ t₃ is same took =
-    lines_broke_after (saying s text) (λ (x : Stage). event x (Loading boxes)) s t₁ t₂ t₃ (says_lines s s text t₁ t₂ refl is)
-    (subst (λ (b : List ℕ). TookPart t₂ t₃ (lines_of (event s (Loading b)).items)) same took)
+  module _ (is : t₂ ≡ lines_grown t₁ text) (same : told ≡ boxes) where
+    pub loads_after : Comes (λ x. event x (Loading told)) s s₂ (sinks t₂ u k h f) (sinks t₃ u k h f) → Comes (λ x. loaded x text boxes) s s₂ (sinks t₁ u k h f) (sinks t₃ u k h f)
+    loads_after c =
+        comes_then (λ x. saying x text) loads s s s₂ (sinks t₁ u k h f) (sinks t₂ u k h f) (sinks t₃ u k h f) (written_leads s text t₁ t₂ u k h f is)
+        (subst (λ (b : List ℕ). Comes (λ x. event x (Loading b)) s s₂ (sinks t₂ u k h f) (sinks t₃ u k h f)) same c)
 
-pub loads_broken : (s : Stage) (text boxes : List ℕ) (t₁ t₂ : Option (List ℕ)) → TookPart t₁ t₂ text → TookPart t₁ t₂ (lines_of (loaded s text boxes).items)
-loads_broken s text boxes t₁ t₂ took = lines_broke (saying s text) (λ (x : Stage). event x (Loading boxes)) t₁ t₂ (lines_torn s text t₁ t₂ took)
+    pub loads_torn : Stops (λ x. event x (Loading told)) s (sinks t₂ u k h f) (sinks t₃ u k h f) → Stops (λ x. loaded x text boxes) s (sinks t₁ u k h f) (sinks t₃ u k h f)
+    loads_torn c =
+        stops_then (λ x. saying x text) loads s s (sinks t₁ u k h f) (sinks t₂ u k h f) (sinks t₃ u k h f) (written_leads s text t₁ t₂ u k h f is)
+        (subst (λ (b : List ℕ). Stops (λ x. event x (Loading b)) s (sinks t₂ u k h f) (sinks t₃ u k h f)) same c)
+
+  pub loads_broken : TookPart t₁ t₂ text → Stops (λ x. loaded x text boxes) s (sinks t₁ u k h f) (sinks t₂ u k h f)
+  loads_broken took = stops_first (λ x. saying x text) loads s (sinks t₁ u k h f) (sinks t₂ u k h f) (written_breaks s text t₁ t₂ u k h f took)
 
 -- a patch that has grown opens
 module _ (holds : Option (List FileRow)) (name : List ℕ) (rate : Rate) (d : Page) (names : Names) (p : Patch) (table : Names) (remarks : List Remark) (boxes : List ℕ)
     (t t' : Option (List ℕ)) (grows : Grows holds name rate d names p table) (notes : remarks ≡ notices_in p.grove p.web p.orders.items)
     (loads : boxes ≡ loads_among p.grove (keys_in_order p.grove)) where
-  same : loaded (first_stage p table) (remarks_text table p remarks) boxes ≡ opened p table
-  same =
-      ap (λ (x : List Remark). loaded (first_stage p table) (remarks_text table p x) boxes) notes
-      ∙ ap (λ (x : List ℕ). loaded (first_stage p table) (remarks_text table p (notices_in p.grove p.web p.orders.items)) x) loads
+  same : (s : Stage) → loaded s (remarks_text table p remarks) boxes ≡ opening p table s
+  same s =
+      ap (λ (x : List Remark). loaded s (remarks_text table p x) boxes) notes
+      ∙ ap (λ (x : List ℕ). loaded s (remarks_text table p (notices_in p.grove p.web p.orders.items)) x) loads
 
   pub opens_so : (r : Result Engine OpenRefusal) → IfOk r (λ e. e.library ≡ grows.files.files)
-      → IfOk r (λ e. Says (loaded (first_stage p table) (remarks_text table p remarks) boxes) (stage_of e) t t')
-      → IfOk r (λ e. Opens holds name rate d names e.library (stage_of e) t t')
-  opens_so (Ok e) keeps says = record { patch = p; table = table; grows = grows; keeps = keeps; says = subst (λ x. Says x (stage_of e) t t') same says }
+      → IfOk r (λ e. (looks : ℕ) → Says (λ s. loaded s (remarks_text table p remarks) boxes) (first_stage name p table) (stage_at e) t t' looks looks)
+      → IfOk r (λ e. Opens holds name rate d names e.library (stage_at e) t t')
+  opens_so (Ok e) keeps says = record {
+    patch = p;
+    table = table;
+    grows = grows;
+    keeps = keeps;
+    says = λ looks samples held faults. leads_same (λ m. loaded (first_stage name p table m) (remarks_text table p remarks) boxes) (λ m. opening p table (first_stage name p table m)) (λ m. still (stage_at e m)) _ _
+        (λ m. sym (same (first_stage name p table m))) (says looks samples held faults);
+  }
   opens_so (Err e) keeps says = tt
 
-  pub breaks_so : (r : Result Engine OpenRefusal) → OnErr r (TookPart t t' (lines_of (loaded (first_stage p table) (remarks_text table p remarks) boxes).items))
+  pub breaks_so : (r : Result Engine OpenRefusal)
+      → OnErr r ((looks : ℕ) → SaysPart (λ s. loaded s (remarks_text table p remarks) boxes) (first_stage name p table) t t' looks looks)
       → IfErr r (λ e. e ≡ WriteFault) → IfErr r (IsRefused holds name rate d names t t')
   breaks_so (Ok e) took is = tt
   breaks_so (Err e) took is =
-      inr (inr (record { patch = p; table = table; grows = grows; took = subst (λ x. TookPart t t' (lines_of x.items)) same took; is = is }))
+      inr (inr (record {
+        patch = p;
+        table = table;
+        grows = grows;
+        took = λ looks samples held faults. broke_same (λ m. loaded (first_stage name p table m) (remarks_text table p remarks) boxes) (λ m. opening p table (first_stage name p table m)) _ _
+            (λ m. sym (same (first_stage name p table m))) (took looks samples held faults);
+        is = is;
+      }))

@@ -1,18 +1,26 @@
 -- Where a path leads, and the numbers of boxes.
-use Rattle.std.proofs.Common.{◌≡◌, ℕ, List, [], ◌∷◌, ◌++◌, refl, sym, ◌∙◌, ap, Option, Some, None}
+use Rattle.std.proofs.Common.{◌≡◌, ℕ, true, List, [], ◌∷◌, ◌++◌, refl, sym, ◌∙◌, ap, append_assoc, Option, Some, None}
 use Rattle.std.proofs.Common.{subst}
 use Rattle.std.specs.Prelude.{codes, slice_get, option_and_then}
 use Rattle.pd_io.specs.Stream.{grown, TookPart}
-use Rattle.pd_say.proofs.GatheringLemmas.{took_more}
+use Rattle.pd_say.proofs.GatheringLemmas.{took_more, grown-grown}
 use Rattle.pd_order.specs.Listing.{Listing}
-use Rattle.pd_patch.specs.Telling.{order_in}
-use Rattle.pd_stage.proofs.PassageLemmas.{took_after}
+use Rattle.pd_patch.specs.Telling.{order_in, is_looped}
 use Rattle.slab.specs.Slab.{get}
 use Rattle.pd_grove.specs.declared.nodes.Node.{Node}
 use Rattle.pd_grove.specs.Telling.{inner_in, keys_in, step_in, reached}
 use Rattle.pd_patch.specs.declared.patch.Patch.{Patch}
 use Rattle.pd_hearing.specs.Worlds.{bare, net_of}
-use Rattle.pd_engine.specs.Commands.{step_to, led_to, boxes_text}
+use Rattle.pd_engine.specs.Commands.{step_to, led_to}
+use Rattle.pd_stage.specs.Lines.{boxes_text, loop_text, loops_text}
+
+-- what was taken after this much was taken
+took_after : (t₁ t₂ t₃ : Option (List ℕ)) (a b : List ℕ) → t₂ ≡ grown t₁ a → TookPart t₂ t₃ b → TookPart t₁ t₃ (a ++ b)
+took_after t₁ t₂ t₃ a b is took = record {
+  part = a ++ took.part;
+  begins = record { rest = took.begins.rest; is = ap (λ (x : List ℕ). a ++ x) took.begins.is ∙ sym (append_assoc a took.part took.begins.rest) };
+  is = took.is ∙ ap (λ (o : Option (List ℕ)). grown o took.part) is ∙ grown-grown t₁ a took.part;
+}
 
 inner_bare : (o : Option Node) → inner_in (bare o) ≡ inner_in o
 inner_bare None = refl
@@ -41,6 +49,10 @@ pub order_none : (p : Patch) (path : List ℕ) → None ≡ reached p.grove (Som
     → None ≡ option_and_then {T = ℕ} {U = Listing} (λ k. order_in p.orders.items k) (led_to (net_of p) (Some p.grove.root) path)
 order_none p path is =
     ap (λ (r : Option ℕ). option_and_then {T = ℕ} {U = Listing} (λ k. order_in p.orders.items k) r) (is ∙ sym (led_is p (Some p.grove.root) path))
+
+-- the line of a canvas whose boxes feed one another in a loop
+pub loops_some : (p : Patch) (canvas : ℕ) → is_looped (order_in p.orders.items canvas) ≡ true → loops_text p canvas ≡ loop_text p canvas
+loops_some p canvas is = rw is refl
 
 -- the lines of an order were taken in part
 pub first_broke : (path a a' rest : List ℕ) (t t' : Option (List ℕ)) → a ≡ a' → TookPart t t' (boxes_text (codes "chain ") path a)

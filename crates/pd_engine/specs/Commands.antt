@@ -1,15 +1,11 @@
 -- What a command leads to.
-use Rattle.std.specs.Prelude.{ℕ, Bool, List, [], ◌∷◌, ◌++◌, codes, length, map, take, nat_lt, slice_get, Option, Some, None, option_and_then, if◌then◌else◌}
-use Rattle.std.specs.List.{concat}
+use Rattle.std.specs.Prelude.{◌≡◌, ℕ, Bool, List, [], ◌∷◌, ◌++◌, codes, length, nat_lt, slice_get, Option, Some, None, option_and_then, if◌then◌else◌}
 use Rattle.slab.specs.Slab.{get}
 use Rattle.pd_atom.specs.declared.Atom.{Atom}
 use Rattle.pd_kind.specs.Forming.{cut_atoms}
 use Rattle.pd_order.specs.Listing.{Listing}
 use Rattle.pd_grove.specs.Telling.{keys_in, inner_in}
-use Rattle.pd_patch.specs.Telling.{order_in, number_in}
-use Rattle.pd_say.specs.Lines.{refusal_text}
-use Rattle.pd_say.specs.Paths.{path_text, marked}
-use Rattle.pd_say.specs.declared.refusals.Request.TheVariants as request
+use Rattle.pd_patch.specs.Telling.{order_in}
 use Rattle.pd_say.specs.declared.refusals.Why.{Why}
 use Rattle.pd_say.specs.declared.refusals.Why.TheVariants as why
 use Rattle.pd_script.specs.declared.commands.Command.{Command}
@@ -17,9 +13,13 @@ use Rattle.pd_script.specs.declared.commands.Command.TheVariants as command
 use Rattle.pd_hearing.specs.Worlds.{Net}
 use Rattle.pd_engine.specs.declared.refusals.Outcome.{Outcome}
 use Rattle.pd_engine.specs.declared.refusals.Outcome.TheVariants.{Done, Refused, Nothing}
-use Rattle.pd_engine.specs.declared.refusals.EditRefusal.TheVariants.{NoDocument}
-use Rattle.pd_stage.specs.Stages.{Stage, Passage, saying, joined}
-use Rattle.pd_stage.specs.Events.{event, Message}
+use Rattle.pd_wiring.specs.declared.refusals.EditRefusal.TheVariants.{NoDocument, NoCanvas, NoBox, NoPort, NoWire, SignalIntoControl, TextTooLong, TooDeep, ShelfFault, SymbolsFull, TooManyBoxes, TooManyWires, TooMuchSound, NoMemory}
+use Rattle.pd_stage.specs.Choices.{Edits, Saves, Undoes, Redoes, Choice}
+use Rattle.pd_stage.specs.Choices as stage
+use Rattle.pd_stage.specs.Stages.{Stage, Taken, Passage, saying, joined}
+use Rattle.pd_stage.specs.Lines.{numbers_told, boxes_text}
+use Rattle.pd_stage.specs.Leads.{Sinks, Comes}
+use Rattle.pd_stage.specs.Events.{event, Message, edit_taken}
 use Rattle.pd_engine.specs.Messages.{message_in}
 
 -- the canvas to which a path of box numbers leads from a canvas
@@ -29,17 +29,6 @@ step_to net canvas number = option_and_then (λ k. inner_in (net.nodes k)) (slic
 abbrev pub led_to : Net → Option ℕ → List ℕ → Option ℕ
 led_to net here [] = here
 led_to net here (n ∷ path) = led_to net (option_and_then (λ canvas. step_to net canvas n) here) path
-
--- a line tells the numbers of 16,384 boxes at most; a patch has no more
-abbrev pub most_boxes : ℕ
-most_boxes = 16384
-
-abbrev pub numbers_told : Net → List ℕ → List ℕ
-numbers_told net boxes = map (number_in net.numbers.items) (take most_boxes boxes)
-
--- a line with the numbers of boxes of the canvas at a path
-abbrev pub boxes_text : List ℕ → List ℕ → List ℕ → List ℕ
-boxes_text word path numbers = concat (word ∷ path_text path ∷ codes ":" ∷ marked 32 numbers ∷ codes "\n" ∷ [])
 
 -- the signal order of a canvas
 abbrev pub order_text : Net → List ℕ → Option Listing → List ℕ
@@ -60,25 +49,53 @@ abbrev pub sent : ℕ → List Atom → Stage → Passage
 sent name atoms s =
     joined (saying s (cut_text (message_in atoms).atoms)) (event s (Message name (message_in atoms).selector (cut_atoms (message_in atoms).atoms)))
 
--- Editing isn't there yet: an edit and a save are refused, and there is nothing to undo or redo.
+-- A message is sent by an event. What an edit, a save, an undo or a redo comes to is told by what is ahead.
 unfoldable pub commanded : Command → Stage → Passage
 commanded (command.Send name atoms) s = sent name atoms s
-commanded (command.Edit place edit) s = saying s (refusal_text request.Edit why.NoDocument)
-commanded (command.Save document) s = saying s (refusal_text request.Save why.NoDocument)
+commanded (command.Edit place edit) s = edit_taken (Edits place.document place.path edit) s
+commanded (command.Save document) s = edit_taken (Saves document) s
 commanded (command.Show path) s = saying s (shown s.net path)
-commanded command.Undo s = saying s (refusal_text request.Undo why.NothingToUndo)
-commanded command.Redo s = saying s (refusal_text request.Redo why.NothingToRedo)
+commanded command.Undo s = edit_taken Undoes s
+commanded command.Redo s = edit_taken Redoes s
 
--- what a refused command answers
+-- what is answered to what is refused for a reason
 abbrev pub refused_as : Why → Outcome
 refused_as why.NothingToUndo = Nothing
 refused_as why.NothingToRedo = Nothing
-refused_as _ = Refused NoDocument
+refused_as why.NoDocument = Refused NoDocument
+refused_as why.NoCanvas = Refused NoCanvas
+refused_as (why.NoBox number) = Refused (NoBox number)
+refused_as (why.NoPort number port outlet) = Refused (NoPort number port outlet)
+refused_as why.NoWire = Refused NoWire
+refused_as why.SignalIntoControl = Refused SignalIntoControl
+refused_as why.TextTooLong = Refused TextTooLong
+refused_as why.TooDeep = Refused TooDeep
+refused_as why.ShelfFault = Refused ShelfFault
+refused_as why.SymbolsFull = Refused SymbolsFull
+refused_as why.TooManyBoxes = Refused TooManyBoxes
+refused_as why.TooManyWires = Refused TooManyWires
+refused_as why.TooMuchSound = Refused TooMuchSound
+refused_as why.NoMemory = Refused NoMemory
 
--- what a command answers
-abbrev pub answered : Command → Outcome
-answered (command.Edit place edit) = Refused NoDocument
-answered (command.Save document) = Refused NoDocument
-answered command.Undo = Nothing
-answered command.Redo = Nothing
-answered c = Done
+-- what is answered where an edit, a save, an undo or a redo came to this
+abbrev pub outcome_of : Choice → Outcome
+outcome_of (stage.Refuses reason) = refused_as reason
+outcome_of (stage.Lacks net) = Refused NoMemory
+outcome_of (stage.Makes m) = Done
+
+abbrev pub first_outcome : List Taken → Outcome
+first_outcome [] = Done
+first_outcome (t ∷ edits) = outcome_of t.choice
+
+-- what a command answers, by the edits that were taken
+abbrev pub answered : Command → List Taken → Outcome
+answered (command.Edit place edit) edits = first_outcome edits
+answered (command.Save document) edits = first_outcome edits
+answered command.Undo edits = first_outcome edits
+answered command.Redo edits = first_outcome edits
+answered c edits = Done
+
+-- a command was carried out, and answers so
+pub record IsCarriedOut (cmd : Command) (outcome : Outcome) (from to : List Choice → Stage) (old new : Sinks) : Type 0 where
+  pub comes : Comes (commanded cmd) from to old new
+  pub answer : outcome ≡ answered cmd comes.edits

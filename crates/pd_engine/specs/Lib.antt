@@ -1,5 +1,6 @@
 pub mod Causes
 pub mod Commands
+pub mod Edits
 pub mod Messages
 pub mod Opening
 pub mod Refusals

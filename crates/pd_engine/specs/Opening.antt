@@ -2,7 +2,6 @@
 -- its load boxes send.
 use Rattle.std.specs.Prelude.{◌≡◌, ◌⊎◌, ℕ, List, [], Option, Result, Ok, Err, IfSome}
 use Rattle.pd_io.specs.Rows.{held_at}
-use Rattle.pd_io.specs.Stream.{TookPart}
 use Rattle.pd_io.specs.declared.files.FileRow.{FileRow}
 use Rattle.pd_atom.specs.Names.{Names, IsTable, first_names}
 use Rattle.pd_canvas.specs.Pages.{Page}
@@ -29,16 +28,18 @@ use Rattle.pd_engine.specs.declared.refusals.OpenRefusal.{OpenRefusal}
 use Rattle.pd_engine.specs.declared.refusals.OpenRefusal.TheVariants.{Absent, Bad, ShelfFault, WriteFault, NoMemory}
 use Rattle.pd_engine.specs.declared.refusals.BadCause.{BadCause}
 use Rattle.pd_engine.specs.declared.refusals.BadCause.TheVariants as cause
-use Rattle.pd_stage.specs.Items.{lines_of}
-use Rattle.pd_stage.specs.Stages.{Stage, Passage, saying, joined, Says}
+use Rattle.pd_stage.specs.Choices.{Choice}
+use Rattle.pd_stage.specs.Stages.{Stage, Passage, saying, joined}
+use Rattle.pd_stage.specs.Leads.{Says, SaysPart}
 use Rattle.pd_stage.specs.Events.{event, Loading}
 use Rattle.pd_engine.specs.Refusals.{unread}
 use Rattle.pd_engine.specs.Remarks.{remarks_text}
 use Rattle.pd_stage.specs.Times.{block_units}
 
--- a patch that has just grown, with these names: the time is 0, and the first block is to come
-abbrev pub first_stage : Patch → Names → Stage
-first_stage p names = record {
+-- a patch that has just grown from the file of this name, with these names: the time is 0, the first block is to come, and the edits to come lead to this
+abbrev pub first_stage : List ℕ → Patch → Names → List Choice → Stage
+first_stage file p names ahead = record {
+  file = file;
   net = net_of p;
   states = states_of p;
   clocks = p.timers.clocks.clocks;
@@ -46,6 +47,7 @@ first_stage p names = record {
   time = 0;
   block_end = block_units;
   fired = 0;
+  ahead = ahead;
 }
 
 -- these lines are said, and then these boxes are loaded
@@ -53,9 +55,11 @@ abbrev pub loaded : Stage → List ℕ → List ℕ → Passage
 loaded s lines boxes = joined (saying s lines) (event s (Loading boxes))
 
 -- a patch that has grown opens, with these names
-abbrev pub opened : Patch → Names → Passage
-opened p names =
-    loaded (first_stage p names) (remarks_text names p (notices_in p.grove p.web p.orders.items)) (loads_among p.grove (keys_in_order p.grove))
+abbrev pub opening : Patch → Names → Stage → Passage
+opening p names s = loaded s (remarks_text names p (notices_in p.grove p.web p.orders.items)) (loads_among p.grove (keys_in_order p.grove))
+
+abbrev pub opened : List ℕ → Patch → Names → List Choice → Passage
+opened file p names ahead = opening p names (first_stage file p names ahead)
 
 -- The growth of a document, the files being known.
 abbrev pub growth_of : List ℕ → Page → Known → Step Tree
@@ -81,12 +85,12 @@ pub record Grows (holds : Option (List FileRow)) (name : List ℕ) (rate : Rate)
   pub fresh : IsFresh p names' name rate
 
 -- A document with its names opens as an engine that keeps the files that were gathered and stands at this stage, and its lines were taken.
-pub record Opens (holds : Option (List FileRow)) (name : List ℕ) (rate : Rate) (d : Page) (names : Names) (library : Files) (s : Stage) (lines lines' : Option (List ℕ)) : Type 0 where
+pub record Opens (holds : Option (List FileRow)) (name : List ℕ) (rate : Rate) (d : Page) (names : Names) (library : Files) (s : List Choice → Stage) (lines lines' : Option (List ℕ)) : Type 0 where
   pub patch : Patch
   pub table : Names
   pub grows : Grows holds name rate d names patch table
   pub keeps : library ≡ grows.files.files
-  pub says : Says (opened patch table) s lines lines'
+  pub says : (looks : ℕ) → Says (opening patch table) (first_stage name patch table) s lines lines' looks looks
 
 -- The table of names is full while the files are gathered, or the folder failed, or memory was wanting.
 abbrev pub IsUngathered : Option (List FileRow) → List ℕ → Page → Names → OpenRefusal → Type 0
@@ -127,7 +131,7 @@ pub record BreaksOff (holds : Option (List FileRow)) (name : List ℕ) (rate : R
   pub patch : Patch
   pub table : Names
   pub grows : Grows holds name rate d names patch table
-  pub took : TookPart lines lines' (lines_of (opened patch table).items)
+  pub took : (looks : ℕ) → SaysPart (opening patch table) (first_stage name patch table) lines lines' looks looks
   pub is : e ≡ WriteFault
 
 -- why a document with its names doesn't open
@@ -169,7 +173,7 @@ IsUnread holds name names WriteFault = ⊥
 IsUnread holds name names NoMemory = Unit {0}
 
 -- the file of a name is read, and opens as an engine that keeps these files and stands at this stage
-pub record OpensFile (holds : Option (List FileRow)) (name : List ℕ) (rate : Rate) (library : Files) (s : Stage) (lines lines' : Option (List ℕ)) : Type 0 where
+pub record OpensFile (holds : Option (List FileRow)) (name : List ℕ) (rate : Rate) (library : Files) (s : List Choice → Stage) (lines lines' : Option (List ℕ)) : Type 0 where
   pub document : Page
   pub names : Names
   pub reads : Reads holds name first_names (Ok (document, names))

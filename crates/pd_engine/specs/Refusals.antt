@@ -1,10 +1,14 @@
--- Why a patch doesn't open, by what a layer below refused.
+-- Why a patch doesn't open, or isn't saved, by what a layer below refused.
+use Rattle.pd_io.specs.declared.shelves.ShelfError.{ShelfError}
+use Rattle.pd_io.specs.declared.shelves.ShelfError.TheVariants as shelf
 use Rattle.pd_doc.specs.declared.refusal.DocRefusal.{DocRefusal}
 use Rattle.pd_doc.specs.declared.refusal.DocRefusal.TheVariants as doc
 use Rattle.pd_gather.specs.declared.refusal.GatherRefusal.{GatherRefusal}
 use Rattle.pd_gather.specs.declared.refusal.GatherRefusal.TheVariants as gather
 use Rattle.pd_patch.specs.declared.refusal.GrowRefusal.{GrowRefusal}
 use Rattle.pd_patch.specs.declared.refusal.GrowRefusal.TheVariants as grow
+use Rattle.pd_wiring.specs.declared.refusals.EditRefusal.{EditRefusal}
+use Rattle.pd_wiring.specs.declared.refusals.EditRefusal.TheVariants as edit
 use Rattle.pd_engine.specs.declared.refusals.OpenRefusal.{OpenRefusal}
 use Rattle.pd_engine.specs.declared.refusals.OpenRefusal.TheVariants.{Bad, ShelfFault, NoMemory}
 use Rattle.pd_engine.specs.declared.refusals.BadCause.TheVariants as cause
@@ -33,3 +37,8 @@ ungrown grow.TooManyBoxes = Bad 0 cause.TooManyBoxes
 ungrown grow.TooManyWires = Bad 0 cause.TooManyWires
 ungrown grow.TooMuchSound = Bad 0 cause.TooMuchSound
 ungrown grow.NoMemory = NoMemory
+
+-- a save that fails
+abbrev pub unsaved : ShelfError → EditRefusal
+unsaved shelf.Failed = edit.ShelfFault
+unsaved shelf.NoMemory = edit.NoMemory

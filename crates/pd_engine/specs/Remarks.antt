@@ -10,18 +10,11 @@ use Rattle.pd_tree.specs.declared.rows.Fault.TheVariants.{Unknown, InsideItself,
 use Rattle.pd_patch.specs.declared.patch.Patch.{Patch}
 use Rattle.pd_patch.specs.declared.report.Remark.{Remark}
 use Rattle.pd_patch.specs.declared.report.Remark.TheVariants.{NotMade, Unfit, Loop}
-use Rattle.pd_patch.specs.Paths.{path_told}
 use Rattle.pd_patch.specs.Telling.{fault_in}
-use Rattle.pd_patch.specs.Values.{stuck_in}
 use Rattle.pd_say.specs.Lines.{named_error, file_error}
 use Rattle.pd_say.specs.Paths.{path_text}
 use Rattle.pd_hearing.specs.Guards.{is_atom}
-use Rattle.pd_hearing.specs.Worlds.{net_of}
-use Rattle.pd_engine.specs.Commands.{numbers_told, boxes_text}
-
--- the path to a canvas
-abbrev pub path_in : Patch → ℕ → List ℕ
-path_in p canvas = path_told (get p.grove.nodes) p.grove.boards p.numbers.items canvas
+use Rattle.pd_stage.specs.Lines.{path_in, loop_text}
 
 -- why a box could not be made that its line names so
 abbrev pub fault_text : Names → Atom → Fault → List ℕ
@@ -44,10 +37,6 @@ abbrev pub unfit_text : List ℕ → Wire → List ℕ
 unfit_text path w =
     concat (codes "error: wire " ∷ decimal w.source ∷ codes " " ∷ decimal w.outlet ∷ codes " " ∷ decimal w.sink ∷ codes " " ∷ decimal w.inlet ∷
     codes " does not fit at " ∷ path_text path ∷ codes "\n" ∷ [])
-
--- boxes of a canvas feed one another in a loop
-abbrev pub loop_text : Patch → ℕ → List ℕ
-loop_text p canvas = boxes_text (codes "error: signal loop at ") (path_in p canvas) (numbers_told (net_of p) (stuck_in p canvas))
 
 -- the line of a remark
 unfoldable pub remark_text : Names → Patch → Remark → List ℕ

@@ -1,11 +1,14 @@
 -- Where an engine stands.
+use Rattle.std.specs.Prelude.{List}
 use Rattle.pd_hearing.specs.Worlds.{net_of, states_of}
+use Rattle.pd_stage.specs.Choices.{Choice}
 use Rattle.pd_stage.specs.Stages.{Stage}
 use Rattle.pd_engine.specs.declared.engine.Engine.{Engine}
 
--- what an engine stands at
-abbrev pub stage_of : Engine → Stage
-stage_of e = record {
+-- what an engine stands at, where the edits to come lead to this
+abbrev pub stage_at : Engine → List Choice → Stage
+stage_at e ahead = record {
+  file = e.file.items;
   net = net_of e.patch;
   states = states_of e.patch;
   clocks = e.patch.timers.clocks.clocks;
@@ -13,4 +16,5 @@ stage_of e = record {
   time = e.time;
   block_end = e.block_end;
   fired = e.fired;
+  ahead = ahead;
 }

@@ -1,61 +1,123 @@
 //! Commands of the script.
 
-ghost use Rattle.std.specs.Prelude.{◌≡◌, ◌≤◌, OnOk, OnErr, IfOk};
+ghost use Rattle.std.specs.Prelude.{◌≡◌, ◌≤◌, ℕ, List, Option, OnOk, OnErr, IfOk};
 ghost use Rattle.pd_io.specs.Stream.{grown, TookPart};
+ghost use Rattle.pd_io.specs.declared.files.FileRow.{FileRow};
 ghost use Rattle.pd_say.specs.Gathering.{HasCause};
-ghost use Rattle.pd_say.specs.Lines.{refusal_text};
-ghost use Rattle.pd_stage.specs.Items.{lines_of};
-ghost use Rattle.pd_stage.specs.Stages.{saying, Says};
-ghost use Rattle.pd_engine.specs.Stages.{stage_of};
-ghost use Rattle.pd_engine.specs.Commands.{commanded, answered, sent, shown, cut_line, refused_as};
+ghost use Rattle.pd_stage.specs.Choices.{Wanted, Edits, Saves, request_of};
+ghost use Rattle.pd_stage.specs.Stages.{saying};
+ghost use Rattle.pd_stage.specs.Events.{edit_taken};
+ghost use Rattle.pd_stage.specs.Leads.{sinks, Stops, Says, SaysPart};
+ghost use Rattle.pd_engine.specs.Stages.{stage_at};
+ghost use Rattle.pd_engine.specs.Edits.{IsTakenSo, IsAlwaysRefused};
+ghost use Rattle.pd_engine.specs.Commands.{commanded, sent, shown, cut_line, refused_as, IsCarriedOut};
 
 use crate::engine::Engine;
 use crate::messages::{message_of, one_atom};
 use crate::printing::{print, print_refusal};
-use crate::refusals::{EditRefusal, Outcome};
+use crate::refusals::Outcome;
 use crate::showing::show;
 use pd_atom::{Atom, Sym};
-use pd_io::{Sink, SinkFailed};
+use pd_edit::EditRefusal;
+use pd_io::{Shelf, Sink, SinkFailed};
 use pd_kind::Message;
+use pd_order::Steps;
 use pd_say::{Line, Request, Why};
-use pd_script::Command;
+use pd_script::{Command, CommandEdit, CommandPlace};
 use pd_walk::Start;
+use std::sync::ledger::Ledger;
 
 impl Engine {
     /// Carries out a command.
     #[tactic(auto, unfolding(crate::specs::Commands::commanded))]
-    pub(crate) fn carry_out<L: Sink>(
+    pub(crate) fn carry_out<H: Shelf, L: Sink, K: Ledger>(
         &mut self,
         cmd: &Command,
+        shelf: &mut H,
         lines: &mut L,
+        steps: &mut Steps<K>,
     ) -> Result<Outcome, SinkFailed>
-        ensures ok { OnOk result (Says (commanded cmd.now (stage_of self.old)) (stage_of self.new) (L.taken lines.old) (L.taken lines.new)) }
-        ensures answer { IfOk result (λ outcome. outcome ≡ answered cmd.now) }
-        ensures err { OnErr result (TookPart (L.taken lines.old) (L.taken lines.new) (lines_of (commanded cmd.now (stage_of self.old)).items)) }
+        ensures ok { IfOk result (λ outcome. (samples : Option (List ℕ)) → IsCarriedOut cmd.now outcome (stage_at self.old) (stage_at self.new) (sinks (L.taken lines.old) samples steps.old (H.holds shelf.old) (H.faults shelf.old)) (sinks (L.taken lines.new) samples steps.new (H.holds shelf.new) (H.faults shelf.new))) }
+        ensures err { OnErr result ((samples : Option (List ℕ)) → Stops (commanded cmd.now) (stage_at self.old) (sinks (L.taken lines.old) samples steps.old (H.holds shelf.old) (H.faults shelf.old)) (sinks (L.taken lines.new) samples steps.new (H.holds shelf.new) (H.faults shelf.new))) }
         ensures cause { HasCause (L.faults lines.old) (L.faults lines.new) result }
+        ensures counted { H.faults shelf.old ≤ H.faults shelf.new }
         ensures stays { self.new.stopped ≡ self.old.stopped }
         ensures library { self.new.library ≡ self.old.library }
     {
         match cmd {
-            Command::Send { name, atoms } => self.send(*name, atoms.as_slice(), lines),
+            Command::Send { name, atoms } => self.send(*name, atoms.as_slice(), lines, steps),
             Command::Show { path } => self.show_at(path.as_slice(), lines),
-            Command::Edit { .. } => self.refuse(Request::Edit, Why::NoDocument, lines),
-            Command::Save { .. } => self.refuse(Request::Save, Why::NoDocument, lines),
-            Command::Undo => self.refuse(Request::Undo, Why::NothingToUndo, lines),
-            Command::Redo => self.refuse(Request::Redo, Why::NothingToRedo, lines),
+            Command::Edit { place, edit } => self.edit_at(place, edit, lines, steps),
+            Command::Save { document } => self.save_at(*document, shelf, lines),
+            Command::Undo => {
+                self.refuse(Request::Undo, Why::NothingToUndo, Outcome::Nothing, lines)
+            }
+            Command::Redo => {
+                self.refuse(Request::Redo, Why::NothingToRedo, Outcome::Nothing, lines)
+            }
+        }
+    }
+
+    /// Makes an edit of a canvas of a document. There are no drafts of abstractions yet.
+    fn edit_at<L: Sink, K: Ledger>(
+        &mut self,
+        place: &CommandPlace,
+        edit: &CommandEdit,
+        lines: &mut L,
+        steps: &mut Steps<K>,
+    ) -> Result<Outcome, SinkFailed>
+        ensures ok { IfOk result (λ outcome. (samples : Option (List ℕ)) (held : Option (List FileRow)) (faults : ℕ) →
+            IsTakenSo (Edits place.now.document place.now.path edit.now) outcome (stage_at self.old) (stage_at self.new) (sinks (L.taken lines.old) samples steps.old held faults) (sinks (L.taken lines.new) samples steps.new held faults)) }
+        ensures err { OnErr result (SaysPart (edit_taken (Edits place.now.document place.now.path edit.now)) (stage_at self.old) (L.taken lines.old) (L.taken lines.new) steps.old steps.new) }
+        ensures cause { HasCause (L.faults lines.old) (L.faults lines.new) result }
+        ensures stays { self.new.stopped ≡ self.old.stopped }
+        ensures library { self.new.library ≡ self.old.library }
+    {
+        match place.document {
+            None => self.edit_own(place.path.as_slice(), edit, lines, steps),
+            Some(_) => {
+                let outcome = Outcome::Refused(EditRefusal::NoDocument);
+                self.refuse(Request::Edit, Why::NoDocument, outcome, lines)
+            }
+        }
+    }
+
+    /// Saves a document. There are no drafts of abstractions yet.
+    fn save_at<H: Shelf, L: Sink>(
+        &mut self,
+        document: Option<Sym>,
+        shelf: &mut H,
+        lines: &mut L,
+    ) -> Result<Outcome, SinkFailed>
+        ensures ok { IfOk result (λ outcome. (samples : Option (List ℕ)) (looks : ℕ) →
+            IsTakenSo (Saves document) outcome (stage_at self.old) (stage_at self.new) (sinks (L.taken lines.old) samples looks (H.holds shelf.old) (H.faults shelf.old)) (sinks (L.taken lines.new) samples looks (H.holds shelf.new) (H.faults shelf.new))) }
+        ensures err { OnErr result ((samples : Option (List ℕ)) (looks : ℕ) →
+            Stops (edit_taken (Saves document)) (stage_at self.old) (sinks (L.taken lines.old) samples looks (H.holds shelf.old) (H.faults shelf.old)) (sinks (L.taken lines.new) samples looks (H.holds shelf.new) (H.faults shelf.new))) }
+        ensures cause { HasCause (L.faults lines.old) (L.faults lines.new) result }
+        ensures counted { H.faults shelf.old ≤ H.faults shelf.new }
+        ensures stays { self.new.stopped ≡ self.old.stopped }
+        ensures library { self.new.library ≡ self.old.library }
+    {
+        match document {
+            None => self.save_own(shelf, lines),
+            Some(_) => {
+                let outcome = Outcome::Refused(EditRefusal::NoDocument);
+                self.refuse(Request::Save, Why::NoDocument, outcome, lines)
+            }
         }
     }
 
     /// Sends the message of atoms to the receivers of a name.
-    fn send<L: Sink>(
+    fn send<L: Sink, K: Ledger>(
         &mut self,
         name: Sym,
         atoms: &[Atom],
         lines: &mut L,
+        steps: &mut Steps<K>,
     ) -> Result<Outcome, SinkFailed>
-        ensures ok { OnOk result (Says (sent name atoms.now (stage_of self.old)) (stage_of self.new) (L.taken lines.old) (L.taken lines.new)) }
+        ensures ok { OnOk result (Says (sent name atoms.now) (stage_at self.old) (stage_at self.new) (L.taken lines.old) (L.taken lines.new) steps.old steps.new) }
         ensures answer { IfOk result (λ outcome. outcome ≡ Outcome.Done) }
-        ensures err { OnErr result (TookPart (L.taken lines.old) (L.taken lines.new) (lines_of (sent name atoms.now (stage_of self.old)).items)) }
+        ensures err { OnErr result (SaysPart (sent name atoms.now) (stage_at self.old) (L.taken lines.old) (L.taken lines.new) steps.old steps.new) }
         ensures cause { HasCause (L.faults lines.old) (L.faults lines.new) result }
         ensures stays { self.new.stopped ≡ self.old.stopped }
         ensures library { self.new.library ≡ self.old.library }
@@ -67,14 +129,14 @@ impl Engine {
             atoms: formed.atoms,
         };
         self.say_cut(formed.is_cut, lines)?;
-        self.run_event(&Start::Name { name, message }, lines)?;
+        self.run_event(&Start::Name { name, message }, lines, steps)?;
         Ok(Outcome::Done)
     }
 
     /// Prints that a message was cut, where it was.
     #[tactic(auto, unfolding(pd_say::specs::Lines::text_of))]
     fn say_cut<L: Sink>(&mut self, is_cut: bool, lines: &mut L) -> Result<(), SinkFailed>
-        ensures stage { stage_of self.new ≡ stage_of self.old }
+        ensures stage { stage_at self.new ≡ stage_at self.old }
         ensures ok { OnOk result (L.taken lines.new ≡ grown (L.taken lines.old) (cut_line is_cut)) }
         ensures err { OnErr result (TookPart (L.taken lines.old) (L.taken lines.new) (cut_line is_cut)) }
         ensures cause { HasCause (L.faults lines.old) (L.faults lines.new) result }
@@ -89,9 +151,9 @@ impl Engine {
 
     /// Prints the signal order of the canvas at a path.
     fn show_at<L: Sink>(&mut self, path: &[u32], lines: &mut L) -> Result<Outcome, SinkFailed>
-        ensures ok { OnOk result (Says (saying (stage_of self.old) (shown (stage_of self.old).net path.now)) (stage_of self.new) (L.taken lines.old) (L.taken lines.new)) }
+        ensures ok { OnOk result ((looks : ℕ) → Says (λ s. saying s (shown s.net path.now)) (stage_at self.old) (stage_at self.new) (L.taken lines.old) (L.taken lines.new) looks looks) }
         ensures answer { IfOk result (λ outcome. outcome ≡ Outcome.Done) }
-        ensures err { OnErr result (TookPart (L.taken lines.old) (L.taken lines.new) (lines_of (saying (stage_of self.old) (shown (stage_of self.old).net path.now)).items)) }
+        ensures err { OnErr result ((looks : ℕ) → SaysPart (λ s. saying s (shown s.net path.now)) (stage_at self.old) (L.taken lines.old) (L.taken lines.new) looks looks) }
         ensures cause { HasCause (L.faults lines.old) (L.faults lines.new) result }
         ensures stays { self.new.stopped ≡ self.old.stopped }
         ensures library { self.new.library ≡ self.old.library }
@@ -107,31 +169,23 @@ impl Engine {
         Ok(Outcome::Done)
     }
 
-    /// Prints that what was asked for isn't done.
+    /// Prints that what was asked for isn't done: what is refused whatever the patch is.
     fn refuse<L: Sink>(
         &mut self,
         request: Request,
         why: Why,
+        outcome: Outcome,
         lines: &mut L,
     ) -> Result<Outcome, SinkFailed>
-        ensures ok { OnOk result (Says (saying (stage_of self.old) (refusal_text request why)) (stage_of self.new) (L.taken lines.old) (L.taken lines.new)) }
-        ensures answer { IfOk result (λ outcome. outcome ≡ refused_as why) }
-        ensures err { OnErr result (TookPart (L.taken lines.old) (L.taken lines.new) (lines_of (saying (stage_of self.old) (refusal_text request why)).items)) }
+        requires { outcome ≡ refused_as why }
+        ensures ok { IfOk result (λ outcome. (wanted : Wanted) → request ≡ request_of wanted → IsAlwaysRefused wanted why → (samples : Option (List ℕ)) (looks : ℕ) (held : Option (List FileRow)) (faults : ℕ) →
+            IsTakenSo wanted outcome (stage_at self.old) (stage_at self.new) (sinks (L.taken lines.old) samples looks held faults) (sinks (L.taken lines.new) samples looks held faults)) }
+        ensures err { OnErr result ((wanted : Wanted) → request ≡ request_of wanted → IsAlwaysRefused wanted why → (looks : ℕ) → SaysPart (edit_taken wanted) (stage_at self.old) (L.taken lines.old) (L.taken lines.new) looks looks) }
         ensures cause { HasCause (L.faults lines.old) (L.faults lines.new) result }
         ensures stays { self.new.stopped ≡ self.old.stopped }
         ensures library { self.new.library ≡ self.old.library }
     {
         print_refusal(request, why, &self.symbols, &mut self.held, lines)?;
-        Ok(outcome_of(why))
-    }
-}
-
-/// What a refused command answers.
-fn outcome_of(why: Why) -> Outcome
-    ensures { result ≡ refused_as why }
-{
-    match why {
-        Why::NothingToUndo | Why::NothingToRedo => Outcome::Nothing,
-        _ => Outcome::Refused(EditRefusal::NoDocument),
+        Ok(outcome)
     }
 }

@@ -1,37 +1,46 @@
 //! The engine: one event after another.
 
-ghost use Rattle.std.specs.Prelude.{◌≡◌, ◌≤◌, ◌^◌, ◌⊎◌, true, false, IsTrue, IsErrOf, OnOk, OnErr, IfOk, IfSome, IfNone, option_map, length};
+ghost use Rattle.std.specs.Prelude.{◌≡◌, ◌≤◌, ◌^◌, ◌⊎◌, ℕ, true, false, IsTrue, IsErrOf, OnOk, OnErr, IfOk, IfSome, IfNone, List, Option, option_map, length};
 ghost use Rattle.pd_io.specs.Faults.{Rose};
-ghost use Rattle.pd_io.specs.Stream.{TookPart};
 ghost use Rattle.pd_lex.specs.Reading.{is_body};
 ghost use Rattle.pd_script.specs.Room.{IsWhole, IsWholeAfter};
 ghost use Rattle.pd_script.specs.Options.{Gives};
 ghost use Rattle.pd_script.specs.Tokens.{tokens_of};
 ghost use Rattle.pd_script.specs.Tables.{ScriptOf};
 ghost use Rattle.pd_script.specs.Scripts.{command_of};
-ghost use Rattle.pd_stage.specs.Items.{lines_of};
-ghost use Rattle.pd_stage.specs.Stages.{with_names, Says, Passes, BreaksOff};
-ghost use Rattle.pd_engine.specs.Stages.{stage_of};
+ghost use Rattle.pd_stage.specs.Choices.{Choice};
+ghost use Rattle.pd_stage.specs.Stages.{with_names};
+ghost use Rattle.pd_stage.specs.Leads.{sinks, Stops, Sounds, SoundsPart};
 ghost use Rattle.pd_stage.specs.Times.{advanced, finished};
-ghost use Rattle.pd_engine.specs.Commands.{commanded, answered};
+ghost use Rattle.pd_engine.specs.Commands.{commanded, IsCarriedOut};
+ghost use Rattle.pd_web.specs.Changes.{wires_told};
+ghost use Rattle.pd_wiring.specs.Changes.{CanRewire};
 
 use crate::refusals::{EngineFault, Outcome};
 use crate::room::BoxNumbers;
 use pd_atom::Symbols;
 use pd_clock::Time;
 use pd_gather::Library;
-use pd_io::{Sink, SinkFailed};
+use pd_io::{Shelf, Sink, SinkFailed};
 use pd_num::Num;
+use pd_order::Steps;
 use pd_patch::Patch;
 use pd_queue::EditQueue;
 use pd_say::Held;
 use pd_script::{Command, CommandRoom, Script, read_command};
 use pd_walk::Walker;
+use std::alloc::Global;
+use std::sync::ledger::Ledger;
 
 /// A patch that plays: what it was opened from, its time, and the room of its events.
 #[derive(Drop)]
 pub struct Engine {
+    pub(crate) alloc: Global,
+    /// The name under which the patch is saved.
+    pub(crate) file: Vec<u8>,
     pub(crate) patch: Patch,
+    /// How many wires the patch has.
+    pub(crate) wires: usize,
     pub(crate) library: Library,
     pub(crate) symbols: Symbols,
     pub(crate) walker: Walker,
@@ -45,9 +54,13 @@ pub struct Engine {
     /// How many clocks fired since the last block.
     pub(crate) fired: u32,
     pub(crate) stopped: bool,
+    ghost rewires: { ∥ CanRewire patch ∥₁ },
+    ghost counted: { wires ≡ wires_told patch.web },
 }
 
 impl Engine {
+    ghost use Rattle.pd_engine.specs.Stages.{stage_at};
+
     /// The table of names.
     pub fn symbols(&self) -> &Symbols
         ensures { result.now ≡ self.now.symbols }
@@ -71,36 +84,43 @@ impl Engine {
         ensures of_table { IfSome result (λ r. ScriptOf self.new.symbols r.1) }
         ensures refused { IfNone result (self.new.symbols ≡ self.old.symbols) }
         ensures whole { IsWholeAfter (option_map (λ r. r.1) result) room.new }
-        ensures stage { stage_of self.new ≡ with_names (stage_of self.old) self.new.symbols }
+        ensures stage { (ahead : List Choice) → stage_at self.new ahead ≡ with_names (stage_at self.old ahead) self.new.symbols }
         ensures stays { self.new.stopped ≡ self.old.stopped }
         ensures library { self.new.library ≡ self.old.library }
     {
         read_command(bytes, &mut self.symbols, room)
     }
 
-    /// Carries out a command at the present time, and prints what it has to print. An edit or a save is refused, and there is nothing
-    /// to undo or redo.
+    /// Carries out a command at the present time, and prints what it has to print. Edits of wires and saves of the patch's own document
+    /// are made; others are refused, and there is nothing to undo or redo.
     ///
     /// # Errors
     ///
     /// `WriteFault` where the lines weren't taken; after that every call answers `Stopped` and does nothing.
-    pub fn command<L: Sink>(&mut self, cmd: &Command, lines: &mut L) -> Result<Outcome, EngineFault>
-        ensures said { OnOk result (Says (commanded cmd.now (stage_of self.old)) (stage_of self.new) (L.taken lines.old) (L.taken lines.new)) }
-        ensures answer { IfOk result (λ outcome. outcome ≡ answered cmd.now) }
-        ensures part { OnErr result (TookPart (L.taken lines.old) (L.taken lines.new) (lines_of (commanded cmd.now (stage_of self.old)).items)) }
+    pub fn command<H: Shelf, L: Sink, K: Ledger>(
+        &mut self,
+        cmd: &Command,
+        shelf: &mut H,
+        lines: &mut L,
+        steps: &mut Steps<K>,
+    ) -> Result<Outcome, EngineFault>
+        ensures said { IfOk result (λ outcome. (samples : Option (List ℕ)) → IsCarriedOut cmd.now outcome (stage_at self.old) (stage_at self.new) (sinks (L.taken lines.old) samples steps.old (H.holds shelf.old) (H.faults shelf.old)) (sinks (L.taken lines.new) samples steps.new (H.holds shelf.new) (H.faults shelf.new))) }
+        ensures part { OnErr result ((samples : Option (List ℕ)) → Stops (commanded cmd.now) (stage_at self.old) (sinks (L.taken lines.old) samples steps.old (H.holds shelf.old) (H.faults shelf.old)) (sinks (L.taken lines.new) samples steps.new (H.holds shelf.new) (H.faults shelf.new))) }
         ensures stopped { self.old.stopped ≡ true → IsErrOf result EngineFault.Stopped }
         ensures stopped_before { IsErrOf result EngineFault.Stopped → self.old.stopped ≡ true }
         ensures nothing { self.old.stopped ≡ true → (self.new ≡ self.old) × (L.taken lines.new ≡ L.taken lines.old) }
         ensures after { OnErr result (self.new.stopped ≡ true) }
         ensures goes_on { OnOk result (self.new.stopped ≡ false) }
         ensures library { self.new.library ≡ self.old.library }
+        ensures untouched { self.old.stopped ≡ true → shelf.new ≡ shelf.old }
+        ensures shelf_counted { H.faults shelf.old ≤ H.faults shelf.new }
         ensures cause { IsErrOf result EngineFault.WriteFault → Rose (L.faults lines.old) (L.faults lines.new) }
         ensures counted { L.faults lines.old ≤ L.faults lines.new }
     {
         if self.stopped {
             return Err(EngineFault::Stopped);
         }
-        match self.carry_out(cmd, lines) {
+        match self.carry_out(cmd, shelf, lines, steps) {
             Ok(outcome) => Ok(outcome),
             Err(SinkFailed) => Err(self.stop()),
         }
@@ -111,21 +131,24 @@ impl Engine {
     /// # Errors
     ///
     /// `WriteFault` where lines or samples weren't taken; after that every call answers `Stopped` and does nothing.
-    pub fn advance<L: Sink, P: Sink>(
+    pub fn advance<H: Shelf, L: Sink, P: Sink, K: Ledger>(
         &mut self,
         to: Time,
+        shelf: &mut H,
         lines: &mut L,
         pcm: &mut P,
+        steps: &mut Steps<K>,
     ) -> Result<(), EngineFault>
         requires { to ≤ 2 ^ 100 }
-        ensures passed { OnOk result (Passes (advanced to (stage_of self.old)) (stage_of self.new) (L.taken lines.old) (L.taken lines.new) (P.taken pcm.old) (P.taken pcm.new)) }
-        ensures part { OnErr result (BreaksOff (advanced to (stage_of self.old)) (L.taken lines.old) (L.taken lines.new) (P.taken pcm.old) (P.taken pcm.new)) }
+        ensures passed { OnOk result (Sounds (advanced to) (stage_at self.old) (stage_at self.new) (L.taken lines.old) (L.taken lines.new) (P.taken pcm.old) (P.taken pcm.new) steps.old steps.new) }
+        ensures part { OnErr result (SoundsPart (advanced to) (stage_at self.old) (L.taken lines.old) (L.taken lines.new) (P.taken pcm.old) (P.taken pcm.new) steps.old steps.new) }
         ensures stopped { self.old.stopped ≡ true → IsErrOf result EngineFault.Stopped }
         ensures stopped_before { IsErrOf result EngineFault.Stopped → self.old.stopped ≡ true }
         ensures nothing { self.old.stopped ≡ true → (self.new ≡ self.old) × (L.taken lines.new ≡ L.taken lines.old) × (P.taken pcm.new ≡ P.taken pcm.old) }
         ensures after { OnErr result (self.new.stopped ≡ true) }
         ensures goes_on { OnOk result (self.new.stopped ≡ false) }
         ensures library { self.new.library ≡ self.old.library }
+        ensures shelf { shelf.new ≡ shelf.old }
         ensures cause { IsErrOf result EngineFault.WriteFault → Rose (L.faults lines.old) (L.faults lines.new) ⊎ Rose (P.faults pcm.old) (P.faults pcm.new) }
         ensures lines_counted { L.faults lines.old ≤ L.faults lines.new }
         ensures pcm_counted { P.faults pcm.old ≤ P.faults pcm.new }
@@ -133,7 +156,7 @@ impl Engine {
         if self.stopped {
             return Err(EngineFault::Stopped);
         }
-        match self.advance_to(to, lines, pcm) {
+        match self.advance_to(to, lines, pcm, steps) {
             Ok(()) => Ok(()),
             Err(SinkFailed) => Err(self.stop()),
         }
@@ -144,19 +167,22 @@ impl Engine {
     /// # Errors
     ///
     /// `WriteFault` where lines or samples weren't taken; after that every call answers `Stopped` and does nothing.
-    pub fn finish<L: Sink, P: Sink>(
+    pub fn finish<H: Shelf, L: Sink, P: Sink, K: Ledger>(
         &mut self,
+        shelf: &mut H,
         lines: &mut L,
         pcm: &mut P,
+        steps: &mut Steps<K>,
     ) -> Result<(), EngineFault>
-        ensures passed { OnOk result (Passes (finished (stage_of self.old)) (stage_of self.new) (L.taken lines.old) (L.taken lines.new) (P.taken pcm.old) (P.taken pcm.new)) }
-        ensures part { OnErr result (BreaksOff (finished (stage_of self.old)) (L.taken lines.old) (L.taken lines.new) (P.taken pcm.old) (P.taken pcm.new)) }
+        ensures passed { OnOk result (Sounds finished (stage_at self.old) (stage_at self.new) (L.taken lines.old) (L.taken lines.new) (P.taken pcm.old) (P.taken pcm.new) steps.old steps.new) }
+        ensures part { OnErr result (SoundsPart finished (stage_at self.old) (L.taken lines.old) (L.taken lines.new) (P.taken pcm.old) (P.taken pcm.new) steps.old steps.new) }
         ensures stopped { self.old.stopped ≡ true → IsErrOf result EngineFault.Stopped }
         ensures stopped_before { IsErrOf result EngineFault.Stopped → self.old.stopped ≡ true }
         ensures nothing { self.old.stopped ≡ true → (self.new ≡ self.old) × (L.taken lines.new ≡ L.taken lines.old) × (P.taken pcm.new ≡ P.taken pcm.old) }
         ensures after { OnErr result (self.new.stopped ≡ true) }
         ensures goes_on { OnOk result (self.new.stopped ≡ false) }
         ensures library { self.new.library ≡ self.old.library }
+        ensures shelf { shelf.new ≡ shelf.old }
         ensures cause { IsErrOf result EngineFault.WriteFault → Rose (L.faults lines.old) (L.faults lines.new) ⊎ Rose (P.faults pcm.old) (P.faults pcm.new) }
         ensures lines_counted { L.faults lines.old ≤ L.faults lines.new }
         ensures pcm_counted { P.faults pcm.old ≤ P.faults pcm.new }
@@ -164,7 +190,7 @@ impl Engine {
         if self.stopped {
             return Err(EngineFault::Stopped);
         }
-        match self.finish_block(lines, pcm) {
+        match self.finish_block(lines, pcm, steps) {
             Ok(()) => Ok(()),
             Err(SinkFailed) => Err(self.stop()),
         }

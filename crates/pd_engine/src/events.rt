@@ -1,32 +1,34 @@
-//! Events: deliveries, and then the edits that were asked for.
+//! Events: deliveries, and then the edits that canvases were asked for.
 
-ghost use Rattle.std.specs.Prelude.{◌≡◌, ◌≤◌, OnOk, OnErr, length};
-ghost use Rattle.pd_io.specs.Stream.{grown, TookPart};
+ghost use Rattle.std.specs.Prelude.{◌≡◌, OnOk, OnErr};
 ghost use Rattle.pd_say.specs.Gathering.{HasCause};
-ghost use Rattle.pd_stage.specs.Items.{lines_of};
-ghost use Rattle.pd_stage.specs.Stages.{Says};
-ghost use Rattle.pd_engine.specs.Stages.{stage_of};
-ghost use Rattle.pd_stage.specs.Events.{event, beginning_of, refusals};
+ghost use Rattle.pd_stage.specs.Events.{event, beginning_of, edits_taken};
+ghost use Rattle.pd_stage.specs.Leads.{Says, SaysPart};
+ghost use Rattle.pd_engine.specs.Stages.{stage_at};
 
 use crate::engine::Engine;
-use crate::printing::print_refusal;
 use pd_io::{Sink, SinkFailed};
-use pd_say::{Request, Why};
+use pd_order::Steps;
 use pd_walk::{Budget, Start};
+use pd_wiring::rewiring_asks_alike;
+use std::sync::ledger::Ledger;
 
 impl Engine {
-    /// An event at the present time: its deliveries, and then each edit that was asked for is refused.
-    pub(crate) fn run_event<L: Sink>(
+    /// An event at the present time: its deliveries, and then the edits that canvases were asked for are taken.
+    pub(crate) fn run_event<L: Sink, K: Ledger>(
         &mut self,
         start: &Start<'_>,
         lines: &mut L,
+        steps: &mut Steps<K>,
     ) -> Result<(), SinkFailed>
-        ensures ok { OnOk result (Says (event (stage_of self.old) (beginning_of start.now)) (stage_of self.new) (L.taken lines.old) (L.taken lines.new)) }
-        ensures err { OnErr result (TookPart (L.taken lines.old) (L.taken lines.new) (lines_of (event (stage_of self.old) (beginning_of start.now)).items)) }
+        ensures ok { OnOk result (Says (λ s. event s (beginning_of start.now)) (stage_at self.old) (stage_at self.new) (L.taken lines.old) (L.taken lines.new) steps.old steps.new) }
+        ensures err { OnErr result (SaysPart (λ s. event s (beginning_of start.now)) (stage_at self.old) (L.taken lines.old) (L.taken lines.new) steps.old steps.new) }
         ensures cause { HasCause (L.faults lines.old) (L.faults lines.new) result }
         ensures stays { self.new.stopped ≡ self.old.stopped }
         ensures library { self.new.library ≡ self.old.library }
     {
+        rewiring_asks_alike();
+        self.patch.set_now(self.time);
         let mut budget = Budget::new();
         self.queue.clear();
         self.walker.deliver(
@@ -38,26 +40,23 @@ impl Engine {
             &mut self.queue,
             lines,
         )?;
-        self.refuse_queued(lines)
+        self.take_queued(lines, steps)
     }
 
-    /// Refuses the edits that the event asked for.
-    fn refuse_queued<L: Sink>(&mut self, lines: &mut L) -> Result<(), SinkFailed>
-        ensures stage { stage_of self.new ≡ stage_of self.old }
-        ensures ok { OnOk result (L.taken lines.new ≡ grown (L.taken lines.old) (refusals self.old.queue)) }
-        ensures err { OnErr result (TookPart (L.taken lines.old) (L.taken lines.new) (refusals self.old.queue)) }
+    /// Takes the edits that canvases were asked for in the event, one after the other.
+    fn take_queued<L: Sink, K: Ledger>(
+        &mut self,
+        lines: &mut L,
+        steps: &mut Steps<K>,
+    ) -> Result<(), SinkFailed>
+        ensures ok { OnOk result (Says (edits_taken self.old.queue) (stage_at self.old) (stage_at self.new) (L.taken lines.old) (L.taken lines.new) steps.old steps.new) }
+        ensures err { OnErr result (SaysPart (edits_taken self.old.queue) (stage_at self.old) (L.taken lines.old) (L.taken lines.new) steps.old steps.new) }
         ensures cause { HasCause (L.faults lines.old) (L.faults lines.new) result }
         ensures stays { self.new.stopped ≡ self.old.stopped }
         ensures library { self.new.library ≡ self.old.library }
     {
-        for _ in 0..self.queue.len() {
-            print_refusal(
-                Request::Edit,
-                Why::NoDocument,
-                &self.symbols,
-                &mut self.held,
-                lines,
-            )?;
+        for i in 0..self.queue.len() {
+            self.take_asked(i, lines, steps)?;
         }
         Ok(())
     }

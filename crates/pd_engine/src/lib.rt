@@ -1,19 +1,22 @@
 //! Events in time: opening, commands, clocks and blocks.
 //!
 //! Between events a patch stands at a stage (`pd_stage`). Each call is a function of the stage: it gives the stage
-//! after it and what happens on the way, lines and samples in one list in their order, and the code does exactly
-//! that.
+//! after it, what happens on the way, lines and samples in one list in their order, and the edits that were taken,
+//! and the code does exactly that: for what these edits came to, whatever the edits after them lead to. Each is
+//! lawful (pd_stage's `IsLawful`): an edit of wires of the patch's own document is made, or refused as it is
+//! planned to be or for want of memory; a save of it puts its text under the name of its file; every other edit or
+//! save is refused, and there is nothing to undo or redo. Looks at signal wires are at most those of the edits.
 //!
 //! `command` does what its command says: a `send` is its event, that is pd_walk's deliveries under 1,000,000, and
-//! then a line for each edit that was asked for, which is refused; `show` prints the order of the canvas that its
-//! path leads to; an edit, a save, `undo` and `redo` print their refusal. It answers accordingly. `advance` takes
+//! then each edit that was asked for is taken; `show` prints the order of the canvas that its path leads to; an edit,
+//! a save, `undo` and `redo` are one edit that is taken, and what is answered is what that came to. `advance` takes
 //! the steps to a time: each block that ends by it runs, after the clocks below its end, and its samples are
 //! written; then the clocks below the time fire, each the first that was set among those of the least time, at most
 //! 10,000 between two blocks; then it is that time. `finish` runs the block that has begun, after its clocks. Where
 //! a sink fails, the sinks took the lines and the samples of one first part of that list, and so no sample before a
 //! line that comes first (`part`); `WriteFault` comes only where a count of faults of the sinks rose in that call
 //! (`cause`); after it, and only after it, calls answer `Stopped`, and then nothing changes (`nothing`).
-//! `read_record` is pd_script's reading on the engine's own table.
+//! `read_record` is pd_script's reading on the engine's own table; `document` is the document of the running patch.
 //!
 //! `open` and `from_doc` (`opens`): the document is what pd_doc's definition reads of the file, which is the one
 //! that the folder holds where it tells; its files are gathered; it and they are proper; the patch is one that
@@ -24,19 +27,22 @@
 //! line was printed (`quiet`). The folder stays as it was (`kept`), and a fault is answered only where its count
 //! rose (`causes`).
 //!
-//! Law: from where a patch opens on, through commands and through time, it stays as it grew but for its clocks,
-//! what its boxes keep and the blocks of their outlets, and so each block that sounds is the whole one, however
-//! deep its canvases lie (`blocks_are_whole`).
+//! Law: from where a patch opens on, through commands and through time, it stays as it grew but for its clocks, what
+//! its boxes keep, the blocks of their outlets, and its wires with their links and orders, which stay sound; and so
+//! each block that sounds is the whole one, however deep its canvases lie (`blocks_are_whole`).
 //!
-//! Free: want of memory, only in opening. A line tells the numbers of at most 16,384 boxes, which is as many as a
-//! patch may have: the lines of `show` tell all boxes of an order, and the line of a signal loop, which is printed
-//! where a patch opens, all boxes of the loop (`pd_steady`).
+//! Free: want of memory, in opening, and of an edit or a save. A line tells the numbers of at most 16,384 boxes,
+//! which is as many as a patch may have: the lines of `show` tell all boxes of an order, and the line of a signal
+//! loop, which is printed where a patch opens and where an edit of wires makes one, all boxes of the loop
+//! (`pd_steady`).
 //!
-//! Definitions: `Stages` (where an engine stands), `Commands`, `Messages`, `Opening`, `Remarks` (lines of growth),
+//! Definitions: `Stages` (where an engine stands), `Commands`, `Edits`, `Messages`, `Opening`, `Remarks` (lines of growth),
 //! `Refusals`, `Causes`; events, clocks and blocks are those of `pd_stage`.
 #![tactic(auto)]
 
 mod commands;
+mod document;
+mod edits;
 mod engine;
 mod events;
 mod laws;
@@ -51,4 +57,5 @@ mod times;
 
 pub use engine::Engine;
 pub use laws::blocks_are_whole;
-pub use refusals::{BadCause, EditRefusal, EngineFault, OpenRefusal, Outcome};
+pub use pd_edit::EditRefusal;
+pub use refusals::{BadCause, EngineFault, OpenRefusal, Outcome};

@@ -1,7 +1,6 @@
 //! A patch is opened: fetched, read, grown and loaded.
 
-ghost use Rattle.std.specs.Prelude.{◌≡◌, ◌≢◌, ◌≤◌, false, Ok, [], IfOk, IfErr, OnOk, OnErr, length};
-ghost use Rattle.pd_io.specs.Stream.{TookPart};
+ghost use Rattle.std.specs.Prelude.{◌≡◌, ◌≢◌, ◌<◌, ◌≤◌, ℕ, false, Ok, [], IfOk, IfErr, OnOk, OnErr, length};
 ghost use Rattle.pd_io.specs.declared.shelves.TheConstants.{MAX_FILE};
 ghost use Rattle.pd_atom.specs.Names.{Extends};
 ghost use Rattle.pd_canvas.specs.Proper.{IsProper};
@@ -12,9 +11,10 @@ ghost use Rattle.pd_patch.specs.Grown.{IsFresh, IsTree};
 ghost use Rattle.pd_patch.specs.Report.{notices_in, loads_among};
 ghost use Rattle.pd_say.specs.Gathering.{HasCause};
 ghost use Rattle.pd_engine.specs.Causes.{HasOpeningCauses};
-ghost use Rattle.pd_stage.specs.Items.{lines_of};
-ghost use Rattle.pd_stage.specs.Stages.{Says};
-ghost use Rattle.pd_engine.specs.Stages.{stage_of};
+ghost use Rattle.pd_stage.specs.Events.{event, Loading};
+ghost use Rattle.pd_stage.specs.Leads.{Says, SaysPart};
+ghost use Rattle.pd_wiring.specs.Changes.{CanRewire};
+ghost use Rattle.pd_engine.specs.Stages.{stage_at};
 ghost use Rattle.pd_engine.specs.Opening.{first_stage, loaded, growth_of, GathersAll, Opens, IsUngathered, IsUngrown, IsRefused, Reads, IsUnread, IsUnreadText, OpensFile, IsFileRefused};
 ghost use Rattle.pd_engine.specs.Remarks.{remarks_text};
 
@@ -28,26 +28,34 @@ use pd_clock::{Rate, Time};
 use pd_doc::{Doc, proper_extended, read};
 use pd_gather::Library;
 use pd_io::{Fetched, Shelf, ShelfError, Sink, SinkFailed};
-use pd_patch::{Patch, Report};
+use pd_order::Steps;
+use pd_patch::{Patch, Report, what_grows_is_built};
 use pd_queue::EditQueue;
 use pd_say::Held;
 use pd_walk::{Start, Walker};
+use pd_wiring::patches_that_run_rewire;
 use std::alloc::{AllocError, Global};
+use std::marker::Brand;
+use std::sync::ledger::{Blank, Ledger};
 
 /// The `$0` of the patch.
 const FIRST_ZERO: u32 = 1001;
 
-/// The room of events.
+/// The name of the file, and the room of events.
 #[derive(Drop)]
 struct Room {
+    file: Vec<u8>,
     walker: Walker,
     queue: EditQueue,
     numbers: BoxNumbers,
 }
 
 impl Room {
-    fn new(alloc: Global) -> Result<Room, AllocError> {
+    fn new(alloc: Global, name: &[u8]) -> Result<Room, AllocError>
+        ensures { IfOk result (λ r. r.file.items ≡ name.now) }
+    {
         Ok(Room {
+            file: Vec::from_slice(alloc, name)?,
             walker: Walker::new(alloc)?,
             queue: EditQueue::new(alloc)?,
             numbers: BoxNumbers::new(alloc)?,
@@ -70,13 +78,13 @@ impl Engine {
         lines: &mut L,
     ) -> Result<Engine, OpenRefusal>
         ensures running { IfOk result (λ e. e.stopped ≡ false) }
-        ensures opens { IfOk result (λ e. OpensFile (H.holds shelf.old) name.now rate e.library (stage_of e) (L.taken lines.old) (L.taken lines.new)) }
+        ensures opens { IfOk result (λ e. OpensFile (H.holds shelf.old) name.now rate e.library (stage_at e) (L.taken lines.old) (L.taken lines.new)) }
         ensures refused { IfErr result (IsFileRefused (H.holds shelf.old) name.now rate (L.taken lines.old) (L.taken lines.new)) }
         ensures quiet { IfErr result (λ e. e ≢ OpenRefusal.WriteFault → L.taken lines.new ≡ L.taken lines.old) }
         ensures kept { H.holds shelf.new ≡ H.holds shelf.old }
         ensures causes { HasOpeningCauses (H.faults shelf.old) (H.faults shelf.new) (L.faults lines.old) (L.faults lines.new) result }
     {
-        let room = Room::new(alloc)?;
+        let room = Room::new(alloc, name)?;
         let mut symbols = Symbols::new(alloc)?;
         let doc = fetch_document(alloc, name, shelf, &mut symbols)?;
         open_document(alloc, name, rate, doc, symbols, room, shelf, lines)
@@ -98,13 +106,13 @@ impl Engine {
     ) -> Result<Engine, OpenRefusal>
         requires { IsProper symbols doc.root }
         ensures running { IfOk result (λ e. e.stopped ≡ false) }
-        ensures opens { IfOk result (λ e. Opens (H.holds shelf.old) name.now rate doc.root symbols e.library (stage_of e) (L.taken lines.old) (L.taken lines.new)) }
+        ensures opens { IfOk result (λ e. Opens (H.holds shelf.old) name.now rate doc.root symbols e.library (stage_at e) (L.taken lines.old) (L.taken lines.new)) }
         ensures refused { IfErr result (IsRefused (H.holds shelf.old) name.now rate doc.root symbols (L.taken lines.old) (L.taken lines.new)) }
         ensures quiet { IfErr result (λ e. e ≢ OpenRefusal.WriteFault → L.taken lines.new ≡ L.taken lines.old) }
         ensures kept { H.holds shelf.new ≡ H.holds shelf.old }
         ensures causes { HasOpeningCauses (H.faults shelf.old) (H.faults shelf.new) (L.faults lines.old) (L.faults lines.new) result }
     {
-        let room = Room::new(alloc)?;
+        let room = Room::new(alloc, name)?;
         open_document(alloc, name, rate, doc, symbols, room, shelf, lines)
     }
 }
@@ -209,9 +217,10 @@ fn open_document<H: Shelf, L: Sink>(
     shelf: &mut H,
     lines: &mut L,
 ) -> Result<Engine, OpenRefusal>
-    requires { IsProper symbols doc.root }
+    requires proper { IsProper symbols doc.root }
+    requires file { room.file.items ≡ name.now }
     ensures running { IfOk result (λ e. e.stopped ≡ false) }
-    ensures opens { IfOk result (λ e. Opens (H.holds shelf.old) name.now rate doc.root symbols e.library (stage_of e) (L.taken lines.old) (L.taken lines.new)) }
+    ensures opens { IfOk result (λ e. Opens (H.holds shelf.old) name.now rate doc.root symbols e.library (stage_at e) (L.taken lines.old) (L.taken lines.new)) }
     ensures refused { IfErr result (IsRefused (H.holds shelf.old) name.now rate doc.root symbols (L.taken lines.old) (L.taken lines.new)) }
     ensures quiet { IfErr result (λ e. e ≢ OpenRefusal.WriteFault → L.taken lines.new ≡ L.taken lines.old) }
     ensures kept { H.holds shelf.new ≡ H.holds shelf.old }
@@ -224,11 +233,14 @@ fn open_document<H: Shelf, L: Sink>(
     let _names = symbols.len();
     proper_extended();
     let (patch, report) = grow_all(alloc, doc, name, rate, &library, &mut symbols)?;
-    begin(patch, report, library, symbols, room, lines)
+    what_grows_is_built();
+    patches_that_run_rewire();
+    begin(alloc, patch, report, library, symbols, room, lines)
 }
 
 /// Prints the lines of growth and loads the boxes.
 fn begin<L: Sink>(
+    alloc: Global,
     patch: Patch,
     report: Report,
     library: Library,
@@ -236,20 +248,26 @@ fn begin<L: Sink>(
     room: Room,
     lines: &mut L,
 ) -> Result<Engine, OpenRefusal>
+    requires { CanRewire patch }
     ensures running { IfOk result (λ e. e.stopped ≡ false) }
     ensures library { IfOk result (λ e. e.library ≡ library) }
-    ensures ok { IfOk result (λ e. Says (loaded (first_stage patch symbols) (remarks_text symbols patch report.notices.items) report.fresh.items) (stage_of e) (L.taken lines.old) (L.taken lines.new)) }
-    ensures err { OnErr result (TookPart (L.taken lines.old) (L.taken lines.new) (lines_of (loaded (first_stage patch symbols) (remarks_text symbols patch report.notices.items) report.fresh.items).items)) }
+    ensures ok { IfOk result (λ e. (looks : ℕ) → Says (λ s. loaded s (remarks_text symbols patch report.notices.items) report.fresh.items) (first_stage room.file.items patch symbols) (stage_at e) (L.taken lines.old) (L.taken lines.new) looks looks) }
+    ensures err { OnErr result ((looks : ℕ) → SaysPart (λ s. loaded s (remarks_text symbols patch report.notices.items) report.fresh.items) (first_stage room.file.items patch symbols) (L.taken lines.old) (L.taken lines.new) looks looks) }
     ensures fault { IfErr result (λ e. e ≡ OpenRefusal.WriteFault) }
     ensures causes { HasOpeningCauses 0 0 (L.faults lines.old) (L.faults lines.new) result }
 {
     let Room {
+        file,
         walker,
         queue,
         numbers,
     } = room;
+    let wires = patch.web.wire_count();
     let mut engine = Engine {
+        alloc,
+        file,
         patch,
+        wires,
         library,
         symbols,
         walker,
@@ -268,10 +286,10 @@ fn begin<L: Sink>(
 }
 
 impl Engine {
-    /// Prints the lines of growth, and loads the load boxes.
+    /// Prints the lines of growth, and loads the load boxes. Nobody reads how many looks at signal wires that takes.
     fn load_whole<L: Sink>(&mut self, report: &Report, lines: &mut L) -> Result<(), SinkFailed>
-        ensures ok { OnOk result (Says (loaded (stage_of self.old) (remarks_text self.old.symbols self.old.patch report.now.notices.items) report.now.fresh.items) (stage_of self.new) (L.taken lines.old) (L.taken lines.new)) }
-        ensures err { OnErr result (TookPart (L.taken lines.old) (L.taken lines.new) (lines_of (loaded (stage_of self.old) (remarks_text self.old.symbols self.old.patch report.now.notices.items) report.now.fresh.items).items)) }
+        ensures ok { OnOk result ((looks : ℕ) → Says (λ s. loaded s (remarks_text self.old.symbols self.old.patch report.now.notices.items) report.now.fresh.items) (stage_at self.old) (stage_at self.new) (L.taken lines.old) (L.taken lines.new) looks looks) }
+        ensures err { OnErr result ((looks : ℕ) → SaysPart (λ s. loaded s (remarks_text self.old.symbols self.old.patch report.now.notices.items) report.now.fresh.items) (stage_at self.old) (L.taken lines.old) (L.taken lines.new) looks looks) }
         ensures cause { HasCause (L.faults lines.old) (L.faults lines.new) result }
         ensures stays { self.new.stopped ≡ self.old.stopped }
         ensures library { self.new.library ≡ self.old.library }
@@ -284,7 +302,26 @@ impl Engine {
             &mut self.held,
             lines,
         )?;
-        let boxes = report.fresh.as_slice();
-        self.run_event(&Start::Loads { boxes }, lines)
+        self.load::<L, Brand>(report.fresh.as_slice(), lines, Blank::new(1))
+    }
+
+    /// Loads boxes.
+    fn load<L: Sink, K: Ledger>(
+        &mut self,
+        boxes: &[u32],
+        lines: &mut L,
+        blank: Blank,
+    ) -> Result<(), SinkFailed>
+        requires name { blank.name ≡ K.name }
+        requires parts { blank.parts ≡ K.parts }
+        requires some { 0 < blank.parts }
+        ensures ok { OnOk result ((looks : ℕ) → Says (λ s. event s (Loading boxes.now)) (stage_at self.old) (stage_at self.new) (L.taken lines.old) (L.taken lines.new) looks looks) }
+        ensures err { OnErr result ((looks : ℕ) → SaysPart (λ s. event s (Loading boxes.now)) (stage_at self.old) (L.taken lines.old) (L.taken lines.new) looks looks) }
+        ensures cause { HasCause (L.faults lines.old) (L.faults lines.new) result }
+        ensures stays { self.new.stopped ≡ self.old.stopped }
+        ensures library { self.new.library ≡ self.old.library }
+    {
+        let mut steps = Steps::<K>::new(blank);
+        self.run_event(&Start::Loads { boxes }, lines, &mut steps)
     }
 }

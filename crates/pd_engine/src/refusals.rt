@@ -1,10 +1,12 @@
 //! Why a patch doesn't open, and how a command ends.
 
 ghost use Rattle.std.specs.Prelude.{◌≡◌, ◌≢◌};
-ghost use Rattle.pd_engine.specs.Refusals.{unread as unread_as, ungathered as ungathered_as, ungrown as ungrown_as};
+ghost use Rattle.pd_engine.specs.Refusals.{unread as unread_as, ungathered as ungathered_as, ungrown as ungrown_as, unsaved as unsaved_as};
 
 use pd_doc::DocRefusal;
+use pd_edit::EditRefusal;
 use pd_gather::GatherRefusal;
+use pd_io::ShelfError;
 use pd_patch::GrowRefusal;
 use std::alloc::AllocError;
 
@@ -31,12 +33,6 @@ pub enum OpenRefusal {
     ShelfFault,
     WriteFault,
     NoMemory,
-}
-
-/// Why an edit is refused. Editing isn't there yet: every edit and every save is refused with `NoDocument`.
-#[derive(Clone, Copy, Debug, PartialEq, Eq)]
-pub enum EditRefusal {
-    NoDocument,
 }
 
 /// How a command ends.
@@ -115,5 +111,15 @@ pub(crate) fn ungrown(refusal: GrowRefusal) -> OpenRefusal
         GrowRefusal::TooManyWires => whole(BadCause::TooManyWires),
         GrowRefusal::TooMuchSound => whole(BadCause::TooMuchSound),
         GrowRefusal::NoMemory => OpenRefusal::NoMemory,
+    }
+}
+
+/// A document that can't be saved.
+pub(crate) fn unsaved(error: ShelfError) -> EditRefusal
+    ensures { result ≡ unsaved_as error }
+{
+    match error {
+        ShelfError::Failed => EditRefusal::ShelfFault,
+        ShelfError::NoMemory => EditRefusal::NoMemory,
     }
 }

@@ -1,4 +1,4 @@
-//! The lines of growth.
+//! The lines of growth, and of loops.
 
 ghost use Rattle.std.specs.Prelude.{◌≡◌, ◌≤◌, OnOk, OnErr};
 ghost use Rattle.slab.specs.Slab.{get};
@@ -7,8 +7,8 @@ ghost use Rattle.pd_say.specs.Gathering.{Says, Fails, HasCause};
 ghost use Rattle.pd_patch.specs.Telling.{fault_in};
 ghost use Rattle.pd_patch.specs.Values.{stuck_in};
 ghost use Rattle.pd_hearing.specs.Worlds.{net_of};
-ghost use Rattle.pd_engine.specs.Commands.{numbers_told};
-ghost use Rattle.pd_engine.specs.Remarks.{path_in, told_fault, unmade_text, unfit_text, loop_text, remark_text, remarks_text};
+ghost use Rattle.pd_stage.specs.Lines.{numbers_told, path_in, loop_text, loops_text};
+ghost use Rattle.pd_engine.specs.Remarks.{told_fault, unmade_text, unfit_text, remark_text, remarks_text};
 
 use crate::room::BoxNumbers;
 use crate::showing::fill_numbers;
@@ -34,6 +34,27 @@ pub(crate) fn print_remarks<L: Sink>(
 {
     held.clear();
     say_remarks(patch, remarks, numbers, symbols, held, lines)?;
+    flush(held, lines)
+}
+
+/// Prints which boxes of a canvas feed one another in a loop, where some do.
+pub(crate) fn print_loop<L: Sink>(
+    patch: &Patch,
+    canvas: u32,
+    numbers: &mut BoxNumbers,
+    symbols: &Symbols,
+    held: &mut Held,
+    lines: &mut L,
+) -> Result<(), SinkFailed>
+    ensures ok { OnOk result (L.taken lines.new ≡ grown (L.taken lines.old) (loops_text patch.now canvas)) }
+    ensures err { OnErr result (TookPart (L.taken lines.old) (L.taken lines.new) (loops_text patch.now canvas)) }
+    ensures cause { HasCause (L.faults lines.old) (L.faults lines.new) result }
+{
+    if !patch.has_loop(canvas) {
+        return Ok(());
+    }
+    held.clear();
+    say_loop(patch, canvas, numbers, symbols, held, lines)?;
     flush(held, lines)
 }
 

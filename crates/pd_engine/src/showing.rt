@@ -6,7 +6,8 @@ ghost use Rattle.pd_io.specs.Stream.{grown, TookPart};
 ghost use Rattle.pd_say.specs.Gathering.{HasCause};
 ghost use Rattle.pd_patch.specs.Telling.{order_in};
 ghost use Rattle.pd_hearing.specs.Worlds.{net_of};
-ghost use Rattle.pd_engine.specs.Commands.{numbers_told, boxes_text, order_text, led_to, shown};
+ghost use Rattle.pd_stage.specs.Lines.{numbers_told, boxes_text};
+ghost use Rattle.pd_engine.specs.Commands.{order_text, led_to, shown};
 
 use crate::printing::print;
 use crate::room::{BoxNumbers, MOST_BOXES};

@@ -1,13 +1,11 @@
 //! Clocks and blocks in time.
 
-ghost use Rattle.std.specs.Prelude.{◌≡◌, ◌≤◌, ◌^◌, max, OnOk, OnErr};
-ghost use Rattle.pd_io.specs.Stream.{grown, TookPart};
+ghost use Rattle.std.specs.Prelude.{◌≡◌, ◌≤◌, ◌^◌, ℕ, List, Option, max, OnOk, OnErr};
 ghost use Rattle.pd_say.specs.Gathering.{HasCause};
 ghost use Rattle.pd_clock.specs.Queue.{Clock};
 ghost use Rattle.pd_engine.specs.Causes.{HasCauses};
-ghost use Rattle.pd_stage.specs.Items.{lines_of, samples_of};
-ghost use Rattle.pd_stage.specs.Stages.{Says, Passes, BreaksOff};
-ghost use Rattle.pd_engine.specs.Stages.{stage_of};
+ghost use Rattle.pd_stage.specs.Leads.{Sounds, SoundsPart, Says, SaysPart};
+ghost use Rattle.pd_engine.specs.Stages.{stage_at};
 ghost use Rattle.pd_stage.specs.Times.{fires_at, clocks_fire, block_sounds, block_runs, with_time, advanced, finished};
 
 use crate::engine::Engine;
@@ -16,7 +14,10 @@ use pd_clock::Time;
 use pd_io::{Sink, SinkFailed, write_whole};
 use pd_mix::{BYTES, write_samples};
 use pd_num::Sig;
+use pd_order::Steps;
 use pd_walk::Start;
+use pd_wiring::rewiring_asks_alike;
+use std::sync::ledger::Ledger;
 
 /// The length of a block of 64 samples, in units.
 pub(crate) const BLOCK: u128 = 64_000_000_000;
@@ -26,67 +27,69 @@ const MOST_FIRED: u32 = 10_000;
 
 impl Engine {
     /// Runs each block that ends by a time, fires the clocks below it, and raises the time to it.
-    pub(crate) fn advance_to<L: Sink, P: Sink>(
+    pub(crate) fn advance_to<L: Sink, P: Sink, K: Ledger>(
         &mut self,
         to: Time,
         lines: &mut L,
         pcm: &mut P,
+        steps: &mut Steps<K>,
     ) -> Result<(), SinkFailed>
         requires { to ≤ 2 ^ 100 }
-        ensures ok { OnOk result (Passes (advanced to (stage_of self.old)) (stage_of self.new) (L.taken lines.old) (L.taken lines.new) (P.taken pcm.old) (P.taken pcm.new)) }
-        ensures err { OnErr result (BreaksOff (advanced to (stage_of self.old)) (L.taken lines.old) (L.taken lines.new) (P.taken pcm.old) (P.taken pcm.new)) }
+        ensures ok { OnOk result (Sounds (advanced to) (stage_at self.old) (stage_at self.new) (L.taken lines.old) (L.taken lines.new) (P.taken pcm.old) (P.taken pcm.new) steps.old steps.new) }
+        ensures err { OnErr result (SoundsPart (advanced to) (stage_at self.old) (L.taken lines.old) (L.taken lines.new) (P.taken pcm.old) (P.taken pcm.new) steps.old steps.new) }
         ensures cause { HasCauses (L.faults lines.old) (L.faults lines.new) (P.faults pcm.old) (P.faults pcm.new) result }
         ensures stays { self.new.stopped ≡ self.old.stopped }
         ensures library { self.new.library ≡ self.old.library }
     {
         while self.block_end.units() <= to.units() {
-            self.run_next_block(lines, pcm)?;
+            self.run_next_block(lines, pcm, steps)?;
         }
-        self.fire_below(to, lines)?;
+        self.fire_below(to, lines, steps)?;
         self.time = later(self.time, to);
         Ok(())
     }
 
     /// Runs the block that began before the present time, where there is one.
-    pub(crate) fn finish_block<L: Sink, P: Sink>(
+    pub(crate) fn finish_block<L: Sink, P: Sink, K: Ledger>(
         &mut self,
         lines: &mut L,
         pcm: &mut P,
+        steps: &mut Steps<K>,
     ) -> Result<(), SinkFailed>
-        ensures ok { OnOk result (Passes (finished (stage_of self.old)) (stage_of self.new) (L.taken lines.old) (L.taken lines.new) (P.taken pcm.old) (P.taken pcm.new)) }
-        ensures err { OnErr result (BreaksOff (finished (stage_of self.old)) (L.taken lines.old) (L.taken lines.new) (P.taken pcm.old) (P.taken pcm.new)) }
+        ensures ok { OnOk result (Sounds finished (stage_at self.old) (stage_at self.new) (L.taken lines.old) (L.taken lines.new) (P.taken pcm.old) (P.taken pcm.new) steps.old steps.new) }
+        ensures err { OnErr result (SoundsPart finished (stage_at self.old) (L.taken lines.old) (L.taken lines.new) (P.taken pcm.old) (P.taken pcm.new) steps.old steps.new) }
         ensures cause { HasCauses (L.faults lines.old) (L.faults lines.new) (P.faults pcm.old) (P.faults pcm.new) result }
         ensures stays { self.new.stopped ≡ self.old.stopped }
         ensures library { self.new.library ≡ self.old.library }
     {
         let end = self.block_end.units();
         if end < BLOCK || end - BLOCK < self.time.units() {
-            return self.run_next_block(lines, pcm);
+            return self.run_next_block(lines, pcm, steps);
         }
         Ok(())
     }
 
     /// Fires the clocks below the end of the next block, and runs it.
-    fn run_next_block<L: Sink, P: Sink>(
+    fn run_next_block<L: Sink, P: Sink, K: Ledger>(
         &mut self,
         lines: &mut L,
         pcm: &mut P,
+        steps: &mut Steps<K>,
     ) -> Result<(), SinkFailed>
-        ensures ok { OnOk result (Passes (block_runs (stage_of self.old)) (stage_of self.new) (L.taken lines.old) (L.taken lines.new) (P.taken pcm.old) (P.taken pcm.new)) }
-        ensures err { OnErr result (BreaksOff (block_runs (stage_of self.old)) (L.taken lines.old) (L.taken lines.new) (P.taken pcm.old) (P.taken pcm.new)) }
+        ensures ok { OnOk result (Sounds block_runs (stage_at self.old) (stage_at self.new) (L.taken lines.old) (L.taken lines.new) (P.taken pcm.old) (P.taken pcm.new) steps.old steps.new) }
+        ensures err { OnErr result (SoundsPart block_runs (stage_at self.old) (L.taken lines.old) (L.taken lines.new) (P.taken pcm.old) (P.taken pcm.new) steps.old steps.new) }
         ensures cause { HasCauses (L.faults lines.old) (L.faults lines.new) (P.faults pcm.old) (P.faults pcm.new) result }
         ensures stays { self.new.stopped ≡ self.old.stopped }
         ensures library { self.new.library ≡ self.old.library }
     {
-        self.fire_below(self.block_end, lines)?;
+        self.fire_below(self.block_end, lines, steps)?;
         self.sound_block(pcm)
     }
 
     /// Runs the boxes for the next block, and writes its samples.
     fn sound_block<P: Sink>(&mut self, pcm: &mut P) -> Result<(), SinkFailed>
-        ensures stage { stage_of self.new ≡ (block_sounds (stage_of self.old)).stage }
-        ensures ok { OnOk result (P.taken pcm.new ≡ grown (P.taken pcm.old) (samples_of (block_sounds (stage_of self.old)).items)) }
-        ensures err { OnErr result (TookPart (P.taken pcm.old) (P.taken pcm.new) (samples_of (block_sounds (stage_of self.old)).items)) }
+        ensures ok { OnOk result ((lines : Option (List ℕ)) (looks : ℕ) → Sounds block_sounds (stage_at self.old) (stage_at self.new) lines lines (P.taken pcm.old) (P.taken pcm.new) looks looks) }
+        ensures err { OnErr result ((lines : Option (List ℕ)) (looks : ℕ) → SoundsPart block_sounds (stage_at self.old) lines lines (P.taken pcm.old) (P.taken pcm.new) looks looks) }
         ensures cause { HasCause (P.faults pcm.old) (P.faults pcm.new) result }
         ensures stays { self.new.stopped ≡ self.old.stopped }
         ensures library { self.new.library ≡ self.old.library }
@@ -94,6 +97,7 @@ impl Engine {
         let end = self.block_end.units();
         let start = Time::of_units(end.saturating_sub(BLOCK));
         let mut block = [[Sig::default(); 64]; 2];
+        rewiring_asks_alike();
         run_block(&mut self.patch, start, &mut block);
         let mut samples = [0; BYTES];
         write_samples(&block, &mut samples);
@@ -104,34 +108,46 @@ impl Engine {
     }
 
     /// Fires the clocks below a time, at most 10,000 between two blocks.
-    fn fire_below<L: Sink>(&mut self, limit: Time, lines: &mut L) -> Result<(), SinkFailed>
-        ensures ok { OnOk result (Says (clocks_fire limit (stage_of self.old)) (stage_of self.new) (L.taken lines.old) (L.taken lines.new)) }
-        ensures err { OnErr result (TookPart (L.taken lines.old) (L.taken lines.new) (lines_of (clocks_fire limit (stage_of self.old)).items)) }
+    fn fire_below<L: Sink, K: Ledger>(
+        &mut self,
+        limit: Time,
+        lines: &mut L,
+        steps: &mut Steps<K>,
+    ) -> Result<(), SinkFailed>
+        ensures ok { OnOk result (Says (clocks_fire limit) (stage_at self.old) (stage_at self.new) (L.taken lines.old) (L.taken lines.new) steps.old steps.new) }
+        ensures err { OnErr result (SaysPart (clocks_fire limit) (stage_at self.old) (L.taken lines.old) (L.taken lines.new) steps.old steps.new) }
         ensures cause { HasCause (L.faults lines.old) (L.faults lines.new) result }
         ensures stays { self.new.stopped ≡ self.old.stopped }
         ensures library { self.new.library ≡ self.old.library }
     {
+        rewiring_asks_alike();
         while self.fired < MOST_FIRED {
             let Some((time, owner)) = self.patch.next_clock(limit) else {
                 return Ok(());
             };
-            self.fire(time, owner, lines)?;
+            self.fire(time, owner, lines, steps)?;
         }
         Ok(())
     }
 
     /// A clock that was taken off fires.
-    fn fire<L: Sink>(&mut self, time: Time, owner: u32, lines: &mut L) -> Result<(), SinkFailed>
+    fn fire<L: Sink, K: Ledger>(
+        &mut self,
+        time: Time,
+        owner: u32,
+        lines: &mut L,
+        steps: &mut Steps<K>,
+    ) -> Result<(), SinkFailed>
         requires { self.old.fired ≤ 10000 }
-        ensures ok { OnOk result (Says (fires_at (stage_of self.old) time owner) (stage_of self.new) (L.taken lines.old) (L.taken lines.new)) }
-        ensures err { OnErr result (TookPart (L.taken lines.old) (L.taken lines.new) (lines_of (fires_at (stage_of self.old) time owner).items)) }
+        ensures ok { OnOk result (Says (λ s. fires_at s time owner) (stage_at self.old) (stage_at self.new) (L.taken lines.old) (L.taken lines.new) steps.old steps.new) }
+        ensures err { OnErr result (SaysPart (λ s. fires_at s time owner) (stage_at self.old) (L.taken lines.old) (L.taken lines.new) steps.old steps.new) }
         ensures cause { HasCause (L.faults lines.old) (L.faults lines.new) result }
         ensures stays { self.new.stopped ≡ self.old.stopped }
         ensures library { self.new.library ≡ self.old.library }
     {
         self.fired += 1;
         self.time = later(self.time, time);
-        self.run_event(&Start::Clock { owner }, lines)
+        self.run_event(&Start::Clock { owner }, lines, steps)
     }
 }
 

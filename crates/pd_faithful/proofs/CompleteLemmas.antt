@@ -1,5 +1,6 @@
 -- A patch that can be played by a script is played to its end, but where memory is short.
-use Rattle.std.proofs.Common.{◌≡◌, ◌<◌, ◌≤◌, ◌⊎◌, inl, inr, ℕ, List, [], ◌∷◌, Option, Some, None, Result, Ok, Err, refl, sym, ap, subst, ◌∙◌, arith}
+use Rattle.std.proofs.Common.{◌≡◌, ◌<◌, ◌≤◌, ◌⊎◌, inl, inr, ℕ, List, [], ◌∷◌, ◌++◌, Option, Some, None, Result, Ok, Err, refl, sym, ap, subst, ◌∙◌, arith}
+use Rattle.std.proofs.lemmas.List.{append-nil}
 use Rattle.pd_io.specs.Faults.{Rose}
 use Rattle.pd_io.specs.declared.files.FileRow.{FileRow}
 use Rattle.pd_atom.specs.Names.{Names, first_names}
@@ -20,7 +21,10 @@ use Rattle.pd_engine.specs.declared.refusals.OpenRefusal.TheVariants as opening
 use Rattle.pd_engine.specs.declared.refusals.BadCause.{BadCause}
 use Rattle.pd_engine.specs.declared.refusals.BadCause.TheVariants as cause
 use Rattle.pd_engine.specs.Opening.{Reads, Grows, growth_of, file_read, Stops, IsUngathered, IsUngrown, IsRefused, IsUnread, IsFileRefused}
-use Rattle.pd_steady.specs.Freely.{event_freely}
+use Rattle.pd_stage.specs.Stages.{Taken, choices_of}
+use Rattle.pd_stage.specs.Lawful.{AreLawful}
+use Rattle.pd_stage.specs.Leads.{Sinks}
+use Rattle.pd_steady.specs.Freely.{free_ways}
 use Rattle.pd_play.specs.Causes.{HasCauses}
 use Rattle.pd_play.specs.Ending.{opened_as}
 use Rattle.pd_play.specs.Telling.{told, Answers}
@@ -172,16 +176,19 @@ told_free name why status t t' x y e is (inr (inl h)) f g (inl a) = absurd (g (a
 told_free name why status t t' x y e is (inr (inr h)) f g (inl a) = a.0 ∙ is ∙ ap opened_as h
 told_free name why status t t' x y e is h f g (inr a) = absurd (g a.0)
 
-ends_done : (name : List ℕ) (ending : Ending) (bytes script : List ℕ) (left' : Option (List ℕ)) (read read' : ℕ) (run : Ending → List ℕ → Run) (status : Status)
-    (t t' u u' : Option (List ℕ)) → IsScript ending bytes (Some script) left' read read' → (Rose read read' → ⊥) → (status ≡ WriteFault → ⊥)
-    → (run Whole script).status ≡ Done → Tells name (run ending bytes) status t t' u u' → status ≡ Done
-ends_done name Whole bytes script left' read read' run status t t' u u' is f g d (inl h) =
-    h.status_is ∙ ap (λ (b : List ℕ). (run Whole b).status) (sym is) ∙ d
-ends_done name Whole bytes script left' read read' run status t t' u u' is f g d (inr h) = absurd (g h.status_is)
-ends_done name Broken bytes script left' read read' run status t t' u u' is f g d h = absurd (f is.1)
+-- the run is done where its edits are lawful
+ends_done : (name : List ℕ) (ending : Ending) (bytes script : List ℕ) (left' : Option (List ℕ)) (read read' : ℕ) (run : Ending → List ℕ → Run) (edits : List Taken) (status : Status) (old new : Sinks)
+    → IsScript ending bytes (Some script) left' read read' → (Rose read read' → ⊥) → (status ≡ WriteFault → ⊥) → AreLawful edits
+    → (AreLawful (run Whole script).passage.edits → (run Whole script).status ≡ Done) → Tells name (run ending bytes) edits status old new → status ≡ Done
+ends_done name Whole bytes script left' read read' run edits status old new is f g lawful d (inl h) =
+    let all : (run Whole script).passage.edits ≡ edits =
+    sym (append-nil (run Whole script).passage.edits) ∙ ap (λ (b : List ℕ). (run Whole b).passage.edits ++ []) is ∙ h.edits_are in
+    h.status_is ∙ ap (λ (b : List ℕ). (run Whole b).status) (sym is) ∙ d (subst (λ (l : List Taken). AreLawful l) (sym all) lawful)
+ends_done name Whole bytes script left' read read' run edits status old new is f g lawful d (inr h) = absurd (g h.status_is)
+ends_done name Broken bytes script left' read read' run edits status old new is f g lawful d h = absurd (f is.1)
 
 module _ (rows : List FileRow) (name : List ℕ) (rate : Rate) (script : List ℕ) (left' : Option (List ℕ)) (status : Status) (folder folder' read read' x x' y y' : ℕ)
-    (t t' u u' : Option (List ℕ)) (p : IsPlayable rows name rate script) (none : NoneRose folder folder' read read' x x' y y')
+    (old new : Sinks) (holds : old.held ≡ Some rows) (p : IsPlayable rows name rate script) (none : NoneRose folder folder' read read' x x' y y')
     (causes : HasCauses folder folder' read read' x x' y y' status) where
   no_shelf : status ≡ ShelfFault → ⊥
   no_shelf e = none.folder_stays (causes.shelf e)
@@ -193,30 +200,38 @@ module _ (rows : List FileRow) (name : List ℕ) (rate : Rate) (script : List �
   no_write : status ≡ WriteFault → ⊥
   no_write e = written (causes.write e)
 
-  refused_short : Refuses (Some rows) name rate status (Some script) left' t t' x x' u u' → status ≡ NoMemory
+  refused_short : Refuses name rate status (Some script) left' x x' old new → status ≡ NoMemory
   refused_short h =
-      told_free name h.why status h.printed t' x x' h.refused.refusal h.refused.status_is
-      (file_free rows name rate script t h.printed h.refused.refusal p h.refused.refused) no_shelf no_write h.tells
+      told_free name h.why status h.printed new.lines x x' h.refused.refusal h.refused.status_is
+      (file_free rows name rate script old.lines h.printed h.refused.refusal p
+      (subst (λ (o : Option (List FileRow)). IsFileRefused o name rate old.lines h.printed h.refused.refusal) holds h.refused.refused)) no_shelf no_write h.tells
 
-  played_done : PlaysFreely (Some rows) name rate status (Some script) left' read read' t t' u u' → status ≡ Done
+  played_done : PlaysFreely name rate status (Some script) left' read read' old new → status ≡ Done
   played_done h =
+      let reads : Reads (Some rows) name first_names (Ok (h.document, h.names)) = subst (λ (o : Option (List FileRow)). Reads o name first_names (Ok (h.document, h.names))) holds h.reads in
+      let held : Grows (Some rows) name rate h.document h.names h.patch h.table = subst (λ (o : Option (List FileRow)). Grows o name rate h.document h.names h.patch h.table) holds h.grows in
       let same : ◌≡◌ {A = Page × Names} (h.document, h.names) (p.document, p.names) =
-      one_document rows name (p.document, p.names) (h.document, h.names) p.reads h.reads in
+      one_document rows name (p.document, p.names) (h.document, h.names) p.reads reads in
       let grows : Grows (Some rows) name rate p.document p.names h.patch h.table =
-      subst (λ (r : Page × Names). Grows (Some rows) name rate r.0 r.1 h.patch h.table) same h.grows in
-      ends_done name h.ending h.bytes script left' read read' (λ ending bytes. played_by event_freely h.patch h.table (samples rate) ending (script_of 0 0 bytes)) status
-      t t' u u' h.is_script none.script_stays no_write (p.commands h.patch h.table grows) h.tells
+      subst (λ (r : Page × Names). Grows (Some rows) name rate r.0 r.1 h.patch h.table) same held in
+      ends_done name h.ending h.bytes script left' read read' (λ ending bytes. played_by free_ways name h.patch h.table (choices_of h.edits) (samples rate) ending (script_of 0 0 bytes)) h.edits status
+      old new h.is_script none.script_stays no_write h.lawful (p.commands h.patch h.table (choices_of h.edits) grows) h.tells
 
-  either_done : Refuses (Some rows) name rate status (Some script) left' t t' x x' u u' ⊎ PlaysFreely (Some rows) name rate status (Some script) left' read read' t t' u u'
-      → (status ≡ Done) ⊎ (status ≡ NoMemory)
+  either_done : Refuses name rate status (Some script) left' x x' old new ⊎ PlaysFreely name rate status (Some script) left' read read' old new → (status ≡ Done) ⊎ (status ≡ NoMemory)
   either_done (inl h) = inr (refused_short h)
   either_done (inr h) = inl (played_done h)
 
-pub completes : (o : Option Asked) (holds : Option (List FileRow)) (left left' : Option (List ℕ)) (status : Status) (folder folder' read read' x x' y y' : ℕ)
-    (t t' u u' : Option (List ℕ)) → PlaysAskedFreely o holds status left left' read read' t t' x x' u u'
-    → HasCauses folder folder' read read' x x' y y' status → Completes o holds left status folder folder' read read' x x' y y'
-completes None holds left left' status folder folder' read read' x x' y y' t t' u u' h causes = tt
-completes (Some a) None left left' status folder folder' read read' x x' y y' t t' u u' h causes = tt
-completes (Some a) (Some rows) None left' status folder folder' read read' x x' y y' t t' u u' h causes = tt
-completes (Some a) (Some rows) (Some script) left' status folder folder' read read' x x' y y' t t' u u' h causes = λ unmade rate is p none.
-    either_done rows a.patch rate script left' status folder folder' read read' x x' y y' t t' u u' p none causes (h unmade rate is)
+held_done : (a : Asked) (holds : Option (List FileRow)) (left left' : Option (List ℕ)) (status : Status) (folder folder' read read' x x' y y' : ℕ) (old new : Sinks) → old.held ≡ holds
+    → PlaysAskedFreely (Some a) status left left' read read' x x' old new → HasCauses folder folder' read read' x x' y y' status
+    → Completes (Some a) holds left status folder folder' read read' x x' y y'
+held_done a None left left' status folder folder' read read' x x' y y' old new is h causes = tt
+held_done a (Some rows) None left' status folder folder' read read' x x' y y' old new is h causes = tt
+held_done a (Some rows) (Some script) left' status folder folder' read read' x x' y y' old new is h causes = λ unmade rate same p none.
+    either_done rows a.patch rate script left' status folder folder' read read' x x' y y' old new is p none causes (h unmade rate same)
+
+pub completes : (o : Option Asked) (left left' : Option (List ℕ)) (status : Status) (folder folder' read read' x x' y y' : ℕ) (old new : Sinks)
+    → PlaysAskedFreely o status left left' read read' x x' old new → HasCauses folder folder' read read' x x' y y' status
+    → Completes o old.held left status folder folder' read read' x x' y y'
+completes None left left' status folder folder' read read' x x' y y' old new h causes = tt
+completes (Some a) left left' status folder folder' read read' x x' y y' old new h causes =
+    held_done a old.held left left' status folder folder' read read' x x' y y' old new refl h causes

@@ -1,4 +1,4 @@
--- From a steady point nothing is passed over in the run of a script.
+-- From a steady point nothing is passed over in the run of a script whose edits are fair.
 use Rattle.std.proofs.Common.{◌≡◌, ◌≤◌, ◌+◌, ◌*◌, ◌^◌, ℕ, ℤ, List, length, Some, ap, arith}
 use Rattle.std.proofs.lemmas.Nat.{mul-le}
 use Rattle.pd_atom.specs.Names.{Names, Extends}
@@ -16,12 +16,13 @@ use Rattle.pd_stage.specs.Stages.{Stage, Passage, with_names}
 use Rattle.pd_stage.specs.Times.{block_units}
 use Rattle.pd_engine.specs.Commands.{commanded}
 use Rattle.pd_steady.specs.Runs.{commanded_by}
-use Rattle.pd_steady.specs.Freely.{event_freely}
+use Rattle.pd_steady.specs.Freely.{free_ways}
 use Rattle.pd_steady.specs.Steady.{IsSteady, IsCommand}
+use Rattle.pd_steady.proofs.FairLemmas.{AreFair, fair_first, fair_second}
 use Rattle.pd_steady.proofs.EventLemmas.{Guards, IsFree}
 use Rattle.pd_steady.proofs.TimeLemmas.{advanced_free, finished_free}
 use Rattle.pd_steady.proofs.RunLemmas.{commanded_free, named_steady}
-use Rattle.pd_play.specs.Runs.{Point, Ending, most_time, at_stage, at_time, reached, done, run_of}
+use Rattle.pd_play.specs.Runs.{Point, Run, Ending, most_time, at_stage, at_time, reached, done, run_of}
 use Rattle.pd_play.specs.declared.status.Status.TheVariants.{Done}
 use Rattle.pd_faithful.specs.Scripts.{reached_by, done_by, run_of_by}
 use Rattle.pd_faithful.specs.Points.{most_units, IsSteadyAt}
@@ -89,39 +90,47 @@ module _ (laws : Laws) where
       }
 
   -- the script's time is reached
-  pub reached_free : (p : Point) → IsSteadyAt p → IsFree most_units (reached p) (reached_by event_freely p)
+  pub reached_free : (p : Point) → IsSteadyAt p → AreFair (reached p).edits → IsFree most_units (reached p) (reached_by free_ways p)
   unfolding reached
-  reached_free p h = advanced_free laws.guards most_units in_range (p.time * p.rate) p.stage (in_time p h) h.stage
+  reached_free p h w = advanced_free laws.guards most_units in_range (p.time * p.rate) p.stage (in_time p h) h.stage w
 
-  pub reached_command : (p : Point) (c : Command) → IsSteadyAt p → IsCommand p.stage.names c → IsCommand (reached p).stage.names c
+  pub reached_command : (p : Point) (c : Command) → IsSteadyAt p → IsCommand p.stage.names c → AreFair (reached p).edits → IsCommand (reached p).stage.names c
   unfolding reached
-  reached_command p c h k =
-      command_more p.stage.names (reached p).stage.names (advanced_names laws.guards most_units in_range (p.time * p.rate) p.stage (in_time p h) h.stage) c k
+  reached_command p c h k w =
+      command_more p.stage.names (reached p).stage.names (advanced_names laws.guards most_units in_range (p.time * p.rate) p.stage (in_time p h) h.stage w) c k
 
   -- a command is carried out
-  pub carried_free : (p : Point) (c : Command) → IsSteadyAt p → IsCommand p.stage.names c → IsFree most_units (commanded c (reached p).stage) (commanded_by event_freely c (reached p).stage)
-  carried_free p c h k = commanded_free laws.guards most_units c (reached p).stage (reached_free p h).steady (reached_command p c h k)
+  pub carried_free : (p : Point) (c : Command) → IsSteadyAt p → IsCommand p.stage.names c → AreFair (reached p).edits
+      → IsFree most_units (commanded c (reached p).stage) (commanded_by free_ways c (reached p).stage)
+  carried_free p c h k w = commanded_free laws.guards most_units c (reached p).stage ((reached_free p h w).steady w) (reached_command p c h k w)
 
   -- the run comes to its end
-  done_free : (s : Stage) → IsSteady most_units s → done_by event_freely s ≡ done s
+  done_free : (s : Stage) → IsSteady most_units s → AreFair (done s).passage.edits → done_by free_ways s ≡ done s
   unfolding done
-  done_free s h = ap (λ (x : Passage). record { status = Done; passage = x }) (finished_free laws.guards most_units s block_more h).same
+  done_free s h w = ap (λ (x : Passage). record { status = Done; passage = x }) (finished_free laws.guards most_units s block_more h w).same
 
-  said_free : (s : Script) (p : Point) → IsSteadyAt p → IsSaid p.stage.names s → SaidSame event_freely IsSteadyAt s p
-  said_free (script.Run c) p h k =
-      let a : IsFree most_units (commanded c (reached p).stage) (commanded_by event_freely c (reached p).stage) = carried_free p c h k in
-      (carried_same event_freely c p (reached_free p h).same a.same, record { stage = a.steady; rate = h.rate; time = h.time })
-  said_free script.End p h k = let a : IsFree most_units (reached p) (reached_by event_freely p) = reached_free p h in end_same event_freely p a.same (done_free (reached p).stage a.steady)
+  said_free : (s : Script) (p : Point) → IsSteadyAt p → IsSaid p.stage.names s → SaidSame free_ways IsSteadyAt AreFair s p
+  said_free (script.Run c) p h k = λ w.
+      let part : Passage = commanded c (reached p).stage in
+      let first : AreFair (reached p).edits = fair_first (reached p).edits part.edits w in
+      let a : IsFree most_units part (commanded_by free_ways c (reached p).stage) = carried_free p c h k first in
+      (carried_same free_ways c p (reached_free p h first).same a.same, record { stage = a.steady (fair_second (reached p).edits part.edits w); rate = h.rate; time = h.time })
+  said_free script.End p h k = λ w.
+      let end : Run = done (reached p).stage in
+      let first : AreFair (reached p).edits = fair_first (reached p).edits end.passage.edits w in
+      let a : IsFree most_units (reached p) (reached_by free_ways p) = reached_free p h first in
+      end_same free_ways p a.same (done_free (reached p).stage (a.steady first) (fair_second (reached p).edits end.passage.edits w))
 
-  free_says : (s : Script) (p : Point) → IsRead p s → SaidSame event_freely IsSteadyAt s p
+  free_says : (s : Script) (p : Point) → IsRead p s → SaidSame free_ways IsSteadyAt AreFair s p
   free_says s p r = said_free s p r.steady r.said
 
-  free_agrees : Agrees event_freely IsSteadyAt
+  free_agrees : Agrees free_ways IsSteadyAt AreFair
   free_agrees = record {
+    splits = record { first = fair_first; second = fair_second };
     counts = λ p h. record { stage = h.stage; rate = h.rate; time = h.time };
-    ends = λ p h. done_free p.stage h.stage;
+    ends = λ p h w. done_free p.stage h.stage w;
     says = λ p tokens z s names time h is l. free_says s (at_time (at_stage p (with_names p.stage names)) time) (read_at p tokens z s names time h is l);
   }
 
-  pub run_free : (ending : Ending) (text : Text) (p : Point) → IsSteadyAt p → run_of_by event_freely ending text p ≡ run_of ending text p
-  run_free ending text p h = run_same event_freely IsSteadyAt free_agrees ending text p h
+  pub run_free : (ending : Ending) (text : Text) (p : Point) → IsSteadyAt p → AreFair (run_of ending text p).passage.edits → run_of_by free_ways ending text p ≡ run_of ending text p
+  run_free ending text p h w = run_same free_ways IsSteadyAt AreFair free_agrees ending text p h w

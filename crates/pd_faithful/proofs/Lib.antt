@@ -2,6 +2,8 @@ pub mod NameLemmas
 pub mod RecordLemmas
 pub mod FreeLemmas
 pub mod StepLemmas
+pub mod TakenLemmas
+pub mod EndLemmas
 pub mod WholeLemmas
 pub mod AskedLemmas
 pub mod CompleteLemmas

@@ -1,4 +1,4 @@
--- No name of the table is lost as time goes on.
+-- No name of the table is lost as time goes on, where the edits on the way are fair.
 use Rattle.std.proofs.Common.{◌≡◌, ◌<◌, ◌≤◌, ◌+◌, ◌-◌, ◌^◌, ℕ, zero, suc, max, Bool, true, false, nat_lt, nat_le, if◌then◌else◌, length, Option, Some, None, IfSome, refl, sym, subst, arith}
 use Rattle.std.proofs.lemmas.Bool.{leb-true, ltb-true}
 use Rattle.pd_atom.specs.Names.{Names}
@@ -17,9 +17,10 @@ use Rattle.pd_guards.proofs.FactLemmas.{either_by}
 use Rattle.pd_guards.proofs.SameTurns.{Agree}
 use Rattle.pd_guards.proofs.WalkLemmas.{name_in, asked_in, done_in, done_names, IsTaskAt, stays_in, others_in, follow_in, Delivers, outcome_ends}
 use Rattle.pd_stage.specs.Stages.{Stage, Passage, kept_at, still, followed_by}
-use Rattle.pd_stage.specs.Events.{Firing, begun, event}
-use Rattle.pd_stage.specs.Times.{most_fired, first_clock, if_below, next_clock, taken_off, with_taken, with_fired, fires, fires_or_not, fires_below, clocks_fire, block_sounds, block_runs, blocks_run, advanced}
+use Rattle.pd_stage.specs.Events.{Firing, begun, delivered, event}
+use Rattle.pd_stage.specs.Times.{most_fired, first_clock, if_below, next_clock, taken_off, with_taken, with_fired, fires, fires_or_not, fires_below, clocks_fire, block_sounds, block_runs, blocks_run, time_is, comes_to, advanced}
 use Rattle.pd_steady.specs.Steady.{IsSteady}
+use Rattle.pd_steady.proofs.FairLemmas.{AreFair, fair_first, fair_second, event_left}
 use Rattle.pd_steady.proofs.EventLemmas.{Guards, event_free}
 use Rattle.pd_steady.proofs.TimeLemmas.{block_free}
 
@@ -95,9 +96,13 @@ outcome_names net now w s h k =
     (outcome_ends net now (rules net now) (Holds net now w.kept.names) (IsTaskAt net now) (delivers net now w.kept.names) w s (record { order = h; known = λ name j. j }) k).1 in
     covers (length w.kept.names) (length (outcome net now w s).kept.names) e.known
 
-fired_names : (s : Stage) (owner : ℕ) → IsInOrder s.net s.time (kept_at s) → length s.names ≤ length (event s (Firing owner)).stage.names
-unfolding event outcome
-fired_names s owner h = outcome_names s.net s.time (begun s) (start.Clock owner) h tt
+-- an event leaves the table as its deliveries do
+kept_names : (s : Stage) (owner : ℕ) → IsInOrder s.net s.time (kept_at s) → length s.names ≤ length (delivered s (Firing owner)).kept.names
+unfolding outcome
+kept_names s owner h = outcome_names s.net s.time (begun s) (start.Clock owner) h tt
+
+fired_names : (s : Stage) (owner : ℕ) → IsInOrder s.net s.time (kept_at s) → AreFair (event s (Firing owner)).edits → length s.names ≤ length (event s (Firing owner)).stage.names
+fired_names s owner h w = subst (λ (x : Stage). length s.names ≤ length x.names) (sym (event_left s (Firing owner) w).is) (kept_names s owner h)
 
 -- a clock that is next is below the limit
 below_limit : (limit : ℕ) (o : Option Clock) → IfSome (if_below limit o) (λ (c : Clock). c.time < limit)
@@ -128,57 +133,67 @@ module _ (g : Guards) (most : ℕ) (top : most ≤ 2 ^ 101) where
         near = h.near;
         order = record { time = o.time; first = o.first; kinds = o.kinds; states = o.states };
         values = h.values;
-        whole = h.whole;
+        ready = record { kinds = h.ready.kinds; whole = h.ready.whole; owners = h.ready.owners; channels = h.ready.channels };
         block = h.block;
       }
 
-  fires_keep : (s : Stage) (c : Clock) → c.time ≤ most → IsSteady most s → Keeps most s (fires s c).stage
-  fires_keep s c l h =
+  fires_keep : (s : Stage) (c : Clock) → c.time ≤ most → IsSteady most s → AreFair (fires s c).edits → Keeps most s (fires s c).stage
+  fires_keep s c l h w =
       let r : Stage = with_fired (with_taken s (taken_off s.clocks)) c.time in
       let k : IsSteady most r = fired_steady s c l h in
-      record { steady = (event_free g most r (Firing c.owner) k tt).steady; names = fired_names r c.owner k.order }
+      record { steady = (event_free g most r (Firing c.owner) k tt).steady w; names = fired_names r c.owner k.order w }
 
   clock_keeps : (s : Stage) (rest : Stage → Passage) (limit : ℕ) (o : Option Clock) → limit ≤ most → IfSome o (λ (c : Clock). c.time < limit)
-      → ((r : Stage) → IsSteady most r → Keeps most r (rest r).stage) → IsSteady most s → Keeps most s (fires_or_not s rest o).stage
-  clock_keeps s rest limit None l low f h = here s h
-  clock_keeps s rest limit (Some c) l low f h =
-      let a : Keeps most s (fires s c).stage = fires_keep s c (below c.time limit most low l) h in
-      onward s (fires s c).stage (rest (fires s c).stage).stage a (f (fires s c).stage a.steady)
+      → ((r : Stage) → IsSteady most r → AreFair (rest r).edits → Keeps most r (rest r).stage) → IsSteady most s → AreFair (fires_or_not s rest o).edits
+      → Keeps most s (fires_or_not s rest o).stage
+  clock_keeps s rest limit None l low f h w = here s h
+  clock_keeps s rest limit (Some c) l low f h w =
+      let p : Passage = fires s c in
+      let a : Keeps most s p.stage = fires_keep s c (below c.time limit most low l) h (fair_first p.edits (rest p.stage).edits w) in
+      onward s p.stage (rest p.stage).stage a (f p.stage a.steady (fair_second p.edits (rest p.stage).edits w))
 
-  clocks_keep : (n limit : ℕ) (s : Stage) → limit ≤ most → IsSteady most s → Keeps most s (fires_below n limit s).stage
+  clocks_keep : (n limit : ℕ) (s : Stage) → limit ≤ most → IsSteady most s → AreFair (fires_below n limit s).edits → Keeps most s (fires_below n limit s).stage
   unfolding fires_below
-  clocks_keep zero limit s l h = here s h
-  clocks_keep (suc n) limit s l h =
-      clock_keeps s (fires_below n limit) limit (next_clock limit s.clocks) l (below_limit limit (first_clock s.clocks)) (λ r k. clocks_keep n limit r l k) h
+  clocks_keep zero limit s l h w = here s h
+  clocks_keep (suc n) limit s l h w =
+      clock_keeps s (fires_below n limit) limit (next_clock limit s.clocks) l (below_limit limit (first_clock s.clocks)) (λ r k v. clocks_keep n limit r l k v) h w
 
   -- blocks
   sounds_names : (s r : Stage) → length s.names ≤ length r.names → length s.names ≤ length (block_sounds r).stage.names
   unfolding block_sounds
   sounds_names s r l = l
 
-  block_keeps : (s : Stage) → s.block_end ≤ most → IsSteady most s → Keeps most s (block_runs s).stage
-  block_keeps s l h = record {
-    steady = (block_free g most top s l h).steady;
-    names = sounds_names s (clocks_fire s.block_end s).stage (clocks_keep (most_fired - s.fired) s.block_end s l h).names;
-  }
+  block_keeps : (s : Stage) → s.block_end ≤ most → IsSteady most s → AreFair (block_runs s).edits → Keeps most s (block_runs s).stage
+  block_keeps s l h w =
+      let c : Passage = clocks_fire s.block_end s in
+      record {
+        steady = (block_free g most top s l h w).steady w;
+        names = sounds_names s c.stage (clocks_keep (most_fired - s.fired) s.block_end s l h (fair_first c.edits (block_sounds c.stage).edits w)).names;
+      }
 
-  if_keeps : (b : Bool) (s : Stage) (p q : Passage) → (b ≡ true → Keeps most s p.stage) → Keeps most s q.stage → Keeps most s (if b then p else q).stage
-  if_keeps true s p q f k = f refl
-  if_keeps false s p q f k = k
+  if_keeps : (b : Bool) (s : Stage) (p q : Passage) → (b ≡ true → AreFair p.edits → Keeps most s p.stage) → Keeps most s q.stage → AreFair (if b then p else q).edits
+      → Keeps most s (if b then p else q).stage
+  if_keeps true s p q f k w = f refl w
+  if_keeps false s p q f k w = k
 
-  blocks_keep : (n to : ℕ) (s : Stage) → to ≤ most → IsSteady most s → Keeps most s (blocks_run n to s).stage
+  blocks_keep : (n to : ℕ) (s : Stage) → to ≤ most → IsSteady most s → AreFair (blocks_run n to s).edits → Keeps most s (blocks_run n to s).stage
   unfolding blocks_run
-  blocks_keep zero to s l h = here s h
-  blocks_keep (suc n) to s l h =
-      if_keeps (nat_le s.block_end to) s (followed_by (block_runs s) (blocks_run n to)) (still s)
-      (λ e. let a : Keeps most s (block_runs s).stage = block_keeps s (within s.block_end to most (leb-true s.block_end to e) l) h in
-      onward s (block_runs s).stage (blocks_run n to (block_runs s).stage).stage a (blocks_keep n to (block_runs s).stage l a.steady))
-      (here s h)
+  blocks_keep zero to s l h w = here s h
+  blocks_keep (suc n) to s l h w =
+      let p : Passage = block_runs s in
+      if_keeps (nat_le s.block_end to) s (followed_by p (blocks_run n to)) (still s)
+      (λ e v. let a : Keeps most s p.stage =
+      block_keeps s (within s.block_end to most (leb-true s.block_end to e) l) h (fair_first p.edits (blocks_run n to p.stage).edits v) in
+      onward s p.stage (blocks_run n to p.stage).stage a (blocks_keep n to p.stage l a.steady (fair_second p.edits (blocks_run n to p.stage).edits v)))
+      (here s h) w
 
   -- to a time
-  pub advanced_names : (to : ℕ) (s : Stage) → to ≤ most → IsSteady most s → length s.names ≤ length (advanced to s).stage.names
-  advanced_names to s l h =
-      let r : Stage = (blocks_run (to + 1) to s).stage in
-      let a : Keeps most s r = blocks_keep (to + 1) to s l h in
-      let b : Keeps most r (clocks_fire to r).stage = clocks_keep (most_fired - r.fired) to r l a.steady in
-      within (length s.names) (length r.names) (length (clocks_fire to r).stage.names) a.names b.names
+  pub advanced_names : (to : ℕ) (s : Stage) → to ≤ most → IsSteady most s → AreFair (advanced to s).edits → length s.names ≤ length (advanced to s).stage.names
+  advanced_names to s l h w =
+      let p : Passage = blocks_run (to + 1) to s in
+      let r : Stage = p.stage in
+      let c : Passage = clocks_fire to r in
+      let a : Keeps most s r = blocks_keep (to + 1) to s l h (fair_first p.edits (comes_to to r).edits w) in
+      let b : Keeps most r c.stage =
+      clocks_keep (most_fired - r.fired) to r l a.steady (fair_first c.edits (time_is to c.stage).edits (fair_second p.edits (comes_to to r).edits w)) in
+      within (length s.names) (length r.names) (length c.stage.names) a.names b.names

@@ -1,6 +1,5 @@
 -- A patch opens at a steady point, and from there nothing is passed over.
-use Rattle.std.proofs.Common.{◌≡◌, ◌≤◌, ◌⊎◌, inl, inr, ℕ, List, Option, sym, ap, subst, ◌∙◌, arith}
-use Rattle.pd_io.specs.Stream.{grown}
+use Rattle.std.proofs.Common.{◌≡◌, ◌≤◌, ◌⊎◌, inl, inr, ℕ, List, [], ◌++◌, Option, None, refl, sym, ap, subst, ◌∙◌, arith}
 use Rattle.pd_io.specs.declared.files.FileRow.{FileRow}
 use Rattle.pd_atom.specs.Names.{Names}
 use Rattle.pd_canvas.specs.Pages.{Page}
@@ -8,36 +7,40 @@ use Rattle.pd_clock.specs.declared.times.Rate.{Rate}
 use Rattle.pd_clock.specs.declared.times.Rate.TheVariants as hz
 use Rattle.pd_clock.specs.Rates.{samples}
 use Rattle.pd_feed.specs.Script.{Script as Text, script_of}
-use Rattle.pd_patch.specs.declared.patch.Patch.{Patch}
-use Rattle.pd_say.proofs.GatheringLemmas.{printed_nothing}
-use Rattle.pd_stage.specs.Stages.{Stage, Passage, saying}
-use Rattle.pd_stage.specs.Items.{samples_of}
-use Rattle.pd_engine.specs.Opening.{Files, Grows, OpensFile, opened}
-use Rattle.pd_engine.proofs.OpeningLemmas.{opened_told}
-use Rattle.pd_stage.proofs.PassageLemmas.{told_silent, joined_assoc}
-use Rattle.pd_steady.specs.Runs.{opened_by}
-use Rattle.pd_steady.specs.Freely.{event_freely}
-use Rattle.pd_steady.specs.Steady.{IsSteady}
-use Rattle.pd_play.specs.Ending.{status_line}
 use Rattle.pd_feed.specs.Feed.{IsAtEnd}
-use Rattle.pd_play.specs.Runs.{Run, Ending, Broken, most_time, behind, run_of, MeetsEnd}
+use Rattle.pd_patch.specs.declared.patch.Patch.{Patch}
+use Rattle.pd_stage.specs.Items.{Item}
+use Rattle.pd_stage.specs.Choices.{Choice}
+use Rattle.pd_stage.specs.Stages.{Stage, Taken, choices_of, faults_of, Passage, still, saying, after}
+use Rattle.pd_stage.specs.Lawful.{AreLawful}
+use Rattle.pd_stage.specs.Leads.{RoseBy, Sinks, sinks, Took, Leads as LeadsOn}
+use Rattle.pd_stage.proofs.LeadLemmas.{after-joined, choices-append, lawful_both}
+use Rattle.pd_engine.specs.Opening.{Files, Grows, OpensFile, opened, Opens as EngineOpens}
+use Rattle.pd_steady.specs.Runs.{opened_by}
+use Rattle.pd_steady.specs.Freely.{free_ways}
+use Rattle.pd_steady.specs.Steady.{IsSteady}
+use Rattle.pd_steady.proofs.FairLemmas.{AreFair, fair_second}
+use Rattle.pd_play.specs.Ending.{status_line}
+use Rattle.pd_play.specs.Runs.{Run, Ending, Broken, most_time, behind, run_after, run_of, MeetsEnd}
 use Rattle.pd_play.specs.Playing.{Plays}
-use Rattle.pd_play.specs.Patches.{start, with_line, Tells, PlaysOpened}
+use Rattle.pd_play.specs.Patches.{start, with_line, once_open, PlaysOpened}
 use Rattle.pd_play.specs.declared.status.Status.{Status}
 use Rattle.pd_play.specs.declared.status.Status.TheVariants.{Done}
-use Rattle.pd_play.proofs.RunLemmas.{played_behind}
+use Rattle.pd_play.proofs.RunLemmas.{played_after}
 use Rattle.pd_faithful.specs.Scripts.{run_of_by, played_by}
 use Rattle.pd_faithful.specs.Points.{most_units, IsSteadyAt}
 use Rattle.pd_faithful.specs.Whole.{PlaysFreely}
 use Rattle.pd_faithful.proofs.FreeLemmas.{Laws, run_free}
+use Rattle.pd_faithful.proofs.TakenLemmas.{whole_takes, played_fair}
+use Rattle.pd_faithful.proofs.EndLemmas.{end_met}
 
 -- what the laws say of opening
 pub record Opens : Type 0 where
   pub laws : Laws
-  pub steady : (holds : Option (List FileRow)) (name : List ℕ) (rate : Rate) (d : Page) (names table : Names) (p : Patch) (most : ℕ) → Grows holds name rate d names p table
-      → IsSteady most (opened p table).stage
-  pub freely : (holds : Option (List FileRow)) (name : List ℕ) (rate : Rate) (d : Page) (names table : Names) (p : Patch) → Grows holds name rate d names p table
-      → opened_by event_freely p table ≡ opened p table
+  pub steady : (holds : Option (List FileRow)) (name : List ℕ) (rate : Rate) (d : Page) (names table : Names) (p : Patch) (most : ℕ) (edits : List Choice) → Grows holds name rate d names p table
+      → AreLawful (opened name p table edits).edits → IsSteady most (opened name p table edits).stage
+  pub freely : (holds : Option (List FileRow)) (name : List ℕ) (rate : Rate) (d : Page) (names table : Names) (p : Patch) (edits : List Choice) → Grows holds name rate d names p table
+      → opened_by free_ways name p table edits ≡ opened name p table edits
 
 -- numbers apart
 early : (n : ℕ) → 0 ≤ n
@@ -52,56 +55,138 @@ few_samples hz.R96000 = omega arith
 starts_steady : (s : Stage) (rate : Rate) → IsSteady most_units s → IsSteadyAt (start s (samples rate))
 starts_steady s rate h = record { stage = h; rate = few_samples rate; time = early most_time }
 
-line_behind : (name : List ℕ) (part : Passage) (run : Run) → with_line name (behind part run) ≡ behind part (with_line name run)
-line_behind name part run =
-    ap (λ (x : Passage). record { status = run.status; passage = x }) (joined_assoc part run.passage (saying run.passage.stage (status_line name run.status)))
+line_after : (name : List ℕ) (items : List Item) (edits : List Taken) (run : Run) → with_line name (run_after items edits run) ≡ run_after items edits (with_line name run)
+line_after name items edits run =
+    ap (λ (x : Passage). record { status = run.status; passage = x }) (after-joined items edits run.passage (saying run.passage.stage (status_line name run.status)))
+
+-- a count of faults that rose while a patch opened
+faults_more : (n x y : ℕ) → x ≤ y → RoseBy n x x → RoseBy n x y
+faults_more n x y l (inl k) = inl (omega (arith, l, k))
+faults_more n x y l (inr k) = inr (omega (arith, l, k))
+
+-- from where a patch opened, the run of a script
+run_at : Ending → Text → ℕ → Stage → Run
+run_at ending text rate s = run_of ending text (start s rate)
+
+-- the run from where it opens
+abbrev own_run : List ℕ → Patch → Names → List Choice → ℕ → Ending → Text → Run
+own_run name p table edits rate ending text = behind (opened name p table edits) (run_of ending text (start (opened name p table edits).stage rate))
 
 module _ (opens : Opens) where
-  pub opens_steady : (holds : Option (List FileRow)) (name : List ℕ) (rate : Rate) (library : Files) (s : Stage) (lines lines' : Option (List ℕ)) → OpensFile holds name rate library s lines lines'
-      → IsSteadyAt (start s (samples rate))
-  opens_steady holds name rate library s lines lines' h =
+  -- where it opens by edits that are lawful
+  pub opens_steady : (holds : Option (List FileRow)) (name : List ℕ) (rate : Rate) (library : Files) (s : List Choice → Stage) (lines lines' : Option (List ℕ)) (edits : List Choice)
+      → OpensFile holds name rate library s lines lines' → IsSteadyAt (start (s edits) (samples rate))
+  opens_steady holds name rate library s lines lines' edits h =
       let o = h.opens in
-      starts_steady s rate (subst (λ (x : Stage). IsSteady most_units x) (sym o.says.stage_is) (opens.steady holds name rate h.document h.names o.table o.patch most_units o.grows))
+      let led = o.says 0 None None 0 in
+      let ahead : List Choice = choices_of led.edits ++ edits in
+      let lawful : AreLawful (opened name o.patch o.table ahead).edits = subst (λ (p : Passage). AreLawful p.edits) (sym (led.same edits)) (lawful_both led.edits [] led.lawful tt) in
+      starts_steady (s edits) rate
+      (subst (λ (x : Stage). IsSteady most_units x) (ap (λ (p : Passage). p.stage) (led.same edits))
+      (opens.steady holds name rate h.document h.names o.table o.patch most_units ahead o.grows lawful))
 
-  pub whole_free : (holds : Option (List FileRow)) (name : List ℕ) (rate : Rate) (d : Page) (names table : Names) (p : Patch) (ending : Ending) (text : Text) → Grows holds name rate d names p table
-      → played_by event_freely p table (samples rate) ending text ≡ behind (opened p table) (run_of ending text (start (opened p table).stage (samples rate)))
-  whole_free holds name rate d names table p ending text g =
-      ap (λ (x : Passage). behind x (run_of_by event_freely ending text (start x.stage (samples rate)))) (opens.freely holds name rate d names table p g)
-      ∙ ap (λ (r : Run). behind (opened p table) r)
-      (run_free opens.laws ending text (start (opened p table).stage (samples rate)) (starts_steady (opened p table).stage rate (opens.steady holds name rate d names table p most_units g)))
+  pub whole_free : (holds : Option (List FileRow)) (name : List ℕ) (rate : Rate) (d : Page) (names table : Names) (p : Patch) (edits : List Choice) (ending : Ending) (text : Text)
+      → Grows holds name rate d names p table → AreLawful (opened name p table edits).edits → AreFair (run_of ending text (start (opened name p table edits).stage (samples rate))).passage.edits
+      → played_by free_ways name p table edits (samples rate) ending text ≡ own_run name p table edits (samples rate) ending text
+  whole_free holds name rate d names table p edits ending text g l w =
+      ap (λ (x : Passage). behind x (run_of_by free_ways ending text (start x.stage (samples rate)))) (opens.freely holds name rate d names table p edits g)
+      ∙ ap (λ (r : Run). behind (opened name p table edits) r)
+      (run_free opens.laws ending text (start (opened name p table edits).stage (samples rate))
+      (starts_steady (opened name p table edits).stage rate (opens.steady holds name rate d names table p most_units edits g l)) w)
 
-  ended_free : (holds : Option (List FileRow)) (name : List ℕ) (rate : Rate) (d : Page) (names table : Names) (p : Patch) (text : Text) (s : Stage) (left : Option (List ℕ))
-      (status : Status) → Grows holds name rate d names p table → s ≡ (opened p table).stage → IsAtEnd left ⊎ MeetsEnd text (start s (samples rate))
-      → IsAtEnd left ⊎ ((played_by event_freely p table (samples rate) Broken text).status ≡ Done)
-  ended_free holds name rate d names table p text s left status g is (inl h) = inl h
-  ended_free holds name rate d names table p text s left status g is (inr h) =
-      inr (ap (λ (r : Run). r.status) (whole_free holds name rate d names table p Broken text g)
-      ∙ ap (λ (x : Stage). (run_of Broken text (start x (samples rate))).status) (sym is) ∙ h)
+  -- a patch that was opened is played by a script
+  module _ (name : List ℕ) (rate : Rate) (status : Status) (left left' : Option (List ℕ)) (read read' : ℕ) (old new : Sinks) (h : PlaysOpened name rate status left left' read read' old new) where
+    abbrev o : EngineOpens old.held name rate h.opens.document h.opens.names h.library h.stage old.lines h.printed
+    o = h.opens.opens
 
-  pub plays_free : (holds : Option (List FileRow)) (name : List ℕ) (rate : Rate) (status : Status) (left left' : Option (List ℕ)) (read read' : ℕ) (lines lines' pcm pcm' : Option (List ℕ))
-      → PlaysOpened holds name rate status left left' read read' lines lines' pcm pcm' → PlaysFreely holds name rate status left left' read read' lines lines' pcm pcm'
-  plays_free holds name rate status left left' read read' lines lines' pcm pcm' h =
-      let o = h.opens.opens in
-      let first : Passage = opened o.patch o.table in
-      let text : Text = script_of 0 0 h.plays.bytes in
-      let run : Stage → Run = λ s. run_of h.plays.ending text (start s (samples rate)) in
-      let tells : Tells name (run first.stage) status h.printed lines' pcm pcm' =
-      subst (λ (s : Stage). Tells name (run s) status h.printed lines' pcm pcm') o.says.stage_is h.plays.tells in
-      let silent : pcm ≡ grown pcm (samples_of first.items) = printed_nothing pcm (samples_of first.items) (told_silent first (opened_told o.patch o.table)) in
-      let all : Plays (behind first (with_line name (run first.stage))) status lines lines' pcm pcm' =
-      played_behind first (with_line name (run first.stage)) status lines h.printed lines' pcm pcm pcm' o.says.lines_are silent tells in
-      record {
-        document = h.opens.document;
-        names = h.opens.names;
-        reads = h.opens.reads;
-        patch = o.patch;
-        table = o.table;
-        grows = o.grows;
-        ending = h.plays.ending;
-        bytes = h.plays.bytes;
-        is_script = h.plays.is_script;
-        tells = subst (λ (r : Run). Plays r status lines lines' pcm pcm')
-            (sym (line_behind name first (run first.stage))
-            ∙ ap (λ (r : Run). with_line name r) (sym (whole_free holds name rate h.opens.document h.opens.names o.table o.patch h.plays.ending text o.grows))) all;
-        over = λ e. ended_free holds name rate h.opens.document h.opens.names o.table o.patch text h.stage left' status o.grows o.says.stage_is (h.plays.over e);
-      }
+    abbrev led : LeadsOn (opened name o.patch o.table) (λ m. still (h.stage m)) (sinks old.lines old.samples old.looks old.held old.faults) (sinks h.printed old.samples old.looks old.held old.faults)
+    led = o.says old.looks old.samples old.held old.faults
+
+    abbrev log : List Taken
+    log = led.edits ++ h.plays.edits
+
+    abbrev text : Text
+    text = script_of 0 0 h.plays.bytes
+
+    abbrev run : Ending → Run
+    run ending = run_at ending text (samples rate) (h.stage (choices_of h.plays.edits))
+
+    abbrev own : Ending → Run
+    own ending = own_run name o.patch o.table (choices_of log) (samples rate) ending text
+
+    lawful : AreLawful log
+    lawful = lawful_both led.edits h.plays.edits led.lawful h.plays.lawful
+
+    opened_so : opened name o.patch o.table (choices_of log) ≡ after led.items led.edits (still (h.stage (choices_of h.plays.edits)))
+    opened_so = ap (opened name o.patch o.table) (choices-append led.edits h.plays.edits) ∙ led.same (choices_of h.plays.edits)
+
+    opened_lawful : AreLawful (opened name o.patch o.table (choices_of log)).edits
+    opened_lawful = subst (λ (p : Passage). AreLawful p.edits) (sym opened_so) (lawful_both led.edits [] led.lawful tt)
+
+    own_so : (ending : Ending) → own ending ≡ run_after led.items led.edits (run ending)
+    unfolding run_at
+    own_so ending =
+        ap (λ (x : Passage). behind x (run_of ending text (start x.stage (samples rate)))) opened_so
+        ∙ ap (λ (x : Passage). record { status = (run ending).status; passage = x }) (after-joined led.items led.edits (still (h.stage (choices_of h.plays.edits))) (run ending).passage)
+
+    -- lines were taken while it opened, and no more
+    opening_took : Took old (once_open old h.printed h.faults) led.items led.edits
+    opening_took = record {
+      lines_are = led.took.lines_are;
+      samples_are = led.took.samples_are;
+      few_looks = led.took.few_looks;
+      held_are = led.took.held_are;
+      few_faults = faults_more (faults_of led.edits) old.faults h.faults h.counted led.took.few_faults;
+    }
+
+    lined_so : with_line name (own h.plays.ending) ≡ run_after led.items led.edits (with_line name (run h.plays.ending))
+    lined_so = ap (λ (r : Run). with_line name r) (own_so h.plays.ending) ∙ line_after name led.items led.edits (run h.plays.ending)
+
+    own_tells : Plays (with_line name (own h.plays.ending)) log status old new
+    unfolding run_at
+    own_tells =
+        subst (λ (r : Run). Plays r log status old new) (sym lined_so)
+        (played_after led.items led.edits h.plays.edits (with_line name (run h.plays.ending)) status old (once_open old h.printed h.faults) new led.lawful h.plays.lawful opening_took h.plays.tells)
+
+    own_fair : AreFair (own h.plays.ending).passage.edits
+    own_fair =
+        played_fair name (own h.plays.ending) log status old new lawful
+        (whole_takes name o.patch o.table (choices_of log) h.plays.ending text (start (opened name o.patch o.table (choices_of log)).stage (samples rate)) refl) own_tells
+
+    free_so : (ending : Ending) → AreFair (own ending).passage.edits → played_by free_ways name o.patch o.table (choices_of log) (samples rate) ending text ≡ own ending
+    free_so ending w =
+        let p : Passage = opened name o.patch o.table (choices_of log) in
+        whole_free old.held name rate h.opens.document h.opens.names o.table o.patch (choices_of log) ending text o.grows opened_lawful
+        (fair_second p.edits (run_of ending text (start p.stage (samples rate))).passage.edits w)
+
+    -- where an `end` is met, the run is one
+    broken_so : MeetsEnd text (start (h.stage (choices_of h.plays.edits)) (samples rate)) → own h.plays.ending ≡ own Broken
+    unfolding run_at
+    broken_so e =
+        own_so h.plays.ending ∙ ap (λ (r : Run). run_after led.items led.edits r) (end_met h.plays.ending text (start (h.stage (choices_of h.plays.edits)) (samples rate)) e)
+        ∙ sym (own_so Broken)
+
+    over_free : IsAtEnd left' ⊎ MeetsEnd text (start (h.stage (choices_of h.plays.edits)) (samples rate))
+        → IsAtEnd left' ⊎ ((played_by free_ways name o.patch o.table (choices_of log) (samples rate) Broken text).status ≡ Done)
+    unfolding run_at
+    over_free (inl e) = inl e
+    over_free (inr e) =
+        let fair : AreFair (own Broken).passage.edits = subst (λ (r : Run). AreFair r.passage.edits) (broken_so e) own_fair in
+        inr (ap (λ (r : Run). r.status) (free_so Broken fair ∙ own_so Broken) ∙ e)
+
+    pub plays_free : PlaysFreely name rate status left left' read read' old new
+    plays_free = record {
+      document = h.opens.document;
+      names = h.opens.names;
+      reads = h.opens.reads;
+      patch = o.patch;
+      table = o.table;
+      grows = o.grows;
+      ending = h.plays.ending;
+      bytes = h.plays.bytes;
+      is_script = h.plays.is_script;
+      edits = log;
+      lawful = lawful;
+      tells = subst (λ (r : Run). Plays r log status old new) (sym (ap (λ (r : Run). with_line name r) (free_so h.plays.ending own_fair))) own_tells;
+      over = λ e. over_free (h.plays.over e);
+    }

@@ -14,8 +14,10 @@ use Rattle.pd_gather.specs.Gather.{Known}
 use Rattle.pd_patch.specs.Sounds.{sound_of}
 use Rattle.pd_patch.specs.declared.patch.Patch.{Patch}
 use Rattle.pd_words.specs.Grammar.{Asked}
+use Rattle.pd_stage.specs.Choices.{Choice}
+use Rattle.pd_stage.specs.Lawful.{AreLawful}
 use Rattle.pd_engine.specs.Opening.{Reads, Grows, GathersAll, growth_of}
-use Rattle.pd_steady.specs.Freely.{event_freely}
+use Rattle.pd_steady.specs.Freely.{free_ways}
 use Rattle.pd_play.specs.Runs.{Whole}
 use Rattle.pd_play.specs.Telling.{is_unmade}
 use Rattle.pd_play.specs.declared.status.Status.{Status}
@@ -32,14 +34,16 @@ pub record GrowsWithin (rows : List FileRow) (name : List ℕ) (rate : Rate) (d 
   pub few_wires : wires_fitting tree.sheet tree.boxes ≤ 65536
   pub few_values : sound_of rate tree.boxes ≤ 16777216
 
--- A patch is held that reads and grows within the limits, and in its run the script is commands up to its end, or up to an `end`.
+-- A patch is held that reads and grows within the limits, and in its run, whatever its edits lawfully come to, the script is commands up to its
+-- end, or up to an `end`.
 pub record IsPlayable (rows : List FileRow) (name : List ℕ) (rate : Rate) (script : List ℕ) : Type 0 where
   pub document : Page
   pub names : Names
   pub reads : Reads (Some rows) name first_names (Ok (document, names))
   pub within : GrowsWithin rows name rate document names
-  pub commands : (p : Patch) (table : Names) → Grows (Some rows) name rate document names p table
-      → (played_by event_freely p table (samples rate) Whole (script_of 0 0 script)).status ≡ Done
+  pub commands : (p : Patch) (table : Names) (edits : List Choice) → Grows (Some rows) name rate document names p table
+      → AreLawful (played_by free_ways name p table edits (samples rate) Whole (script_of 0 0 script)).passage.edits
+      → (played_by free_ways name p table edits (samples rate) Whole (script_of 0 0 script)).status ≡ Done
 
 -- no count of faults rose in the call
 pub record NoneRose (folder folder' read read' lines lines' pcm pcm' : ℕ) : Type 0 where

@@ -1,8 +1,7 @@
 -- From which points a script passes nothing over, and the steps of its run.
 use Rattle.std.specs.Prelude.{◌≡◌, ℕ, ◌≤◌, ◌*◌, List}
 use Rattle.pd_stage.specs.Stages.{Stage, Passage, still, followed_by}
-use Rattle.pd_stage.specs.Events as engine
-use Rattle.pd_steady.specs.Runs.{Events, finished_by}
+use Rattle.pd_steady.specs.Runs.{Ways, own_ways, finished_by}
 use Rattle.pd_steady.specs.Steady.{IsSteady}
 use Rattle.pd_steady.specs.Steps.{Step, AreSteps, steps_by}
 use Rattle.pd_play.specs.Runs.{Point, Run, most_time}
@@ -20,12 +19,12 @@ pub record IsSteadyAt (p : Point) : Type 0 where
   pub time : p.time ≤ most_time
 
 -- a run that has come to its end runs the block that began; another one does nothing more
-abbrev pub ended_by : Events → Status → Stage → Passage
-ended_by event Done s = finished_by event s
-ended_by event status s = still s
+abbrev pub ended_by : Ways → Status → Stage → Passage
+ended_by ways Done s = finished_by ways s
+ended_by ways status s = still s
 
 -- a run from a stage is so many steps, one after another and each in order where the run has come to, and then its end
 pub record IsStepped (most : ℕ) (s : Stage) (run : Run) : Type 0 where
   pub steps : List Step
   pub are : AreSteps most steps s
-  pub same : run.passage ≡ followed_by (steps_by engine.event steps s) (ended_by engine.event run.status)
+  pub same : run.passage ≡ followed_by (steps_by own_ways steps s) (ended_by own_ways run.status)

@@ -7,10 +7,13 @@ ghost use Rattle.pd_clock.specs.declared.times.Rate.{Rate};
 ghost use Rattle.pd_clock.specs.Rates.{samples};
 ghost use Rattle.pd_feed.specs.Script.{Script as Text};
 ghost use Rattle.pd_patch.specs.declared.patch.Patch.{Patch};
+ghost use Rattle.pd_stage.specs.Choices.{Choice};
+ghost use Rattle.pd_stage.specs.Lawful.{AreLawful};
+ghost use Rattle.pd_stage.specs.Leads.{Sinks};
 ghost use Rattle.pd_stage.specs.Stages.{Stage};
-ghost use Rattle.pd_stage.specs.Events.{event};
+ghost use Rattle.pd_steady.specs.Runs.{own_ways};
 ghost use Rattle.pd_engine.specs.Opening.{Files, Grows, OpensFile, opened};
-ghost use Rattle.pd_steady.specs.Freely.{event_freely};
+ghost use Rattle.pd_steady.specs.Freely.{free_ways};
 ghost use Rattle.pd_play.specs.Runs.{Point, Ending, behind, run_of};
 ghost use Rattle.pd_play.specs.Patches.{start, PlaysOpened};
 ghost use Rattle.pd_play.specs.declared.status.Status.{Status};
@@ -18,58 +21,58 @@ ghost use Rattle.pd_faithful.specs.Scripts.{run_of_by, played_by};
 ghost use Rattle.pd_faithful.specs.Points.{most_units, IsSteadyAt, IsStepped};
 ghost use Rattle.pd_faithful.specs.Whole.{PlaysFreely};
 
-/// With pd_engine's own events the run of a script is pd_play's.
+/// With pd_engine's own events and blocks the run of a script is pd_play's.
 pub fn scripts_are_by_events()
-    ensures { (ending : Ending) (text : Text) (p : Point) → run_of_by event ending text p ≡ run_of ending text p }
+    ensures { (ending : Ending) (text : Text) (p : Point) → run_of_by own_ways ending text p ≡ run_of ending text p }
 {}
 
-/// From a steady point the run of a script is steps, one after another: the names that a record brings, the time that it comes to, and its
-/// command. Each is in order where the run has come to. Then the last block runs, where the run has come to its end.
+/// From a steady point the run of a script in which each edit is lawful is steps, one after another: the names that a record brings, the time
+/// that it comes to, and its command. Each is in order where the run has come to. Then the last block runs, where the run has come to its end.
 pub fn scripts_are_steps()
-    ensures { (ending : Ending) (text : Text) (p : Point) → IsSteadyAt p → IsStepped most_units p.stage (run_of ending text p) }
+    ensures { (ending : Ending) (text : Text) (p : Point) → IsSteadyAt p →
+        AreLawful (run_of ending text p).passage.edits → IsStepped most_units p.stage (run_of ending text p) }
 {
     pd_guards::delivery_passes_nothing_over();
     pd_guards::messages_keep_values();
     pd_guards::order_lasts();
     pd_sized::messages_keep_sizes();
-    pd_sized::blocks_keep_sizes();
     pd_guards::blocks_stay_in_order();
     pd_guards::commands_begin_in_order();
     pd_script::tables_go_on();
 }
 
-/// From a steady point nothing is ever passed over in the run of a script, whatever its bytes are. A patch opens at a steady point, so
-/// nothing is passed over from there to the end.
+/// From a steady point nothing is ever passed over in the run of a script in which each edit is lawful, whatever its bytes are. A patch
+/// opens at a steady point, so nothing is passed over from there to the end.
 pub fn scripts_pass_nothing_over()
-    ensures freely { (ending : Ending) (text : Text) (p : Point) → IsSteadyAt p → run_of_by event_freely ending text p ≡ run_of ending text p }
-    ensures opens { (holds : Option (List FileRow)) (name : List ℕ) (rate : Rate) (library : Files) (s : Stage) (lines lines' : Option (List ℕ)) →
-        OpensFile holds name rate library s lines lines' → IsSteadyAt (start s (samples rate)) }
+    ensures freely { (ending : Ending) (text : Text) (p : Point) → IsSteadyAt p →
+        AreLawful (run_of ending text p).passage.edits → run_of_by free_ways ending text p ≡ run_of ending text p }
+    ensures opens { (holds : Option (List FileRow)) (name : List ℕ) (rate : Rate) (library : Files) (s : List Choice → Stage)
+        (lines lines' : Option (List ℕ)) (edits : List Choice) → OpensFile holds name rate library s lines lines' →
+        IsSteadyAt (start (s edits) (samples rate)) }
     ensures whole { (holds : Option (List FileRow)) (name : List ℕ) (rate : Rate) (d : Page) (names table : Names) (p : Patch)
-        (ending : Ending) (text : Text) → Grows holds name rate d names p table → played_by event_freely p table (samples rate) ending text ≡
-        behind (opened p table) (run_of ending text (start (opened p table).stage (samples rate))) }
+        (edits : List Choice) (ending : Ending) (text : Text) → Grows holds name rate d names p table →
+        let run = behind (opened name p table edits) (run_of ending text (start (opened name p table edits).stage (samples rate))) in
+        AreLawful run.passage.edits → played_by free_ways name p table edits (samples rate) ending text ≡ run }
 {
     pd_guards::delivery_passes_nothing_over();
     pd_guards::messages_keep_values();
     pd_guards::order_lasts();
     pd_sized::messages_keep_sizes();
-    pd_sized::blocks_keep_sizes();
     pd_guards::blocks_stay_in_order();
     pd_guards::commands_begin_in_order();
     pd_script::tables_go_on();
     pd_steady::opening_is_steady();
 }
 
-/// What a call of `play` prints and writes, where the patch opens, is a run in which nothing is ever passed over.
+/// What a call of `play` prints, writes and puts into the folder, where the patch opens, is a run in which nothing is ever passed over.
 pub fn play_passes_nothing_over()
-    ensures { (holds : Option (List FileRow)) (name : List ℕ) (rate : Rate) (status : Status) (left left' : Option (List ℕ)) (read read' : ℕ)
-        (lines lines' pcm pcm' : Option (List ℕ)) → PlaysOpened holds name rate status left left' read read' lines lines' pcm pcm' →
-        PlaysFreely holds name rate status left left' read read' lines lines' pcm pcm' }
+    ensures { (name : List ℕ) (rate : Rate) (status : Status) (left left' : Option (List ℕ)) (read read' : ℕ) (old new : Sinks) →
+        PlaysOpened name rate status left left' read read' old new → PlaysFreely name rate status left left' read read' old new }
 {
     pd_guards::delivery_passes_nothing_over();
     pd_guards::messages_keep_values();
     pd_guards::order_lasts();
     pd_sized::messages_keep_sizes();
-    pd_sized::blocks_keep_sizes();
     pd_guards::blocks_stay_in_order();
     pd_guards::commands_begin_in_order();
     pd_script::tables_go_on();

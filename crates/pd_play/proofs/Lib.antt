@@ -5,3 +5,4 @@ pub mod OpenedLemmas
 pub mod PatchLemmas
 pub mod ReportLemmas
 pub mod RunLemmas
+pub mod TookLemmas

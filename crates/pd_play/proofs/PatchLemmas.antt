@@ -1,14 +1,18 @@
 -- A run and the line that tells of its status.
-use Rattle.std.proofs.Common.{◌≡◌, ◌≤◌, inl, inr, ℕ, List, [], ◌∷◌, ◌++◌, Option, Some, None, true, refl, sym, ap, ◌∙◌, subst, arith}
+use Rattle.std.proofs.Common.{◌≡◌, ◌≤◌, ◌⊎◌, inl, inr, ℕ, List, [], ◌∷◌, ◌++◌, Option, Some, None, true, refl, sym, ap, ◌∙◌, subst, arith}
 use Rattle.std.specs.Prelude.{IfSome}
 use Rattle.std.proofs.lemmas.List.{append-nil}
 use Rattle.pd_io.specs.Stream.{grown, with_front, TookPart}
-use Rattle.pd_feed.specs.Script.{script_of}
+use Rattle.pd_feed.specs.Script.{Script as Text, script_of}
+use Rattle.pd_feed.specs.Feed.{IsAtEnd}
 use Rattle.pd_say.proofs.GatheringLemmas.{printed_nothing}
-use Rattle.pd_stage.specs.Items.{lines_of, samples_of}
-use Rattle.pd_stage.specs.Stages.{Stage, Passage, saying, BreaksOff}
-use Rattle.pd_stage.proofs.ItemLemmas.{lines-said, samples-said, lines_on, samples_on, lines_said}
-use Rattle.pd_stage.proofs.PassageLemmas.{told_lines, lines_torn, broke, broke_behind, soundless_off}
+use Rattle.pd_stage.specs.Items.{said}
+use Rattle.pd_stage.specs.Choices.{Choice}
+use Rattle.pd_stage.specs.Stages.{Stage, Taken, choices_of, saying}
+use Rattle.pd_stage.specs.Lawful.{AreLawful}
+use Rattle.pd_stage.specs.Leads.{Sinks, Begins}
+use Rattle.pd_stage.proofs.ItemLemmas.{said-append}
+use Rattle.pd_stage.proofs.LeadLemmas.{begins_after, begins_more}
 use Rattle.pd_io.specs.declared.files.FileRow.{FileRow}
 use Rattle.pd_clock.specs.declared.times.Rate.{Rate}
 use Rattle.pd_clock.specs.declared.times.Rate.TheVariants as hz
@@ -20,10 +24,11 @@ use Rattle.pd_play.specs.Refusing.{IsRefusal}
 use Rattle.pd_words.specs.Grammar.{Asked}
 use Rattle.pd_play.specs.Ending.{status_line}
 use Rattle.pd_play.specs.Telling.{told, Answers, is_unmade}
-use Rattle.pd_play.specs.Runs.{Point, Run, Ending, Whole, Broken, run_of}
+use Rattle.pd_play.specs.Runs.{Point, Run, Ending, Whole, Broken, run_of, MeetsEnd}
 use Rattle.pd_play.specs.Playing.{Played, Cut, Plays, EndsBy, Ends}
 use Rattle.pd_play.proofs.CauseLemmas.{rose_on}
-use Rattle.pd_play.specs.Patches.{unread, start, with_line, Tells, IsScript, PlaysScript, PlaysPatch, PlaysAsked, Runs}
+use Rattle.pd_play.proofs.TookLemmas.{with_lines, took_line, took_no_line}
+use Rattle.pd_play.specs.Patches.{unread, started, with_line, once_open, Tells, IsScript, PlaysScript, PlaysPatch, PlaysAsked, Runs}
 use Rattle.pd_play.specs.declared.status.Status.{Status}
 use Rattle.pd_play.specs.declared.status.Status.TheVariants.{Done, WriteFault, NoMemory}
 
@@ -44,39 +49,44 @@ unfolding status_line
 write_fault_told name status t t' before now (inl h) = (h.0, grown_nothing t t' h.1)
 write_fault_told name status t t' before now (inr h) = (h.0, part_of_nothing t t' h.2)
 
-short_told : (name : List ℕ) (run : Run) (status how : Status) (t₁ t₂ t₃ : Option (List ℕ)) (x y : ℕ) (u u' : Option (List ℕ)) → Cut run how t₁ t₂ u u' →
-    Answers (told name how) status t₂ t₃ x y → Tells name run status t₁ t₃ u u'
-short_told name run status how t₁ t₂ t₃ x y u u' h a =
-    let w = write_fault_told name status t₂ t₃ x y (subst (λ (s : Status). Answers (told name s) status t₂ t₃ x y) h.status_is a) in
+short_told : (name : List ℕ) (run : Run) (edits : List Taken) (status how : Status) (x y : Sinks) (t : Option (List ℕ)) (before now : ℕ) → Cut run edits how x y →
+    Answers (told name how) status y.lines t before now → Tells name run edits status x (with_lines y t)
+short_told name run edits status how x y t before now h a =
+    let w = write_fault_told name status y.lines t before now (subst (λ (s : Status). Answers (told name s) status y.lines t before now) h.status_is a) in
     inr (record {
       status_is = w.0;
-      breaks_off = subst (λ (t : Option (List ℕ)). BreaksOff (with_line name run).passage t₁ t u u') (sym w.1)
-          (broke run.passage (λ (s : Stage). saying s (status_line name run.status)) t₁ t₂ u u' h.breaks_off);
+      items = h.items;
+      begins = begins_more h.items edits run.passage (saying run.passage.stage (status_line name run.status)) h.begins;
+      took = took_no_line x y t h.items edits h.took w.1;
     })
 
-all_told : (name : List ℕ) (run : Run) (status how : Status) (t₁ t₂ t₃ : Option (List ℕ)) (x y : ℕ) (u u' : Option (List ℕ)) → Played run how t₁ t₂ u u' →
-    Answers (told name run.status) status t₂ t₃ x y → Tells name run status t₁ t₃ u u'
-all_told name run status how t₁ t₂ t₃ x y u u' h (inl a) =
-    let said : Passage = saying run.passage.stage (status_line name run.status) in
+all_told : (name : List ℕ) (run : Run) (edits : List Taken) (status how : Status) (x y : Sinks) (t : Option (List ℕ)) (before now : ℕ) → AreLawful edits → Played run edits how x y →
+    Answers (told name run.status) status y.lines t before now → Tells name run edits status x (with_lines y t)
+all_told name run edits status how x y t before now lawful h (inl a) =
     inl (record {
       status_is = a.0;
-      lines_are = lines_on t₁ t₂ t₃ run.passage.items said.items h.lines_are (lines_said t₂ t₃ (status_line name run.status) a.1);
-      samples_are = samples_on u u' u' run.passage.items said.items h.samples_are (printed_nothing u' (samples_of said.items) (samples-said (status_line name run.status)));
+      edits_are = append-nil run.passage.edits ∙ h.edits_are;
+      took = took_line run.passage.stage x y t run.passage.items edits (status_line name run.status) lawful h.took a.1;
     })
-all_told name run status how t₁ t₂ t₃ x y u u' h (inr a) =
+all_told name run edits status how x y t before now lawful h (inr a) =
     let s : Stage = run.passage.stage in
     let line : List ℕ = status_line name run.status in
+    let took = a.2 in
+    let first : Begins (said took.part) [] (saying s line) =
+    record { front = record { rest = said took.begins.rest; is = ap said took.begins.is ∙ said-append took.part took.begins.rest }; rest = []; edits_are = refl } in
     inr (record {
       status_is = a.0;
-      breaks_off = broke_behind run.passage (saying s line) t₁ t₂ t₃ u u' u' h.lines_are h.samples_are
-          (soundless_off (saying s line) t₂ t₃ u' (told_lines s line) (lines_torn s line t₂ t₃ a.2));
+      items = run.passage.items ++ said took.part;
+      begins = subst (λ (l : List Taken). Begins (run.passage.items ++ said took.part) l (with_line name run).passage) (append-nil run.passage.edits ∙ h.edits_are)
+          (begins_after run.passage.items (said took.part) run.passage.edits [] (saying s line) first);
+      took = took_line s x y t run.passage.items edits took.part lawful h.took took.is;
     })
 
-run_told : (name : List ℕ) (run : Run) (status how : Status) (t₁ t₂ t₃ : Option (List ℕ)) (x y : ℕ) (u u' : Option (List ℕ)) → Plays run how t₁ t₂ u u' →
-    Answers (told name how) status t₂ t₃ x y → Tells name run status t₁ t₃ u u'
-run_told name run status how t₁ t₂ t₃ x y u u' (inl h) a =
-    all_told name run status how t₁ t₂ t₃ x y u u' h (subst (λ (s : Status). Answers (told name s) status t₂ t₃ x y) h.status_is a)
-run_told name run status how t₁ t₂ t₃ x y u u' (inr h) a = short_told name run status how t₁ t₂ t₃ x y u u' h a
+run_told : (name : List ℕ) (run : Run) (edits : List Taken) (status how : Status) (x y : Sinks) (t : Option (List ℕ)) (before now : ℕ) → AreLawful edits → Plays run edits how x y →
+    Answers (told name how) status y.lines t before now → Tells name run edits status x (with_lines y t)
+run_told name run edits status how x y t before now lawful (inl h) a =
+    all_told name run edits status how x y t before now lawful h (subst (λ (s : Status). Answers (told name s) status y.lines t before now) h.status_is a)
+run_told name run edits status how x y t before now lawful (inr h) a = short_told name run edits status how x y t before now h a
 
 -- what was given, and what is still to come
 script_whole : (given more : List ℕ) (left left' : Option (List ℕ)) → left ≡ with_front given left' → IfSome left' (λ b. b ≡ more) →
@@ -101,53 +111,63 @@ pub told_short : (name : List ℕ) (how status : Status) (t t' : Option (List �
 told_short name how status t t' x y (inl h) e = sym h.0 ∙ e
 told_short name how status t t' x y (inr h) e = let no : WriteFault ≡ NoMemory = sym h.0 ∙ e in absurd (cc)
 
-script_told : (name : List ℕ) (begin : Point) (status how : Status) (left left' : Option (List ℕ)) (read read' : ℕ) (t₁ t₂ t₃ : Option (List ℕ)) (x y : ℕ)
-    (u u' : Option (List ℕ)) → Ends unread begin how left left' read read' t₁ t₂ u u' → Answers (told name how) status t₂ t₃ x y →
-    PlaysScript name begin status left left' read read' t₁ t₃ u u'
-script_told name begin status how left left' read read' t₁ t₂ t₃ x y u u' e a = record {
-  ending = e.ending;
-  bytes = e.given ++ e.more;
-  is_script = is_script e.ending e.given e.more left left' read read' e.came e.by;
-  tells = run_told name (run_of e.ending (script_of 0 0 (e.given ++ e.more)) begin) status how t₁ t₂ t₃ x y u u' e.plays a;
-  over = λ d. e.over (told_done name how status t₂ t₃ x y a d);
-}
+-- where an `end` is met whatever more follows, it is met where nothing does
+over_told : (text : Text) (begin : List Choice → Point) (edits : List Taken) (left : Option (List ℕ)) → IsAtEnd left ⊎ ((m : List Choice) → MeetsEnd text (begin (choices_of edits ++ m)))
+    → IsAtEnd left ⊎ MeetsEnd text (begin (choices_of edits))
+over_told text begin edits left (inl h) = inl h
+over_told text begin edits left (inr h) = inr (subst (λ (c : List Choice). MeetsEnd text (begin c)) (append-nil (choices_of edits)) (h []))
+
+script_told : (name : List ℕ) (begin : List Choice → Point) (status how : Status) (left left' : Option (List ℕ)) (read read' : ℕ) (x y : Sinks) (t : Option (List ℕ)) (before now : ℕ)
+    → Ends unread begin how left left' read read' x y → Answers (told name how) status y.lines t before now → PlaysScript name begin status left left' read read' x (with_lines y t)
+script_told name begin status how left left' read read' x y t before now e a =
+    let text : Text = script_of 0 0 (e.given ++ e.more) in
+    record {
+      ending = e.ending;
+      bytes = e.given ++ e.more;
+      is_script = is_script e.ending e.given e.more left left' read read' e.came e.by;
+      edits = e.edits;
+      lawful = e.lawful;
+      tells = run_told name (run_of e.ending text (begin (choices_of e.edits))) e.edits status how x y t before now e.lawful
+          (subst (λ (c : List Choice). Plays (run_of e.ending text (begin c)) e.edits how x y) (append-nil (choices_of e.edits)) (e.plays [])) a;
+      over = λ d. over_told text begin e.edits left' (e.over (told_done name how status y.lines t before now a d));
+    }
 
 answers_on : (name : List ℕ) (how status : Status) (t t' : Option (List ℕ)) (x y z : ℕ) → x ≤ y → Answers (told name how) status t t' y z →
     Answers (told name how) status t t' x z
 answers_on name how status t t' x y z l (inl h) = inl h
 answers_on name how status t t' x y z l (inr h) = inr (h.0, rose_on x y z l h.1, h.2)
 
-plays_told : (holds : Option (List FileRow)) (name : List ℕ) (rate : Rate) (status how : Status) (left left' : Option (List ℕ)) (read read' : ℕ)
-    (t₀ t t' : Option (List ℕ)) (x y : ℕ) (u u' : Option (List ℕ)) → Runs holds name rate how left left' read read' t₀ t u u' → Answers (told name how) status t t' x y →
-    PlaysPatch holds name rate status left left' read read' t₀ t' x y u u'
-plays_told holds name rate status how left left' read read' t₀ t t' x y u u' (inl h) a =
-    inl (record { why = how; printed = t; refused = h.refused; tells = a; unread = h.unread; silent = h.silent })
-plays_told holds name rate status how left left' read read' t₀ t t' x y u u' (inr h) a =
+plays_told : (name : List ℕ) (rate : Rate) (status how : Status) (left left' : Option (List ℕ)) (read read' : ℕ) (x y : Sinks) (t : Option (List ℕ)) (before now : ℕ)
+    → Runs name rate how left left' read read' x y → Answers (told name how) status y.lines t before now → PlaysPatch name rate status left left' read read' before now x (with_lines y t)
+plays_told name rate status how left left' read read' x y t before now (inl h) a =
+    inl (record { why = how; printed = y.lines; refused = h.refused; tells = a; unread = h.unread; silent = h.silent; held = h.held })
+plays_told name rate status how left left' read read' x y t before now (inr h) a =
     inr (record {
       library = h.library;
       stage = h.stage;
       printed = h.printed;
+      faults = h.faults;
+      counted = h.counted;
       opens = h.opens;
-      plays = script_told name (start h.stage (samples rate)) status how left left' read read' h.printed t t' x y u u' h.ends a;
+      plays = script_told name (started h.stage (samples rate)) status how left left' read read' (once_open x h.printed h.faults) y t before now h.ends a;
     })
 
-pub patch_told : (holds : Option (List FileRow)) (name : List ℕ) (rate : Rate) (status how : Status) (left left' : Option (List ℕ)) (read read' : ℕ)
-    (t₀ t t' : Option (List ℕ)) (x y z : ℕ) (u u' : Option (List ℕ)) → x ≤ y → Runs holds name rate how left left' read read' t₀ t u u' →
-    Answers (told name how) status t t' y z → PlaysPatch holds name rate status left left' read read' t₀ t' x z u u'
-patch_told holds name rate status how left left' read read' t₀ t t' x y z u u' l h a =
-    plays_told holds name rate status how left left' read read' t₀ t t' x z u u' h (answers_on name how status t t' x y z l a)
+pub patch_told : (name : List ℕ) (rate : Rate) (status how : Status) (left left' : Option (List ℕ)) (read read' : ℕ) (x y : Sinks) (t : Option (List ℕ)) (before between now : ℕ) → before ≤ between
+    → Runs name rate how left left' read read' x y → Answers (told name how) status y.lines t between now → PlaysPatch name rate status left left' read read' before now x (with_lines y t)
+patch_told name rate status how left left' read read' x y t before between now l h a =
+    plays_told name rate status how left left' read read' x y t before now h (answers_on name how status y.lines t before between now l a)
 
 -- there is no memory to open the patch with
 pub no_memory : (holds : Option (List FileRow)) (name : List ℕ) (rate : Rate) (t : Option (List ℕ)) → IsRefusal holds name rate t t NoMemory
 no_memory holds name rate t = record { refusal = opening.NoMemory; status_is = refl; refused = inl tt; quiet = λ _. refl }
 
 -- there is no memory for the words
-pub words_told : (o : Option Asked) (holds : Option (List FileRow)) (status : Status) (left : Option (List ℕ)) (read : ℕ) (t t' : Option (List ℕ)) (x y : ℕ)
-    (u : Option (List ℕ)) → Answers (told [] NoMemory) status t t' x y → PlaysAsked o holds status left left read read t t' x y u u
+pub words_told : (o : Option Asked) (status : Status) (left : Option (List ℕ)) (read : ℕ) (x : Sinks) (t : Option (List ℕ)) (before now : ℕ) → Answers (told [] NoMemory) status x.lines t before now
+    → PlaysAsked o status left left read read before now x (with_lines x t)
 unfolding status_line
-words_told None holds status left read t t' x y u a = tt
-words_told (Some a₀) holds status left read t t' x y u a = λ _ rate _.
-    inl (record { why = NoMemory; printed = t; refused = no_memory holds a₀.patch rate t; tells = a; unread = refl; silent = refl })
+words_told None status left read x t before now a = tt
+words_told (Some a₀) status left read x t before now a = λ _ rate _.
+    inl (record { why = NoMemory; printed = x.lines; refused = no_memory x.held a₀.patch rate x.lines; tells = a; unread = refl; silent = refl; held = refl })
 
 -- no two rates have as many samples
 same_rate : (a b : Rate) → samples a ≡ samples b → a ≡ b
@@ -169,10 +189,8 @@ same_rate hz.R96000 hz.R88200 e = absurd (omega (arith, e))
 same_rate hz.R96000 hz.R96000 e = refl
 
 -- the words ask for this
-pub asked_plays : (o : Option Asked) (w : Words) (holds : Option (List FileRow)) (status : Status) (left left' : Option (List ℕ)) (read read' : ℕ)
-    (t t' : Option (List ℕ)) (x y : ℕ) (u u' : Option (List ℕ)) → Some (asked w) ≡ o →
-    (is_unmade w.make ≡ true → PlaysPatch holds w.patch.now w.rate status left left' read read' t t' x y u u') →
-    PlaysAsked o holds status left left' read read' t t' x y u u'
-asked_plays o w holds status left left' read read' t t' x y u u' e h =
-    subst (λ (a : Option Asked). PlaysAsked a holds status left left' read read' t t' x y u u') e
-    (λ unmade rate is. subst (λ (r : Rate). PlaysPatch holds w.patch.now r status left left' read read' t t' x y u u') (same_rate w.rate rate (sym is)) (h unmade))
+pub asked_plays : (o : Option Asked) (w : Words) (status : Status) (left left' : Option (List ℕ)) (read read' before now : ℕ) (x y : Sinks) → Some (asked w) ≡ o →
+    (is_unmade w.make ≡ true → PlaysPatch w.patch.now w.rate status left left' read read' before now x y) → PlaysAsked o status left left' read read' before now x y
+asked_plays o w status left left' read read' before now x y e h =
+    subst (λ (a : Option Asked). PlaysAsked a status left left' read read' before now x y) e
+    (λ unmade rate is. subst (λ (r : Rate). PlaysPatch w.patch.now r status left left' read read' before now x y) (same_rate w.rate rate (sym is)) (h unmade))

@@ -3,7 +3,7 @@ use Rattle.std.proofs.Common.{◌≡◌, ◌≤◌, ◌⊎◌, inl, inr, ℕ, �
 use Rattle.std.proofs.lemmas.List.{append-nil}
 use Rattle.std.specs.Prelude.{if◌then◌else◌}
 use Rattle.pd_io.specs.Faults.{Rose}
-use Rattle.pd_io.specs.Stream.{grown, with_front}
+use Rattle.pd_io.specs.Stream.{with_front}
 use Rattle.pd_atom.specs.Names.{Names}
 use Rattle.pd_feed.specs.Script.{is_shown, fed_of}
 use Rattle.pd_feed.specs.Feed.{Feed, IsAtEnd, Feeds, Waits, script_ahead}
@@ -12,79 +12,164 @@ use Rattle.pd_feed.specs.declared.feed.Fed.TheVariants as fed
 use Rattle.pd_script.specs.Tokens.{tokens_of}
 use Rattle.pd_script.specs.Scripts.{command_of}
 use Rattle.pd_script.specs.declared.commands.Script.{Script}
-use Rattle.pd_stage.specs.Items.{lines_of, samples_of}
-use Rattle.pd_stage.specs.Stages.{Stage, Passage, with_names, still, joined, Passes, BreaksOff}
-use Rattle.pd_stage.proofs.ItemLemmas.{no_lines, no_samples, lines_on, samples_on}
-use Rattle.pd_stage.proofs.PassageLemmas.{joined_assoc, broke, broke_behind}
+use Rattle.pd_stage.specs.Items.{Item}
+use Rattle.pd_stage.specs.Choices.{Choice}
+use Rattle.pd_stage.specs.Stages.{Stage, Taken, choices_of, Passage, with_names, still, after}
+use Rattle.pd_stage.specs.Lawful.{AreLawful}
+use Rattle.pd_stage.specs.Leads.{Sinks, Took, Begins, Comes, Stops}
+use Rattle.pd_stage.proofs.LeadLemmas.{lawful_both, choices-more, after-after, after-joined, begins_after, begins_more}
 use Rattle.pd_play.specs.declared.status.Status.{Status}
 use Rattle.pd_play.specs.declared.status.Status.TheVariants.{Done, ScriptBad, ReadFault, WriteFault}
-use Rattle.pd_play.specs.Runs.{Point, Run, Ending, Whole, Broken, at_stage, counted, ended, bad, done, behind, goes_on, read_run, timed_run, millionths, record_run, end_run, run_of, MeetsEnd}
-use Rattle.pd_play.specs.Playing.{Plays, GoesOn, Leads, fed_run, ahead, Moves, EndsBy, Ends, Steps}
+use Rattle.pd_play.specs.Runs.{Point, Run, Ending, Whole, Broken, at_stage, counted, ended, bad, done, behind, run_after, goes_on, read_run, timed_run, millionths, record_run, end_run, run_of, MeetsEnd}
+use Rattle.pd_play.specs.Playing.{Plays, Part, GoesOn, IsPlayed, Leads, fed_run, ahead, Moves, EndsBy, Ends, Steps}
 use Rattle.pd_play.proofs.CauseLemmas.{rose_on}
+use Rattle.pd_play.proofs.TookLemmas.{took_nothing, took_on, without_looks, took_without}
 use Rattle.pd_play.proofs.AheadLemmas.{told, told_is, record_ahead, too_long_ahead, end_ahead, unfinished_ahead, waits_ahead}
 
 -- ---- what was played of a run
 
--- a sink failed in the first part of a run
-pub cut_early : (part : Passage) (run : Run) (status : Status) (t t' u u' : Option (List ℕ)) → status ≡ WriteFault → BreaksOff part t t' u u' →
-    Plays (behind part run) status t t' u u'
-cut_early part run status t t' u u' e b =
-    inr (record { status_is = e; breaks_off = broke part (λ _. run.passage) t t' u u' b })
-
 -- what was played to a run's end without a fault has the run's status
-pub done_is : (run : Run) (status : Status) (t t' u u' : Option (List ℕ)) → Plays run status t t' u u' → status ≡ Done → run.status ≡ Done
-done_is run status t t' u u' (inl h) e = sym h.status_is ∙ e
-done_is run status t t' u u' (inr h) e = let no : WriteFault ≡ Done = sym h.status_is ∙ e in absurd (cc)
+pub done_is : (run : Run) (edits : List Taken) (status : Status) (x y : Sinks) → Plays run edits status x y → status ≡ Done → run.status ≡ Done
+done_is run edits status x y (inl h) e = sym h.status_is ∙ e
+done_is run edits status x y (inr h) e = let no : WriteFault ≡ Done = sym h.status_is ∙ e in absurd (cc)
 
 -- the run ends and nothing happens
-pub ended_played : (p : Point) (status : Status) (t u : Option (List ℕ)) → Plays (ended p status) status t t u u
-ended_played p status t u = inl (record { status_is = refl; lines_are = no_lines t; samples_are = no_samples u })
+pub ended_played : (p : Point) (status : Status) (x : Sinks) → Plays (ended p status) [] status x x
+ended_played p status x = inl (record { status_is = refl; edits_are = refl; took = took_nothing x })
 
 -- a first part was played, and then the rest
-pub played_behind : (part : Passage) (run : Run) (status : Status) (t₁ t₂ t₃ u₁ u₂ u₃ : Option (List ℕ)) → t₂ ≡ grown t₁ (lines_of part.items) → u₂ ≡ grown u₁ (samples_of part.items) →
-    Plays run status t₂ t₃ u₂ u₃ → Plays (behind part run) status t₁ t₃ u₁ u₃
-played_behind part run status t₁ t₂ t₃ u₁ u₂ u₃ a b (inl h) =
+pub played_after : (items : List Item) (log edits : List Taken) (run : Run) (status : Status) (x y z : Sinks) → AreLawful log → AreLawful edits → Took x y items log →
+    Plays run edits status y z → Plays (run_after items log run) (log ++ edits) status x z
+played_after items log edits run status x y z f g a (inl h) =
     inl (record {
       status_is = h.status_is;
-      lines_are = lines_on t₁ t₂ t₃ part.items run.passage.items a h.lines_are;
-      samples_are = samples_on u₁ u₂ u₃ part.items run.passage.items b h.samples_are;
+      edits_are = ap (λ (l : List Taken). log ++ l) h.edits_are;
+      took = took_on run.passage.stage x y z items run.passage.items log edits f g a h.took;
     })
-played_behind part run status t₁ t₂ t₃ u₁ u₂ u₃ a b (inr h) =
-    inr (record { status_is = h.status_is; breaks_off = broke_behind part run.passage t₁ t₂ t₃ u₁ u₂ u₃ a b h.breaks_off })
+played_after items log edits run status x y z f g a (inr h) =
+    inr (record {
+      status_is = h.status_is;
+      items = items ++ h.items;
+      begins = begins_after items h.items log edits run.passage h.begins;
+      took = took_on run.passage.stage x y z items h.items log edits f g a h.took;
+    })
+
+run_behind : (items : List Item) (edits : List Taken) (p : Passage) (run : Run) → behind (after items edits p) run ≡ run_after items edits (behind p run)
+run_behind items edits p run = ap (λ (x : Passage). record { status = run.status; passage = x }) (after-joined items edits p run.passage)
 
 -- ---- how a part of the code leads on
 
-pub point_is : (p p' : Point) (s : Stage) → p'.stage ≡ s → p'.rate ≡ p.rate → p'.number ≡ p.number → p'.time ≡ p.time → at_stage p s ≡ p'
-point_is p p' s a b c d =
-    ap (λ (x : Stage). record { stage = x; rate = p.rate; number = p.number; time = p.time }) (sym a)
-    ∙ ap (λ (x : ℕ). record { stage = p'.stage; rate = x; number = p.number; time = p.time }) (sym b)
-    ∙ ap (λ (x : ℕ). record { stage = p'.stage; rate = p'.rate; number = x; time = p.time }) (sym c)
-    ∙ ap (λ (x : ℕ). record { stage = p'.stage; rate = p'.rate; number = p'.number; time = x }) (sym d)
+-- a point is at a stage, and all else of it is that of another
+pub point_is : (p q : Point) (s : Stage) → q.stage ≡ s → q.rate ≡ p.rate → q.number ≡ p.number → q.time ≡ p.time → at_stage p s ≡ q
+point_is p q s a b c d =
+    sym (ap (λ (x : Stage). record { stage = x; rate = q.rate; number = q.number; time = q.time }) a
+    ∙ ap (λ (x : ℕ). record { stage = s; rate = x; number = q.number; time = q.time }) b
+    ∙ ap (λ (x : ℕ). record { stage = s; rate = p.rate; number = x; time = q.time }) c ∙ ap (λ (x : ℕ). record { stage = s; rate = p.rate; number = p.number; time = x }) d)
 
 -- a part was played, and the run goes on behind it
-pub part_goes_on : (p p' : Point) (part : Passage) (t t' u u' : Option (List ℕ)) → Passes part p'.stage t t' u u' → p'.rate ≡ p.rate → p'.number ≡ p.number → p'.time ≡ p.time →
-    GoesOn (λ rest. goes_on p rest part) p' t t' u u'
-part_goes_on p p' part t t' u u' h b c d = record {
-  part = part;
-  lines_are = h.says.lines_are;
-  samples_are = h.samples_are;
-  same = λ rest. ap (λ (q : Point). behind part (rest q)) (point_is p p' part.stage h.says.stage_is b c d);
+pub part_goes_on : (run : Part) (part : Stage → Passage) (s s' : List Choice → Stage) (p p' : List Choice → Point) (x y : Sinks) → Comes part s s' x y
+    → ((m : List Choice) (rest : Point → Run) → run m rest ≡ goes_on (p m) rest (part (s m)))
+    → ((m n : List Choice) → at_stage (p n) (s' m) ≡ p' m) → GoesOn run p' x y
+part_goes_on run part s s' p p' x y came same on = record {
+  items = came.items;
+  edits = came.edits;
+  took = came.took;
+  same = λ m rest.
+      let n : List Choice = choices_of came.edits ++ m in
+      same n rest ∙ ap (λ (q : Passage). goes_on (p n) rest q) (came.same m)
+      ∙ run_behind came.items came.edits (still (s' m)) (rest (at_stage (p n) (s' m)))
+      ∙ ap (λ (q : Point). run_after came.items came.edits (rest q)) (on m n);
+  lawful = came.lawful;
+}
+
+-- a sink failed in a part of a run
+pub part_cut : (run : Part) (part : Stage → Passage) (other : Part) (s : List Choice → Stage) (status : Status) (x y : Sinks) → Stops part s x y → status ≡ WriteFault
+    → ((m : List Choice) (rest : Point → Run) → run m rest ≡ behind (part (s m)) (other m rest)) → IsPlayed run status x y
+part_cut run part other s status x y off is same = record {
+  edits = off.edits;
+  plays = λ m rest.
+      let n : List Choice = choices_of off.edits ++ m in
+      inr (record {
+        status_is = is;
+        items = off.items;
+        begins = subst (λ (r : Run). Begins off.items off.edits r.passage) (sym (same n rest)) (begins_more off.items off.edits (part (s n)) (other n rest).passage (off.begins m));
+        took = off.took;
+      });
+  lawful = off.lawful;
+}
+
+-- a part was played, and then the run to its end from where it leads
+pub part_played : (run : Part) (part : Stage → Passage) (end : Stage → Run) (s s' : List Choice → Stage) (status : Status) (x y z : Sinks) → Comes part s s' x y
+    → ((m : List Choice) (rest : Point → Run) → run m rest ≡ behind (part (s m)) (end (part (s m)).stage))
+    → IsPlayed (λ m rest. end (s' m)) status y z → IsPlayed run status x z
+part_played run part end s s' status x y z came same h = record {
+  edits = came.edits ++ h.edits;
+  plays = λ m rest.
+      let n : List Choice = choices_of h.edits ++ m in
+      let is : run (choices_of (came.edits ++ h.edits) ++ m) rest ≡ run_after came.items came.edits (end (s' n)) =
+      ap (λ (c : List Choice). run c rest) (choices-more came.edits h.edits m) ∙ same (choices_of came.edits ++ n) rest
+      ∙ ap (λ (q : Passage). behind q (end q.stage)) (came.same n) ∙ run_behind came.items came.edits (still (s' n)) (end (s' n)) in
+      subst (λ (r : Run). Plays r (came.edits ++ h.edits) status x z) (sym is)
+      (played_after came.items came.edits h.edits (end (s' n)) status x y z came.lawful h.lawful came.took (h.plays m rest));
+  lawful = lawful_both came.edits h.edits came.lawful h.lawful;
+}
+
+-- the last part of a run was played
+pub last_played : (part : Stage → Passage) (s s' : List Choice → Stage) (status : Status) (x y : Sinks) → Comes part s s' x y
+    → IsPlayed (λ m rest. record { status = status; passage = part (s m) }) status x y
+last_played part s s' status x y came = record {
+  edits = came.edits;
+  plays = λ m rest.
+      subst (λ (q : Passage). Plays (record { status = status; passage = q }) came.edits status x y) (sym (came.same m))
+      (inl (record {
+        status_is = refl;
+        edits_are = append-nil came.edits;
+        took = subst (λ (i : List Item). Took x y i came.edits) (sym (append-nil came.items)) came.took;
+      }));
+  lawful = came.lawful;
+}
+
+-- it was cut
+pub last_cut : (run : Part) (part : Stage → Passage) (s : List Choice → Stage) (status : Status) (x y : Sinks) → Stops part s x y → status ≡ WriteFault
+    → ((m : List Choice) (rest : Point → Run) → (run m rest).passage ≡ part (s m)) → IsPlayed run status x y
+last_cut run part s status x y off is same = record {
+  edits = off.edits;
+  plays = λ m rest.
+      inr (record {
+        status_is = is;
+        items = off.items;
+        begins = subst (λ (q : Passage). Begins off.items off.edits q) (sym (same (choices_of off.edits ++ m) rest)) (off.begins m);
+        took = off.took;
+      });
+  lawful = off.lawful;
 }
 
 -- nothing was played
-pub nothing_goes_on : (run : (Point → Run) → Run) (p : Point) (t u : Option (List ℕ)) → ((rest : Point → Run) → run rest ≡ rest p) → GoesOn run p t t u u
-nothing_goes_on run p t u same = record {
-  part = still p.stage;
-  lines_are = no_lines t;
-  samples_are = no_samples u;
-  same = same;
+pub nothing_goes_on : (run : Part) (p : List Choice → Point) (x : Sinks) → ((m : List Choice) (rest : Point → Run) → run m rest ≡ rest (p m)) → GoesOn run p x x
+nothing_goes_on run p x same = record { items = []; edits = []; same = same; took = took_nothing x; lawful = tt }
+
+-- the run has ended
+pub nothing_played : (run : Part) (p : List Choice → Point) (status : Status) (x : Sinks) → ((m : List Choice) (rest : Point → Run) → run m rest ≡ ended (p m) status) → IsPlayed run status x x
+nothing_played run p status x same = record {
+  edits = [];
+  plays = λ m rest. subst (λ (r : Run). Plays r [] status x x) (sym (same m rest)) (ended_played (p m) status x);
+  lawful = tt;
 }
 
-pub leads_same : (r : Option Status) (f g : (Point → Run) → Run) (p : Point) (t t' u u' : Option (List ℕ)) → ((rest : Point → Run) → g rest ≡ f rest) →
-    Leads r f p t t' u u' → Leads r g p t t' u u'
-leads_same None f g p t t' u u' e h =
-    record { part = h.part; lines_are = h.lines_are; samples_are = h.samples_are; same = λ rest. e rest ∙ h.same rest }
-leads_same (Some status) f g p t t' u u' e h = λ rest. subst (λ (x : Run). Plays x status t t' u u') (sym (e rest)) (h rest)
+pub leads_same : (r : Option Status) (f g : Part) (p : List Choice → Point) (x y : Sinks) → ((m : List Choice) (rest : Point → Run) → g m rest ≡ f m rest) →
+    Leads r f p x y → Leads r g p x y
+leads_same None f g p x y e h = record {
+  items = h.items;
+  edits = h.edits;
+  same = λ m rest. e (choices_of h.edits ++ m) rest ∙ h.same m rest;
+  took = h.took;
+  lawful = h.lawful;
+}
+leads_same (Some status) f g p x y e h = record {
+  edits = h.edits;
+  plays = λ m rest. subst (λ (q : Run). Plays q h.edits status x y) (sym (e (choices_of h.edits ++ m) rest)) (h.plays m rest);
+  lawful = h.lawful;
+}
 
 -- ---- a record
 
@@ -111,42 +196,40 @@ record_bad text p e read rest =
 
 -- ---- an answer of the feed that is no record
 
-pub end_played : (v : Fed) (text : List ℕ) (p : Point) (status : Status) (t t' u u' : Option (List ℕ)) → v ≡ fed.End → Plays (done p.stage) status t t' u u' →
-    (rest : Point → Run) → Plays (fed_run v text p rest) status t t' u u'
+pub end_played : (v : Fed) (text : List ℕ) (p : List Choice → Point) (status : Status) (x y : Sinks) → v ≡ fed.End → IsPlayed (λ m rest. done (p m).stage) status x y →
+    IsPlayed (λ m rest. fed_run v text (p m) rest) status x y
 unfolding end_run
-end_played v text p status t t' u u' e h rest = subst (λ (x : Fed). Plays (fed_run x text p rest) status t t' u u') (sym e) h
+end_played v text p status x y e h = record {
+  edits = h.edits;
+  plays = λ m rest. subst (λ (w : Fed). Plays (fed_run w text (p (choices_of h.edits ++ m)) rest) h.edits status x y) (sym e) (h.plays m rest);
+  lawful = h.lawful;
+}
 
 rest_is : (v : Fed) (text : List ℕ) (p : Point) (rest : Point → Run) → (v ≡ fed.TooLong) ⊎ (v ≡ fed.Unfinished) → fed_run v text p rest ≡ bad (counted p)
 unfolding end_run
 rest_is v text p rest (inl e) = ap (λ (x : Fed). fed_run x text p rest) e
 rest_is v text p rest (inr e) = ap (λ (x : Fed). fed_run x text p rest) e
 
-pub rest_played : (v : Fed) (text : List ℕ) (p : Point) (status : Status) (t u : Option (List ℕ)) → (v ≡ fed.TooLong) ⊎ (v ≡ fed.Unfinished) →
-    status ≡ ScriptBad (p.number + 1) → (rest : Point → Run) → Plays (fed_run v text p rest) status t t u u
-rest_played v text p status t u e is rest =
-    subst (λ (x : Run). Plays x status t t u u) (sym (rest_is v text p rest e))
-    (subst (λ (x : Status). Plays (bad (counted p)) x t t u u) (sym is) (ended_played (counted p) (ScriptBad (p.number + 1)) t u))
+pub rest_played : (v : Fed) (text : List ℕ) (p : List Choice → Point) (number : ℕ) (status : Status) (x : Sinks) → (v ≡ fed.TooLong) ⊎ (v ≡ fed.Unfinished) →
+    ((m : List Choice) → (p m).number ≡ number) → status ≡ ScriptBad (number + 1) → IsPlayed (λ m rest. fed_run v text (p m) rest) status x x
+rest_played v text p number status x e same is =
+    nothing_played (λ m rest. fed_run v text (p m) rest) (λ m. counted (p m)) status x
+    (λ m rest. rest_is v text (p m) rest e ∙ ap (λ (n : ℕ). ended (counted (p m)) (ScriptBad (n + 1))) (same m) ∙ ap (ended (counted (p m))) (sym is))
 
 -- ---- a step of the run ahead
 
-record_moves : (f f' : Feed) (p p' : Point) (left left' t t' u u' : Option (List ℕ)) → Feeds fed.Record f left f' left' →
-    GoesOn (record_run f'.last (counted p)) p' t t' u u' → Moves f p f' p' left left' t t' u u'
-record_moves f f' p p' left left' t t' u u' h g = record {
+record_moves : (f f' : Feed) (p p' : List Choice → Point) (left left' : Option (List ℕ)) (x y : Sinks) → Feeds fed.Record f left f' left' →
+    GoesOn (λ m rest. record_run f'.last (counted (p m)) rest) p' x y → Moves f p f' p' left left' x y
+record_moves f f' p p' left left' x y h g = record {
   given = h.given;
   came = h.came;
-  part = g.part;
-  lines_are = g.lines_are;
-  samples_are = g.samples_are;
-  same = λ ending more.
-      ap (λ s. run_of ending s p) (record_ahead f f' left left' h more) ∙ g.same (λ q. run_of ending (script_ahead f' more) q);
+  items = g.items;
+  edits = g.edits;
+  same = λ ending bytes m.
+      ap (λ s. run_of ending s (p (choices_of g.edits ++ m))) (record_ahead f f' left left' h bytes) ∙ g.same m (λ q. run_of ending (script_ahead f' bytes) q);
+  took = g.took;
+  lawful = g.lawful;
 }
-
--- the run ends at what was read, and all that is left comes behind it
-ends_whole : (f : Feed) (p : Point) (status : Status) (given : List ℕ) (left left' : Option (List ℕ)) (faults faults' : ℕ) (t t' u u' : Option (List ℕ)) →
-    left ≡ with_front given left' → Plays (ahead Whole f p (given ++ told left')) status t t' u u' →
-    (status ≡ Done → IsAtEnd left' ⊎ MeetsEnd (script_ahead f (given ++ told left')) p) → Ends f p status left left' faults faults' t t' u u'
-ends_whole f p status given left left' faults faults' t t' u u' came plays over =
-    record { given = given; came = came; ending = Whole; more = told left'; by = told_is left'; plays = plays; over = over }
 
 -- the run of the script ahead, where the answer of the feed is a record
 record_ends : (f f' : Feed) (p : Point) (left left' : Option (List ℕ)) (h : Feeds fed.Record f left f' left') (ending : Ending) →
@@ -154,45 +237,84 @@ record_ends : (f f' : Feed) (p : Point) (left left' : Option (List ℕ)) (h : Fe
 record_ends f f' p left left' h ending = ap (λ s. run_of ending s p) (record_ahead f f' left left' h (told left'))
 
 -- a rest that is no record leads to no run that is done
-rest_undone : (v : Fed) (text : List ℕ) (p : Point) (status : Status) (t t' u u' : Option (List ℕ)) (rest : Point → Run) → (v ≡ fed.TooLong) ⊎ (v ≡ fed.Unfinished) →
-    Plays (fed_run v text p rest) status t t' u u' → status ≡ Done → ⊥
-rest_undone v text p status t t' u u' rest e plays d =
+rest_undone : (v : Fed) (text : List ℕ) (p : Point) (edits : List Taken) (status : Status) (x y : Sinks) (rest : Point → Run) → (v ≡ fed.TooLong) ⊎ (v ≡ fed.Unfinished) →
+    Plays (fed_run v text p rest) edits status x y → status ≡ Done → ⊥
+rest_undone v text p edits status x y rest e plays d =
     let no : ScriptBad (p.number + 1) ≡ Done =
-    sym (ap (λ (r : Run). r.status) (rest_is v text p rest e)) ∙ done_is (fed_run v text p rest) status t t' u u' plays d in
+    sym (ap (λ (r : Run). r.status) (rest_is v text p rest e)) ∙ done_is (fed_run v text p rest) edits status x y plays d in
     cc
 
-fed_ends : (v : Fed) (f f' : Feed) (p : Point) (status : Status) (left left' : Option (List ℕ)) (faults faults' : ℕ) (t t' u u' : Option (List ℕ)) →
-    Feeds v f left f' left' → ((rest : Point → Run) → Plays (fed_run v f'.last p rest) status t t' u u') → Ends f p status left left' faults faults' t t' u u'
-fed_ends fed.Record f f' p status left left' faults faults' t t' u u' h plays =
+-- no more is told of what edits come to
+nothing_more : List Choice
+nothing_more = []
+
+-- the rest of a run that fails
+fails : Point → Run
+fails q = ended q ReadFault
+
+-- the run ends at what was read, and all that is left comes behind it
+fed_ends : (v : Fed) (f f' : Feed) (p : List Choice → Point) (status : Status) (left left' : Option (List ℕ)) (faults faults' : ℕ) (x y : Sinks) →
+    Feeds v f left f' left' → IsPlayed (λ m rest. fed_run v f'.last (p m) rest) status x y → Ends f p status left left' faults faults' x y
+fed_ends fed.Record f f' p status left left' faults faults' x y h played =
     let after : Ending → Point → Run = λ ending q. run_of ending (script_ahead f' (told left')) q in
-    ends_whole f p status h.given left left' faults faults' t t' u u' h.came
-    (subst (λ (r : Run). Plays r status t t' u u') (sym (record_ends f f' p left left' h Whole)) (plays (after Whole)))
-    (λ e. inr (ap (λ (r : Run). r.status) (record_ends f f' p left left' h Broken)
-    ∙ done_is (record_run f'.last (counted p) (after Broken)) status t t' u u' (plays (after Broken)) e))
-fed_ends fed.End f f' p status left left' faults faults' t t' u u' h plays =
-    ends_whole f p status h.given left left' faults faults' t t' u u' h.came
-    (subst (λ s. Plays (run_of Whole s p) status t t' u u') (sym (end_ahead f f' left left' h)) (plays (λ q. ended q ReadFault)))
-    (λ e. inl (h.ended refl))
-fed_ends fed.TooLong f f' p status left left' faults faults' t t' u u' h plays =
-    ends_whole f p status h.given left left' faults faults' t t' u u' h.came
-    (subst (λ s. Plays (run_of Whole s p) status t t' u u') (sym (too_long_ahead f f' left left' h (told left'))) (plays (λ q. ended q ReadFault)))
-    (λ e. absurd (rest_undone fed.TooLong f'.last p status t t' u u' (λ q. ended q ReadFault) (inl refl) (plays (λ q. ended q ReadFault)) e))
-fed_ends fed.Unfinished f f' p status left left' faults faults' t t' u u' h plays =
-    ends_whole f p status h.given left left' faults faults' t t' u u' h.came
-    (subst (λ s. Plays (run_of Whole s p) status t t' u u') (sym (unfinished_ahead f f' left left' h)) (plays (λ q. ended q ReadFault)))
-    (λ e. absurd (rest_undone fed.Unfinished f'.last p status t t' u u' (λ q. ended q ReadFault) (inr refl) (plays (λ q. ended q ReadFault)) e))
+    let at : List Choice → Point = λ m. p (choices_of played.edits ++ m) in
+    record {
+      given = h.given;
+      came = h.came;
+      ending = Whole;
+      more = told left';
+      by = told_is left';
+      edits = played.edits;
+      plays = λ m. subst (λ (r : Run). Plays r played.edits status x y) (sym (record_ends f f' (at m) left left' h Whole)) (played.plays m (after Whole));
+      lawful = played.lawful;
+      over = λ e. inr (λ m. ap (λ (r : Run). r.status) (record_ends f f' (at m) left left' h Broken)
+          ∙ done_is (record_run f'.last (counted (at m)) (after Broken)) played.edits status x y (played.plays m (after Broken)) e);
+    }
+fed_ends fed.End f f' p status left left' faults faults' x y h played = record {
+  given = h.given;
+  came = h.came;
+  ending = Whole;
+  more = told left';
+  by = told_is left';
+  edits = played.edits;
+  plays = λ m. subst (λ s. Plays (run_of Whole s (p (choices_of played.edits ++ m))) played.edits status x y) (sym (end_ahead f f' left left' h)) (played.plays m fails);
+  lawful = played.lawful;
+  over = λ e. inl (h.ended refl);
+}
+fed_ends fed.TooLong f f' p status left left' faults faults' x y h played = record {
+  given = h.given;
+  came = h.came;
+  ending = Whole;
+  more = told left';
+  by = told_is left';
+  edits = played.edits;
+  plays = λ m. subst (λ s. Plays (run_of Whole s (p (choices_of played.edits ++ m))) played.edits status x y) (sym (too_long_ahead f f' left left' h (told left'))) (played.plays m fails);
+  lawful = played.lawful;
+  over = λ e. absurd (rest_undone fed.TooLong f'.last (p (choices_of played.edits ++ nothing_more)) played.edits status x y fails (inl refl) (played.plays nothing_more fails) e);
+}
+fed_ends fed.Unfinished f f' p status left left' faults faults' x y h played = record {
+  given = h.given;
+  came = h.came;
+  ending = Whole;
+  more = told left';
+  by = told_is left';
+  edits = played.edits;
+  plays = λ m. subst (λ s. Plays (run_of Whole s (p (choices_of played.edits ++ m))) played.edits status x y) (sym (unfinished_ahead f f' left left' h)) (played.plays m fails);
+  lawful = played.lawful;
+  over = λ e. absurd (rest_undone fed.Unfinished f'.last (p (choices_of played.edits ++ nothing_more)) played.edits status x y fails (inr refl) (played.plays nothing_more fails) e);
+}
 
 -- the feed answered, and that was carried out
-pub fed_steps : (r : Option Status) (v : Fed) (f f' f'' : Feed) (p p' : Point) (left left' : Option (List ℕ)) (faults faults' : ℕ) (t t' u u' : Option (List ℕ)) →
-    Feeds v f left f' left' → f'' ≡ f' → (r ≡ None → v ≡ fed.Record) → Leads r (fed_run v f'.last p) p' t t' u u' →
-    Steps r f p f'' p' left left' faults faults' t t' u u'
-fed_steps None v f f' f'' p p' left left' faults faults' t t' u u' h e n g =
+pub fed_steps : (r : Option Status) (v : Fed) (f f' f'' : Feed) (p p' : List Choice → Point) (left left' : Option (List ℕ)) (faults faults' : ℕ) (x y : Sinks) →
+    Feeds v f left f' left' → f'' ≡ f' → (r ≡ None → v ≡ fed.Record) → Leads r (λ m rest. fed_run v f'.last (p m) rest) p' x y →
+    Steps r f p f'' p' left left' faults faults' x y
+fed_steps None v f f' f'' p p' left left' faults faults' x y h e n g =
     let is : v ≡ fed.Record = n refl in
-    subst (λ (x : Feed). Moves f p x p' left left' t t' u u') (sym e)
-    (record_moves f f' p p' left left' t t' u u' (subst (λ (x : Fed). Feeds x f left f' left') is h)
-    (subst (λ (x : Fed). GoesOn (fed_run x f'.last p) p' t t' u u') is g))
-fed_steps (Some status) v f f' f'' p p' left left' faults faults' t t' u u' h e n g =
-    fed_ends v f f' p status left left' faults faults' t t' u u' h g
+    subst (λ (k : Feed). Moves f p k p' left left' x y) (sym e)
+    (record_moves f f' p p' left left' x y (subst (λ (w : Fed). Feeds w f left f' left') is h)
+    (subst (λ (w : Fed). GoesOn (λ m rest. fed_run w f'.last (p m) rest) p' x y) is g))
+fed_steps (Some status) v f f' f'' p p' left left' faults faults' x y h e n g =
+    fed_ends v f f' p status left left' faults faults' x y h g
 
 -- the source failed
 broken_end : (v : Fed) (p : Point) → is_shown v ≡ false → end_run Broken v p ≡ ended p ReadFault
@@ -202,20 +324,22 @@ broken_end fed.End p e = refl
 broken_end fed.TooLong p e = absurd (cc)
 broken_end fed.Unfinished p e = refl
 
-pub waits_ends : (f f' : Feed) (p : Point) (left left' : Option (List ℕ)) (faults faults' : ℕ) (t u : Option (List ℕ)) →
-    Waits f left f' left' → Rose faults faults' → Ends f p ReadFault left left' faults faults' t t u u
-waits_ends f f' p left left' faults faults' t u h rose =
-    let is : ahead Broken f p h.given ≡ ended p ReadFault =
-    ap (λ s. run_of Broken s p) (waits_ahead f f' left left' h) ∙ broken_end (fed_of f'.passed f'.blank f'.bytes) p h.unshown in
+pub waits_ends : (f f' : Feed) (p : List Choice → Point) (left left' : Option (List ℕ)) (faults faults' : ℕ) (x : Sinks) →
+    Waits f left f' left' → Rose faults faults' → Ends f p ReadFault left left' faults faults' x x
+waits_ends f f' p left left' faults faults' x h rose =
+    let is : (m : List Choice) → ahead Broken f (p m) h.given ≡ ended (p m) ReadFault =
+    λ m. ap (λ s. run_of Broken s (p m)) (waits_ahead f f' left left' h) ∙ broken_end (fed_of f'.passed f'.blank f'.bytes) (p m) h.unshown in
     record {
       given = h.given;
       came = h.came;
       ending = Broken;
       more = [];
       by = (refl, rose);
-      plays =
-          subst (λ (x : Run). Plays x ReadFault t t u u) (sym (ap (λ (x : List ℕ). ahead Broken f p x) (append-nil h.given) ∙ is))
-          (ended_played p ReadFault t u);
+      edits = [];
+      plays = λ m.
+          subst (λ (r : Run). Plays r [] ReadFault x x) (sym (ap (λ (b : List ℕ). ahead Broken f (p m) b) (append-nil h.given) ∙ is m))
+          (ended_played (p m) ReadFault x);
+      lawful = tt;
       over = λ e. absurd (cc);
     }
 
@@ -229,53 +353,97 @@ front_front : (a b : List ℕ) (left : Option (List ℕ)) → with_front a (with
 front_front a b None = refl
 front_front a b (Some bytes) = ap Some (sym (append_assoc a b bytes))
 
-pub moves_nothing : (f : Feed) (p : Point) (left t u : Option (List ℕ)) → Moves f p f p left left t t u u
-moves_nothing f p left t u = record {
+pub moves_nothing : (f : Feed) (p : List Choice → Point) (left : Option (List ℕ)) (x : Sinks) → Moves f p f p left left x x
+moves_nothing f p left x = record {
   given = [];
   came = front_nothing left;
-  part = still p.stage;
-  lines_are = no_lines t;
-  samples_are = no_samples u;
-  same = λ ending more. refl;
+  items = [];
+  edits = [];
+  same = λ ending bytes m. refl;
+  took = took_nothing x;
+  lawful = tt;
 }
 
-behind_behind : (p q : Passage) (run : Run) → behind p (behind q run) ≡ behind (joined p q) run
-behind_behind p q run = ap (λ (x : Passage). record { status = run.status; passage = x }) (sym (joined_assoc p q run.passage))
+run_after_after : (i j : List Item) (l k : List Taken) (run : Run) → run_after i l (run_after j k run) ≡ run_after (i ++ j) (l ++ k) run
+run_after_after i j l k run = ap (λ (x : Passage). record { status = run.status; passage = x }) (after-after i j l k run.passage)
 
-pub moves_on : (f f' f'' : Feed) (p p' p'' : Point) (l₁ l₂ l₃ t₁ t₂ t₃ u₁ u₂ u₃ : Option (List ℕ)) → Moves f p f' p' l₁ l₂ t₁ t₂ u₁ u₂ →
-    Moves f' p' f'' p'' l₂ l₃ t₂ t₃ u₂ u₃ → Moves f p f'' p'' l₁ l₃ t₁ t₃ u₁ u₃
-moves_on f f' f'' p p' p'' l₁ l₂ l₃ t₁ t₂ t₃ u₁ u₂ u₃ a b = record {
+-- what the whole run is, where a part was played
+moved : (f f' : Feed) (p p' : List Choice → Point) (l₁ l₂ : Option (List ℕ)) (x y : Sinks) (a : Moves f p f' p' l₁ l₂ x y) (ending : Ending) (given more : List ℕ) (edits : List Taken) (m : List Choice)
+    → ahead ending f (p (choices_of (a.edits ++ edits) ++ m)) ((a.given ++ given) ++ more) ≡ run_after a.items a.edits (ahead ending f' (p' (choices_of edits ++ m)) (given ++ more))
+moved f f' p p' l₁ l₂ x y a ending given more edits m =
+    ap (λ (b : List ℕ). ahead ending f (p (choices_of (a.edits ++ edits) ++ m)) b) (append_assoc a.given given more)
+    ∙ ap (λ (c : List Choice). ahead ending f (p c) (a.given ++ (given ++ more))) (choices-more a.edits edits m) ∙ a.same ending (given ++ more) (choices_of edits ++ m)
+
+pub moves_on : (f f' f'' : Feed) (p p' p'' : List Choice → Point) (l₁ l₂ l₃ : Option (List ℕ)) (x y z : Sinks) → Moves f p f' p' l₁ l₂ x y →
+    Moves f' p' f'' p'' l₂ l₃ y z → Moves f p f'' p'' l₁ l₃ x z
+moves_on f f' f'' p p' p'' l₁ l₂ l₃ x y z a b = record {
   given = a.given ++ b.given;
   came = a.came ∙ ap (with_front a.given) b.came ∙ front_front a.given b.given l₃;
-  part = joined a.part b.part;
-  lines_are = lines_on t₁ t₂ t₃ a.part.items b.part.items a.lines_are b.lines_are;
-  samples_are = samples_on u₁ u₂ u₃ a.part.items b.part.items a.samples_are b.samples_are;
-  same = λ ending more.
-      ap (λ (x : List ℕ). ahead ending f p x) (append_assoc a.given b.given more) ∙ a.same ending (b.given ++ more)
-      ∙ ap (behind a.part) (b.same ending more) ∙ behind_behind a.part b.part (ahead ending f'' p'' more);
+  items = a.items ++ b.items;
+  edits = a.edits ++ b.edits;
+  same = λ ending bytes m.
+      moved f f' p p' l₁ l₂ x y a ending b.given bytes b.edits m
+      ∙ ap (run_after a.items a.edits) (b.same ending bytes m) ∙ run_after_after a.items b.items a.edits b.edits (ahead ending f'' (p'' m) bytes);
+  took = took_on (p []).stage x y z a.items b.items a.edits b.edits a.lawful b.lawful a.took b.took;
+  lawful = lawful_both a.edits b.edits a.lawful b.lawful;
 }
 
-at_end_on : (given more : List ℕ) (f f' : Feed) (p p' : Point) (l₁ l₂ left t t' u u' : Option (List ℕ)) (a : Moves f p f' p' l₁ l₂ t t' u u') →
-    IsAtEnd left ⊎ MeetsEnd (script_ahead f' (given ++ more)) p' → IsAtEnd left ⊎ MeetsEnd (script_ahead f ((a.given ++ given) ++ more)) p
-at_end_on given more f f' p p' l₁ l₂ left t t' u u' a (inl h) = inl h
-at_end_on given more f f' p p' l₁ l₂ left t t' u u' a (inr h) =
-    inr (ap (λ (r : Run). r.status) (ap (λ (x : List ℕ). ahead Broken f p x) (append_assoc a.given given more) ∙ a.same Broken (given ++ more)) ∙ h)
+at_end_on : (given more : List ℕ) (edits : List Taken) (f f' : Feed) (p p' : List Choice → Point) (l₁ l₂ left : Option (List ℕ)) (x y : Sinks) (a : Moves f p f' p' l₁ l₂ x y) →
+    IsAtEnd left ⊎ ((m : List Choice) → MeetsEnd (script_ahead f' (given ++ more)) (p' (choices_of edits ++ m)))
+    → IsAtEnd left ⊎ ((m : List Choice) → MeetsEnd (script_ahead f ((a.given ++ given) ++ more)) (p (choices_of (a.edits ++ edits) ++ m)))
+at_end_on given more edits f f' p p' l₁ l₂ left x y a (inl h) = inl h
+at_end_on given more edits f f' p p' l₁ l₂ left x y a (inr h) =
+    inr (λ m. ap (λ (r : Run). r.status) (moved f f' p p' l₁ l₂ x y a Broken given more edits m) ∙ h m)
 
 ends_by_on : (ending : Ending) (more : List ℕ) (left : Option (List ℕ)) (x y z : ℕ) → x ≤ y → EndsBy ending more left y z → EndsBy ending more left x z
 ends_by_on Whole more left x y z l h = h
 ends_by_on Broken more left x y z l h = (h.0, rose_on x y z l h.1)
 
-pub moves_end : (f f' : Feed) (p p' : Point) (status : Status) (l₁ l₂ l₃ : Option (List ℕ)) (x y z : ℕ) (t₁ t₂ t₃ u₁ u₂ u₃ : Option (List ℕ)) → x ≤ y →
-    Moves f p f' p' l₁ l₂ t₁ t₂ u₁ u₂ → Ends f' p' status l₂ l₃ y z t₂ t₃ u₂ u₃ → Ends f p status l₁ l₃ x z t₁ t₃ u₁ u₃
-moves_end f f' p p' status l₁ l₂ l₃ x y z t₁ t₂ t₃ u₁ u₂ u₃ l a b = record {
+pub moves_end : (f f' : Feed) (p p' : List Choice → Point) (status : Status) (l₁ l₂ l₃ : Option (List ℕ)) (j k n : ℕ) (x y z : Sinks) → j ≤ k →
+    Moves f p f' p' l₁ l₂ x y → Ends f' p' status l₂ l₃ k n y z → Ends f p status l₁ l₃ j n x z
+moves_end f f' p p' status l₁ l₂ l₃ j k n x y z l a b = record {
   given = a.given ++ b.given;
   came = a.came ∙ ap (with_front a.given) b.came ∙ front_front a.given b.given l₃;
   ending = b.ending;
   more = b.more;
-  by = ends_by_on b.ending b.more l₃ x y z l b.by;
-  plays =
-      subst (λ (r : Run). Plays r status t₁ t₃ u₁ u₃)
-      (sym (ap (λ (r : List ℕ). ahead b.ending f p r) (append_assoc a.given b.given b.more) ∙ a.same b.ending (b.given ++ b.more)))
-      (played_behind a.part (ahead b.ending f' p' (b.given ++ b.more)) status t₁ t₂ t₃ u₁ u₂ u₃ a.lines_are a.samples_are b.plays);
-  over = λ e. at_end_on b.given b.more f f' p p' l₁ l₂ l₃ t₁ t₂ u₁ u₂ a (b.over e);
+  by = ends_by_on b.ending b.more l₃ j k n l b.by;
+  edits = a.edits ++ b.edits;
+  plays = λ m.
+      subst (λ (r : Run). Plays r (a.edits ++ b.edits) status x z)
+      (sym (moved f f' p p' l₁ l₂ x y a b.ending b.given b.more b.edits m))
+      (played_after a.items a.edits b.edits (ahead b.ending f' (p' (choices_of b.edits ++ m)) (b.given ++ b.more)) status x y z a.lawful b.lawful a.took (b.plays m));
+  lawful = lawful_both a.edits b.edits a.lawful b.lawful;
+  over = λ e. at_end_on b.given b.more b.edits f f' p p' l₁ l₂ l₃ x y a (b.over e);
+}
+
+-- ---- nobody reads the looks
+
+plays_without : (run : Run) (edits : List Taken) (status : Status) (x y : Sinks) → Plays run edits status x y → Plays run edits status (without_looks x) (without_looks y)
+plays_without run edits status x y (inl h) = inl (record { status_is = h.status_is; edits_are = h.edits_are; took = took_without x y run.passage.items edits h.took })
+plays_without run edits status x y (inr h) = inr (record { status_is = h.status_is; items = h.items; begins = h.begins; took = took_without x y h.items edits h.took })
+
+pub moves_without : (f f' : Feed) (p p' : List Choice → Point) (left left' : Option (List ℕ)) (x y : Sinks) → Moves f p f' p' left left' x y →
+    Moves f p f' p' left left' (without_looks x) (without_looks y)
+moves_without f f' p p' left left' x y h = record {
+  given = h.given;
+  came = h.came;
+  items = h.items;
+  edits = h.edits;
+  same = h.same;
+  took = took_without x y h.items h.edits h.took;
+  lawful = h.lawful;
+}
+
+pub ends_without : (f : Feed) (p : List Choice → Point) (status : Status) (left left' : Option (List ℕ)) (faults faults' : ℕ) (x y : Sinks) →
+    Ends f p status left left' faults faults' x y → Ends f p status left left' faults faults' (without_looks x) (without_looks y)
+ends_without f p status left left' faults faults' x y h = record {
+  given = h.given;
+  came = h.came;
+  ending = h.ending;
+  more = h.more;
+  by = h.by;
+  edits = h.edits;
+  plays = λ m. plays_without (ahead h.ending f (p (choices_of h.edits ++ m)) (h.given ++ h.more)) h.edits status x y (h.plays m);
+  lawful = h.lawful;
+  over = h.over;
 }

@@ -9,7 +9,8 @@ use Rattle.pd_script.specs.Scripts.{command_of}
 use Rattle.pd_script.specs.declared.commands.Command.{Command}
 use Rattle.pd_script.specs.declared.commands.Script.{Script}
 use Rattle.pd_script.specs.declared.commands.Script.TheVariants as script
-use Rattle.pd_stage.specs.Stages.{Stage, Passage, with_names, still, joined, followed_by}
+use Rattle.pd_stage.specs.Items.{Item}
+use Rattle.pd_stage.specs.Stages.{Stage, Taken, Passage, with_names, still, after, joined, followed_by}
 use Rattle.pd_stage.specs.Times.{advanced, finished}
 use Rattle.pd_engine.specs.Commands.{commanded}
 use Rattle.pd_play.specs.declared.status.Status.{Status}
@@ -53,6 +54,10 @@ bad p = ended p (ScriptBad p.number)
 -- a part of a run, and what follows
 abbrev pub behind : Passage → Run → Run
 behind part run = record { status = run.status; passage = joined part run.passage }
+
+-- these items and edits come first
+abbrev pub run_after : List Item → List Taken → Run → Run
+run_after items edits run = record { status = run.status; passage = after items edits run.passage }
 
 -- the script's time is reached: it is counted in units, of which a millionth of a millisecond has as many as a second has samples
 unfoldable pub reached : Point → Passage

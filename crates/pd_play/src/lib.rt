@@ -1,4 +1,4 @@
-//! The player: what a run on the words of a command line reads, prints and answers.
+//! The player: what a run on the words of a command line reads, prints, saves and answers.
 //!
 //! The clause `plays` of `play` says what a run answers, prints and writes, where the words ask for a patch that is
 //! there. Its file opens as pd_engine's `open` says, with its lines; from there the script is run, and its bytes
@@ -6,24 +6,31 @@
 //! record. One of white space alone is counted and passed over. A record that is no command, that takes the time
 //! past 86,400,000 ms or that is too long ends the run with `ScriptBad` and its number, and so does a rest that is
 //! no record. A command brings its names, the patch is taken to its time, and it is carried out. At an `end` and at
-//! the end of the script the block that has begun runs, and the status is `Done`. Status, lines and samples are
-//! those of the run, and then comes the line of the status.
+//! the end of the script the block that has begun runs, and the status is `Done`. Status, lines, samples and files
+//! are those of the run, and then comes the line of the status.
+//!
+//! Edits of wires and saves of the patch's own document are made: what each came to stands in the run, and it is
+//! lawful (pd_stage's `Lawful`). Other edits and saves are refused so far, with their lines, and there is nothing to
+//! undo or redo; then the run goes on.
 //!
 //! Where the source fails, the script is what it gave until then: its whole records are run, and the status is
-//! `ReadFault`. Lines and samples of the run, with the line of the status, stand in one list in their order. Where a
-//! sink fails, the status is `WriteFault`, and the sinks took the lines and the samples of one first part of it, and
-//! so no sample before a line that comes first. With `Done`, nothing is left of the script, where the source tells
-//! that, or the run met an `end`. Where the patch doesn't open, the line of its status follows, no script is read,
-//! and no sample is written.
+//! `ReadFault`. Lines and samples of the run and the files that are put, with the line of the status, stand in one list
+//! in their order. Where a sink fails, the status is `WriteFault`, and what was taken and put is one first part of it,
+//! and so no sample came before a line that comes first. With `Done`, nothing is left of the script, where the source
+//! tells that, or the run met an `end`. Where the patch doesn't open, the line of its status follows, no script is
+//! read, no sample is written and no file is put.
 //!
-//! The folder holds what it held (`folder`), and a status that tells of a fault comes only where that count of
-//! faults rose (`causes`). The usage line is told where the words are none of the command, or ask for a made patch,
-//! unless memory is short or the line isn't taken (`unplayed`); then the folder, the source of the script and the
-//! samples' sink are as they were (`untouched`). The status for it comes nowhere else (`usage`). The exit code of
-//! each status is exact (`Status::code`).
+//! Opening leaves what the folder holds. After the run it holds what it held with the files that were put, one
+//! after the other, where it still tells what it holds. A save that fails for a fault of the folder is refused with
+//! its line, and the count of such faults rose. Where nothing is played, the folder holds what it held. A status
+//! that tells of a fault comes only where that count of faults rose (`causes`). The usage line is told where the
+//! words are none of the command, or ask for a made patch, unless memory is short or the line isn't taken
+//! (`unplayed`); then the folder, the source of the script and the samples' sink are as they were (`untouched`).
+//! The status for it comes nowhere else (`usage`). The exit code of each status is exact (`Status::code`).
 //!
-//! Free: want of memory for the words or in opening. Once the patch is open, it plays to its end without: with
-//! `NoMemory` the source and the samples' sink are as they were (`short`).
+//! Free: want of memory for the words or in opening, and in each edit and save, which is refused then with its line.
+//! Once the patch is open, it plays to its end: with `NoMemory` the source and the samples' sink are as they were, and
+//! so is what the folder holds (`short`).
 //!
 //! `RecordFeed` and what it answers, `Fed`, are `pd_feed`'s.
 //!

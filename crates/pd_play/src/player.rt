@@ -1,11 +1,12 @@
 //! The player as one call.
 
-ghost use Rattle.std.specs.Prelude.{◌≡◌, ◌≢◌, ◌≤◌, [], true, false, Some, map, is_some};
+ghost use Rattle.std.specs.Prelude.{◌≡◌, ◌≢◌, ◌<◌, ◌≤◌, [], true, false, Some, map, is_some};
 ghost use Rattle.std.specs.String.{string_bytes};
 ghost use Rattle.pd_words.specs.Grammar.{words_of};
 ghost use Rattle.pd_script.specs.Room.{IsWhole};
+ghost use Rattle.pd_stage.specs.Leads.{sinks};
 ghost use Rattle.pd_play.specs.Causes.{HasRunCauses, HasCauses};
-ghost use Rattle.pd_play.specs.Playing.{point_of, IsCounted, Ends};
+ghost use Rattle.pd_play.specs.Playing.{point_at, IsCounted, Ends};
 ghost use Rattle.pd_play.specs.Patches.{Runs, PlaysPatch, PlaysAsked};
 ghost use Rattle.pd_play.specs.Telling.{IsUnplayed, is_played, is_unmade, told, Answers};
 
@@ -14,17 +15,20 @@ use crate::session::Session;
 use crate::status::Status;
 use pd_clock::Rate;
 use pd_io::{Shelf, Sink, Source};
+use pd_order::Steps;
 use pd_say::Held;
 use pd_words::{Words, read_words};
 use std::alloc::{AllocError, Global};
+use std::marker::Brand;
+use std::sync::ledger::{Blank, Ledger};
 
 /// Plays a patch by a script: `words` are the words after the program's name, `shelf` is the folder of patches, printed lines go to
 /// `lines` and the samples to `pcm`, 16 bits little-endian, left then right.
 ///
-/// `plays` says what is printed and written: the lines of opening, the lines and samples of the script's run, and then the line of the
-/// status. Edits and saves are refused yet, there is nothing to undo, and words with `--make` give the usage line. After it the folder,
-/// the script and the samples' sink are as they were; where memory is short, the script and the samples' sink are, and what the folder
-/// holds.
+/// `plays` says what is printed, written and put into the folder: the lines of opening, the lines, samples and files of the script's
+/// run, and then the line of the status. Edits of wires and saves of the patch's own document are made; other edits and saves
+/// are refused so far, and there is nothing to undo. Words with `--make` give the usage line. After it the folder, the script and the samples'
+/// sink are as they were; where memory is short, the script and the samples' sink are, and what the folder holds.
 pub fn play<H: Shelf, S: Source, L: Sink, P: Sink>(
     alloc: Global,
     words: &[String],
@@ -33,16 +37,15 @@ pub fn play<H: Shelf, S: Source, L: Sink, P: Sink>(
     lines: &mut L,
     pcm: &mut P,
 ) -> Status
-    ensures folder { H.holds shelf.new ≡ H.holds shelf.old }
     ensures folder_counted { H.faults shelf.old ≤ H.faults shelf.new }
     ensures causes { HasCauses (H.faults shelf.old) (H.faults shelf.new) (S.faults script.old) (S.faults script.new) (L.faults lines.old) (L.faults lines.new) (P.faults pcm.old) (P.faults pcm.new) result }
-    ensures short { result ≡ Status.NoMemory → (script.new ≡ script.old) × (pcm.new ≡ pcm.old) }
+    ensures short { result ≡ Status.NoMemory → (H.holds shelf.new ≡ H.holds shelf.old) × (script.new ≡ script.old) × (pcm.new ≡ pcm.old) }
     ensures usage { result ≡ Status.Usage → is_played (words_of (map (λ w. string_bytes w) words.now)) ≡ false }
     ensures unplayed { is_played (words_of (map (λ w. string_bytes w) words.now)) ≡ false →
         IsUnplayed result (L.taken lines.old) (L.taken lines.new) (L.faults lines.old) (L.faults lines.new) }
     ensures untouched { is_played (words_of (map (λ w. string_bytes w) words.now)) ≡ false →
         (shelf.new ≡ shelf.old) × (script.new ≡ script.old) × (pcm.new ≡ pcm.old) }
-    ensures plays { PlaysAsked (words_of (map (λ w. string_bytes w) words.now)) (H.holds shelf.old) result (S.left script.old) (S.left script.new) (S.faults script.old) (S.faults script.new) (L.taken lines.old) (L.taken lines.new) (L.faults lines.old) (L.faults lines.new) (P.taken pcm.old) (P.taken pcm.new) }
+    ensures plays { PlaysAsked (words_of (map (λ w. string_bytes w) words.now)) result (S.left script.old) (S.left script.new) (S.faults script.old) (S.faults script.new) (L.faults lines.old) (L.faults lines.new) (sinks (L.taken lines.old) (P.taken pcm.old) 0 (H.holds shelf.old) (H.faults shelf.old)) (sinks (L.taken lines.new) (P.taken pcm.new) 0 (H.holds shelf.new) (H.faults shelf.new)) }
 {
     let mut held = Held::new();
     match read_words(alloc, words) {
@@ -63,14 +66,13 @@ fn play_asked<H: Shelf, S: Source, L: Sink, P: Sink>(
     pcm: &mut P,
 ) -> Status
     requires { held.old.items ≡ [] }
-    ensures folder { H.holds shelf.new ≡ H.holds shelf.old }
     ensures folder_counted { H.faults shelf.old ≤ H.faults shelf.new }
     ensures causes { HasCauses (H.faults shelf.old) (H.faults shelf.new) (S.faults script.old) (S.faults script.new) (L.faults lines.old) (L.faults lines.new) (P.faults pcm.old) (P.faults pcm.new) result }
-    ensures short { result ≡ Status.NoMemory → (script.new ≡ script.old) × (pcm.new ≡ pcm.old) }
+    ensures short { result ≡ Status.NoMemory → (H.holds shelf.new ≡ H.holds shelf.old) × (script.new ≡ script.old) × (pcm.new ≡ pcm.old) }
     ensures usage { result ≡ Status.Usage → is_some asked.now.make ≡ true }
     ensures unplayed { is_some asked.now.make ≡ true → Answers (told [] Status.Usage) result (L.taken lines.old) (L.taken lines.new) (L.faults lines.old) (L.faults lines.new) }
     ensures untouched { is_some asked.now.make ≡ true → (shelf.new ≡ shelf.old) × (script.new ≡ script.old) × (pcm.new ≡ pcm.old) }
-    ensures plays { is_unmade asked.now.make ≡ true → PlaysPatch (H.holds shelf.old) asked.now.patch.now asked.now.rate result (S.left script.old) (S.left script.new) (S.faults script.old) (S.faults script.new) (L.taken lines.old) (L.taken lines.new) (L.faults lines.old) (L.faults lines.new) (P.taken pcm.old) (P.taken pcm.new) }
+    ensures plays { is_unmade asked.now.make ≡ true → PlaysPatch asked.now.patch.now asked.now.rate result (S.left script.old) (S.left script.new) (S.faults script.old) (S.faults script.new) (L.faults lines.old) (L.faults lines.new) (sinks (L.taken lines.old) (P.taken pcm.old) 0 (H.holds shelf.old) (H.faults shelf.old)) (sinks (L.taken lines.new) (P.taken pcm.new) 0 (H.holds shelf.new) (H.faults shelf.new)) }
 {
     if asked.make.is_some() {
         return tell(b"", Status::Usage, held, lines);
@@ -98,12 +100,11 @@ fn run<H: Shelf, S: Source, L: Sink, P: Sink>(
     lines: &mut L,
     pcm: &mut P,
 ) -> Status
-    ensures folder { H.holds shelf.new ≡ H.holds shelf.old }
     ensures folder_counted { H.faults shelf.old ≤ H.faults shelf.new }
     ensures causes { HasCauses (H.faults shelf.old) (H.faults shelf.new) (S.faults script.old) (S.faults script.new) (L.faults lines.old) (L.faults lines.new) (P.faults pcm.old) (P.faults pcm.new) result }
-    ensures short { result ≡ Status.NoMemory → (script.new ≡ script.old) × (pcm.new ≡ pcm.old) }
+    ensures short { result ≡ Status.NoMemory → (H.holds shelf.new ≡ H.holds shelf.old) × (script.new ≡ script.old) × (pcm.new ≡ pcm.old) }
     ensures usage { result ≢ Status.Usage }
-    ensures plays { PlaysPatch (H.holds shelf.old) patch.now rate result (S.left script.old) (S.left script.new) (S.faults script.old) (S.faults script.new) (L.taken lines.old) (L.taken lines.new) (L.faults lines.old) (L.faults lines.new) (P.taken pcm.old) (P.taken pcm.new) }
+    ensures plays { PlaysPatch patch.now rate result (S.left script.old) (S.left script.new) (S.faults script.old) (S.faults script.new) (L.faults lines.old) (L.faults lines.new) (sinks (L.taken lines.old) (P.taken pcm.old) 0 (H.holds shelf.old) (H.faults shelf.old)) (sinks (L.taken lines.new) (P.taken pcm.new) 0 (H.holds shelf.new) (H.faults shelf.new)) }
 {
     let status = play_whole(alloc, patch, rate, shelf, script, lines, pcm);
     held.clear();
@@ -120,36 +121,44 @@ fn play_whole<H: Shelf, S: Source, L: Sink, P: Sink>(
     lines: &mut L,
     pcm: &mut P,
 ) -> Status
-    ensures folder { H.holds shelf.new ≡ H.holds shelf.old }
     ensures folder_counted { H.faults shelf.old ≤ H.faults shelf.new }
     ensures lines_counted { L.faults lines.old ≤ L.faults lines.new }
     ensures causes { HasCauses (H.faults shelf.old) (H.faults shelf.new) (S.faults script.old) (S.faults script.new) (L.faults lines.old) (L.faults lines.new) (P.faults pcm.old) (P.faults pcm.new) result }
-    ensures short { result ≡ Status.NoMemory → (script.new ≡ script.old) × (pcm.new ≡ pcm.old) }
+    ensures short { result ≡ Status.NoMemory → (H.holds shelf.new ≡ H.holds shelf.old) × (script.new ≡ script.old) × (pcm.new ≡ pcm.old) }
     ensures usage { result ≢ Status.Usage }
-    ensures runs { Runs (H.holds shelf.old) patch.now rate result (S.left script.old) (S.left script.new) (S.faults script.old) (S.faults script.new) (L.taken lines.old) (L.taken lines.new) (P.taken pcm.old) (P.taken pcm.new) }
+    ensures runs { Runs patch.now rate result (S.left script.old) (S.left script.new) (S.faults script.old) (S.faults script.new) (sinks (L.taken lines.old) (P.taken pcm.old) 0 (H.holds shelf.old) (H.faults shelf.old)) (sinks (L.taken lines.new) (P.taken pcm.new) 0 (H.holds shelf.new) (H.faults shelf.new)) }
 {
     match Session::open(alloc, patch, rate, shelf, lines) {
-        Ok(session) => play_script(session, script, lines, pcm),
+        Ok(session) => {
+            play_script::<H, S, L, P, Brand>(session, script, shelf, lines, pcm, Blank::new(1))
+        }
         Err(status) => status,
     }
 }
 
-/// Carries out the records of a script, one after the other.
-fn play_script<S: Source, L: Sink, P: Sink>(
+/// Carries out the records of a script, one after the other. Nobody reads how many looks at signal wires that takes.
+fn play_script<H: Shelf, S: Source, L: Sink, P: Sink, K: Ledger>(
     session: Session,
     script: &mut S,
+    shelf: &mut H,
     lines: &mut L,
     pcm: &mut P,
+    blank: Blank,
 ) -> Status
+    requires name { blank.name ≡ K.name }
+    requires parts { blank.parts ≡ K.parts }
+    requires some { 0 < blank.parts }
     requires running { session.engine.stopped ≡ false }
     requires counted { IsCounted session.number session.feed }
     requires whole { IsWhole session.room }
-    ensures plays { Ends session.feed (point_of session) result (S.left script.old) (S.left script.new) (S.faults script.old) (S.faults script.new) (L.taken lines.old) (L.taken lines.new) (P.taken pcm.old) (P.taken pcm.new) }
+    ensures plays { Ends session.feed (point_at session) result (S.left script.old) (S.left script.new) (S.faults script.old) (S.faults script.new) (sinks (L.taken lines.old) (P.taken pcm.old) 0 (H.holds shelf.old) (H.faults shelf.old)) (sinks (L.taken lines.new) (P.taken pcm.new) 0 (H.holds shelf.new) (H.faults shelf.new)) }
+    ensures folder_counted { H.faults shelf.old ≤ H.faults shelf.new }
     ensures causes { HasRunCauses (S.faults script.old) (S.faults script.new) (L.faults lines.old) (L.faults lines.new) (P.faults pcm.old) (P.faults pcm.new) (Some result) }
 {
     let mut session = session;
+    let mut steps = Steps::<K>::new(blank);
     'records: loop {
-        if let Some(status) = session.step(script, lines, pcm) {
+        if let Some(status) = session.step(script, shelf, lines, pcm, &mut steps) {
             return status;
         }
     }

@@ -3,7 +3,7 @@ ghost use Rattle.std.specs.Prelude.{◌≡◌, ◌≤◌, false, [], IfOk, IfErr
 ghost use Rattle.pd_play.specs.Ending.{opened_as};
 ghost use Rattle.pd_play.specs.Refusing.{IsRefusal};
 ghost use Rattle.pd_engine.specs.Opening.{OpensFile};
-ghost use Rattle.pd_engine.specs.Stages.{stage_of};
+ghost use Rattle.pd_engine.specs.Stages.{stage_at};
 ghost use Rattle.pd_script.specs.Room.{IsWhole};
 ghost use Rattle.pd_play.specs.Causes.{HasOpenCauses};
 
@@ -41,7 +41,7 @@ impl Session {
         ensures running { IfOk result (λ s. s.engine.stopped ≡ false) }
         ensures whole { IfOk result (λ s. IsWhole s.room) }
         ensures begins { IfOk result (λ s. (s.rate ≡ rate) × (s.number ≡ 0) × (s.time ≡ 0) × (s.feed ≡ record { passed = 0; blank = 0; bytes = []; last = [] })) }
-        ensures opens { IfOk result (λ s. OpensFile (H.holds shelf.old) name.now rate s.engine.library (stage_of s.engine) (L.taken lines.old) (L.taken lines.new)) }
+        ensures opens { IfOk result (λ s. OpensFile (H.holds shelf.old) name.now rate s.engine.library (stage_at s.engine) (L.taken lines.old) (L.taken lines.new)) }
         ensures refused { IfErr result (IsRefusal (H.holds shelf.old) name.now rate (L.taken lines.old) (L.taken lines.new)) }
         ensures kept { H.holds shelf.new ≡ H.holds shelf.old }
         ensures causes { HasOpenCauses (H.faults shelf.old) (H.faults shelf.new) (L.faults lines.old) (L.faults lines.new) result }

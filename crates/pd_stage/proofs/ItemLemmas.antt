@@ -1,9 +1,11 @@
 -- Items, and what the sinks get of them.
-use Rattle.std.proofs.Common.{◌≡◌, ℕ, List, [], ◌∷◌, ◌++◌, refl, sym, ◌∙◌, ap, append_assoc, Option}
+use Rattle.std.proofs.Common.{◌≡◌, ℕ, List, [], ◌∷◌, ◌++◌, refl, sym, ◌∙◌, ap, append_assoc, Option, None, inl, inr}
 use Rattle.std.proofs.lemmas.List.{map-append}
+use Rattle.pd_io.specs.Rows.{KeptOrUntold, stored}
 use Rattle.pd_io.specs.Stream.{grown}
+use Rattle.pd_io.specs.declared.files.FileRow.{FileRow}
 use Rattle.pd_say.proofs.GatheringLemmas.{grown-grown, printed_nothing}
-use Rattle.pd_stage.specs.Items.{Item, LineByte, SampleByte, said, heard, line_of, sample_of, lines_of, samples_of, IsFront}
+use Rattle.pd_stage.specs.Items.{Item, LineByte, SampleByte, Put, said, heard, line_of, sample_of, lines_of, samples_of, held_after, IsFront}
 
 pub lines-append : (a b : List Item) → lines_of (a ++ b) ≡ lines_of a ++ lines_of b
 unfolding lines_of
@@ -54,6 +56,65 @@ pub samples-heard : (b : List ℕ) → samples_of (heard b) ≡ b
 unfolding samples_of heard
 samples-heard [] = refl
 samples-heard (x ∷ b) = ap (λ (y : List ℕ). x ∷ y) (samples-heard b)
+
+-- ---- what a folder holds
+
+held-append : (a b : List Item) (h : Option (List FileRow)) → held_after (a ++ b) h ≡ held_after b (held_after a h)
+unfolding held_after
+held-append [] b h = refl
+held-append (LineByte x ∷ a) b h = held-append a b h
+held-append (SampleByte x ∷ a) b h = held-append a b h
+held-append (Put name x ∷ a) b h = held-append a b (stored name x h)
+
+pub held-none : (h : Option (List FileRow)) → held_after [] h ≡ h
+unfolding held_after
+held-none h = refl
+
+pub held-said : (b : List ℕ) (h : Option (List FileRow)) → held_after (said b) h ≡ h
+unfolding held_after said
+held-said [] h = refl
+held-said (x ∷ b) h = held-said b h
+
+pub held-heard : (b : List ℕ) (h : Option (List FileRow)) → held_after (heard b) h ≡ h
+unfolding held_after heard
+held-heard [] h = refl
+held-heard (x ∷ b) h = held-heard b h
+
+pub held-put : (name bytes : List ℕ) (h : Option (List FileRow)) → held_after (Put name bytes ∷ []) h ≡ stored name bytes h
+unfolding held_after
+held-put name bytes h = refl
+
+pub lines-put : (name bytes : List ℕ) → lines_of (Put name bytes ∷ []) ≡ []
+unfolding lines_of
+lines-put name bytes = refl
+
+pub samples-put : (name bytes : List ℕ) → samples_of (Put name bytes ∷ []) ≡ []
+unfolding samples_of
+samples-put name bytes = refl
+
+held-untold : (a : List Item) → held_after a None ≡ None
+unfolding held_after
+held-untold [] = refl
+held-untold (LineByte x ∷ a) = held-untold a
+held-untold (SampleByte x ∷ a) = held-untold a
+held-untold (Put name x ∷ a) = held-untold a
+
+-- nothing was put
+pub kept_same : (a : List Item) (h : Option (List FileRow)) → held_after a h ≡ h → KeptOrUntold (held_after a h) h
+kept_same a h e = inl (sym e)
+
+-- of what is kept, or untold, more is put
+untold_on : (h₂ h₃ : Option (List FileRow)) (b : List Item) → h₂ ≡ None → KeptOrUntold (held_after b h₂) h₃ → h₃ ≡ None
+untold_on h₂ h₃ b e (inl k) = k ∙ ap (held_after b) e ∙ held-untold b
+untold_on h₂ h₃ b e (inr k) = k
+
+kept_then : (h₁ h₂ h₃ : Option (List FileRow)) (a b : List Item) → h₂ ≡ held_after a h₁ → KeptOrUntold (held_after b h₂) h₃ → KeptOrUntold (held_after (a ++ b) h₁) h₃
+kept_then h₁ h₂ h₃ a b e (inl k) = inl (k ∙ ap (held_after b) e ∙ sym (held-append a b h₁))
+kept_then h₁ h₂ h₃ a b e (inr k) = inr k
+
+pub held_on : (h₁ h₂ h₃ : Option (List FileRow)) (a b : List Item) → KeptOrUntold (held_after a h₁) h₂ → KeptOrUntold (held_after b h₂) h₃ → KeptOrUntold (held_after (a ++ b) h₁) h₃
+held_on h₁ h₂ h₃ a b (inl e) k = kept_then h₁ h₂ h₃ a b e k
+held_on h₁ h₂ h₃ a b (inr e) k = inr (untold_on h₂ h₃ b e k)
 
 -- what the sinks took of one list, and then of another
 pub lines_on : (t₁ t₂ t₃ : Option (List ℕ)) (a b : List Item) → t₂ ≡ grown t₁ (lines_of a) → t₃ ≡ grown t₂ (lines_of b) → t₃ ≡ grown t₁ (lines_of (a ++ b))

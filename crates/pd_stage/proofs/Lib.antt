@@ -1,2 +1,3 @@
 pub mod ItemLemmas
-pub mod PassageLemmas
+pub mod LeadLemmas
+pub mod EditLemmas

@@ -1,17 +1,17 @@
--- What an event leads to: its deliveries, and then the edits that were asked for, each of which is refused.
-use Rattle.std.specs.Prelude.{ℕ, zero, suc, false, List, [], ◌++◌, length}
+-- What an event leads to: its deliveries, and then the edits that were asked for, one taken after the other.
+use Rattle.std.specs.Prelude.{ℕ, false, List, [], ◌∷◌, ◌++◌, map, None}
 use Rattle.pd_atom.specs.declared.Atom.{Atom}
-use Rattle.pd_say.specs.Lines.{refusal_text}
-use Rattle.pd_say.specs.declared.refusals.Request.TheVariants as request
-use Rattle.pd_say.specs.declared.refusals.Why.TheVariants as why
+use Rattle.pd_canvas.specs.declared.edits.Edit.{Edit}
+use Rattle.pd_queue.specs.Queue.{Waiting}
 use Rattle.pd_turns.specs.Turns.{World}
 use Rattle.pd_hearing.specs.Worlds.{Net, Kept}
 use Rattle.pd_walk.specs.declared.walker.Start.{Start}
 use Rattle.pd_walk.specs.declared.walker.Start.TheVariants as start
 use Rattle.pd_hearing.specs.Hearing.{fired_at}
 use Rattle.pd_walk.specs.Outcome.{world, ran, told_by, all_loaded, named_tasks}
-use Rattle.pd_stage.specs.Items.{said}
-use Rattle.pd_stage.specs.Stages.{Stage, Passage, kept_at}
+use Rattle.pd_stage.specs.Items.{Item, Put, said}
+use Rattle.pd_stage.specs.Choices.{Wanted, Edits, Choice, Refuses, Lacks, Makes, first_choice, later, text_of_choice}
+use Rattle.pd_stage.specs.Stages.{Stage, Passage, with_ahead, kept_at, still, followed_by}
 
 -- what begins deliveries: a message to the receivers of a name, the clock of a box, or that boxes are loaded
 pub data Beginning : Type 0 where
@@ -38,21 +38,10 @@ begun s = world (kept_at s) (record { left = 1000000; cut = false }) []
 abbrev pub delivered : Stage → Beginning → World Kept
 delivered s b = deliveries s.net s.time (begun s) b
 
--- there is no document to edit yet
-abbrev pub refused_edit : List ℕ
-refused_edit = refusal_text request.Edit why.NoDocument
-
-abbrev pub repeated : ℕ → List ℕ → List ℕ
-repeated zero text = []
-repeated (suc n) text = text ++ repeated n text
-
--- a line for each edit that was asked for
-abbrev pub refusals : {A : Type 0} → List A → List ℕ
-refusals asked = repeated (length asked) refused_edit
-
 -- what is kept is changed, and nothing else
 abbrev pub with_kept : Stage → Kept → Stage
 with_kept s k = record {
+  file = s.file;
   net = s.net;
   states = k.states;
   clocks = k.clocks;
@@ -60,10 +49,76 @@ with_kept s k = record {
   time = s.time;
   block_end = s.block_end;
   fired = s.fired;
+  ahead = s.ahead;
 }
 
 abbrev pub after_deliveries : Stage → World Kept → Passage
-after_deliveries s w = record { stage = with_kept s w.kept; items = said (w.said ++ refusals w.kept.queue) }
+after_deliveries s w = record { stage = with_kept s w.kept; items = said w.said; edits = [] }
+
+-- the same where messages leave this as it is
+abbrev pub with_net : Stage → Net → Stage
+with_net s net = record {
+  file = s.file;
+  net = net;
+  states = s.states;
+  clocks = s.clocks;
+  names = s.names;
+  time = s.time;
+  block_end = s.block_end;
+  fired = s.fired;
+  ahead = s.ahead;
+}
+
+-- where an edit leads: a refused one changes nothing, but that there may be more room
+abbrev pub stage_by : Stage → Choice → Stage
+stage_by s (Refuses why) = s
+stage_by s (Lacks net) = with_net s net
+stage_by s (Makes m) = record {
+  file = s.file;
+  net = m.net;
+  states = m.states;
+  clocks = m.clocks;
+  names = m.names;
+  time = s.time;
+  block_end = s.block_end;
+  fired = s.fired;
+  ahead = s.ahead;
+}
+
+-- a file that is put under a name
+abbrev pub put_of : List ℕ × List ℕ → Item
+put_of file = Put file.0 file.1
+
+-- the files that it puts
+abbrev pub files_put : Choice → List Item
+files_put (Refuses why) = []
+files_put (Lacks net) = []
+files_put (Makes m) = map put_of m.files
+
+-- an edit comes to this choice: its files are put, and its lines are said
+abbrev pub edit_by : Wanted → Stage → Choice → Passage
+edit_by wanted s c = record {
+  stage = stage_by (with_ahead s (later s.ahead)) c;
+  items = files_put c ++ said (text_of_choice wanted c);
+  edits = record { found = with_ahead s []; wanted = wanted; choice = c } ∷ [];
+}
+
+-- an edit that is asked for is taken: it comes to the first choice
+unfoldable pub edit_taken : Wanted → Stage → Passage
+edit_taken wanted s = edit_by wanted s (first_choice s.ahead)
+
+-- an edit that a canvas was asked for is one of the root document
+abbrev pub edit_asked : List ℕ × Edit → Stage → Passage
+edit_asked asked s = edit_taken (Edits None asked.0 asked.1) s
+
+-- the edits that canvases were asked for, one taken after the other
+unfoldable pub edits_taken : Waiting → Stage → Passage
+edits_taken [] s = still s
+edits_taken (asked ∷ waiting) s = followed_by (edit_asked asked s) (edits_taken waiting)
+
+-- what deliveries that come to this world lead to: no edit is taken before the last of them
+abbrev pub event_after : Stage → World Kept → Passage
+event_after s w = followed_by (after_deliveries s w) (edits_taken w.kept.queue)
 
 unfoldable pub event : Stage → Beginning → Passage
-event s b = after_deliveries s (delivered s b)
+event s b = event_after s (delivered s b)

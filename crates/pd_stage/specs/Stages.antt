@@ -1,15 +1,17 @@
 -- How a patch stands between events, and what a part of a run leads to.
-use Rattle.std.specs.Prelude.{◌≡◌, ℕ, List, [], ◌++◌, Option}
-use Rattle.pd_io.specs.Stream.{grown}
+use Rattle.std.specs.Prelude.{ℕ, ◌+◌, List, [], ◌∷◌, ◌++◌, map, Option}
 use Rattle.pd_atom.specs.Names.{Names}
 use Rattle.pd_clock.specs.Queue.{Clock}
 use Rattle.pd_kind.specs.declared.states.State.{State}
 use Rattle.pd_hearing.specs.Worlds.{Net, Kept}
-use Rattle.pd_stage.specs.Items.{Item, said, lines_of, samples_of, IsFront}
+use Rattle.pd_stage.specs.Items.{Item, said}
+use Rattle.pd_stage.specs.Choices.{Wanted, Choice, looks_of_choice, faults_of_choice}
 
--- A patch between events: what messages leave as it is; what the boxes keep, their clocks, and the table of names; the time; when the
--- block ends that comes next; and how many clocks fired since the last block.
+-- A patch between events: the name of its file; what messages leave as it is; what the boxes keep, their clocks, and the table of names;
+-- the time; when the block ends that comes next; how many clocks fired since the last block; and what the edits to come lead to, one after
+-- the other.
 pub record Stage : Type 0 where
+  pub file : List ℕ
   pub net : Net
   pub states : ℕ → Option State
   pub clocks : List Clock
@@ -17,10 +19,12 @@ pub record Stage : Type 0 where
   pub time : ℕ
   pub block_end : ℕ
   pub fired : ℕ
+  pub ahead : List Choice
 
 -- the same with another table of names
 abbrev pub with_names : Stage → Names → Stage
 with_names s names = record {
+  file = s.file;
   net = s.net;
   states = s.states;
   clocks = s.clocks;
@@ -28,47 +32,70 @@ with_names s names = record {
   time = s.time;
   block_end = s.block_end;
   fired = s.fired;
+  ahead = s.ahead;
+}
+
+-- the same where the edits to come lead to this
+abbrev pub with_ahead : Stage → List Choice → Stage
+with_ahead s ahead = record {
+  file = s.file;
+  net = s.net;
+  states = s.states;
+  clocks = s.clocks;
+  names = s.names;
+  time = s.time;
+  block_end = s.block_end;
+  fired = s.fired;
+  ahead = ahead;
 }
 
 -- what messages change, where no edit waits
 abbrev pub kept_at : Stage → Kept
 kept_at s = record { states = s.states; clocks = s.clocks; names = s.names; queue = [] }
 
--- What a part of a run leads to: where the patch stands then, and what happens on the way, lines and samples in one list in their order.
+-- an edit that was taken: the stage that it found, what was asked for, and what it came to
+pub record Taken : Type 0 where
+  pub found : Stage
+  pub wanted : Wanted
+  pub choice : Choice
+
+-- what edits came to, in their order
+abbrev pub choices_of : List Taken → List Choice
+choices_of edits = map (λ t. t.choice) edits
+
+-- at how many signal wires they look at the most
+abbrev pub looks_of : List Taken → ℕ
+looks_of [] = 0
+looks_of (t ∷ edits) = looks_of_choice t.choice + looks_of edits
+
+-- how many of them were refused for a fault of the folder
+abbrev pub faults_of : List Taken → ℕ
+faults_of [] = 0
+faults_of (t ∷ edits) = faults_of_choice t.choice + faults_of edits
+
+-- What a part of a run leads to: where the patch stands then; what happens on the way, lines and samples in one list in their order; and
+-- the edits that were taken on the way.
 pub record Passage : Type 0 where
   pub stage : Stage
   pub items : List Item
+  pub edits : List Taken
 
 -- nothing happens
 abbrev pub still : Stage → Passage
-still s = record { stage = s; items = [] }
+still s = record { stage = s; items = []; edits = [] }
 
 -- only lines are said
 abbrev pub saying : Stage → List ℕ → Passage
-saying s lines = record { stage = s; items = said lines }
+saying s lines = record { stage = s; items = said lines; edits = [] }
+
+-- these items and edits come first
+abbrev pub after : List Item → List Taken → Passage → Passage
+after items edits p = record { stage = p.stage; items = items ++ p.items; edits = edits ++ p.edits }
 
 -- one part and then another
 abbrev pub joined : Passage → Passage → Passage
-joined p q = record { stage = q.stage; items = p.items ++ q.items }
+joined p q = after p.items p.edits q
 
 -- one part, and then what follows from where it leads
 abbrev pub followed_by : Passage → (Stage → Passage) → Passage
 followed_by p next = joined p (next p.stage)
-
--- the lines of a part of a run were taken, and it has come to its end
-pub record Says (p : Passage) (stage : Stage) (lines lines' : Option (List ℕ)) : Type 0 where
-  pub stage_is : stage ≡ p.stage
-  pub lines_are : lines' ≡ grown lines (lines_of p.items)
-
--- so were its samples
-pub record Passes (p : Passage) (stage : Stage) (lines lines' pcm pcm' : Option (List ℕ)) : Type 0 where
-  pub says : Says p stage lines lines'
-  pub samples_are : pcm' ≡ grown pcm (samples_of p.items)
-
--- A part of a run broke off: of what happens in it, the first items were taken, the lines among them by one sink and the samples by the
--- other. So nothing was taken before what comes first.
-pub record BreaksOff (p : Passage) (lines lines' pcm pcm' : Option (List ℕ)) : Type 0 where
-  pub part : List Item
-  pub front : IsFront part p.items
-  pub lines_took : lines' ≡ grown lines (lines_of part)
-  pub samples_took : pcm' ≡ grown pcm (samples_of part)

@@ -1,6 +1,12 @@
 -- Clocks and blocks in time.
 use Rattle.std.specs.Prelude.{◌≡◌, ℕ, zero, suc, ◌+◌, ◌-◌, min, max, nat_lt, nat_le, List, [], ◌∷◌, Option, Some, None, if◌then◌else◌}
+use Rattle.std.specs.declared.vec.Vec.{Vec}
+use Rattle.std.specs.declared.alloc.Global.{Global}
 use Rattle.pd_clock.specs.Queue.{Clock}
+use Rattle.pd_links.specs.declared.links.Links.{Links}
+use Rattle.pd_order.specs.Listing.{Listing}
+use Rattle.pd_web.specs.declared.web.Web.{Web}
+use Rattle.pd_wiring.specs.Changes.{CanRewire}
 use Rattle.pd_mix.specs.Samples.{block_bytes}
 use Rattle.pd_hearing.specs.Worlds.{Net}
 use Rattle.pd_patch.specs.declared.patch.Patch.{Patch}
@@ -48,6 +54,7 @@ next_clock limit cs = if_below limit (first_clock cs)
 -- with other clocks
 abbrev pub with_taken : Stage → List Clock → Stage
 with_taken s clocks = record {
+  file = s.file;
   net = s.net;
   states = s.states;
   clocks = clocks;
@@ -55,11 +62,13 @@ with_taken s clocks = record {
   time = s.time;
   block_end = s.block_end;
   fired = s.fired;
+  ahead = s.ahead;
 }
 
 -- one more clock has fired; time never goes back
 abbrev pub with_fired : Stage → ℕ → Stage
 with_fired s time = record {
+  file = s.file;
   net = s.net;
   states = s.states;
   clocks = s.clocks;
@@ -67,6 +76,7 @@ with_fired s time = record {
   time = max s.time time;
   block_end = s.block_end;
   fired = s.fired + 1;
+  ahead = s.ahead;
 }
 
 -- a clock that was taken off fires
@@ -96,6 +106,7 @@ with_blocks net p = record {
   boards = net.boards;
   root = net.root;
   web = net.web;
+  links = net.links;
   owners = net.owners;
   orders = net.orders;
   numbers = net.numbers;
@@ -111,6 +122,7 @@ block_net s = record {
   boards = s.net.boards;
   root = s.net.root;
   web = s.net.web;
+  links = s.net.links;
   owners = s.net.owners;
   orders = s.net.orders;
   numbers = s.net.numbers;
@@ -119,9 +131,18 @@ block_net s = record {
   end = s.net.end;
 }
 
--- all of a patch is as it was once, but its clocks, what its boxes keep and the blocks of their outlets
-abbrev pub IsStageOf : Patch → Stage → Type 0
-IsStageOf p s = block_net s ≡ block.with_clocks (block.net_of p) s.clocks
+-- the patch with other wires, their links, and orders
+abbrev pub with_wires : Patch → Web → Links → Vec (Option Listing) Global → Patch
+with_wires p web links orders = record p { web = web; links = links; orders = orders }
+
+-- All of a patch is as it was once, but its clocks, what its boxes keep, the blocks of their outlets, and its wires with their links and
+-- orders, and these are sound.
+pub record IsStageOf (p : Patch) (s : Stage) : Type 0 where
+  pub web : Web
+  pub links : Links
+  pub orders : Vec (Option Listing) Global
+  pub net : block_net s ≡ block.with_clocks (block.net_of (with_wires p web links orders)) s.clocks
+  pub rewires : CanRewire (with_wires p web links orders)
 
 abbrev pub sound_at : Stage → block.Sound
 sound_at s = record { states = s.states; blocks = s.net.blocks }
@@ -137,6 +158,7 @@ most_time = 340282366920938463463374607431768211455
 -- the block has run: the time is raised to its end, and the next one ends one block later
 abbrev pub with_played : Stage → Played → Stage
 with_played s p = record {
+  file = s.file;
   net = with_blocks s.net p;
   states = p.sound.states;
   clocks = s.clocks;
@@ -144,10 +166,11 @@ with_played s p = record {
   time = max s.time s.block_end;
   block_end = min (s.block_end + block_units) most_time;
   fired = 0;
+  ahead = s.ahead;
 }
 
 abbrev pub sounding : Stage → Played → Passage
-sounding s p = record { stage = with_played s p; items = heard (block_bytes p.out) }
+sounding s p = record { stage = with_played s p; items = heard (block_bytes p.out); edits = [] }
 
 -- its samples are written
 unfoldable pub block_sounds : Stage → Passage
@@ -165,6 +188,7 @@ blocks_run (suc n) to s = if nat_le s.block_end to then followed_by (block_runs 
 -- the time is raised where it is below
 abbrev pub with_time : ℕ → Stage → Stage
 with_time to s = record {
+  file = s.file;
   net = s.net;
   states = s.states;
   clocks = s.clocks;
@@ -172,6 +196,7 @@ with_time to s = record {
   time = max s.time to;
   block_end = s.block_end;
   fired = s.fired;
+  ahead = s.ahead;
 }
 
 abbrev pub time_is : ℕ → Stage → Passage

@@ -1,21 +1,40 @@
 //! Where a patch stands between events, and what a part of a run leads to. It has no code that runs.
 //!
 //! Between events a patch stands at a stage: what messages leave as it is, what the boxes keep, the clocks, the
-//! table of names, the time, when the next block ends, and how many clocks fired since the last one. A part of a run
-//! leads to another stage, and what happens on the way is one list in its order: each byte of a line, each byte of a
-//! block of samples, and each file that is put under a name, which doesn't come yet. What a sink gets is what of
-//! that list is for it. Where a sink fails, both have got what is for them of one first part of the list, so that no
-//! sample is taken before a line that comes first.
+//! table of names, the time, when the next block ends, how many clocks fired since the last one, and what the edits
+//! to come lead to. Whether an edit is made or refused can hang on memory, and so it is told apart: each edit that is
+//! asked for takes the first of what is ahead, and where none is left it is refused for want of memory. A part of a
+//! run leads to another stage. What happens on the way is one list in its order: each byte of a line, each byte of a
+//! block of samples, and each file that is put under a name. Beside it stands the log of the edits that were taken,
+//! each with the stage that it found, what was asked for, and what it came to.
 //!
-//! The definitions: an event with its deliveries, 1,000,000 at most, and a line for each edit that was asked for; the
-//! clocks below a time, at most 10,000 between two blocks; a block; the way to a time; the last block of a run.
+//! The definitions: an event with its deliveries, 1,000,000 at most, and then the edits that canvases were asked for,
+//! one taken after the other; the clocks below a time, at most 10,000 between two blocks; a block; the way to a time;
+//! the last block of a run. What an edit leads to is told by what it came to: a made one gives how the patch stands
+//! after it, its lines, and the files that it puts; a refused one says why, and changes nothing; one that memory was
+//! wanting for changes nothing but how much room there is.
+//!
+//! What an edit may come to is one definition (`IsLawful`). An edit of wires of the patch's own document is planned
+//! by what the patch is (`pd_wiring`'s `planned`), and comes to no other end than that: it is made, and then all
+//! stays but the wires with their links and orders, and a loop of its canvas is told; or it is refused for the reason
+//! of the plan; or memory was wanting. A save of that document puts its text under the name of its file, and nothing
+//! else changes; or it is refused for a fault of the folder or for want of memory. All other edits and saves are
+//! refused, and there is nothing to undo or redo.
+//!
+//! What code has come to is said by two relations, both of whose sides are functions of what the edits to come lead
+//! to. `Leads`: whatever more follows, the whole is these items and edits and then this rest; the sinks took the
+//! items, the folder the files among them, and each edit is lawful; there were no more looks at signal wires than
+//! these edits may take, and each refusal for a fault of the folder raised its count. `BreaksOff`, where a sink fails:
+//! the whole begins with these items, and both sinks have got what is for them of that one first part, so that no
+//! sample is taken before a line that comes first.
 //!
 //! Laws: parts of a run can be taken together in any way, and where nothing happens nothing is added
 //! (`parts_join`); of a first part of the list each sink gets a first part of what it gets of all
 //! (`fronts_are_fronts`).
 //!
-//! Definitions: `Items` (what happens, and what each sink gets of it), `Stages` (stages, parts of a run, what was
-//! taken of one), `Events`, `Times` (clocks and blocks).
+//! Definitions: `Items` (what happens, and what each sink gets of it), `Choices` (what edits come to), `Stages`
+//! (stages, edits that were taken, parts of a run), `Lines` (lines with the numbers of boxes), `Lawful` (what edits
+//! may come to), `Leads` (what was taken of a part), `Events`, `Times` (clocks and blocks).
 #![tactic(auto)]
 
 mod laws;

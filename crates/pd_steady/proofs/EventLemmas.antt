@@ -1,7 +1,8 @@
--- An event that begins in order passes nothing over, and leaves the stage steady.
-use Rattle.std.proofs.Common.{◌≡◌, ◌≤◌, ◌+◌, ◌^◌, ℕ, List, refl, sym, ap, subst, ◌∙◌}
+-- An event that begins in order passes nothing over, and leaves the stage steady where its edits are fair.
+use Rattle.std.proofs.Common.{◌≡◌, ◌≤◌, ◌+◌, ◌^◌, ℕ, List, Option, refl, sym, ap, subst, ◌∙◌}
 use Rattle.pd_atom.specs.Names.{Names}
 use Rattle.pd_atom.specs.declared.Atom.{Atom}
+use Rattle.pd_kind.specs.declared.states.State.{State}
 use Rattle.pd_kind.specs.Forming.{cut_atoms}
 use Rattle.pd_turns.specs.Turns.{World}
 use Rattle.pd_walk.specs.declared.walker.Start.{Start}
@@ -15,13 +16,20 @@ use Rattle.pd_guards.specs.Near.{AreNear}
 use Rattle.pd_guards.specs.Worlds.{AreKept, IsInOrder, IsStart, IsNamed}
 use Rattle.pd_guards.specs.Sounds.{HaveValues, IsSounding}
 use Rattle.pd_guards.specs.Freely.{outcome as free_outcome}
-use Rattle.pd_sized.specs.Sizes.{HaveSizes, IsWhole}
+use Rattle.pd_sized.specs.Sizes.{HaveSizes}
+use Rattle.pd_sized.specs.Alike.{AreAlike}
+use Rattle.pd_sized.proofs.AlikeRunLemmas.{outcome_alike}
+use Rattle.pd_sound_law.specs.Ready.{IsReady}
+use Rattle.pd_sound_law.proofs.ReadyLemmas.{ready_lasts}
 use Rattle.pd_stage.specs.Stages.{Stage, Passage}
 use Rattle.pd_engine.specs.Messages.{message_in}
+use Rattle.pd_stage.specs.Times.{block_net, sound_at}
 use Rattle.pd_stage.specs.Events as engine
-use Rattle.pd_stage.specs.Events.{Beginning, Message, Firing, Loading, begun, delivered, after_deliveries, event}
+use Rattle.pd_stage.specs.Events.{Beginning, Message, Firing, Loading, begun, delivered, with_kept, event_after, event}
+use Rattle.pd_stage.proofs.EditLemmas.{ButWires}
 use Rattle.pd_steady.specs.Freely.{deliveries, event_freely}
 use Rattle.pd_steady.specs.Steady.{IsSteady}
+use Rattle.pd_steady.proofs.FairLemmas.{AreFair, edits_left}
 
 -- what the laws of pd_guards say
 pub record Guards : Type 0 where
@@ -30,7 +38,6 @@ pub record Guards : Type 0 where
   pub values : (net : Net) (now : ℕ) (w : World Kept) (s : Start) → IsInOrder net now w.kept → IsStart w.kept.names s → HaveValues w.kept.states
       → HaveValues (outcome net now w s).kept.states
   pub sizes : (net : Net) (now : ℕ) (w : World Kept) (s : Start) → HaveSizes w.kept.states → HaveSizes (outcome net now w s).kept.states
-  pub wholes : (net : BlockNet) (start : ℕ) (s : Sound) → IsWhole s → IsWhole (block_of net s start).sound
   pub lasts : (net : Net) (now later : ℕ) (kept : Kept) → IsInOrder net now kept → now ≤ later → later ≤ 2 ^ 101 → IsInOrder net later kept
   pub keeps : (net : BlockNet) (names : Names) (now later start : ℕ) (s : Sound) → now ≤ later → start + 64000000000 ≤ later → AreKept names now s.states → IsSounding s
       → AreKept names later (block_of net s start).sound.states
@@ -68,39 +75,59 @@ module _ (net : Net) (now : ℕ) (w : World Kept) where
   free_is (Firing owner) = refl
   free_is (Loading boxes) = refl
 
--- deliveries come to this world, freely too, and all is in order in it
-record IsDelivered (net : Net) (now : ℕ) (v u : World Kept) : Type 0 where
+-- deliveries come to this world, freely too, all is in order in it, and what boxes keep is of the same objects
+record IsDelivered (net : Net) (now : ℕ) (states : ℕ → Option State) (v u : World Kept) : Type 0 where
   same : u ≡ v
   order : IsInOrder net now v.kept
   values : HaveValues v.kept.states
   sizes : HaveSizes v.kept.states
+  objects : AreAlike states v.kept.states
 
 deliver : (g : Guards) (net : Net) (now : ℕ) (w v u : World Kept) (st : Start) → outcome net now w st ≡ v → free_outcome net now w st ≡ u → AreNear net → IsInOrder net now w.kept
-    → HaveValues w.kept.states → HaveSizes w.kept.states → IsStart w.kept.names st → IsDelivered net now v u
+    → HaveValues w.kept.states → HaveSizes w.kept.states → IsStart w.kept.names st → IsDelivered net now w.kept.states v u
 deliver g net now w v u st is free near h a z k = record {
   same = sym free ∙ sym (g.freely net now w st near h k) ∙ is;
   order = subst (λ (x : World Kept). IsInOrder net now x.kept) is (g.order net now w st h k);
   values = subst (λ (x : World Kept). HaveValues x.kept.states) is (g.values net now w st h k a);
   sizes = subst (λ (x : World Kept). HaveSizes x.kept.states) is (g.sizes net now w st z);
+  objects = subst (λ (x : World Kept). AreAlike w.kept.states x.kept.states) is (outcome_alike net now w st);
 }
 
--- a part of a run is the same freely, and leads to a steady stage
+-- a part of a run is the same freely, and leads to a steady stage where its edits are fair
 pub record IsFree (most : ℕ) (p q : Passage) : Type 0 where
   pub same : q ≡ p
-  pub steady : IsSteady most p.stage
+  pub steady : AreFair p.edits → IsSteady most p.stage
+
+-- other wires leave a stage steady
+pub wires_steady : (most : ℕ) (s r : Stage) → IsSteady most s → ButWires s r → IsSteady most r
+wires_steady most s r h e =
+    subst (λ (x : Stage). IsSteady most x) (sym e.is)
+    (record {
+      time = h.time;
+      near = h.near;
+      order = record { time = h.order.time; first = h.order.first; kinds = h.order.kinds; states = h.order.states };
+      values = record { states = h.values.states; blocks = h.values.blocks };
+      ready = record { kinds = h.ready.kinds; whole = record { states = h.ready.whole.states; blocks = h.ready.whole.blocks }; owners = h.ready.owners; channels = h.ready.channels };
+      block = h.block;
+    })
+
+kept_steady : (most : ℕ) (s : Stage) (v u : World Kept) → IsSteady most s → IsDelivered s.net s.time s.states v u → IsSteady most (with_kept s v.kept)
+kept_steady most s v u h d = record {
+  time = h.time;
+  near = h.near;
+  order = record { time = d.order.time; first = d.order.first; kinds = d.order.kinds; states = d.order.states };
+  values = record { states = d.values; blocks = h.values.blocks };
+  ready = let r : IsReady (block_net s) (record { states = v.kept.states; blocks = s.net.blocks }) =
+      ready_lasts (block_net s) (sound_at s) (record { states = v.kept.states; blocks = s.net.blocks }) h.ready d.objects (record { states = d.sizes; blocks = h.ready.whole.blocks }) in
+      record { kinds = r.kinds; whole = record { states = r.whole.states; blocks = r.whole.blocks }; owners = r.owners; channels = r.channels };
+  block = h.block;
+}
 
 -- an event that comes to this world, and freely to that one
-after_free : (most : ℕ) (s : Stage) (v u : World Kept) → IsSteady most s → IsDelivered s.net s.time v u → IsFree most (after_deliveries s v) (after_deliveries s u)
+after_free : (most : ℕ) (s : Stage) (v u : World Kept) → IsSteady most s → IsDelivered s.net s.time s.states v u → IsFree most (event_after s v) (event_after s u)
 after_free most s v u h d = record {
-  same = ap (λ (w : World Kept). after_deliveries s w) d.same;
-  steady = record {
-    time = h.time;
-    near = h.near;
-    order = record { time = d.order.time; first = d.order.first; kinds = d.order.kinds; states = d.order.states };
-    values = record { states = d.values; blocks = h.values.blocks };
-    whole = record { states = d.sizes; blocks = h.whole.blocks };
-    block = h.block;
-  };
+  same = ap (λ (w : World Kept). event_after s w) d.same;
+  steady = λ l. wires_steady most (with_kept s v.kept) (event_after s v).stage (kept_steady most s v u h d) (edits_left v.kept.queue (with_kept s v.kept) l);
 }
 
 pub event_free : (g : Guards) (most : ℕ) (s : Stage) (b : Beginning) → IsSteady most s → Begins s.names b → IsFree most (event s b) (event_freely s b)
@@ -108,4 +135,4 @@ unfolding event event_freely
 event_free g most s b h k =
     after_free most s (delivered s b) (deliveries s.net s.time (begun s) b) h
     (deliver g s.net s.time (begun s) (delivered s b) (deliveries s.net s.time (begun s) b) (start_of b) (outcome_is s.net s.time (begun s) b) (free_is s.net s.time (begun s) b)
-    h.near h.order h.values.states h.whole.states (starts s.names b k))
+    h.near h.order h.values.states h.ready.whole.states (starts s.names b k))

@@ -1,7 +1,9 @@
 pub mod OwnLemmas
+pub mod FairLemmas
 pub mod EventLemmas
 pub mod TimeLemmas
 pub mod RunLemmas
 mod ToldLemmas
 mod LoopLemmas
+mod MadeLemmas
 mod LastLemmas

@@ -20,7 +20,7 @@ use Rattle.pd_patch.specs.Telling.{order_in, is_looped}
 use Rattle.pd_patch.specs.Values.{stuck_by}
 use Rattle.pd_hearing.specs.Worlds.{net_of}
 use Rattle.pd_guards.proofs.FactLemmas.{either, all-append, all-map, all-flat}
-use Rattle.pd_engine.specs.Commands.{most_boxes, numbers_told}
+use Rattle.pd_stage.specs.Lines.{most_boxes, numbers_told}
 use Rattle.pd_steady.specs.Told.{all_numbers, TellsLoop}
 use Rattle.pd_steady.proofs.ToldLemmas.{all_told}
 
@@ -115,7 +115,7 @@ module _ (p : Patch) where
   abbrev AreShort : Type 0
   AreShort = (path : List ℕ) (c : ℕ) (o : Listing) → reached p.grove (Some p.grove.root) path ≡ Some c → order_in p.orders.items c ≡ Some o → length o.chain + length o.stuck ≤ most_boxes
 
-  stuck_told : (o : Option Listing) → ((x : Listing) → o ≡ Some x → length x.chain + length x.stuck ≤ most_boxes) → numbers_told (net_of p) (stuck_by o) ≡ all_numbers (net_of p) (stuck_by o)
+  pub stuck_told : (o : Option Listing) → ((x : Listing) → o ≡ Some x → length x.chain + length x.stuck ≤ most_boxes) → numbers_told (net_of p) (stuck_by o) ≡ all_numbers (net_of p) (stuck_by o)
   stuck_told None f = refl
   stuck_told (Some x) f = (all_told (net_of p) x (f x refl)).stuck
 

@@ -1,4 +1,4 @@
--- Commands, names, opening and whole runs: nothing is passed over, and the stage stays steady.
+-- Commands, names, opening and whole runs: nothing is passed over, and the stage stays steady where each edit is fair.
 use Rattle.std.proofs.Common.{◌≡◌, ◌≤◌, ◌+◌, ◌^◌, ℕ, List, [], ◌∷◌, length, take, refl, sym, ap, subst, ◌∙◌, arith}
 use Rattle.std.proofs.lemmas.List.{length-take}
 use Rattle.pd_atom.specs.Names.{Names, IsTable, Extends}
@@ -14,10 +14,12 @@ use Rattle.pd_guards.specs.Order.{HasFirst, IsKept, IsKind}
 use Rattle.pd_guards.specs.Near.{AreNear}
 use Rattle.pd_guards.specs.Worlds.{IsInOrder}
 use Rattle.pd_guards.specs.Sounds.{IsSounding, sound_with}
+use Rattle.pd_block.specs.Nets as nets
 use Rattle.pd_block.specs.Nets.{sound_of}
-use Rattle.pd_sized.specs.Sizes.{IsWhole}
+use Rattle.pd_sound_law.specs.Ready.{IsReady}
 use Rattle.pd_guards.proofs.FactLemmas.{some-weaker}
 use Rattle.pd_guards.proofs.MoreLemmas.{longer, first_more, kind_more, kept_more}
+use Rattle.pd_stage.specs.Choices.{Choice}
 use Rattle.pd_stage.specs.Stages.{Stage, Passage, with_names, saying, joined, followed_by}
 use Rattle.pd_stage.specs.Events.{Beginning, Message, Loading, event}
 use Rattle.pd_engine.specs.Messages.{message_in}
@@ -25,11 +27,12 @@ use Rattle.pd_stage.specs.Times.{block_units, advanced, finished}
 use Rattle.pd_engine.specs.Commands.{cut_text, commanded}
 use Rattle.pd_engine.specs.Remarks.{remarks_text}
 use Rattle.pd_engine.specs.Opening.{first_stage, opened}
-use Rattle.pd_steady.specs.Runs.{commanded_by, advanced_by, finished_by, opened_by}
-use Rattle.pd_steady.specs.Freely.{event_freely}
+use Rattle.pd_steady.specs.Runs.{own_ways, commanded_by, advanced_by, finished_by, opened_by}
+use Rattle.pd_steady.specs.Freely.{event_freely, free_ways}
 use Rattle.pd_steady.specs.Steady.{IsSteady, IsCommand}
 use Rattle.pd_steady.specs.Steps.{Step, Does, Learns, Comes, IsStep, AreSteps, step_by, steps_by, run_by}
-use Rattle.pd_steady.proofs.EventLemmas.{Guards, IsFree, event_free}
+use Rattle.pd_steady.proofs.FairLemmas.{AreFair, fair_first, fair_second, taken_left}
+use Rattle.pd_steady.proofs.EventLemmas.{Guards, IsFree, event_free, wires_steady}
 use Rattle.pd_steady.proofs.TimeLemmas.{followed, advanced_free, finished_free}
 use Rattle.pd_steady.proofs.OwnLemmas.{commanded_own, advanced_own, finished_own}
 
@@ -48,16 +51,16 @@ said_free : (most : ℕ) (s : Stage) (lines : List ℕ) (p free : Passage) → I
 said_free most s lines p free a = record { same = ap (λ (x : Passage). joined (saying s lines) x) a.same; steady = a.steady }
 
 -- commands
-pub commanded_free : (g : Guards) (most : ℕ) (c : Command) (s : Stage) → IsSteady most s → IsCommand s.names c → IsFree most (commanded c s) (commanded_by event_freely c s)
+pub commanded_free : (g : Guards) (most : ℕ) (c : Command) (s : Stage) → IsSteady most s → IsCommand s.names c → IsFree most (commanded c s) (commanded_by free_ways c s)
 unfolding commanded commanded_by
 commanded_free g most (command.Send name atoms) s h k =
     let b : Beginning = Message name (message_in atoms).selector (cut_atoms (message_in atoms).atoms) in
     said_free most s (cut_text (message_in atoms).atoms) (event s b) (event_freely s b) (event_free g most s b h (g.begins s.names name atoms h.order.first k.0 k.1))
-commanded_free g most (command.Edit place edit) s h k = record { same = refl; steady = h }
-commanded_free g most (command.Save document) s h k = record { same = refl; steady = h }
-commanded_free g most (command.Show path) s h k = record { same = refl; steady = h }
-commanded_free g most command.Undo s h k = record { same = refl; steady = h }
-commanded_free g most command.Redo s h k = record { same = refl; steady = h }
+commanded_free g most (command.Edit place edit) s h k = record { same = refl; steady = λ l. wires_steady most s (commanded (command.Edit place edit) s).stage h (taken_left _ s l) }
+commanded_free g most (command.Save document) s h k = record { same = refl; steady = λ l. wires_steady most s (commanded (command.Save document) s).stage h (taken_left _ s l) }
+commanded_free g most (command.Show path) s h k = record { same = refl; steady = λ l. h }
+commanded_free g most command.Undo s h k = record { same = refl; steady = λ l. wires_steady most s (commanded command.Undo s).stage h (taken_left _ s l) }
+commanded_free g most command.Redo s h k = record { same = refl; steady = λ l. wires_steady most s (commanded command.Redo s).stage h (taken_left _ s l) }
 
 -- names
 pub named_steady : (most : ℕ) (s : Stage) (names : Names) → IsSteady most s → Extends s.names names → IsSteady most (with_names s names)
@@ -73,27 +76,28 @@ named_steady most s names h e =
         states = λ k. some-weaker (IsKept s.names s.time) (IsKept names s.time) (kept_more s.names names l s.time) (s.states k) (h.order.states k);
       };
       values = h.values;
-      whole = h.whole;
+      ready = h.ready;
       block = h.block;
     }
 
 -- where a patch opens, at first
-first_steady : (most : ℕ) (p : Patch) (table : Names) → AreNear (net_of p) → IsInOrder (net_of p) 0 (kept_of p table []) → IsSounding (sound_with (net_of p) (kept_of p table [])) → IsWhole (sound_of p) → IsSteady most (first_stage p table)
-first_steady most p table near o v w = record {
+first_steady : (most : ℕ) (file : List ℕ) (p : Patch) (table : Names) (ahead : List Choice) → AreNear (net_of p) → IsInOrder (net_of p) 0 (kept_of p table []) → IsSounding (sound_with (net_of p) (kept_of p table [])) → IsReady (nets.net_of p) (sound_of p)
+    → IsSteady most (first_stage file p table ahead)
+first_steady most file p table ahead near o v w = record {
   time = early most;
   near = near;
   order = record { time = o.time; first = o.first; kinds = o.kinds; states = o.states };
   values = record { states = v.states; blocks = v.blocks };
-  whole = record { states = w.states; blocks = w.blocks };
+  ready = record { kinds = w.kinds; whole = record { states = w.whole.states; blocks = w.whole.blocks }; owners = w.owners; channels = w.channels };
   block = first_end;
 }
 
-pub opened_free : (g : Guards) (most : ℕ) (p : Patch) (table : Names) → AreNear (net_of p) → IsInOrder (net_of p) 0 (kept_of p table []) → IsSounding (sound_with (net_of p) (kept_of p table [])) → IsWhole (sound_of p)
-    → IsFree most (opened p table) (opened_by event_freely p table)
-opened_free g most p table near o v w =
-    let s : Stage = first_stage p table in
+pub opened_free : (g : Guards) (most : ℕ) (file : List ℕ) (p : Patch) (table : Names) (ahead : List Choice) → AreNear (net_of p) → IsInOrder (net_of p) 0 (kept_of p table []) → IsSounding (sound_with (net_of p) (kept_of p table [])) → IsReady (nets.net_of p) (sound_of p)
+    → IsFree most (opened file p table ahead) (opened_by free_ways file p table ahead)
+opened_free g most file p table ahead near o v w =
+    let s : Stage = first_stage file p table ahead in
     let b : Beginning = Loading (loads_among p.grove (keys_in_order p.grove)) in
-    said_free most s (remarks_text table p (notices_in p.grove p.web p.orders.items)) (event s b) (event_freely s b) (event_free g most s b (first_steady most p table near o v w) tt)
+    said_free most s (remarks_text table p (notices_in p.grove p.web p.orders.items)) (event s b) (event_freely s b) (event_free g most s b (first_steady most file p table ahead near o v w) tt)
 
 pub at_first : 0 ≤ 2 ^ 101
 at_first = early (2 ^ 101)
@@ -107,28 +111,38 @@ module _ (g : Guards) (most : ℕ) (top : most ≤ 2 ^ 101) where
   same_part : (p q free : Passage) → p ≡ q → IsFree most q free → IsFree most p free
   same_part p q free e a = subst (λ (x : Passage). IsFree most x free) (sym e) a
 
-  step_free : (x : Step) (s : Stage) → IsSteady most s → IsStep most x s → IsFree most (step_by event x s) (step_by event_freely x s)
-  step_free (Does c) s h k = same_part (commanded_by event c s) (commanded c s) (commanded_by event_freely c s) (commanded_own c s) (commanded_free g most c s h k)
-  step_free (Learns names) s h k = record { same = refl; steady = named_steady most s names h k }
-  step_free (Comes to) s h k = same_part (advanced_by event to s) (advanced to s) (advanced_by event_freely to s) (advanced_own to s) (advanced_free g most top to s k h)
+  same_fair : (p q : Passage) → p ≡ q → AreFair p.edits → AreFair q.edits
+  same_fair p q e l = subst (λ (x : Passage). AreFair x.edits) e l
 
-  pub steps_free : (xs : List Step) (s : Stage) → IsSteady most s → AreSteps most xs s → IsFree most (steps_by event xs s) (steps_by event_freely xs s)
-  steps_free [] s h k = record { same = refl; steady = h }
-  steps_free (x ∷ xs) s h k =
-      let a : IsFree most (step_by event x s) (step_by event_freely x s) = step_free x s h k.0 in
-      followed most (step_by event x s) (step_by event_freely x s) (steps_by event xs) (steps_by event_freely xs) a (steps_free xs (step_by event x s).stage a.steady k.1)
+  step_free : (x : Step) (s : Stage) → IsSteady most s → IsStep most x s → AreFair (step_by own_ways x s).edits → IsFree most (step_by own_ways x s) (step_by free_ways x s)
+  step_free (Does c) s h k l = same_part (commanded_by own_ways c s) (commanded c s) (commanded_by free_ways c s) (commanded_own c s) (commanded_free g most c s h k)
+  step_free (Learns names) s h k l = record { same = refl; steady = λ w. named_steady most s names h k }
+  step_free (Comes to) s h k l =
+      same_part (advanced_by own_ways to s) (advanced to s) (advanced_by free_ways to s) (advanced_own to s)
+      (advanced_free g most top to s k h (same_fair (advanced_by own_ways to s) (advanced to s) (advanced_own to s) l))
+
+  pub steps_free : (xs : List Step) (s : Stage) → IsSteady most s → AreSteps most xs s → AreFair (steps_by own_ways xs s).edits → IsFree most (steps_by own_ways xs s) (steps_by free_ways xs s)
+  steps_free [] s h k l = record { same = refl; steady = λ w. h }
+  steps_free (x ∷ xs) s h k l =
+      let p : Passage = step_by own_ways x s in
+      let a : IsFree most p (step_by free_ways x s) = step_free x s h k.0 (fair_first p.edits (steps_by own_ways xs p.stage).edits l) in
+      followed most p (step_by free_ways x s) (steps_by own_ways xs) (steps_by free_ways xs) a (λ y v. steps_free xs p.stage y k.1 v) l
 
 -- whole runs
-pub run_free : (g : Guards) (p : Patch) (table : Names) (most : ℕ) (xs : List Step) → AreNear (net_of p) → IsInOrder (net_of p) 0 (kept_of p table []) → IsSounding (sound_with (net_of p) (kept_of p table [])) → IsWhole (sound_of p)
-    → most + block_units ≤ 2 ^ 101 → AreSteps most xs (opened p table).stage → run_by event_freely p table xs ≡ run_by event p table xs
-run_free g p table most xs near first sounds whole top k =
-    let o : IsFree most (opened_by event p table) (opened_by event_freely p table) = opened_free g most p table near first sounds whole in
-    let s : Stage = (opened p table).stage in
-    let a : IsFree most (steps_by event xs s) (steps_by event_freely xs s) = steps_free g most (room_left most top) xs s o.steady k in
-    let b : IsFree most (followed_by (opened_by event p table) (steps_by event xs)) (followed_by (opened_by event_freely p table) (steps_by event_freely xs)) =
-    followed most (opened_by event p table) (opened_by event_freely p table) (steps_by event xs) (steps_by event_freely xs) o a in
-    let r : Stage = (steps_by event xs s).stage in
-    let c : IsFree (most + block_units) (finished r) (finished_by event_freely r) = finished_free g most r top a.steady in
-    let e : finished_by event_freely r ≡ finished_by event r = c.same ∙ sym (finished_own r) in
-    ap (λ (x : Passage). followed_by x (finished_by event_freely)) b.same
-    ∙ ap (λ (x : Passage). joined (followed_by (opened_by event p table) (steps_by event xs)) x) e
+pub run_free : (g : Guards) (file : List ℕ) (p : Patch) (table : Names) (most : ℕ) (xs : List Step) (ahead : List Choice) → AreNear (net_of p) → IsInOrder (net_of p) 0 (kept_of p table []) → IsSounding (sound_with (net_of p) (kept_of p table [])) → IsReady (nets.net_of p) (sound_of p)
+    → most + block_units ≤ 2 ^ 101 → AreSteps most xs (opened file p table ahead).stage → AreFair (run_by own_ways file p table ahead xs).edits
+    → run_by free_ways file p table ahead xs ≡ run_by own_ways file p table ahead xs
+run_free g file p table most xs ahead near first sounds ready top k l =
+    let o : Passage = opened file p table ahead in
+    let free : Passage = opened_by free_ways file p table ahead in
+    let s : Stage = o.stage in
+    let b : Passage = followed_by o (steps_by own_ways xs) in
+    let r : Stage = b.stage in
+    let up_to : AreFair b.edits = fair_first b.edits (finished_by own_ways r).edits l in
+    let end : AreFair (finished r).edits = subst (λ (x : Passage). AreFair x.edits) (finished_own r) (fair_second b.edits (finished_by own_ways r).edits l) in
+    let a : IsFree most b (followed_by free (steps_by free_ways xs)) =
+    followed most o free (steps_by own_ways xs) (steps_by free_ways xs) (opened_free g most file p table ahead near first sounds ready)
+    (λ h v. steps_free g most (room_left most top) xs s h k v) up_to in
+    let c : IsFree (most + block_units) (finished r) (finished_by free_ways r) = finished_free g most r top (a.steady up_to) end in
+    let e : finished_by free_ways r ≡ finished_by own_ways r = c.same ∙ sym (finished_own r) in
+    ap (λ (x : Passage). followed_by x (finished_by free_ways)) a.same ∙ ap (λ (x : Passage). joined b x) e

@@ -1,18 +1,23 @@
--- Clocks and blocks: nothing is passed over, and the stage stays steady.
-use Rattle.std.proofs.Common.{◌≡◌, ◌<◌, ◌≤◌, ◌+◌, ◌-◌, ◌^◌, ℕ, zero, suc, max, min, Bool, true, false, nat_lt, nat_le, if◌then◌else◌, Option, Some, None, IfSome, refl, ap, ◌∙◌, arith}
+-- Clocks and blocks: nothing is passed over, and the stage stays steady where the edits on the way are fair.
+use Rattle.std.proofs.Common.{◌≡◌, ◌<◌, ◌≤◌, ◌+◌, ◌-◌, ◌^◌, ℕ, zero, suc, max, min, Bool, true, false, nat_lt, nat_le, if◌then◌else◌, Option, Some, None, IfSome, refl, sym, ap, ◌∙◌, arith}
 use Rattle.std.proofs.lemmas.Bool.{leb-true, ltb-true}
 use Rattle.pd_clock.specs.Queue.{Clock}
-use Rattle.pd_block.specs.Blocks.{block_of}
 use Rattle.pd_guards.specs.Worlds.{IsInOrder}
 use Rattle.pd_guards.specs.Sounds.{IsSounding}
 use Rattle.pd_guards.proofs.FactLemmas.{either_by}
 use Rattle.pd_stage.specs.Stages.{Stage, Passage, kept_at, still, joined, followed_by}
-use Rattle.pd_stage.specs.Events.{Firing, event}
-use Rattle.pd_stage.specs.Times.{block_units, most_fired, first_clock, if_below, next_clock, taken_off, with_taken, with_fired, fires, fires_or_not, fires_below, clocks_fire, block_net, sound_at, block_sounds, block_runs, blocks_run, with_time, time_is, comes_to, advanced, finished}
-use Rattle.pd_sized.specs.Sizes.{IsWhole}
+use Rattle.pd_stage.specs.Events.{Firing}
+use Rattle.pd_stage.specs.Times.{block_units, most_fired, first_clock, if_below, next_clock, taken_off, with_taken, with_fired, fires, fires_or_not, fires_below, clocks_fire, block_net, sound_at, sounding, block_sounds, block_runs, blocks_run, with_time, time_is, comes_to, advanced, finished}
+use Rattle.pd_stage.proofs.EditLemmas.{event_times}
+use Rattle.pd_block.specs.Inlets.{wires_to}
+use Rattle.pd_block.specs.Blocks.{Played, block_of}
+use Rattle.pd_sound_law.specs.Ready.{IsReady}
+use Rattle.pd_sound_law.proofs.FreeLemmas.{block_is_free}
+use Rattle.pd_sound_law.proofs.ReadyLemmas.{ready_on}
 use Rattle.pd_steady.specs.Runs.{fires_by, fires_or_not_by, fires_below_by, clocks_fire_by, block_runs_by, blocks_run_by, comes_to_by, advanced_by, finished_by}
-use Rattle.pd_steady.specs.Freely.{event_freely}
+use Rattle.pd_steady.specs.Freely.{block_freely, free_ways}
 use Rattle.pd_steady.specs.Steady.{IsSteady}
+use Rattle.pd_steady.proofs.FairLemmas.{AreFair, fair_first, fair_second}
 use Rattle.pd_steady.proofs.EventLemmas.{Guards, IsFree, event_free}
 
 -- a clock that is next is below the limit
@@ -23,9 +28,8 @@ below_limit limit (Some c) =
 
 -- clocks that fire leave the next block
 end_by : (s : Stage) (rest : Stage → Passage) (o : Option Clock) → ((x : Stage) → (rest x).stage.block_end ≡ x.block_end) → (fires_or_not s rest o).stage.block_end ≡ s.block_end
-unfolding event
 end_by s rest None stays = refl
-end_by s rest (Some c) stays = stays (fires s c).stage
+end_by s rest (Some c) stays = stays (fires s c).stage ∙ (event_times (with_fired (with_taken s (taken_off s.clocks)) c.time) (Firing c.owner)).block_end
 
 fires_end : (n limit : ℕ) (s : Stage) → (fires_below n limit s).stage.block_end ≡ s.block_end
 unfolding fires_below
@@ -61,10 +65,22 @@ later_end : (n : ℕ) → block_units ≤ n → block_units ≤ min (n + block_u
 later_end n l = omega arith
 
 pub steady_longer : (most more : ℕ) (s : Stage) → most ≤ more → IsSteady most s → IsSteady more s
-steady_longer most more s l h = record { time = within s.time most more h.time l; near = h.near; order = h.order; values = h.values; whole = h.whole; block = h.block }
+steady_longer most more s l h = record { time = within s.time most more h.time l; near = h.near; order = h.order; values = h.values; ready = h.ready; block = h.block }
 
-pub followed : (most : ℕ) (p q : Passage) (next free : Stage → Passage) → IsFree most p q → IsFree most (next p.stage) (free p.stage) → IsFree most (followed_by p next) (followed_by q free)
-followed most p q next free a b = record { same = ap (λ (x : Passage). followed_by x free) a.same ∙ ap (λ (x : Passage). joined p x) b.same; steady = b.steady }
+-- the block that comes next passes nothing over
+sounds_freely : (s : Stage) → IsReady (block_net s) (sound_at s) → block_freely s ≡ block_sounds s
+unfolding block_sounds block_freely
+sounds_freely s ready = ap (λ (p : Played). sounding s p) (sym (block_is_free (block_net s) (wires_to s.net.web) (s.block_end - block_units) (λ node inlet. refl) (sound_at s) ready))
+
+-- one part, and then another from where it leads
+pub followed : (most : ℕ) (p q : Passage) (next free : Stage → Passage) → IsFree most p q → (IsSteady most p.stage → AreFair (next p.stage).edits → IsFree most (next p.stage) (free p.stage))
+    → AreFair (followed_by p next).edits → IsFree most (followed_by p next) (followed_by q free)
+followed most p q next free a f l =
+    let b : IsFree most (next p.stage) (free p.stage) = f (a.steady (fair_first p.edits (next p.stage).edits l)) (fair_second p.edits (next p.stage).edits l) in
+    record {
+      same = ap (λ (x : Passage). followed_by x free) a.same ∙ ap (λ (x : Passage). joined p x) b.same;
+      steady = λ k. b.steady (fair_second p.edits (next p.stage).edits k);
+    }
 
 module _ (g : Guards) (most : ℕ) (top : most ≤ 2 ^ 101) where
   -- at a later time
@@ -81,7 +97,7 @@ module _ (g : Guards) (most : ℕ) (top : most ≤ 2 ^ 101) where
         near = h.near;
         order = record { time = o.time; first = o.first; kinds = o.kinds; states = o.states };
         values = h.values;
-        whole = h.whole;
+        ready = record { kinds = h.ready.kinds; whole = h.ready.whole; owners = h.ready.owners; channels = h.ready.channels };
         block = h.block;
       }
 
@@ -93,27 +109,28 @@ module _ (g : Guards) (most : ℕ) (top : most ≤ 2 ^ 101) where
         near = h.near;
         order = record { time = o.time; first = o.first; kinds = o.kinds; states = o.states };
         values = h.values;
-        whole = h.whole;
+        ready = record { kinds = h.ready.kinds; whole = h.ready.whole; owners = h.ready.owners; channels = h.ready.channels };
         block = h.block;
       }
 
   here : (s : Stage) → IsSteady most s → IsFree most (still s) (still s)
-  here s h = record { same = refl; steady = h }
+  here s h = record { same = refl; steady = λ l. h }
 
   -- clocks
   clock_free : (s : Stage) (rest free : Stage → Passage) (limit : ℕ) (o : Option Clock) → limit ≤ most → IfSome o (λ (c : Clock). c.time < limit)
-      → ((r : Stage) → IsSteady most r → IsFree most (rest r) (free r)) → IsSteady most s → IsFree most (fires_or_not s rest o) (fires_or_not_by event_freely s free o)
-  clock_free s rest free limit None l low f h = here s h
-  clock_free s rest free limit (Some c) l low f h =
-      let a : IsFree most (fires s c) (fires_by event_freely s c) =
+      → ((r : Stage) → IsSteady most r → AreFair (rest r).edits → IsFree most (rest r) (free r)) → IsSteady most s → AreFair (fires_or_not s rest o).edits
+      → IsFree most (fires_or_not s rest o) (fires_or_not_by free_ways s free o)
+  clock_free s rest free limit None l low f h w = here s h
+  clock_free s rest free limit (Some c) l low f h w =
+      let a : IsFree most (fires s c) (fires_by free_ways s c) =
       event_free g most (with_fired (with_taken s (taken_off s.clocks)) c.time) (Firing c.owner) (fired_steady s c (below c.time limit most low l) h) tt in
-      followed most (fires s c) (fires_by event_freely s c) rest free a (f (fires s c).stage a.steady)
+      followed most (fires s c) (fires_by free_ways s c) rest free a (f (fires s c).stage) w
 
-  clocks_free : (n limit : ℕ) (s : Stage) → limit ≤ most → IsSteady most s → IsFree most (fires_below n limit s) (fires_below_by event_freely n limit s)
+  clocks_free : (n limit : ℕ) (s : Stage) → limit ≤ most → IsSteady most s → AreFair (fires_below n limit s).edits → IsFree most (fires_below n limit s) (fires_below_by free_ways n limit s)
   unfolding fires_below fires_below_by
-  clocks_free zero limit s l h = here s h
-  clocks_free (suc n) limit s l h =
-      clock_free s (fires_below n limit) (fires_below_by event_freely n limit) limit (next_clock limit s.clocks) l (below_limit limit (first_clock s.clocks)) (λ r k. clocks_free n limit r l k) h
+  clocks_free zero limit s l h w = here s h
+  clocks_free (suc n) limit s l h w =
+      clock_free s (fires_below n limit) (fires_below_by free_ways n limit) limit (next_clock limit s.clocks) l (below_limit limit (first_clock s.clocks)) (λ r k v. clocks_free n limit r l k v) h w
 
   -- blocks
   sounds_steady : (s : Stage) → s.block_end ≤ most → IsSteady most s → IsSteady most (block_sounds s).stage
@@ -132,49 +149,53 @@ module _ (g : Guards) (most : ℕ) (top : most ≤ 2 ^ 101) where
         };
         values = let v : IsSounding (block_of (block_net s) (sound_at s) start).sound = g.sounds (block_net s) s.names s.time start (sound_at s) h.order.states h.values in
             record { states = v.states; blocks = v.blocks };
-        whole = let w : IsWhole (block_of (block_net s) (sound_at s) start).sound = g.wholes (block_net s) start (sound_at s) h.whole in
-            record { states = w.states; blocks = w.blocks };
+        ready = let r : IsReady (block_net s) (block_of (block_net s) (sound_at s) start).sound = ready_on (block_net s) start (sound_at s) h.ready in
+            record { kinds = r.kinds; whole = record { states = r.whole.states; blocks = r.whole.blocks }; owners = r.owners; channels = r.channels };
         block = later_end s.block_end h.block;
       }
 
-  pub block_free : (s : Stage) → s.block_end ≤ most → IsSteady most s → IsFree most (block_runs s) (block_runs_by event_freely s)
-  block_free s l h =
-      let a : IsFree most (clocks_fire s.block_end s) (clocks_fire_by event_freely s.block_end s) = clocks_free (most_fired - s.fired) s.block_end s l h in
-      let e : (clocks_fire s.block_end s).stage.block_end ≡ s.block_end = fires_end (most_fired - s.fired) s.block_end s in
-      followed most (clocks_fire s.block_end s) (clocks_fire_by event_freely s.block_end s) block_sounds block_sounds a
-      (record { same = refl; steady = sounds_steady (clocks_fire s.block_end s).stage (same_end (clocks_fire s.block_end s).stage.block_end s.block_end most e l) a.steady })
+  pub block_free : (s : Stage) → s.block_end ≤ most → IsSteady most s → AreFair (block_runs s).edits → IsFree most (block_runs s) (block_runs_by free_ways s)
+  block_free s l h w =
+      let c : Passage = clocks_fire s.block_end s in
+      let a : IsFree most c (clocks_fire_by free_ways s.block_end s) =
+      clocks_free (most_fired - s.fired) s.block_end s l h (fair_first c.edits (block_sounds c.stage).edits w) in
+      let e : c.stage.block_end ≡ s.block_end = fires_end (most_fired - s.fired) s.block_end s in
+      followed most c (clocks_fire_by free_ways s.block_end s) block_sounds block_freely a
+      (λ k v. record { same = sounds_freely c.stage k.ready; steady = λ x. sounds_steady c.stage (same_end c.stage.block_end s.block_end most e l) k }) w
 
-  pub if_free : (b : Bool) (p q free : Passage) (r : Passage) → (b ≡ true → IsFree most p free) → IsFree most q r → IsFree most (if b then p else q) (if b then free else r)
-  if_free true p q free r f g = f refl
-  if_free false p q free r f g = g
+  pub if_free : (b : Bool) (p q free : Passage) (r : Passage) → (b ≡ true → AreFair p.edits → IsFree most p free) → IsFree most q r → AreFair (if b then p else q).edits
+      → IsFree most (if b then p else q) (if b then free else r)
+  if_free true p q free r f g w = f refl w
+  if_free false p q free r f g w = g
 
-  blocks_free : (n to : ℕ) (s : Stage) → to ≤ most → IsSteady most s → IsFree most (blocks_run n to s) (blocks_run_by event_freely n to s)
+  blocks_free : (n to : ℕ) (s : Stage) → to ≤ most → IsSteady most s → AreFair (blocks_run n to s).edits → IsFree most (blocks_run n to s) (blocks_run_by free_ways n to s)
   unfolding blocks_run blocks_run_by
-  blocks_free zero to s l h = here s h
-  blocks_free (suc n) to s l h =
-      if_free (nat_le s.block_end to) (followed_by (block_runs s) (blocks_run n to)) (still s) (followed_by (block_runs_by event_freely s) (blocks_run_by event_freely n to)) (still s)
-      (λ e. let due : s.block_end ≤ to = leb-true s.block_end to e in
-      let a : IsFree most (block_runs s) (block_runs_by event_freely s) = block_free s (within s.block_end to most due l) h in
-      followed most (block_runs s) (block_runs_by event_freely s) (blocks_run n to) (blocks_run_by event_freely n to) a (blocks_free n to (block_runs s).stage l a.steady))
-      (here s h)
+  blocks_free zero to s l h w = here s h
+  blocks_free (suc n) to s l h w =
+      if_free (nat_le s.block_end to) (followed_by (block_runs s) (blocks_run n to)) (still s) (followed_by (block_runs_by free_ways s) (blocks_run_by free_ways n to)) (still s)
+      (λ e v. let due : s.block_end ≤ to = leb-true s.block_end to e in
+      let a : IsFree most (block_runs s) (block_runs_by free_ways s) =
+      block_free s (within s.block_end to most due l) h (fair_first (block_runs s).edits (blocks_run n to (block_runs s).stage).edits v) in
+      followed most (block_runs s) (block_runs_by free_ways s) (blocks_run n to) (blocks_run_by free_ways n to) a (λ k u. blocks_free n to (block_runs s).stage l k u) v)
+      (here s h) w
 
   -- to a time
-  comes_free : (to : ℕ) (s : Stage) → to ≤ most → IsSteady most s → IsFree most (comes_to to s) (comes_to_by event_freely to s)
-  comes_free to s l h =
-      let a : IsFree most (clocks_fire to s) (clocks_fire_by event_freely to s) = clocks_free (most_fired - s.fired) to s l h in
-      followed most (clocks_fire to s) (clocks_fire_by event_freely to s) (time_is to) (time_is to) a
-      (record { same = refl; steady = timed_steady (clocks_fire to s).stage to l a.steady })
+  comes_free : (to : ℕ) (s : Stage) → to ≤ most → IsSteady most s → AreFair (comes_to to s).edits → IsFree most (comes_to to s) (comes_to_by free_ways to s)
+  comes_free to s l h w =
+      let c : Passage = clocks_fire to s in
+      let a : IsFree most c (clocks_fire_by free_ways to s) = clocks_free (most_fired - s.fired) to s l h (fair_first c.edits (time_is to c.stage).edits w) in
+      followed most c (clocks_fire_by free_ways to s) (time_is to) (time_is to) a (λ k v. record { same = refl; steady = λ x. timed_steady c.stage to l k }) w
 
-  pub advanced_free : (to : ℕ) (s : Stage) → to ≤ most → IsSteady most s → IsFree most (advanced to s) (advanced_by event_freely to s)
-  advanced_free to s l h =
-      let a : IsFree most (blocks_run (to + 1) to s) (blocks_run_by event_freely (to + 1) to s) = blocks_free (to + 1) to s l h in
-      followed most (blocks_run (to + 1) to s) (blocks_run_by event_freely (to + 1) to s) (comes_to to) (comes_to_by event_freely to) a
-      (comes_free to (blocks_run (to + 1) to s).stage l a.steady)
+  pub advanced_free : (to : ℕ) (s : Stage) → to ≤ most → IsSteady most s → AreFair (advanced to s).edits → IsFree most (advanced to s) (advanced_by free_ways to s)
+  advanced_free to s l h w =
+      let b : Passage = blocks_run (to + 1) to s in
+      let a : IsFree most b (blocks_run_by free_ways (to + 1) to s) = blocks_free (to + 1) to s l h (fair_first b.edits (comes_to to b.stage).edits w) in
+      followed most b (blocks_run_by free_ways (to + 1) to s) (comes_to to) (comes_to_by free_ways to) a (λ k v. comes_free to b.stage l k v) w
 
 -- the block that began runs
-pub finished_free : (g : Guards) (most : ℕ) (s : Stage) → most + block_units ≤ 2 ^ 101 → IsSteady most s → IsFree (most + block_units) (finished s) (finished_by event_freely s)
-finished_free g most s top h =
+pub finished_free : (g : Guards) (most : ℕ) (s : Stage) → most + block_units ≤ 2 ^ 101 → IsSteady most s → AreFair (finished s).edits → IsFree (most + block_units) (finished s) (finished_by free_ways s)
+finished_free g most s top h w =
     let k : IsSteady (most + block_units) s = steady_longer most (most + block_units) s (one_block_more most) h in
-    if_free g (most + block_units) top (nat_lt s.block_end (s.time + block_units)) (block_runs s) (still s) (block_runs_by event_freely s) (still s)
-    (λ e. let due : s.block_end < s.time + block_units = ltb-true s.block_end (s.time + block_units) e in block_free g (most + block_units) top s (ends_soon s.block_end s.time most due h.time) k)
-    (record { same = refl; steady = k })
+    if_free g (most + block_units) top (nat_lt s.block_end (s.time + block_units)) (block_runs s) (still s) (block_runs_by free_ways s) (still s)
+    (λ e v. let due : s.block_end < s.time + block_units = ltb-true s.block_end (s.time + block_units) e in block_free g (most + block_units) top s (ends_soon s.block_end s.time most due h.time) k v)
+    (record { same = refl; steady = λ l. k }) w

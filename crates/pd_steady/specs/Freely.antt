@@ -1,12 +1,18 @@
--- Events in which nothing is passed over: each box does with each message what its object's definition says.
-use Rattle.std.specs.Prelude.{ℕ, true}
+-- Events and blocks in which nothing is passed over: each box does with each message what its object's definition says, and runs its own row
+-- in each block.
+use Rattle.std.specs.Prelude.{ℕ, ◌-◌, true}
 use Rattle.pd_turns.specs.Turns.{World}
 use Rattle.pd_hearing.specs.Worlds.{Net, Kept}
 use Rattle.pd_hearing.specs.Hearing.{fired_at}
 use Rattle.pd_stack.specs.Tasks.{to_name}
+use Rattle.pd_block.specs.Inlets.{wires_to}
+use Rattle.pd_block.specs.Blocks.{Played}
+use Rattle.pd_sound_law.specs.Freely.{free_block}
 use Rattle.pd_guards.specs.Freely.{ran, told_by, all_loaded}
 use Rattle.pd_stage.specs.Stages.{Stage, Passage}
-use Rattle.pd_stage.specs.Events.{Beginning, Message, Firing, Loading, begun, after_deliveries}
+use Rattle.pd_stage.specs.Events.{Beginning, Message, Firing, Loading, begun, event_after}
+use Rattle.pd_stage.specs.Times.{block_units, block_net, sound_at, sounding}
+use Rattle.pd_steady.specs.Runs.{Ways}
 
 -- what becomes of deliveries, by the recursion over the objects' own definitions
 abbrev pub deliveries : Net → ℕ → World Kept → Beginning → World Kept
@@ -14,6 +20,18 @@ deliveries net now w (Message name selector atoms) = ran net now w (to_name net 
 deliveries net now w (Firing owner) = told_by net now owner (fired_at net w.kept.states owner) w
 deliveries net now w (Loading boxes) = all_loaded net now w boxes
 
--- an event, with a line for each edit that was asked for
+-- an event, with the edits that were asked for
 unfoldable pub event_freely : Stage → Beginning → Passage
-event_freely s b = after_deliveries s (deliveries s.net s.time (begun s) b)
+event_freely s b = event_after s (deliveries s.net s.time (begun s) b)
+
+-- the boxes run for the block that comes next, each its own row
+abbrev pub played_freely : Stage → Played
+played_freely s = free_block 257 (block_net s) (wires_to s.net.web) (sound_at s) (s.block_end - block_units)
+
+-- its samples are written
+unfoldable pub block_freely : Stage → Passage
+block_freely s = sounding s (played_freely s)
+
+-- a run in which nothing is passed over
+abbrev pub free_ways : Ways
+free_ways = record { event = event_freely; block = block_freely }

@@ -7,18 +7,18 @@ use Rattle.pd_guards.specs.Order.{IsName, AreAtoms}
 use Rattle.pd_guards.specs.Near.{AreNear}
 use Rattle.pd_guards.specs.Worlds.{IsInOrder}
 use Rattle.pd_guards.specs.Sounds.{IsSounding}
-use Rattle.pd_sized.specs.Sizes.{IsWhole}
+use Rattle.pd_sound_law.specs.Ready.{IsReady}
 use Rattle.pd_stage.specs.Stages.{Stage, kept_at}
-use Rattle.pd_stage.specs.Times.{block_units, sound_at}
+use Rattle.pd_stage.specs.Times.{block_units, block_net, sound_at}
 
 -- The time is at most so much; the canvases that own names are near; the patch is in order at that time; the values of signals are in
--- their range, and there are as many as what keeps them was made for; and the next block ends no earlier than the first one.
+-- their range, and all is ready for the next block; and this ends no earlier than the first one.
 pub record IsSteady (most : ℕ) (s : Stage) : Type 0 where
   pub time : s.time ≤ most
   pub near : AreNear s.net
   pub order : IsInOrder s.net s.time (kept_at s)
   pub values : IsSounding (sound_at s)
-  pub whole : IsWhole (sound_at s)
+  pub ready : IsReady (block_net s) (sound_at s)
   pub block : block_units ≤ s.block_end
 
 -- the name and the atoms of a message that is sent are of the table, and its numbers in their range

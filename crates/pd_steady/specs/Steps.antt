@@ -3,9 +3,9 @@ use Rattle.std.specs.Prelude.{ℕ, ◌≤◌, List, [], ◌∷◌}
 use Rattle.pd_atom.specs.Names.{Names, Extends}
 use Rattle.pd_script.specs.declared.commands.Command.{Command}
 use Rattle.pd_patch.specs.declared.patch.Patch.{Patch}
+use Rattle.pd_stage.specs.Choices.{Choice}
 use Rattle.pd_stage.specs.Stages.{Stage, Passage, with_names, still, followed_by}
-use Rattle.pd_stage.specs.Events as engine
-use Rattle.pd_steady.specs.Runs.{Events, commanded_by, advanced_by, finished_by, opened_by}
+use Rattle.pd_steady.specs.Runs.{Ways, own_ways, commanded_by, advanced_by, finished_by, opened_by}
 use Rattle.pd_steady.specs.Steady.{IsCommand}
 
 -- a step of a run: a command, names that are read, or time
@@ -14,14 +14,14 @@ pub data Step : Type 0 where
   Learns : Names → Step
   Comes : (to : ℕ) → Step
 
-abbrev pub step_by : Events → Step → Stage → Passage
-step_by event (Does c) s = commanded_by event c s
-step_by event (Learns names) s = still (with_names s names)
-step_by event (Comes to) s = advanced_by event to s
+abbrev pub step_by : Ways → Step → Stage → Passage
+step_by ways (Does c) s = commanded_by ways c s
+step_by ways (Learns names) s = still (with_names s names)
+step_by ways (Comes to) s = advanced_by ways to s
 
-abbrev pub steps_by : Events → List Step → Stage → Passage
-steps_by event [] s = still s
-steps_by event (x ∷ xs) s = followed_by (step_by event x s) (steps_by event xs)
+abbrev pub steps_by : Ways → List Step → Stage → Passage
+steps_by ways [] s = still s
+steps_by ways (x ∷ xs) s = followed_by (step_by ways x s) (steps_by ways xs)
 
 -- a command is in order, a table of names goes on, and a time is at most so much
 abbrev pub IsStep : ℕ → Step → Stage → Type 0
@@ -32,8 +32,8 @@ IsStep most (Comes to) s = to ≤ most
 -- each is so where the run has come to
 abbrev pub AreSteps : ℕ → List Step → Stage → Type 0
 AreSteps most [] s = Unit {0}
-AreSteps most (x ∷ xs) s = IsStep most x s × AreSteps most xs (step_by engine.event x s).stage
+AreSteps most (x ∷ xs) s = IsStep most x s × AreSteps most xs (step_by own_ways x s).stage
 
 -- a run from where a patch opens to its end
-abbrev pub run_by : Events → Patch → Names → List Step → Passage
-run_by event p names steps = followed_by (followed_by (opened_by event p names) (steps_by event steps)) (finished_by event)
+abbrev pub run_by : Ways → List ℕ → Patch → Names → List Choice → List Step → Passage
+run_by ways file p names ahead steps = followed_by (followed_by (opened_by ways file p names ahead) (steps_by ways steps)) (finished_by ways)

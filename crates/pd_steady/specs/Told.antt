@@ -7,7 +7,7 @@ use Rattle.pd_patch.specs.declared.report.Remark.TheVariants.{Loop}
 use Rattle.pd_patch.specs.Telling.{number_in}
 use Rattle.pd_patch.specs.Values.{stuck_in}
 use Rattle.pd_hearing.specs.Worlds.{Net, net_of}
-use Rattle.pd_engine.specs.Commands.{numbers_told}
+use Rattle.pd_stage.specs.Lines.{numbers_told}
 
 -- the numbers of these boxes, however many they are
 abbrev pub all_numbers : Net → List ℕ → List ℕ

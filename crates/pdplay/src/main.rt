@@ -2,8 +2,8 @@
 //!
 //! Printed lines go to standard output, samples to the file `out.pcm`, and the exit code is that of the run's
 //! status. It is a thin `main` over the adapters of `pd_io` and the call `play` of `pd_faithful`, with a buffer
-//! before `out.pcm`: safe, and nothing more is said of it. The exit codes 9, 10 and 11 of what comes before `play`
-//! are neither proved nor tested.
+//! before `out.pcm`, which is written before the script is read on: safe, and nothing more is said of it. The exit
+//! codes 9, 10 and 11 of what comes before `play` are neither proved nor tested.
 //!
 //! A standard stream that is closed stays closed: `out.pcm` never takes its place, so a run that has a line to
 //! print and no standard output ends with 7 (tried by hand). The one run that is stored beside it is a test.
@@ -11,7 +11,7 @@
 
 mod samples;
 
-use crate::samples::Samples;
+use crate::samples::{HandsOn, Samples};
 use pd_faithful::play;
 use pd_io::{FolderShelf, StdSink, StdSource};
 use pd_play::Status;
@@ -53,18 +53,18 @@ fn main(rt: HostRuntime) -> ExitCode {
     let Ok(file) = fs::create(&rt, "out.pcm") else {
         return ExitCode::from(NO_SAMPLES);
     };
-    let Ok(mut samples) = Samples::new(rt.alloc(), file) else {
+    let Ok(samples) = Samples::new(rt.alloc(), file) else {
         return ExitCode::from(NO_MEMORY);
     };
     let status = play(
         rt.alloc(),
         &words,
         &mut FolderShelf::new(&rt),
-        &mut StdSource::new(rt.stdin()),
+        &mut StdSource::new(HandsOn::new(rt.stdin(), &samples)),
         &mut StdSink::new(rt.stdout()),
-        &mut StdSink::new(&mut samples),
+        &mut StdSink::new(&samples),
     );
-    let status = match samples.finish() {
+    let status = match samples.hand_on() {
         Ok(()) => status,
         Err(_) => Status::WriteFault,
     };

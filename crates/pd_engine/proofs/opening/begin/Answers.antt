@@ -1,4 +1,11 @@
-use Rattle.std.proofs.Common.{rules, arith}
+use Rattle.std.proofs.Common.{rules, arith, ℕ, List, Option, subst}
+use Rattle.pd_stage.specs.Choices.{Choice}
+use Rattle.pd_stage.specs.Stages.{Stage, Passage}
+use Rattle.pd_stage.specs.Leads.{Says, SaysPart}
+use Rattle.pd_engine.specs.Opening.{loaded}
+use Rattle.pd_engine.specs.Remarks.{remarks_text}
+use Rattle.pd_engine.specs.Stages.{stage_at}
+use Rattle.pd_engine.proofs.OpeningLemmas.{begins_at}
 use Rattle.pd_engine.proofs.opening.begin.Goals as goal
 
 pub returns-clause-causes : goal.returns-clause-causes
@@ -8,3 +15,19 @@ returns-clause-causes g c = record {
   folder_counted = omega arith;
   lines_counted = c.load_whole.ensures.cause.counted;
 }
+
+pub returns-in-Ok-clause-ok : goal.returns-in-Ok-clause-ok
+returns-in-Ok-clause-ok g c =
+    let part : Stage → Passage = λ s. loaded s (remarks_text c.args.symbols c.args.patch c.args.report.notices.items) c.args.report.fresh.items in
+    let t : Option (List ℕ) = g.L.Sink.taken c.args.lines.now in
+    let t' : Option (List ℕ) = g.L.Sink.taken c.load_whole.new.lines in
+    subst (λ (from : List Choice → Stage). (looks : ℕ) → Says part from (stage_at c.load_whole.new.self) t t' looks looks)
+    (begins_at c.args.room.file.items c.args.patch c.args.symbols c.of_units.result c.of_units-2.result c.of_units.ensures c.of_units-2.ensures) c.in-Ok.ensures.ok
+
+pub returns-clause-err : goal.returns-clause-err
+returns-clause-err g c =
+    let part : Stage → Passage = λ s. loaded s (remarks_text c.args.symbols c.args.patch c.args.report.notices.items) c.args.report.fresh.items in
+    let t : Option (List ℕ) = g.L.Sink.taken c.args.lines.now in
+    let t' : Option (List ℕ) = g.L.Sink.taken c.load_whole.new.lines in
+    subst (λ (from : List Choice → Stage). (looks : ℕ) → SaysPart part from t t' looks looks)
+    (begins_at c.args.room.file.items c.args.patch c.args.symbols c.of_units.result c.of_units-2.result c.of_units.ensures c.of_units-2.ensures) c.in-Err.ensures.err

@@ -1,7 +1,7 @@
 use Rattle.std.proofs.Common.{ap, ◌∙◌}
 use Rattle.std.proofs.lemmas.Result.{err_from_is_err_and, on_err_weaker}
 use Rattle.pd_hearing.specs.Worlds.{net_of}
-use Rattle.pd_engine.specs.Commands.{numbers_told}
+use Rattle.pd_stage.specs.Lines.{numbers_told}
 use Rattle.pd_engine.proofs.ShowLemmas.{first_broke, second_broke}
 use Rattle.pd_engine.proofs.showing.show_order.Goals as goal
 

@@ -9,7 +9,6 @@ returns c = plays_free (record {
       order = c.delivery_passes_nothing_over.ensures.order;
       values = c.messages_keep_values.ensures.delivery;
       sizes = c.messages_keep_sizes.ensures.delivery;
-      wholes = c.blocks_keep_sizes.ensures;
       lasts = c.order_lasts.ensures;
       keeps = c.blocks_stay_in_order.ensures.kept;
       sounds = c.blocks_stay_in_order.ensures.sounds;

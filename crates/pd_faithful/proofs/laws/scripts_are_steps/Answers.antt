@@ -1,14 +1,15 @@
+use Rattle.pd_steady.proofs.FairLemmas.{lawful_fair}
+use Rattle.pd_play.specs.Runs.{run_of}
 use Rattle.pd_faithful.proofs.StepLemmas.{run_stepped}
 use Rattle.pd_faithful.proofs.laws.scripts_are_steps.Goals as goal
 
 pub returns : goal.returns
-returns c = run_stepped (record {
+returns c = λ ending text p h l. run_stepped (record {
   guards = record {
     freely = c.delivery_passes_nothing_over.ensures.freely;
     order = c.delivery_passes_nothing_over.ensures.order;
     values = c.messages_keep_values.ensures.delivery;
     sizes = c.messages_keep_sizes.ensures.delivery;
-    wholes = c.blocks_keep_sizes.ensures;
     lasts = c.order_lasts.ensures;
     keeps = c.blocks_stay_in_order.ensures.kept;
     sounds = c.blocks_stay_in_order.ensures.sounds;
@@ -16,4 +17,4 @@ returns c = run_stepped (record {
   };
   reads = c.tables_go_on.ensures;
   sends = c.commands_begin_in_order.ensures.read;
-})
+}) ending text p h (lawful_fair (run_of ending text p).passage.edits l)

@@ -1,5 +1,5 @@
 use Rattle.std.proofs.Common.{inr, ap, Some}
-use Rattle.pd_engine.specs.Stages.{stage_of}
+use Rattle.pd_engine.specs.Stages.{stage_at}
 use Rattle.pd_play.specs.declared.status.Status.{Status}
 use Rattle.pd_play.proofs.OpenedLemmas.{ends_opened}
 use Rattle.pd_play.proofs.player.play_whole.Goals as goal
@@ -8,10 +8,12 @@ pub returns-in-Ok-clause-runs : goal.returns-in-Ok-clause-runs
 returns-in-Ok-clause-runs g c =
     inr (record {
       library = c.in-Ok.session.engine.library;
-      stage = stage_of c.in-Ok.session.engine;
+      stage = stage_at c.in-Ok.session.engine;
       printed = g.L.Sink.taken c.open.new.lines;
+      faults = g.H.Shelf.faults c.open.new.shelf;
+      counted = c.open.ensures.causes.folder_counted;
       opens = c.in-Ok.ensures.opens;
-      ends = ends_opened _ _ _ _ _ _ _ _ _ _ _ _ _ _ _ c.in-Ok.ensures.begins c.play_script.ensures.plays;
+      ends = ends_opened _ _ _ _ _ _ _ _ _ _ _ _ _ c.in-Ok.ensures.begins (rw c.open.ensures.kept at c.play_script.ensures.plays);
     })
 
 pub returns-in-Ok-clause-short : goal.returns-in-Ok-clause-short

@@ -1,4 +1,4 @@
-use Rattle.pd_stage.proofs.PassageLemmas.{joined_assoc, joined_still}
+use Rattle.pd_stage.proofs.LeadLemmas.{joined_assoc, joined_still}
 use Rattle.pd_stage.proofs.laws.parts_join.Goals as goal
 
 pub returns-clause-together : goal.returns-clause-together

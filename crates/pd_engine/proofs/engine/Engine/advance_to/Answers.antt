@@ -1,24 +1,28 @@
-use Rattle.std.proofs.Common.{◌<◌, refl, sym, ◌∙◌, subst, ℕ, arith}
+use Rattle.std.proofs.Common.{◌<◌, refl, sym, ◌∙◌, subst, ℕ, [], arith}
+use Rattle.std.specs.Prelude.{None}
 use Rattle.std.proofs.lemmas.Result.{err_from_is_err_and}
-use Rattle.pd_stage.specs.Stages.{Passes}
-use Rattle.pd_engine.specs.Stages.{stage_of}
+use Rattle.pd_stage.specs.Leads.{sinks, Comes}
+use Rattle.pd_engine.specs.Stages.{stage_at}
 use Rattle.pd_stage.specs.Times.{advanced}
-use Rattle.pd_engine.proofs.TimeLemmas.{blocks_begin, block_goes_on, block_breaks, clocks_go_on, clocks_break, later_passes}
+use Rattle.pd_engine.proofs.ClockLemmas.{timed}
+use Rattle.pd_engine.proofs.TimeLemmas.{blocks_begin, block_goes_on, block_breaks, clocks_go_on, clocks_break, later_end}
+use Rattle.pd_stage.specs.Stages.{with_ahead}
 use Rattle.pd_engine.proofs.engine.Engine.advance_to.Goals as goal
 
 pub loop-self-init : goal.loop-self-init
-loop-self-init g c = record { way = blocks_begin _ _ _ _; lines = omega arith; pcm = omega arith; stays = refl; library = refl }
+loop-self-init g c = record { way = λ held faults. blocks_begin c.args.to (stage_at c.args.self.now []) _; lines = omega arith; pcm = omega arith; stays = refl; library = refl }
 
 pub loop-self-smaller : goal.loop-self-smaller
 loop-self-smaller g c =
     let e = c.loop-self.self in
     let more : e.block_end < c.run_next_block.new.self.block_end =
-    later_passes c.args.to (stage_of e) (stage_of c.run_next_block.new.self) _ _ _ _ c.requires (omega arith) c.in_ok-run_next_block.ensures.ok in
+    later_end c.args.to (stage_at e []) (stage_at c.run_next_block.new.self) _ _ c.requires (omega arith) (c.in_ok-run_next_block.ensures.ok None 0) in
     omega arith
 
 pub loop-self-preserved : goal.loop-self-preserved
 loop-self-preserved g c = record {
-  way = block_goes_on c.args.to _ (stage_of c.loop-self.self) _ _ _ _ _ _ _ c.requires (omega arith) c.loop-self.invariant.way c.in_ok-run_next_block.ensures.ok;
+  way = λ held faults. block_goes_on c.args.to _ (stage_at c.loop-self.self []) (stage_at c.run_next_block.new.self []) _ _ _ c.requires (omega arith) (c.loop-self.invariant.way held faults)
+      (c.in_ok-run_next_block.ensures.ok held faults);
   lines = omega arith;
   pcm = omega arith;
   stays = c.run_next_block.ensures.stays ∙ c.loop-self.invariant.stays;
@@ -28,25 +32,21 @@ loop-self-preserved g c = record {
 pub returns-in_err-run_next_block-clause-err : goal.returns-in_err-run_next_block-clause-err
 returns-in_err-run_next_block-clause-err g c =
     let p = err_from_is_err_and c.from_residual.result c.from_residual.ensures.1 in
-    rw p.1 (block_breaks c.args.to _ (stage_of c.loop-self.self) _ _ _ _ _ _ (omega arith) c.loop-self.invariant.way c.in_err-run_next_block.ensures.err)
+    rw p.1 (λ held faults. block_breaks c.args.to _ (stage_at c.loop-self.self []) _ _ _ (omega arith) (c.loop-self.invariant.way held faults) (c.in_err-run_next_block.ensures.err held faults))
 
 pub returns-in_err-fire_below-clause-err : goal.returns-in_err-fire_below-clause-err
 returns-in_err-fire_below-clause-err g c =
     let p = err_from_is_err_and c.from_residual-in_err-fire_below.result c.from_residual-in_err-fire_below.ensures.1 in
-    rw p.1 (clocks_break c.args.to _ (stage_of c.loop-self.self) _ _ _ _ _ (omega arith) c.loop-self.invariant.way c.in_err-fire_below.ensures.err)
+    rw p.1
+    (λ held faults. clocks_break c.args.to _ (stage_at c.loop-self.self []) _ _ _ (omega arith) (c.loop-self.invariant.way held faults)
+    (c.in_err-fire_below.ensures.err (g.P.Sink.taken c.loop-self.pcm) held faults))
 
 pub returns-clause-ok : goal.returns-clause-ok
-returns-clause-ok g c =
+returns-clause-ok g c = λ held faults.
     let e = c.fire_below.new.self in
-    let s = stage_of e in
-    subst (λ (t : ℕ). Passes (advanced c.args.to (stage_of c.args.self.now)) (record {
-      net = s.net;
-      states = s.states;
-      clocks = s.clocks;
-      names = s.names;
-      time = t;
-      block_end = s.block_end;
-      fired = s.fired;
-    }) (g.L.Sink.taken c.args.lines.now) (g.L.Sink.taken c.fire_below.new.lines) (g.P.Sink.taken c.args.pcm.now) (g.P.Sink.taken c.loop-self.pcm))
+    subst
+    (λ (t : ℕ). Comes (advanced c.args.to) (stage_at c.args.self.now) (with_ahead (timed (stage_at e []) t e.fired))
+    (sinks (g.L.Sink.taken c.args.lines.now) (g.P.Sink.taken c.args.pcm.now) c.args.steps.now held faults) (sinks (g.L.Sink.taken c.fire_below.new.lines) (g.P.Sink.taken c.loop-self.pcm) c.fire_below.new.steps held faults))
     (sym c.later-self.ensures)
-    (clocks_go_on c.args.to _ (stage_of c.loop-self.self) s _ _ _ _ _ (omega arith) c.loop-self.invariant.way c.in_ok-fire_below.ensures.ok)
+    (clocks_go_on c.args.to _ (stage_at c.loop-self.self []) (stage_at e []) _ _ _ (omega arith) (c.loop-self.invariant.way held faults)
+    (c.in_ok-fire_below.ensures.ok (g.P.Sink.taken c.loop-self.pcm) held faults))

@@ -1,12 +1,15 @@
-use Rattle.std.proofs.Common.{◌≡◌, ◌≤◌, ◌+◌, ◌-◌}
-use Rattle.pd_engine.specs.Stages.{stage_of}
+use Rattle.std.proofs.Common.{◌≡◌, ◌≤◌, ◌+◌, ◌-◌, ℕ, List, [], Option}
+use Rattle.pd_io.specs.declared.files.FileRow.{FileRow}
+use Rattle.pd_engine.specs.Stages.{stage_at}
+use Rattle.pd_stage.specs.Leads.{sinks}
 use Rattle.pd_stage.specs.Times.{advanced}
 use Rattle.pd_engine.proofs.TimeLemmas.{HasBlocksLeft}
 use Rattle.pd_engine.proofs.engine.Engine.advance_to.Given as goal
 
 abbrev pub invariant-loop-self : goal.invariant-loop-self
 invariant-loop-self g l = record {
-  way : HasBlocksLeft l.to (advanced l.to (stage_of l.fn.self)) (stage_of l.self) (g.L.Sink.taken l.fn.lines) (g.L.Sink.taken l.lines) (g.P.Sink.taken l.fn.pcm) (g.P.Sink.taken l.pcm);
+  way : (held : Option (List FileRow)) (faults : ℕ) → HasBlocksLeft l.to (λ m. advanced l.to (stage_at l.fn.self m)) (stage_at l.self [])
+      (sinks (g.L.Sink.taken l.fn.lines) (g.P.Sink.taken l.fn.pcm) l.fn.steps held faults) (sinks (g.L.Sink.taken l.lines) (g.P.Sink.taken l.pcm) l.steps held faults);
   lines : g.L.Sink.faults l.fn.lines ≤ g.L.Sink.faults l.lines;
   pcm : g.P.Sink.faults l.fn.pcm ≤ g.P.Sink.faults l.pcm;
   stays : l.self.stopped ≡ l.fn.self.stopped;

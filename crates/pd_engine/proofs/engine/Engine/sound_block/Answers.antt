@@ -1,47 +1,45 @@
-use Rattle.std.proofs.Common.{◌≡◌, ◌-◌, refl, sym, ◌∙◌, ap, subst, ℕ, List, arith}
+use Rattle.std.proofs.Common.{◌≡◌, ◌-◌, refl, ◌∙◌, ap, subst, ℕ, List, [], arith}
 use Rattle.std.proofs.lemmas.Result.{on_ok_weaker, on_err_weaker}
 use Rattle.pd_io.specs.Stream.{grown, TookPart}
 use Rattle.pd_mix.specs.Samples.{block_bytes}
 use Rattle.pd_block.specs.Nets as block
 use Rattle.pd_block.specs.Blocks.{Played, played, block_of}
-use Rattle.pd_engine.specs.Stages.{stage_of}
-use Rattle.pd_stage.specs.Times.{block_sounds, played_at}
-use Rattle.pd_stage.proofs.ItemLemmas.{samples-heard}
-use Rattle.pd_engine.proofs.BlockLemmas.{played_net, played_stage}
+use Rattle.pd_engine.specs.Stages.{stage_at}
+use Rattle.pd_stage.specs.Times.{played_at}
+use Rattle.pd_engine.proofs.BlockLemmas.{played_net, played_stage, block_comes, block_breaks}
+use Rattle.pd_engine.proofs.RewireLemmas.{IsCounted, block_counted}
 use Rattle.pd_engine.proofs.engine.Engine.sound_block.Goals as goal
 
-pub returns-clause-stage : goal.returns-clause-stage
-unfolding block_sounds
-returns-clause-stage g c =
-    let before = c.args.self.now.patch in
-    let begins : c.of_units-start.result ≡ c.args.self.now.block_end - 64000000000 = omega (arith, c.of_units-start.ensures, c.saturating_sub.ensures, c.units-end.ensures) in
-    let ran : played (block.sound_of c.run_block.new.patch) c.run_block.new.out ≡ played_at (stage_of c.args.self.now) =
-    c.run_block.ensures.played ∙ ap (λ (t : ℕ). block_of (block.net_of before) (block.sound_of before) t) begins in
-    played_stage (stage_of c.args.self.now) _ (played_at (stage_of c.args.self.now))
-    (played_net before c.run_block.new.patch (played_at (stage_of c.args.self.now)) c.run_block.ensures.net (ap (λ (x : Played). x.sound.blocks) ran))
-    (ap (λ (x : Played). x.sound.states) ran) (ap (λ (n : block.Net). n.clocks) c.run_block.ensures.net) refl c.later-self.ensures
-    (omega (arith, c.of_units-self.ensures, c.saturating_add.ensures, c.units-end.ensures)) refl
+pub invariant_of-self : goal.invariant_of-self
+invariant_of-self g c =
+    let e = c.args.self.now in
+    let k : IsCounted c.run_block.new.patch e.wires = block_counted c.rewiring_asks_alike.ensures e.patch c.run_block.new.patch e.wires c.run_block.ensures.net (record { rewires = e.rewires; counted = e.counted }) in
+    record { rewires = k.rewires; counted = k.counted }
 
 pub returns-clause-ok : goal.returns-clause-ok
-unfolding block_sounds
 returns-clause-ok g c =
     let before = c.args.self.now.patch in
+    let s = stage_at c.args.self.now [] in
     let begins : c.of_units-start.result ≡ c.args.self.now.block_end - 64000000000 = omega (arith, c.of_units-start.ensures, c.saturating_sub.ensures, c.units-end.ensures) in
-    let ran : played (block.sound_of c.run_block.new.patch) c.run_block.new.out ≡ played_at (stage_of c.args.self.now) =
+    let ran : played (block.sound_of c.run_block.new.patch) c.run_block.new.out ≡ played_at s =
     c.run_block.ensures.played ∙ ap (λ (t : ℕ). block_of (block.net_of before) (block.sound_of before) t) begins in
     on_ok_weaker c.write_whole.result
-    (λ e. e ∙ ap (λ (x : List ℕ). grown (g.P.Sink.taken c.args.pcm.now) x)
-    (c.write_samples.ensures ∙ ap (λ (x : Played). block_bytes x.out) ran ∙ sym (samples-heard (block_bytes (played_at (stage_of c.args.self.now)).out))))
+    (λ e lines looks held faults. block_comes s _ lines _ _ looks held faults
+    (played_stage s _ (played_at s) refl (played_net before c.run_block.new.patch (played_at s) c.run_block.ensures.net (ap (λ (x : Played). x.sound.blocks) ran))
+    (ap (λ (x : Played). x.sound.states) ran) (ap (λ (n : block.Net). n.clocks) c.run_block.ensures.net) refl c.later-self.ensures
+    (omega (arith, c.of_units-self.ensures, c.saturating_add.ensures, c.units-end.ensures)) refl refl)
+    (e ∙ ap (λ (x : List ℕ). grown (g.P.Sink.taken c.args.pcm.now) x) (c.write_samples.ensures ∙ ap (λ (x : Played). block_bytes x.out) ran)))
     c.write_whole.ensures.whole
 
 pub returns-clause-err : goal.returns-clause-err
-unfolding block_sounds
 returns-clause-err g c =
     let before = c.args.self.now.patch in
+    let s = stage_at c.args.self.now [] in
     let begins : c.of_units-start.result ≡ c.args.self.now.block_end - 64000000000 = omega (arith, c.of_units-start.ensures, c.saturating_sub.ensures, c.units-end.ensures) in
-    let ran : played (block.sound_of c.run_block.new.patch) c.run_block.new.out ≡ played_at (stage_of c.args.self.now) =
+    let ran : played (block.sound_of c.run_block.new.patch) c.run_block.new.out ≡ played_at s =
     c.run_block.ensures.played ∙ ap (λ (t : ℕ). block_of (block.net_of before) (block.sound_of before) t) begins in
     on_err_weaker c.write_whole.result
-    (λ took. subst (λ (x : List ℕ). TookPart (g.P.Sink.taken c.args.pcm.now) (g.P.Sink.taken c.write_whole.new.sink) x)
-    (c.write_samples.ensures ∙ ap (λ (x : Played). block_bytes x.out) ran ∙ sym (samples-heard (block_bytes (played_at (stage_of c.args.self.now)).out))) took)
+    (λ took lines looks held faults. block_breaks s lines _ _ looks held faults
+    (subst (λ (x : List ℕ). TookPart (g.P.Sink.taken c.args.pcm.now) (g.P.Sink.taken c.write_whole.new.sink) x)
+    (c.write_samples.ensures ∙ ap (λ (x : Played). block_bytes x.out) ran) took))
     c.write_whole.ensures.part

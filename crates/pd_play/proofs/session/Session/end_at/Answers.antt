@@ -1,19 +1,21 @@
-use Rattle.std.proofs.Common.{subst}
-use Rattle.pd_stage.specs.Stages.{Stage}
-use Rattle.pd_play.specs.Runs.{Point, reached, done}
-use Rattle.pd_play.specs.Playing.{point_of, Plays}
-use Rattle.pd_play.proofs.RunLemmas.{cut_early, played_behind}
+use Rattle.std.proofs.Common.{◌*◌, ℕ, refl}
+use Rattle.pd_clock.specs.Rates.{samples}
+use Rattle.pd_stage.specs.Times.{advanced}
+use Rattle.pd_engine.specs.Stages.{stage_at}
+use Rattle.pd_play.specs.Runs.{reached, done}
+use Rattle.pd_play.proofs.RunLemmas.{part_played, part_cut}
 use Rattle.pd_play.proofs.session.Session.end_at.Goals as goal
 
 pub returns-in-Ok-clause-plays : goal.returns-in-Ok-clause-plays
+unfolding reached
 returns-in-Ok-clause-plays g c =
-    let p : Point = point_of c.args.self.now in
-    let passed = c.in-Ok.ensures.passed in
-    played_behind (reached p) (done (reached p).stage) c.end.result _ _ _ _ _ _ passed.says.lines_are passed.samples_are
-    (subst (λ (s : Stage). Plays (done s) c.end.result (g.L.Sink.taken c.reach.new.lines) (g.L.Sink.taken c.end.new.lines) (g.P.Sink.taken c.reach.new.pcm) (g.P.Sink.taken c.end.new.pcm))
-    passed.says.stage_is c.end.ensures.plays)
+    let time : ℕ = c.args.self.now.time * samples c.args.self.now.rate in
+    part_played _ (advanced time) done (stage_at c.args.self.now.engine) (stage_at c.reach.new.self.engine) _ _ _ _ (c.in-Ok.ensures.passed _ _) (λ m rest. refl)
+    (rw c.reach.ensures.shelf at c.end.ensures.plays)
 
 pub returns-in-Err-clause-plays : goal.returns-in-Err-clause-plays
+unfolding reached
 returns-in-Err-clause-plays g c =
-    let p : Point = point_of c.args.self.now in
-    cut_early (reached p) (done (reached p).stage) _ _ _ _ _ c.fault_of.ensures c.in-Err.ensures.part
+    let time : ℕ = c.args.self.now.time * samples c.args.self.now.rate in
+    let s = stage_at c.args.self.now.engine in
+    rw c.reach.ensures.shelf (part_cut _ (advanced time) (λ m rest. done (advanced time (s m)).stage) s _ _ _ (c.in-Err.ensures.part _ _) c.fault_of.ensures (λ m rest. refl))

@@ -1,31 +1,49 @@
-use Rattle.std.proofs.Common.{ap}
+use Rattle.std.proofs.Common.{◌*◌, ℕ, List, refl, ap}
 use Rattle.pd_clock.specs.Rates.{samples}
+use Rattle.pd_stage.specs.Choices.{Choice}
+use Rattle.pd_stage.specs.Stages.{Stage, Passage, followed_by}
+use Rattle.pd_stage.specs.Times.{advanced}
+use Rattle.pd_engine.specs.Stages.{stage_at}
 use Rattle.pd_engine.specs.Commands.{commanded}
-use Rattle.pd_stage.proofs.PassageLemmas.{broke, broke_after, passes_followed, soundless, soundless_off}
-use Rattle.pd_play.specs.Runs.{Point, reached, carried_out, at_stage}
-use Rattle.pd_play.specs.Playing.{point_of}
-use Rattle.pd_engine.proofs.CommandLemmas.{commanded_told}
-use Rattle.pd_play.proofs.RunLemmas.{cut_early, part_goes_on}
+use Rattle.pd_stage.proofs.LeadLemmas.{comes_then, stops_first, stops_then}
+use Rattle.pd_play.specs.Runs.{Point, reached, at_stage}
+use Rattle.pd_play.specs.Playing.{point_at}
+use Rattle.pd_play.proofs.RunLemmas.{part_cut, part_goes_on, point_is}
 use Rattle.pd_play.proofs.session.Session.run_command.Goals as goal
 
 pub returns-in-Err-clause-leads : goal.returns-in-Err-clause-leads
-returns-in-Err-clause-leads g c = λ rest.
-    let p : Point = point_of c.args.self.now in
-    let said = carried_out c.args.command p in
-    cut_early said (rest (at_stage p said.stage)) _ _ _ _ _ c.fault_of.ensures (broke (reached p) (commanded c.args.command) _ _ _ _ c.in-Err.ensures.part)
+unfolding reached
+returns-in-Err-clause-leads g c =
+    let time : ℕ = c.args.self.now.time * samples c.args.self.now.rate in
+    let s = stage_at c.args.self.now.engine in
+    let p : List Choice → Point = point_at c.args.self.now in
+    let part : Stage → Passage = λ x. followed_by (advanced time x) (commanded c.args.command) in
+    rw c.reach.ensures.shelf
+    (part_cut _ part (λ m rest. rest (at_stage (p m) (part (s m)).stage)) s _ _ _ (stops_first (advanced time) (commanded c.args.command) s _ _ (c.in-Err.ensures.part _ _)) c.fault_of.ensures
+    (λ m rest. refl))
 
 pub returns-in-Err-command-clause-leads : goal.returns-in-Err-command-clause-leads
-returns-in-Err-command-clause-leads g c = λ rest.
-    let p : Point = point_of c.args.self.now in
-    let said = carried_out c.args.command p in
-    cut_early said (rest (at_stage p said.stage)) _ _ _ _ _ c.fault_of-in-Err-command.ensures
-    (broke_after (reached p) (commanded c.args.command) _ _ _ _ _ _ _ c.in_default.ensures.passed (soundless_off _ _ _ _ (commanded_told c.args.command _) c.in-Err-command.ensures.part))
+unfolding reached
+returns-in-Err-command-clause-leads g c =
+    let time : ℕ = c.args.self.now.time * samples c.args.self.now.rate in
+    let s = stage_at c.args.self.now.engine in
+    let p : List Choice → Point = point_at c.args.self.now in
+    let part : Stage → Passage = λ x. followed_by (advanced time x) (commanded c.args.command) in
+    part_cut _ part (λ m rest. rest (at_stage (p m) (part (s m)).stage)) s _ _ _
+    (stops_then (advanced time) (commanded c.args.command) s (stage_at c.reach.new.self.engine) _ _ _ (c.in_default.ensures.passed _ _)
+    (rw c.reach.ensures.shelf at (c.in-Err-command.ensures.part (g.P.Sink.taken c.reach.new.pcm))))
+    c.fault_of-in-Err-command.ensures (λ m rest. refl)
 
 pub returns-clause-leads : goal.returns-clause-leads
+unfolding reached
 returns-clause-leads g c =
-    let p : Point = point_of c.args.self.now in
+    let time : ℕ = c.args.self.now.time * samples c.args.self.now.rate in
+    let s = stage_at c.args.self.now.engine in
+    let p : List Choice → Point = point_at c.args.self.now in
+    let part : Stage → Passage = λ x. followed_by (advanced time x) (commanded c.args.command) in
     let stays = c.reach.ensures.stays in
-    part_goes_on p _ (carried_out c.args.command p) _ _ _ _
-    (passes_followed (reached p) (commanded c.args.command) _ _ _ _ _ _ _ _ c.in_default.ensures.passed
-    (soundless _ _ _ _ _ (commanded_told c.args.command _) c.in_default-command.ensures.said))
-    (ap samples stays.rate) stays.number stays.time
+    part_goes_on _ part s (stage_at c.command.new.self) p _ _ _
+    (comes_then (advanced time) (commanded c.args.command) s (stage_at c.reach.new.self.engine) (stage_at c.command.new.self) _ _ _ (c.in_default.ensures.passed _ _)
+    (rw c.reach.ensures.shelf at (c.in_default-command.ensures.said (g.P.Sink.taken c.reach.new.pcm)).comes))
+    (λ m rest. refl)
+    (λ m n. point_is (p n) _ (stage_at c.command.new.self m) refl (ap samples stays.rate) stays.number stays.time)

@@ -1,0 +1,118 @@
+-- What a save of the patch's own document comes to.
+use Rattle.std.proofs.Common.{◌≡◌, ◌≤◌, arith, ℕ, List, [], ◌∷◌, refl, sym, ◌∙◌, subst, inl, inr, Option, None}
+use Rattle.pd_io.specs.Faults.{Rose}
+use Rattle.pd_io.specs.Rows.{KeptOrUntold, stored}
+use Rattle.pd_io.specs.Stream.{grown, TookPart}
+use Rattle.pd_io.specs.declared.files.FileRow.{FileRow}
+use Rattle.pd_io.specs.declared.shelves.ShelfError.{ShelfError}
+use Rattle.pd_io.specs.declared.shelves.ShelfError.TheVariants as shelf
+use Rattle.pd_atom.specs.Names.{Names}
+use Rattle.pd_doc.specs.Writing.{text_of}
+use Rattle.pd_patch.specs.declared.patch.Patch.{Patch}
+use Rattle.pd_patch.specs.Document.{present_document}
+use Rattle.pd_say.proofs.GatheringLemmas.{printed_nothing}
+use Rattle.pd_say.specs.Lines.{refusal_text}
+use Rattle.pd_say.specs.declared.refusals.Request.TheVariants as request
+use Rattle.pd_say.specs.declared.refusals.Why.{Why}
+use Rattle.pd_say.specs.declared.refusals.Why.TheVariants as why
+use Rattle.pd_wiring.specs.Changes.{CanRewire}
+use Rattle.pd_wiring.specs.declared.refusals.EditRefusal.TheVariants as refusal
+use Rattle.pd_hearing.specs.Worlds.{net_of, states_of}
+use Rattle.pd_stage.specs.Items.{Put, lines_of, samples_of}
+use Rattle.pd_stage.specs.Choices.{Saves, Made, Refuses, Makes}
+use Rattle.pd_stage.specs.Stages.{Stage, with_ahead, faults_of}
+use Rattle.pd_stage.specs.Lawful.{StandsAt, why_of}
+use Rattle.pd_stage.specs.Leads.{RoseBy, sinks, Took, Stops}
+use Rattle.pd_stage.specs.Events.{edit_taken, files_put}
+use Rattle.pd_stage.proofs.EditLemmas.{taken_at}
+use Rattle.pd_stage.proofs.ItemLemmas.{no_lines, no_samples, held-none, held-put, lines-put, samples-put}
+use Rattle.pd_engine.specs.declared.refusals.Outcome.TheVariants.{Done, Refused}
+use Rattle.pd_engine.specs.Refusals.{unsaved}
+use Rattle.pd_engine.specs.Edits.{IsSavedSo}
+use Rattle.pd_engine.proofs.ClockLemmas.{stage_with}
+use Rattle.pd_engine.proofs.MakingLemmas.{Came, came_so, came_part}
+
+module _ (file : List ℕ) (p : Patch) (names : Names) (time block_end fired : ℕ) (rewires : CanRewire p) (t u : Option (List ℕ)) (k : ℕ) (h h' : Option (List FileRow)) (f f' : ℕ) (counted : f ≤ f') where
+  abbrev s : Stage
+  s = stage_with file p names time block_end fired []
+
+  pub stands : StandsAt p s
+  stands = record { net = refl; states = refl; rewires = rewires }
+
+  -- its text was put
+  abbrev saved : Made
+  saved = record {
+    net = net_of p;
+    states = states_of p;
+    clocks = p.timers.clocks.clocks;
+    names = names;
+    lines = [];
+    files = (file, text_of names (present_document p)) ∷ [];
+    looks = 0;
+  }
+
+  abbrev pub saved_came : Came (Saves None) s (with_ahead s) [] Done
+  saved_came = record {
+    choice = Makes saved;
+    may = record { patch = p; stands = stands; net = refl; states = refl; clocks = refl; names = refl; lines = refl; files = refl; looks = refl };
+    text_is = refl;
+    stage = λ m. refl;
+    answer = refl;
+  }
+
+  saved_took : h' ≡ stored file (text_of names (present_document p)) h → Took (sinks t u k h f) (sinks t u k h' f') (files_put (Makes saved)) (taken_at (Saves None) s (Makes saved) ∷ [])
+  saved_took put =
+      let text : List ℕ = text_of names (present_document p) in
+      record {
+        lines_are = printed_nothing t (lines_of (Put file text ∷ [])) (lines-put file text);
+        samples_are = printed_nothing u (samples_of (Put file text ∷ [])) (samples-put file text);
+        few_looks = omega arith;
+        held_are = inl (put ∙ sym (held-put file text h));
+        few_faults = inl (omega arith);
+      }
+
+  pub save_so : h' ≡ stored file (text_of names (present_document p)) h → IsSavedSo Done (with_ahead s) (with_ahead s) (sinks t u k h f) (sinks t u k h' f')
+  save_so put =
+      came_so (Saves None) s (with_ahead s) [] Done saved_came (sinks t u k h f) t t u k h' f' (saved_took put) (printed_nothing t [] refl)
+
+  -- it was refused
+  refused_took : (reason : Why) → KeptOrUntold h h' → RoseBy (faults_of (taken_at (Saves None) s (Refuses reason) ∷ [])) f f'
+      → Took (sinks t u k h f) (sinks t u k h' f') [] (taken_at (Saves None) s (Refuses reason) ∷ [])
+  refused_took reason kept rose = record {
+    lines_are = no_lines t;
+    samples_are = no_samples u;
+    few_looks = omega arith;
+    held_are = subst (λ (o : Option (List FileRow)). KeptOrUntold o h') (sym (held-none h)) kept;
+    few_faults = rose;
+  }
+
+  fault_rose : Rose f f' → RoseBy (faults_of (taken_at (Saves None) s (Refuses why.ShelfFault) ∷ [])) f f'
+  fault_rose (inl more) = inl (omega (arith, more))
+  fault_rose (inr most) = inr (omega (arith, most))
+
+  abbrev pub fault_came : Came (Saves None) s (with_ahead s) (refusal_text request.Save why.ShelfFault) (Refused refusal.ShelfFault)
+  fault_came = record { choice = Refuses why.ShelfFault; may = inl refl; text_is = refl; stage = λ m. refl; answer = refl }
+
+  pub fault_took : KeptOrUntold h h' → Rose f f' → Took (sinks t u k h f) (sinks t u k h' f') [] (taken_at (Saves None) s (Refuses why.ShelfFault) ∷ [])
+  fault_took kept rose = refused_took why.ShelfFault kept (fault_rose rose)
+
+  abbrev pub short_came : Came (Saves None) s (with_ahead s) (refusal_text request.Save why.NoMemory) (Refused refusal.NoMemory)
+  short_came = record { choice = Refuses why.NoMemory; may = inr refl; text_is = refl; stage = λ m. refl; answer = refl }
+
+  pub short_took : h' ≡ h → Took (sinks t u k h f) (sinks t u k h' f') [] (taken_at (Saves None) s (Refuses why.NoMemory) ∷ [])
+  short_took same = refused_took why.NoMemory (inl same) (inl (omega arith))
+
+  -- what is said of it, and answered
+  pub refused_so : (error : ShelfError) (t' : Option (List ℕ)) → (error ≡ shelf.Failed → KeptOrUntold h h' × Rose f f') → (error ≡ shelf.NoMemory → h' ≡ h)
+      → t' ≡ grown t (refusal_text request.Save (why_of (unsaved error))) → IsSavedSo (Refused (unsaved error)) (with_ahead s) (with_ahead s) (sinks t u k h f) (sinks t' u k h' f')
+  refused_so shelf.Failed t' failed short said =
+      let both : KeptOrUntold h h' × Rose f f' = failed refl in
+      came_so (Saves None) s (with_ahead s) _ _ fault_came (sinks t u k h f) t t' u k h' f' (fault_took both.0 both.1) said
+  refused_so shelf.NoMemory t' failed short said = came_so (Saves None) s (with_ahead s) _ _ short_came (sinks t u k h f) t t' u k h' f' (short_took (short refl)) said
+
+  pub refused_part : (error : ShelfError) (t' : Option (List ℕ)) → (error ≡ shelf.Failed → KeptOrUntold h h' × Rose f f') → (error ≡ shelf.NoMemory → h' ≡ h)
+      → TookPart t t' (refusal_text request.Save (why_of (unsaved error))) → Stops (edit_taken (Saves None)) (with_ahead s) (sinks t u k h f) (sinks t' u k h' f')
+  refused_part shelf.Failed t' failed short part =
+      let both : KeptOrUntold h h' × Rose f f' = failed refl in
+      came_part (Saves None) s (with_ahead s) _ _ fault_came (sinks t u k h f) t t' u k h' f' (fault_took both.0 both.1) part
+  refused_part shelf.NoMemory t' failed short part = came_part (Saves None) s (with_ahead s) _ _ short_came (sinks t u k h f) t t' u k h' f' (short_took (short refl)) part

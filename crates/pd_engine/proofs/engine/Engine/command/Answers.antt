@@ -1,0 +1,5 @@
+use Rattle.pd_stage.proofs.LeadLemmas.{broke_none}
+use Rattle.pd_engine.proofs.engine.Engine.command.Goals as goal
+
+pub returns-then-self-clause-part : goal.returns-then-self-clause-part
+returns-then-self-clause-part g c = λ samples. broke_none _ _

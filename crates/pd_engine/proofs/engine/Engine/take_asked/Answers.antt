@@ -1,0 +1,41 @@
+use Rattle.std.proofs.Common.{sym, subst, List, ℕ}
+use Rattle.std.proofs.lemmas.Option.{get_or_from_slice_get}
+use Rattle.std.proofs.lemmas.Result.{err_from_is_err_and}
+use Rattle.pd_canvas.specs.declared.edits.Edit.{Edit}
+use Rattle.std.specs.Prelude.{None}
+use Rattle.pd_stage.specs.Choices.{Edits}
+use Rattle.pd_stage.specs.Events.{edit_asked, edit_taken}
+use Rattle.pd_stage.specs.Leads.{Says, SaysPart}
+use Rattle.pd_engine.specs.Stages.{stage_at}
+use Rattle.pd_engine.proofs.RewireLemmas.{rewires_sure}
+use Rattle.pd_engine.proofs.MakingLemmas.{says_edit, part_edit}
+use Rattle.pd_engine.proofs.engine.Engine.take_asked.Goals as goal
+
+pub make-done-requires-clause-rewires : goal.make-done-requires-clause-rewires
+make-done-requires-clause-rewires g c = rewires_sure c.args.self.now.patch c.args.self.now.rewires
+
+pub returns-in_err-tell-clause-err : goal.returns-in_err-tell-clause-err
+returns-in_err-tell-clause-err g c =
+    let p = err_from_is_err_and c.from_residual.result c.from_residual.ensures.1 in
+    let e = c.args.self.now in
+    let asked : List ℕ × Edit = c.in-Some.asked.now in
+    rw p.1
+    (λ d. subst (λ (x : List ℕ × Edit). SaysPart (edit_asked x) (stage_at e) (g.L.Sink.taken c.args.lines.now) (g.L.Sink.taken c.tell.new.lines) c.args.steps.now c.make-done.new.steps)
+    (sym (get_or_from_slice_get e.queue c.args.i asked d (sym c.in-Some.ensures)))
+    (subst (λ (path : List ℕ). SaysPart (edit_taken (Edits None path asked.1)) (stage_at e) (g.L.Sink.taken c.args.lines.now) (g.L.Sink.taken c.tell.new.lines) c.args.steps.now c.make-done.new.steps)
+    c.path.ensures
+    (part_edit c.tell.result c.path.result.now asked.1 e.file.items e.symbols e.time e.block_end e.fired e.patch c.make-done.new.patch (stage_at c.tell.new.self)
+    c.make-done.result (g.L.Sink.taken c.args.lines.now) (g.L.Sink.taken c.tell.new.lines) c.args.steps.now c.make-done.new.steps
+    (rewires_sure e.patch e.rewires) c.make-done.ensures.rewires (c.make-done.ensures.edits asked.1 (sym c.wire_edit-edit.ensures)) c.in_err-tell.ensures.stage c.in_err-tell.ensures.err)))
+
+pub returns-clause-ok : goal.returns-clause-ok
+returns-clause-ok g c =
+    let e = c.args.self.now in
+    let asked : List ℕ × Edit = c.in-Some.asked.now in
+    λ d. subst (λ (x : List ℕ × Edit). Says (edit_asked x) (stage_at e) (stage_at c.tell.new.self) (g.L.Sink.taken c.args.lines.now) (g.L.Sink.taken c.tell.new.lines) c.args.steps.now c.make-done.new.steps)
+    (sym (get_or_from_slice_get e.queue c.args.i asked d (sym c.in-Some.ensures)))
+    (subst (λ (path : List ℕ). Says (edit_taken (Edits None path asked.1)) (stage_at e) (stage_at c.tell.new.self) (g.L.Sink.taken c.args.lines.now) (g.L.Sink.taken c.tell.new.lines) c.args.steps.now c.make-done.new.steps)
+    c.path.ensures
+    (says_edit c.tell.result c.path.result.now asked.1 e.file.items e.symbols e.time e.block_end e.fired e.patch c.make-done.new.patch (stage_at c.tell.new.self)
+    c.make-done.result (g.L.Sink.taken c.args.lines.now) (g.L.Sink.taken c.tell.new.lines) c.args.steps.now c.make-done.new.steps
+    (rewires_sure e.patch e.rewires) c.make-done.ensures.rewires (c.make-done.ensures.edits asked.1 (sym c.wire_edit-edit.ensures)) c.in_ok-tell.ensures.stage c.in_ok-tell.ensures.ok))

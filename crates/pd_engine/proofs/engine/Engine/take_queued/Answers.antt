@@ -1,0 +1,60 @@
+use Rattle.std.proofs.Common.{◌≡◌, ◌<◌, ◌+◌, refl, ◌∙◌, ap, subst, ℕ, List, [], drop, get_or, length, arith}
+use Rattle.std.proofs.Math.Seq.{drop-length}
+use Rattle.std.proofs.lemmas.Result.{err_from_is_err_and}
+use Rattle.pd_canvas.specs.declared.edits.Edit.{Edit}
+use Rattle.pd_canvas.specs.declared.edits.Edit.TheVariants as edit
+use Rattle.pd_queue.specs.Queue.{Waiting}
+use Rattle.pd_stage.specs.Events.{edit_asked, edits_taken}
+use Rattle.pd_stage.specs.Leads.{Says, SaysPart}
+use Rattle.pd_stage.proofs.LeadLemmas.{leads_begin, way_goes_on, way_breaks, way_ends}
+use Rattle.pd_stage.proofs.EditLemmas.{edit_at, no_edit}
+use Rattle.pd_engine.specs.Stages.{stage_at}
+use Rattle.pd_engine.proofs.engine.Engine.take_queued.Goals as goal
+
+abbrev none : List ℕ × Edit
+none = ([], edit.Delete 0)
+
+pub loop-i-init : goal.loop-i-init
+loop-i-init g c = record {
+  way = λ samples held faults. leads_begin (λ m. edits_taken c.args.self.now.queue (stage_at c.args.self.now m)) _;
+  queue = refl;
+  counted = omega arith;
+  stays = refl;
+  library = refl;
+}
+
+pub returns-in_err-take_asked-clause-err : goal.returns-in_err-take_asked-clause-err
+returns-in_err-take_asked-clause-err g c =
+    let p = err_from_is_err_and c.from_residual.result c.from_residual.ensures.1 in
+    let waiting : Waiting = c.args.self.now.queue in
+    let i : ℕ = c.loop-i.i in
+    let lt : i < length waiting = omega arith in
+    rw p.1
+    (λ samples held faults. way_breaks (λ m. edits_taken waiting (stage_at c.args.self.now m)) (edits_taken (drop i waiting)) (edit_asked (get_or waiting i none)) (edits_taken (drop (i + 1) waiting))
+    (stage_at c.loop-i.self) _ _ _ (c.loop-i.invariant.way samples held faults) (λ m. edit_at waiting i none (stage_at c.loop-i.self m) lt)
+    (subst (λ (q : Waiting). SaysPart (edit_asked (get_or q i none)) (stage_at c.loop-i.self) (g.L.Sink.taken c.loop-i.lines) (g.L.Sink.taken c.take_asked.new.lines) c.loop-i.steps c.take_asked.new.steps)
+    c.loop-i.invariant.queue (c.in_err-take_asked.ensures.err none) samples held faults))
+
+pub loop-i-preserved : goal.loop-i-preserved
+loop-i-preserved g c =
+    let waiting : Waiting = c.args.self.now.queue in
+    let i : ℕ = c.loop-i.i in
+    let lt : i < length waiting = omega arith in
+    record {
+      way = λ samples held faults. way_goes_on (λ m. edits_taken waiting (stage_at c.args.self.now m)) (edits_taken (drop i waiting)) (edit_asked (get_or waiting i none)) (edits_taken (drop (i + 1) waiting))
+          (stage_at c.loop-i.self) (stage_at c.take_asked.new.self) _ _ _ (c.loop-i.invariant.way samples held faults) (λ m. edit_at waiting i none (stage_at c.loop-i.self m) lt)
+          (subst (λ (q : Waiting). Says (edit_asked (get_or q i none)) (stage_at c.loop-i.self) (stage_at c.take_asked.new.self) (g.L.Sink.taken c.loop-i.lines) (g.L.Sink.taken c.take_asked.new.lines) c.loop-i.steps c.take_asked.new.steps)
+          c.loop-i.invariant.queue (c.in_ok-take_asked.ensures.ok none) samples held faults);
+      queue = c.take_asked.ensures.queue ∙ c.loop-i.invariant.queue;
+      counted = omega arith;
+      stays = c.take_asked.ensures.stays ∙ c.loop-i.invariant.stays;
+      library = c.take_asked.ensures.library ∙ c.loop-i.invariant.library;
+    }
+
+pub returns-clause-ok : goal.returns-clause-ok
+returns-clause-ok g c =
+    let waiting : Waiting = c.args.self.now.queue in
+    let i : ℕ = c.loop-i.i in
+    let e : i ≡ length waiting = omega arith in
+    λ samples held faults. way_ends (λ m. edits_taken waiting (stage_at c.args.self.now m)) (edits_taken (drop i waiting)) (stage_at c.loop-i.self) _ _ (c.loop-i.invariant.way samples held faults)
+    (λ m. no_edit (drop i waiting) (stage_at c.loop-i.self m) (ap (λ (k : ℕ). drop k waiting) e ∙ drop-length waiting))

@@ -1,0 +1,78 @@
+-- What an edit of the patch's own document comes to.
+use Rattle.std.specs.Prelude.{◌≡◌, ◌≤◌, ◌+◌, ◌⊎◌, ℕ, List, Option, Some, None, Result, Ok, Err}
+use Rattle.pd_io.specs.declared.files.FileRow.{FileRow}
+use Rattle.pd_canvas.specs.declared.edits.Edit.{Edit}
+use Rattle.pd_patch.specs.declared.patch.Patch.{Patch}
+use Rattle.pd_say.specs.Lines.{refusal_text}
+use Rattle.pd_say.specs.declared.refusals.Request.TheVariants as request
+use Rattle.pd_wiring.specs.Changes.{SameButRoom}
+use Rattle.pd_wiring.specs.Plans.{Plan, planned, IsRewired, most_looks}
+use Rattle.pd_wiring.specs.declared.refusals.EditRefusal.{EditRefusal}
+use Rattle.pd_wiring.specs.declared.refusals.EditRefusal.TheVariants.{NoMemory}
+use Rattle.pd_say.specs.declared.refusals.Why.{Why}
+use Rattle.pd_say.specs.declared.refusals.Why.TheVariants as why
+use Rattle.pd_stage.specs.Choices.{Wanted, Edits, Saves, Undoes, Redoes, Choice}
+use Rattle.pd_stage.specs.Stages.{Stage}
+use Rattle.pd_stage.specs.Events.{edit_taken}
+use Rattle.pd_stage.specs.Leads.{Sinks, sinks, Comes}
+use Rattle.pd_stage.specs.Lawful.{why_of}
+use Rattle.pd_stage.specs.Lines.{loops_text}
+use Rattle.pd_engine.specs.Commands.{first_outcome}
+use Rattle.pd_engine.specs.declared.refusals.Outcome.{Outcome}
+use Rattle.pd_engine.specs.declared.refusals.Outcome.TheVariants.{Done, Refused}
+
+-- it was made, in the canvas of a key, with so many looks
+pub record Makes (old new : Patch) (path : List ℕ) (e : Edit) (canvas looks looks' : ℕ) : Type 0 where
+  pub rewired : IsRewired old new path e canvas
+  pub few_looks : looks' ≤ looks + most_looks rewired.plan old new
+
+-- it is planned, and memory was wanting
+pub record Lacks (old new : Patch) (path : List ℕ) (e : Edit) (why : EditRefusal) : Type 0 where
+  pub short : why ≡ NoMemory
+  pub plan : Plan
+  pub is_planned : planned old path e ≡ Ok plan
+  pub same : SameButRoom old new
+
+-- it is refused as it is planned to be, and nothing changed
+pub record Refuses (old new : Patch) (path : List ℕ) (e : Edit) (why : EditRefusal) : Type 0 where
+  pub is_planned : planned old path e ≡ Err why
+  pub same : new ≡ old
+
+-- an edit of a patch came to this, and the looks to that
+abbrev pub EditsTo : Patch → Patch → List ℕ → Edit → Result ℕ EditRefusal → (looks looks' : ℕ) → Type 0
+EditsTo old new path e (Ok canvas) looks looks' = Makes old new path e canvas looks looks'
+EditsTo old new path e (Err why) looks looks' = (looks' ≡ looks) × (Lacks old new path e why ⊎ Refuses old new path e why)
+
+-- the lines of it, where the patch is this
+abbrev pub edit_text : Patch → Result ℕ EditRefusal → List ℕ
+edit_text p (Ok canvas) = loops_text p canvas
+edit_text p (Err why) = refusal_text request.Edit (why_of why)
+
+-- what it answers
+abbrev pub edit_outcome : Result ℕ EditRefusal → Outcome
+edit_outcome (Ok canvas) = Done
+edit_outcome (Err why) = Refused why
+
+-- what is asked for was taken, and this is answered
+pub record IsTakenSo (wanted : Wanted) (outcome : Outcome) (from to : List Choice → Stage) (old new : Sinks) : Type 0 where
+  pub comes : Comes (edit_taken wanted) from to old new
+  pub answer : outcome ≡ first_outcome comes.edits
+
+-- an edit of the patch's own document was taken, and this is answered
+abbrev pub IsEdited : List ℕ → Edit → Outcome → (List Choice → Stage) → (List Choice → Stage) → (lines lines' : Option (List ℕ)) → (looks looks' : ℕ) → Type 0
+IsEdited path e outcome from to lines lines' looks looks' =
+    (samples : Option (List ℕ)) (held : Option (List FileRow)) (faults : ℕ) →
+    IsTakenSo (Edits None path e) outcome from to (sinks lines samples looks held faults) (sinks lines' samples looks' held faults)
+
+-- the patch's own document was saved, or not, and this is answered
+abbrev pub IsSavedSo : Outcome → (List Choice → Stage) → (List Choice → Stage) → Sinks → Sinks → Type 0
+IsSavedSo outcome from to old new = IsTakenSo (Saves None) outcome from to old new
+
+-- what is refused for a reason whatever the patch is: what another document than the patch's own is asked, an undo and a redo
+abbrev pub IsAlwaysRefused : Wanted → Why → Type 0
+IsAlwaysRefused (Edits None path e) reason = ⊥
+IsAlwaysRefused (Edits (Some document) path e) reason = reason ≡ why.NoDocument
+IsAlwaysRefused (Saves None) reason = ⊥
+IsAlwaysRefused (Saves (Some document)) reason = reason ≡ why.NoDocument
+IsAlwaysRefused Undoes reason = reason ≡ why.NothingToUndo
+IsAlwaysRefused Redoes reason = reason ≡ why.NothingToRedo

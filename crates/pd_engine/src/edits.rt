@@ -1,0 +1,211 @@
+//! Edits and saves of the patch's own document.
+
+ghost use Rattle.std.specs.Prelude.{◌≡◌, ◌<◌, ◌≤◌, ℕ, List, Option, None, length, slice_index_or, OnOk, OnErr, IfOk};
+ghost use Rattle.pd_io.specs.Stream.{grown, TookPart};
+ghost use Rattle.pd_canvas.specs.declared.edits.Edit.{Edit as EditSeen};
+ghost use Rattle.pd_queue.specs.Entries.{wire_edit};
+ghost use Rattle.pd_say.specs.Gathering.{HasCause};
+ghost use Rattle.pd_web.specs.Changes.{wires_told};
+ghost use Rattle.pd_wiring.specs.Changes.{CanRewire};
+ghost use Rattle.pd_stage.specs.Choices.{Edits, Saves};
+ghost use Rattle.pd_stage.specs.Events.{edit_asked, edit_taken};
+ghost use Rattle.pd_stage.specs.Lawful.{why_of as why_so};
+ghost use Rattle.pd_stage.specs.Leads.{sinks, Stops, Says, SaysPart};
+ghost use Rattle.pd_engine.specs.Stages.{stage_at};
+ghost use Rattle.pd_engine.specs.Edits.{EditsTo, edit_text, edit_outcome, IsEdited, IsSavedSo};
+
+use crate::engine::Engine;
+use crate::printing::print_refusal;
+use crate::refusals::{Outcome, unsaved};
+use crate::remarks::print_loop;
+use pd_canvas::Edit;
+use pd_edit::{EditRefusal, rewire};
+use pd_io::{Shelf, Sink, SinkFailed};
+use pd_order::Steps;
+use pd_patch::Patch;
+use pd_save::put_document;
+use pd_say::{Request, Why};
+use pd_script::CommandEdit;
+use std::alloc::Global;
+use std::sync::ledger::Ledger;
+
+impl Engine {
+    /// Takes the edit of a place of the queue.
+    pub(crate) fn take_asked<L: Sink, K: Ledger>(
+        &mut self,
+        i: u32,
+        lines: &mut L,
+        steps: &mut Steps<K>,
+    ) -> Result<(), SinkFailed>
+        requires { i < length self.old.queue }
+        ensures ok { OnOk result ((d : List ℕ × EditSeen) → Says (edit_asked (slice_index_or self.old.queue i d)) (stage_at self.old) (stage_at self.new) (L.taken lines.old) (L.taken lines.new) steps.old steps.new) }
+        ensures err { OnErr result ((d : List ℕ × EditSeen) → SaysPart (edit_asked (slice_index_or self.old.queue i d)) (stage_at self.old) (L.taken lines.old) (L.taken lines.new) steps.old steps.new) }
+        ensures cause { HasCause (L.faults lines.old) (L.faults lines.new) result }
+        ensures stays { self.new.stopped ≡ self.old.stopped }
+        ensures library { self.new.library ≡ self.old.library }
+        ensures queue { self.new.queue ≡ self.old.queue }
+    {
+        let Some(asked) = self.queue.get(i) else {
+            return Ok(());
+        };
+        let edit = asked.wire_edit();
+        let done = make(
+            self.alloc,
+            &mut self.patch,
+            &mut self.wires,
+            asked.path(),
+            edit,
+            steps,
+        );
+        self.tell(done, lines)?;
+        Ok(())
+    }
+
+    /// Makes an edit of the canvas at a path of the patch's own document, or refuses it.
+    pub(crate) fn edit_own<L: Sink, K: Ledger>(
+        &mut self,
+        path: &[u32],
+        edit: &CommandEdit,
+        lines: &mut L,
+        steps: &mut Steps<K>,
+    ) -> Result<Outcome, SinkFailed>
+        ensures ok { IfOk result (λ outcome. IsEdited path.now edit.now outcome (stage_at self.old) (stage_at self.new) (L.taken lines.old) (L.taken lines.new) steps.old steps.new) }
+        ensures err { OnErr result (SaysPart (edit_taken (Edits None path.now edit.now)) (stage_at self.old) (L.taken lines.old) (L.taken lines.new) steps.old steps.new) }
+        ensures cause { HasCause (L.faults lines.old) (L.faults lines.new) result }
+        ensures stays { self.new.stopped ≡ self.old.stopped }
+        ensures library { self.new.library ≡ self.old.library }
+    {
+        let done = make(
+            self.alloc,
+            &mut self.patch,
+            &mut self.wires,
+            path,
+            edit.wire_edit(),
+            steps,
+        );
+        self.tell(done, lines)
+    }
+
+    /// Tells what an edit came to.
+    fn tell<L: Sink>(
+        &mut self,
+        done: Result<u32, EditRefusal>,
+        lines: &mut L,
+    ) -> Result<Outcome, SinkFailed>
+        ensures stage { stage_at self.new ≡ stage_at self.old }
+        ensures ok { OnOk result (L.taken lines.new ≡ grown (L.taken lines.old) (edit_text self.old.patch done)) }
+        ensures answer { IfOk result (λ outcome. outcome ≡ edit_outcome done) }
+        ensures err { OnErr result (TookPart (L.taken lines.old) (L.taken lines.new) (edit_text self.old.patch done)) }
+        ensures cause { HasCause (L.faults lines.old) (L.faults lines.new) result }
+        ensures stays { self.new.stopped ≡ self.old.stopped }
+        ensures library { self.new.library ≡ self.old.library }
+        ensures queue { self.new.queue ≡ self.old.queue }
+    {
+        match done {
+            Ok(canvas) => {
+                print_loop(
+                    &self.patch,
+                    canvas,
+                    &mut self.numbers,
+                    &self.symbols,
+                    &mut self.held,
+                    lines,
+                )?;
+                Ok(Outcome::Done)
+            }
+            Err(why) => {
+                print_refusal(
+                    Request::Edit,
+                    why_of(why),
+                    &self.symbols,
+                    &mut self.held,
+                    lines,
+                )?;
+                Ok(Outcome::Refused(why))
+            }
+        }
+    }
+
+    /// Saves the patch's own document under the name of its file, or refuses it.
+    pub(crate) fn save_own<H: Shelf, L: Sink>(
+        &mut self,
+        shelf: &mut H,
+        lines: &mut L,
+    ) -> Result<Outcome, SinkFailed>
+        ensures ok { IfOk result (λ outcome. (samples : Option (List ℕ)) (looks : ℕ) → IsSavedSo outcome (stage_at self.old) (stage_at self.new) (sinks (L.taken lines.old) samples looks (H.holds shelf.old) (H.faults shelf.old)) (sinks (L.taken lines.new) samples looks (H.holds shelf.new) (H.faults shelf.new))) }
+        ensures err { OnErr result ((samples : Option (List ℕ)) (looks : ℕ) → Stops (edit_taken (Saves None)) (stage_at self.old) (sinks (L.taken lines.old) samples looks (H.holds shelf.old) (H.faults shelf.old)) (sinks (L.taken lines.new) samples looks (H.holds shelf.new) (H.faults shelf.new))) }
+        ensures cause { HasCause (L.faults lines.old) (L.faults lines.new) result }
+        ensures counted { H.faults shelf.old ≤ H.faults shelf.new }
+        ensures stays { self.new.stopped ≡ self.old.stopped }
+        ensures library { self.new.library ≡ self.old.library }
+    {
+        let name = self.file.as_slice();
+        let put = put_document(self.alloc, &self.patch, &self.symbols, name, shelf);
+        let Err(error) = put else {
+            return Ok(Outcome::Done);
+        };
+        let refusal = unsaved(error);
+        print_refusal(
+            Request::Save,
+            why_of(refusal),
+            &self.symbols,
+            &mut self.held,
+            lines,
+        )?;
+        Ok(Outcome::Refused(refusal))
+    }
+}
+
+/// Makes an edit of a patch that joins or cuts a wire, and keeps count of its wires. Gives the key of the edit's canvas.
+/// Edits of boxes aren't made.
+fn make<K: Ledger>(
+    alloc: Global,
+    patch: &mut Patch,
+    wires: &mut usize,
+    path: &[u32],
+    edit: Option<Edit>,
+    steps: &mut Steps<K>,
+) -> Result<u32, EditRefusal>
+    requires rewires { CanRewire patch.old }
+    requires counted { wires.old ≡ wires_told patch.old.web }
+    ensures edits { (e : EditSeen) → wire_edit e ≡ edit → EditsTo patch.old patch.new path.now e result steps.old steps.new }
+    ensures rewires { CanRewire patch.new }
+    ensures counted { wires.new ≡ wires_told patch.new.web }
+{
+    let Some(edit) = edit else {
+        return Err(EditRefusal::NoDocument);
+    };
+    let made = rewire(alloc, patch, *wires, path, &edit, steps)?;
+    *wires = made.wires;
+    Ok(made.canvas)
+}
+
+/// The reason that a line tells.
+fn why_of(refusal: EditRefusal) -> Why
+    ensures { result ≡ why_so refusal }
+{
+    match refusal {
+        EditRefusal::NoDocument => Why::NoDocument,
+        EditRefusal::NoCanvas => Why::NoCanvas,
+        EditRefusal::NoBox { number } => Why::NoBox { number },
+        EditRefusal::NoPort {
+            number,
+            port,
+            outlet,
+        } => Why::NoPort {
+            number,
+            port,
+            outlet,
+        },
+        EditRefusal::NoWire => Why::NoWire,
+        EditRefusal::SignalIntoControl => Why::SignalIntoControl,
+        EditRefusal::TextTooLong => Why::TextTooLong,
+        EditRefusal::TooDeep => Why::TooDeep,
+        EditRefusal::ShelfFault => Why::ShelfFault,
+        EditRefusal::SymbolsFull => Why::SymbolsFull,
+        EditRefusal::TooManyBoxes => Why::TooManyBoxes,
+        EditRefusal::TooManyWires => Why::TooManyWires,
+        EditRefusal::TooMuchSound => Why::TooMuchSound,
+        EditRefusal::NoMemory => Why::NoMemory,
+    }
+}

@@ -1,0 +1,358 @@
+-- Edits that are taken.
+use Rattle.std.proofs.Common.{◌≡◌, ◌≤◌, ◌+◌, ◌<◌, ◌⊎◌, inl, inr, drop, length, get_or, arith, ℕ, suc, List, [], ◌∷◌, refl, sym, ◌∙◌, ap, subst, Option, Some, None}
+use Rattle.std.proofs.Math.Seq.{drop-cons}
+use Rattle.std.specs.declared.vec.Vec.{Vec}
+use Rattle.std.specs.declared.alloc.Global.{Global}
+use Rattle.slab.specs.Slab.{get}
+use Rattle.pd_canvas.specs.declared.edits.Edit.{Edit}
+use Rattle.pd_queue.specs.Queue.{Waiting}
+use Rattle.pd_io.specs.Stream.{grown, TookPart}
+use Rattle.pd_io.specs.declared.files.FileRow.{FileRow}
+use Rattle.pd_links.specs.declared.links.Links.{Links}
+use Rattle.pd_order.specs.Listing.{Listing}
+use Rattle.pd_web.specs.declared.web.Web.{Web}
+use Rattle.pd_patch.specs.declared.patch.Patch.{Patch}
+use Rattle.pd_wiring.specs.Changes.{CanRewire, AreAlike, SameButRoom, StaysButWire}
+use Rattle.pd_wiring.specs.Plans.{Plan, Attaches, Detaches, IsCarriedOut}
+use Rattle.pd_turns.specs.Turns.{World}
+use Rattle.pd_hearing.specs.Worlds.{Kept, Net, bare, net_of}
+use Rattle.pd_block.specs.Nets as block
+use Rattle.pd_stage.specs.Choices.{Wanted, Edits, Saves, Undoes, Redoes, Made, Choice, Refuses, Lacks, Makes, first_choice, later, text_of_choice, looks_of_choice, faults_of_choice}
+use Rattle.pd_stage.specs.Stages.{Stage, Taken, still, saying, with_ahead, followed_by}
+use Rattle.pd_stage.specs.Lawful.{StandsAt, IsMade, IsShort, IsSaved, MayCome, AreLawful}
+use Rattle.pd_stage.specs.Leads.{Sinks, sinks, Took, Leads, Comes, Stops}
+use Rattle.pd_stage.specs.Events.{Beginning, with_net, stage_by, files_put, edit_by, edit_taken, edit_asked, edits_taken, delivered, with_kept, event}
+use Rattle.pd_stage.specs.Times.{with_wires, IsStageOf}
+use Rattle.pd_stage.proofs.LeadLemmas.{leads_then, broke_after, written_leads, written_breaks, lawful_first, lawful_second}
+use Rattle.pd_stage.proofs.ItemLemmas.{no_lines, no_samples, held-none, kept_same}
+
+-- an edit that comes to this
+abbrev pub taken_at : Wanted → Stage → Choice → Taken
+taken_at wanted s c = record { found = with_ahead s []; wanted = wanted; choice = c }
+
+-- its files were put, and its lines are still to be said
+pub edit_chosen : (wanted : Wanted) (s : Stage) (c : Choice) (x y : Sinks) → MayCome wanted (with_ahead s []) c → Took x y (files_put c) (taken_at wanted s c ∷ [])
+    → Leads (λ m. edit_taken wanted (with_ahead s m)) (λ m. saying (stage_by (with_ahead s m) c) (text_of_choice wanted c)) x y
+unfolding edit_taken
+edit_chosen wanted s c x y may took = record {
+  items = files_put c;
+  edits = taken_at wanted s c ∷ [];
+  same = λ more. refl;
+  took = took;
+  lawful = (may, tt);
+}
+
+-- and its lines were said, or only a first part
+pub edit_comes_by : (wanted : Wanted) (s : Stage) (c : Choice) (x : Sinks) (t t' u : Option (List ℕ)) (k : ℕ) (h : Option (List FileRow)) (f : ℕ)
+    → MayCome wanted (with_ahead s []) c → Took x (sinks t u k h f) (files_put c) (taken_at wanted s c ∷ []) → t' ≡ grown t (text_of_choice wanted c)
+    → Comes (edit_taken wanted) (with_ahead s) (λ m. stage_by (with_ahead s m) c) x (sinks t' u k h f)
+edit_comes_by wanted s c x t t' u k h f may took e =
+    leads_then (λ m. edit_taken wanted (with_ahead s m)) (λ m. saying (stage_by (with_ahead s m) c) (text_of_choice wanted c)) (λ m. still (stage_by (with_ahead s m) c)) x (sinks t u k h f) (sinks t' u k h f)
+    (edit_chosen wanted s c x (sinks t u k h f) may took) (written_leads (λ m. stage_by (with_ahead s m) c) (text_of_choice wanted c) t t' u k h f e)
+
+-- the same, with what is logged
+pub edit_logged_by : (wanted : Wanted) (s : Stage) (c : Choice) (x : Sinks) (t t' u : Option (List ℕ)) (k : ℕ) (h : Option (List FileRow)) (f : ℕ)
+    → MayCome wanted (with_ahead s []) c → Took x (sinks t u k h f) (files_put c) (taken_at wanted s c ∷ []) → t' ≡ grown t (text_of_choice wanted c)
+    → (d : Comes (edit_taken wanted) (with_ahead s) (λ m. stage_by (with_ahead s m) c) x (sinks t' u k h f)) × (d.edits ≡ taken_at wanted s c ∷ [])
+unfolding edit_comes_by edit_chosen leads_then written_leads
+edit_logged_by wanted s c x t t' u k h f may took e = (edit_comes_by wanted s c x t t' u k h f may took e, refl)
+
+pub edit_stops_by : (wanted : Wanted) (s : Stage) (c : Choice) (x : Sinks) (t t' u : Option (List ℕ)) (k : ℕ) (h : Option (List FileRow)) (f : ℕ)
+    → MayCome wanted (with_ahead s []) c → Took x (sinks t u k h f) (files_put c) (taken_at wanted s c ∷ []) → TookPart t t' (text_of_choice wanted c)
+    → Stops (edit_taken wanted) (with_ahead s) x (sinks t' u k h f)
+edit_stops_by wanted s c x t t' u k h f may took part =
+    broke_after (λ m. edit_taken wanted (with_ahead s m)) (λ m. saying (stage_by (with_ahead s m) c) (text_of_choice wanted c)) x (sinks t u k h f) (sinks t' u k h f)
+    (edit_chosen wanted s c x (sinks t u k h f) may took) (written_breaks (λ m. stage_by (with_ahead s m) c) (text_of_choice wanted c) t t' u k h f part)
+
+-- nothing is put, and there are so many looks
+pub took_looks : (t u : Option (List ℕ)) (k k' : ℕ) (h : Option (List FileRow)) (f : ℕ) (e : Taken) → faults_of_choice e.choice ≡ 0 → k' ≤ k + looks_of_choice e.choice
+    → Took (sinks t u k h f) (sinks t u k' h f) [] (e ∷ [])
+took_looks t u k k' h f e none few =
+    record { lines_are = no_lines t; samples_are = no_samples u; few_looks = omega (arith, few); held_are = kept_same [] h (held-none h); few_faults = inl (omega (arith, none)) }
+
+-- ---- the edits that wait
+
+edit_due : (waiting rest : Waiting) (asked : List ℕ × Edit) (s : Stage) → waiting ≡ asked ∷ rest → edits_taken waiting s ≡ followed_by (edit_asked asked s) (edits_taken rest)
+unfolding edits_taken
+edit_due waiting rest asked s e = ap (λ (x : Waiting). edits_taken x s) e
+
+pub edit_at : (waiting : Waiting) (i : ℕ) (d : List ℕ × Edit) (s : Stage) → i < length waiting
+    → edits_taken (drop i waiting) s ≡ followed_by (edit_asked (get_or waiting i d) s) (edits_taken (drop (i + 1) waiting))
+edit_at waiting i d s lt =
+    let e : suc i ≡ i + 1 = omega arith in
+    edit_due (drop i waiting) (drop (i + 1) waiting) (get_or waiting i d) s (drop-cons waiting i d lt ∙ ap (λ (k : ℕ). get_or waiting i d ∷ drop k waiting) e)
+
+pub no_edit : (waiting : Waiting) (s : Stage) → waiting ≡ [] → edits_taken waiting s ≡ still s
+unfolding edits_taken
+no_edit waiting s e = ap (λ (x : Waiting). edits_taken x s) e
+
+-- ---- what lawful edits leave
+
+abbrev pub Orders : Type 0
+Orders = Vec (Option Listing) Global
+
+-- what messages leave as it is, with other wires
+abbrev pub rewired_net : Net → Web → Links → Orders → Net
+rewired_net n web links orders = record {
+  nodes = n.nodes;
+  boards = n.boards;
+  root = n.root;
+  web = web;
+  links = links;
+  owners = n.owners;
+  orders = orders;
+  numbers = n.numbers;
+  blocks = n.blocks;
+  rate = n.rate;
+  end = n.end;
+}
+
+abbrev pub rewired : Stage → Web → Links → Orders → List Choice → Stage
+rewired s web links orders ahead = with_ahead (with_net s (rewired_net s.net web links orders)) ahead
+
+-- a patch that has other wires alone
+net_rewired : (old new : Patch) → new.grove ≡ old.grove → new.names ≡ old.names → new.timers ≡ old.timers → new.numbers ≡ old.numbers → new.values ≡ old.values → new.rate ≡ old.rate
+    → net_of new ≡ rewired_net (net_of old) new.web new.links new.orders
+net_rewired old new grove names timers numbers values rate = rw (grove, names, timers, numbers, values, rate) refl
+
+-- all is as it was, but what the edits to come lead to
+pub record IsLeft (s r : Stage) : Type 0 where
+  pub ahead : List Choice
+  pub is : r ≡ with_ahead s ahead
+
+-- the wires are those of a patch of the same boxes, and are sound
+pub record IsRewiredStage (s r : Stage) : Type 0 where
+  pub patch : Patch
+  pub ahead : List Choice
+  pub nodes : (k : ℕ) → bare (get patch.grove.nodes k) ≡ s.net.nodes k
+  pub boards : patch.grove.boards ≡ s.net.boards
+  pub numbers : patch.numbers ≡ s.net.numbers
+  pub rewires : CanRewire patch
+  pub is : r ≡ rewired s patch.web patch.links patch.orders ahead
+
+abbrev pub Changes : Stage → Stage → Type 0
+Changes s r = IsLeft s r ⊎ IsRewiredStage s r
+
+-- but its wires, a stage is as it was
+pub record ButWires (s r : Stage) : Type 0 where
+  pub web : Web
+  pub links : Links
+  pub orders : Orders
+  pub ahead : List Choice
+  pub is : r ≡ rewired s web links orders ahead
+
+pub but_wires : (s r : Stage) → Changes s r → ButWires s r
+but_wires s r (inl h) = record { web = s.net.web; links = s.net.links; orders = s.net.orders; ahead = h.ahead; is = h.is }
+but_wires s r (inr h) = record { web = h.patch.web; links = h.patch.links; orders = h.patch.orders; ahead = h.ahead; is = h.is }
+
+pub but_none : (s : Stage) → ButWires s s
+but_none s = record { web = s.net.web; links = s.net.links; orders = s.net.orders; ahead = s.ahead; is = refl }
+
+pub but_then : (s r q : Stage) → ButWires s r → ButWires r q → ButWires s q
+but_then s r q a b = record { web = b.web; links = b.links; orders = b.orders; ahead = b.ahead; is = b.is ∙ ap (λ (x : Stage). rewired x b.web b.links b.orders b.ahead) a.is }
+
+-- what a plan that was carried out leaves
+plan_grove : (plan : Plan) (p q : Patch) → IsCarriedOut plan p q → (source : ℕ) × StaysButWire p q source
+plan_grove (Attaches c l) p q h = (l.source, h.rest)
+plan_grove (Detaches c key l) p q h = (l.source, h.rest)
+
+-- a patch that stands at a stage becomes one with other wires
+new_net : (s : Stage) (old new : Patch) (source : ℕ) → StandsAt old s → StaysButWire old new source → net_of new ≡ rewired_net s.net new.web new.links new.orders
+new_net s old new source at r =
+    net_rewired old new r.grove r.names r.timers r.numbers r.values r.rate ∙ ap (λ (n : Net). rewired_net n new.web new.links new.orders) (sym at.net)
+
+same_net : (s : Stage) (old new : Patch) → StandsAt old s → SameButRoom old new → net_of new ≡ rewired_net s.net new.web new.links new.orders
+same_net s old new at r =
+    net_rewired old new r.grove r.names r.timers r.numbers r.values r.rate ∙ ap (λ (n : Net). rewired_net n new.web new.links new.orders) (sym at.net)
+
+-- what it has of its boxes is what the stage has
+nodes_at : (s : Stage) (old new : Patch) → StandsAt old s → new.grove ≡ old.grove → (k : ℕ) → bare (get new.grove.nodes k) ≡ s.net.nodes k
+nodes_at s old new at grove k = rw grove (sym (ap (λ (n : Net). n.nodes k) at.net))
+
+boards_at : (s : Stage) (old new : Patch) → StandsAt old s → new.grove ≡ old.grove → new.grove.boards ≡ s.net.boards
+boards_at s old new at grove = rw grove (sym (ap (λ (n : Net). n.boards) at.net))
+
+numbers_at : (s : Stage) (old new : Patch) → StandsAt old s → new.numbers ≡ old.numbers → new.numbers ≡ s.net.numbers
+numbers_at s old new at numbers = numbers ∙ sym (ap (λ (n : Net). n.numbers) at.net)
+
+plan_rewires : (plan : Plan) (p q : Patch) → IsCarriedOut plan p q → CanRewire q
+plan_rewires (Attaches c l) p q h = h.rewires
+plan_rewires (Detaches c key l) p q h = h.rewires
+
+-- the stage that an edit of wires makes
+made_stage : (s : Stage) (m : Made) (net : Net) → m.net ≡ net → m.states ≡ s.states → m.clocks ≡ s.clocks → m.names ≡ s.names → stage_by s (Makes m) ≡ with_net s net
+made_stage s m net is states clocks names = rw (is, states, clocks, names) refl
+
+edit_made : (s : Stage) (ahead : List Choice) (path : List ℕ) (e : Edit) (m : Made) → IsMade (with_ahead s []) path e m → IsRewiredStage s (stage_by (with_ahead s ahead) (Makes m))
+edit_made s ahead path e m h =
+    let r = plan_grove h.rewired.plan h.old h.new h.rewired.done in
+    record {
+      patch = h.new;
+      ahead = ahead;
+      nodes = nodes_at (with_ahead s []) h.old h.new h.stands r.1.grove;
+      boards = boards_at (with_ahead s []) h.old h.new h.stands r.1.grove;
+      numbers = numbers_at (with_ahead s []) h.old h.new h.stands r.1.numbers;
+      rewires = plan_rewires h.rewired.plan h.old h.new h.rewired.done;
+      is = made_stage (with_ahead s ahead) m (rewired_net s.net h.new.web h.new.links h.new.orders)
+          (h.net ∙ new_net (with_ahead s []) h.old h.new r.0 h.stands r.1) h.states h.clocks h.names;
+    }
+
+edit_short : (s : Stage) (ahead : List Choice) (path : List ℕ) (e : Edit) (net : Net) → IsShort (with_ahead s []) path e net → IsRewiredStage s (with_net (with_ahead s ahead) net)
+edit_short s ahead path e net h =
+    record {
+      patch = h.new;
+      ahead = ahead;
+      nodes = nodes_at (with_ahead s []) h.old h.new h.stands h.same.grove;
+      boards = boards_at (with_ahead s []) h.old h.new h.stands h.same.grove;
+      numbers = numbers_at (with_ahead s []) h.old h.new h.stands h.same.numbers;
+      rewires = h.rewires;
+      is = ap (λ (n : Net). with_net (with_ahead s ahead) n) (h.net_is ∙ same_net (with_ahead s []) h.old h.new h.stands h.same);
+    }
+
+save_made : (s : Stage) (ahead : List Choice) (m : Made) → IsSaved (with_ahead s []) m → IsLeft s (stage_by (with_ahead s ahead) (Makes m))
+save_made s ahead m h = record { ahead = ahead; is = made_stage (with_ahead s ahead) m s.net h.net h.states h.clocks h.names }
+
+edit_changes : (s : Stage) (ahead : List Choice) (path : List ℕ) (e : Edit) (c : Choice) → MayCome (Edits None path e) (with_ahead s []) c → Changes s (stage_by (with_ahead s ahead) c)
+edit_changes s ahead path e (Refuses why) h = inl (record { ahead = ahead; is = refl })
+edit_changes s ahead path e (Lacks net) h = inr (edit_short s ahead path e net h)
+edit_changes s ahead path e (Makes m) h = inr (edit_made s ahead path e m h)
+
+save_changes : (s : Stage) (ahead : List Choice) (c : Choice) → MayCome (Saves None) (with_ahead s []) c → Changes s (stage_by (with_ahead s ahead) c)
+save_changes s ahead (Refuses why) h = inl (record { ahead = ahead; is = refl })
+save_changes s ahead (Lacks net) h = absurd h
+save_changes s ahead (Makes m) h = inl (save_made s ahead m h)
+
+refused_changes : (s : Stage) (ahead : List Choice) (c : Choice) (why : _) → c ≡ Refuses why → Changes s (stage_by (with_ahead s ahead) c)
+refused_changes s ahead c why h = inl (record { ahead = ahead; is = ap (λ (x : Choice). stage_by (with_ahead s ahead) x) h })
+
+-- what an edit that may come to this makes of a stage
+choice_changes : (wanted : Wanted) (s : Stage) (ahead : List Choice) (c : Choice) → MayCome wanted (with_ahead s []) c → Changes s (stage_by (with_ahead s ahead) c)
+choice_changes (Edits None path e) s ahead c h = edit_changes s ahead path e c h
+choice_changes (Edits (Some document) path e) s ahead c h = refused_changes s ahead c _ h
+choice_changes (Saves None) s ahead c h = save_changes s ahead c h
+choice_changes (Saves (Some document)) s ahead c h = refused_changes s ahead c _ h
+choice_changes Undoes s ahead c h = refused_changes s ahead c _ h
+choice_changes Redoes s ahead c h = refused_changes s ahead c _ h
+
+pub taken_changes : (wanted : Wanted) (s : Stage) → AreLawful (edit_taken wanted s).edits → Changes s (edit_taken wanted s).stage
+unfolding edit_taken
+taken_changes wanted s h = choice_changes wanted s (later s.ahead) (first_choice s.ahead) h.0
+
+pub taken_rewires : (wanted : Wanted) (s : Stage) → AreLawful (edit_taken wanted s).edits → ButWires s (edit_taken wanted s).stage
+taken_rewires wanted s h = but_wires s (edit_taken wanted s).stage (taken_changes wanted s h)
+
+pub edits_rewire : (waiting : Waiting) (s : Stage) → AreLawful (edits_taken waiting s).edits → ButWires s (edits_taken waiting s).stage
+unfolding edits_taken
+edits_rewire [] s h = but_none s
+edits_rewire (asked ∷ waiting) s h =
+    let r : Stage = (edit_asked asked s).stage in
+    but_then s r (edits_taken waiting r).stage
+    (taken_rewires _ s (lawful_first (edit_asked asked s).edits (edits_taken waiting r).edits h))
+    (edits_rewire waiting r (lawful_second (edit_asked asked s).edits (edits_taken waiting r).edits h))
+
+-- but its wires, an event leaves what its deliveries leave
+pub event_rewires : (s : Stage) (b : Beginning) → AreLawful (event s b).edits → ButWires (with_kept s (delivered s b).kept) (event s b).stage
+unfolding event
+event_rewires s b h = let w : World Kept = delivered s b in edits_rewire w.kept.queue (with_kept s w.kept) h
+
+-- ---- a stage of a patch
+
+-- what a block finds, with other wires
+abbrev rewired_block : block.Net → Web → Links → Orders → block.Net
+rewired_block n web links orders = record {
+  nodes = n.nodes;
+  boards = n.boards;
+  root = n.root;
+  web = web;
+  links = links;
+  owners = n.owners;
+  orders = orders;
+  numbers = n.numbers;
+  rate = n.rate;
+  clocks = n.clocks;
+  end = n.end;
+}
+
+-- an edit of wires asks the same of patches of the same boxes
+abbrev pub AsksAlike : Type 0
+AsksAlike = (p q : Patch) → AreAlike p q → CanRewire p → CanRewire q
+
+left_stands : (p : Patch) (s r : Stage) → IsLeft s r → IsStageOf p s → IsStageOf p r
+left_stands p s r h at = subst (λ (x : Stage). IsStageOf p x) (sym h.is) (record { web = at.web; links = at.links; orders = at.orders; net = at.net; rewires = at.rewires })
+
+rewired_stands : (asks : AsksAlike) (p : Patch) (s r : Stage) → IsRewiredStage s r → IsStageOf p s → IsStageOf p r
+rewired_stands asks p s r h at =
+    let q : Patch = h.patch in
+    subst (λ (x : Stage). IsStageOf p x) (sym h.is) (record {
+      web = q.web;
+      links = q.links;
+      orders = q.orders;
+      net = ap (λ (n : block.Net). rewired_block n q.web q.links q.orders) at.net;
+      rewires = asks q (with_wires p q.web q.links q.orders) (record {
+        nodes = λ k. sym (ap (λ (n : block.Net). n.nodes k) at.net) ∙ sym (h.nodes k);
+        boards = sym (ap (λ (n : block.Net). n.boards) at.net) ∙ sym h.boards;
+        web = refl;
+        links = refl;
+        orders = refl;
+        numbers = sym (ap (λ (n : block.Net). n.numbers) at.net) ∙ sym h.numbers;
+      }) h.rewires;
+    })
+
+changed_stands : (asks : AsksAlike) (p : Patch) (s r : Stage) → Changes s r → IsStageOf p s → IsStageOf p r
+changed_stands asks p s r (inl h) at = left_stands p s r h at
+changed_stands asks p s r (inr h) at = rewired_stands asks p s r h at
+
+pub taken_stands : (asks : AsksAlike) (p : Patch) (wanted : Wanted) (s : Stage) → AreLawful (edit_taken wanted s).edits → IsStageOf p s → IsStageOf p (edit_taken wanted s).stage
+taken_stands asks p wanted s h at = changed_stands asks p s (edit_taken wanted s).stage (taken_changes wanted s h) at
+
+pub edits_stand : (asks : AsksAlike) (p : Patch) (waiting : Waiting) (s : Stage) → AreLawful (edits_taken waiting s).edits → IsStageOf p s → IsStageOf p (edits_taken waiting s).stage
+unfolding edits_taken
+edits_stand asks p [] s h at = at
+edits_stand asks p (asked ∷ waiting) s h at =
+    let r : Stage = (edit_asked asked s).stage in
+    edits_stand asks p waiting r (lawful_second (edit_asked asked s).edits (edits_taken waiting r).edits h)
+    (taken_stands asks p _ s (lawful_first (edit_asked asked s).edits (edits_taken waiting r).edits h) at)
+
+-- deliveries change no part of a patch that a stage has of it
+kept_stands : (p : Patch) (s : Stage) (k : Kept) → IsStageOf p s → IsStageOf p (with_kept s k)
+kept_stands p s k at = record { web = at.web; links = at.links; orders = at.orders; net = ap (λ (n : block.Net). block.with_clocks n k.clocks) at.net; rewires = at.rewires }
+
+pub event_stands : (asks : AsksAlike) (p : Patch) (s : Stage) (b : Beginning) → AreLawful (event s b).edits → IsStageOf p s → IsStageOf p (event s b).stage
+unfolding event
+event_stands asks p s b h at =
+    let w : World Kept = delivered s b in
+    edits_stand asks p w.kept.queue (with_kept s w.kept) h (kept_stands p s w.kept at)
+
+-- ---- what no event changes
+
+-- the time, the next block and the count of clocks stay
+pub record SameTimes (s r : Stage) : Type 0 where
+  pub time : r.time ≡ s.time
+  pub block_end : r.block_end ≡ s.block_end
+  pub fired : r.fired ≡ s.fired
+
+by_times : (wanted : Wanted) (s : Stage) (c : Choice) → SameTimes s (edit_by wanted s c).stage
+by_times wanted s (Refuses why) = record { time = refl; block_end = refl; fired = refl }
+by_times wanted s (Lacks net) = record { time = refl; block_end = refl; fired = refl }
+by_times wanted s (Makes m) = record { time = refl; block_end = refl; fired = refl }
+
+pub edit_times : (wanted : Wanted) (s : Stage) → SameTimes s (edit_taken wanted s).stage
+unfolding edit_taken
+edit_times wanted s = by_times wanted s (first_choice s.ahead)
+
+times_on : (s r q : Stage) → SameTimes s r → SameTimes r q → SameTimes s q
+times_on s r q a b = record { time = b.time ∙ a.time; block_end = b.block_end ∙ a.block_end; fired = b.fired ∙ a.fired }
+
+edits_times : (waiting : Waiting) (s : Stage) → SameTimes s (edits_taken waiting s).stage
+unfolding edits_taken
+edits_times [] s = record { time = refl; block_end = refl; fired = refl }
+edits_times (asked ∷ waiting) s =
+    let r : Stage = (edit_asked asked s).stage in
+    times_on s r (edits_taken waiting r).stage (edit_times _ s) (edits_times waiting r)
+
+pub event_times : (s : Stage) (b : Beginning) → SameTimes s (event s b).stage
+unfolding event
+event_times s b =
+    let w : World Kept = delivered s b in
+    let e : SameTimes (with_kept s w.kept) (edits_taken w.kept.queue (with_kept s w.kept)).stage = edits_times w.kept.queue (with_kept s w.kept) in
+    record { time = e.time; block_end = e.block_end; fired = e.fired }

@@ -1,0 +1,33 @@
+-- Lines with the numbers of boxes.
+use Rattle.std.specs.Prelude.{ℕ, List, [], ◌∷◌, codes, map, take, if◌then◌else◌}
+use Rattle.std.specs.List.{concat}
+use Rattle.slab.specs.Slab.{get}
+use Rattle.pd_patch.specs.declared.patch.Patch.{Patch}
+use Rattle.pd_patch.specs.Paths.{path_told}
+use Rattle.pd_patch.specs.Telling.{order_in, number_in, is_looped}
+use Rattle.pd_patch.specs.Values.{stuck_in}
+use Rattle.pd_say.specs.Paths.{path_text, marked}
+use Rattle.pd_hearing.specs.Worlds.{Net, net_of}
+
+-- a line tells the numbers of 16,384 boxes at most; a patch has no more
+abbrev pub most_boxes : ℕ
+most_boxes = 16384
+
+abbrev pub numbers_told : Net → List ℕ → List ℕ
+numbers_told net boxes = map (number_in net.numbers.items) (take most_boxes boxes)
+
+-- a line with the numbers of boxes of the canvas at a path
+abbrev pub boxes_text : List ℕ → List ℕ → List ℕ → List ℕ
+boxes_text word path numbers = concat (word ∷ path_text path ∷ codes ":" ∷ marked 32 numbers ∷ codes "\n" ∷ [])
+
+-- the path to a canvas
+abbrev pub path_in : Patch → ℕ → List ℕ
+path_in p canvas = path_told (get p.grove.nodes) p.grove.boards p.numbers.items canvas
+
+-- boxes of a canvas feed one another in a loop
+abbrev pub loop_text : Patch → ℕ → List ℕ
+loop_text p canvas = boxes_text (codes "error: signal loop at ") (path_in p canvas) (numbers_told (net_of p) (stuck_in p canvas))
+
+-- the line of a canvas whose boxes do, and none of another one
+abbrev pub loops_text : Patch → ℕ → List ℕ
+loops_text p canvas = if is_looped (order_in p.orders.items canvas) then loop_text p canvas else []

@@ -1,0 +1,165 @@
+-- In a run the line that an edit of wires tells of a signal loop tells all boxes of the loop.
+use Rattle.std.proofs.Common.{◌≡◌, ◌≤◌, ◌+◌, ℕ, Bool, true, false, List, [], ◌∷◌, length, Option, Some, None, IfSome, refl, sym, ap, subst, ◌∙◌}
+use Rattle.std.specs.Prelude.{cond, option_and_then, slice_get, Result, Ok, Err}
+use Rattle.std.proofs.lemmas.Option.{none-some}
+use Rattle.slab.specs.Slab.{get}
+use Rattle.pd_canvas.specs.Views.{entry_of}
+use Rattle.pd_canvas.specs.declared.edits.Edit.{Edit}
+use Rattle.pd_canvas.specs.declared.edits.Edit.TheVariants as edit
+use Rattle.pd_canvas.specs.declared.wires.Wire.{Wire}
+use Rattle.pd_order.specs.Listing.{Listing}
+use Rattle.pd_grove.specs.declared.nodes.Node.{Node}
+use Rattle.pd_grove.specs.declared.grove.Grove.{Grove}
+use Rattle.pd_grove.specs.Telling.{keys_in, inner_in, step_in, reached}
+use Rattle.pd_grove.specs.TextOrder.{is_sub}
+use Rattle.pd_grove.specs.OwnPaths.{sub_in, sub_step_in, sub_reached}
+use Rattle.pd_web.specs.declared.lines.Line.{Line}
+use Rattle.pd_web.specs.declared.web.Web.{Web}
+use Rattle.pd_patch.specs.declared.patch.Patch.{Patch}
+use Rattle.pd_patch.specs.declared.report.Remark.TheVariants.{Loop}
+use Rattle.pd_patch.specs.Telling.{order_in}
+use Rattle.pd_wiring.specs.declared.asking.WireRefusal.{WireRefusal}
+use Rattle.pd_wiring.specs.declared.refusals.EditRefusal.{EditRefusal}
+use Rattle.pd_wiring.specs.declared.refusals.EditRefusal.TheVariants.{TooManyWires}
+use Rattle.pd_wiring.specs.Changes.{CanRewire}
+use Rattle.pd_wiring.specs.Plans.{Plan, Attaches, Detaches, canvas_of, attaching, wire_found, detaching, connecting, disconnecting, planned, IsCarriedOut, IsRewired}
+use Rattle.pd_hearing.specs.Worlds.{Net, bare, net_of}
+use Rattle.pd_block.specs.Nets as block
+use Rattle.pd_stage.specs.Choices.{Made}
+use Rattle.pd_stage.specs.Stages.{Stage}
+use Rattle.pd_stage.specs.Lawful.{IsMade}
+use Rattle.pd_stage.specs.Lines.{most_boxes}
+use Rattle.pd_stage.specs.Times.{with_wires, IsStageOf}
+use Rattle.pd_stage.proofs.EditLemmas.{AsksAlike}
+use Rattle.pd_engine.specs.Commands.{led_to}
+use Rattle.pd_engine.proofs.ShowLemmas.{led_is}
+use Rattle.pd_steady.specs.Told.{TellsLoop}
+use Rattle.pd_steady.proofs.ToldLemmas.{led_other, TellsOf, same_net}
+use Rattle.pd_steady.proofs.LoopLemmas.{stuck_told}
+
+-- ---- a path that leads through subpatches alone leads there
+
+kept_cond : (b : Bool) (o : Option ℕ) (c : ℕ) → cond b o None ≡ Some c → o ≡ Some c
+kept_cond true o c h = h
+kept_cond false o c h = absurd (none-some c h)
+
+sub_inner : (o : Option Node) (c : ℕ) → sub_in o ≡ Some c → inner_in o ≡ Some c
+sub_inner None c h = absurd (none-some c h)
+sub_inner (Some n) c h = kept_cond (is_sub (entry_of n.element).head.form) n.inner c h
+
+box_on : (g : Grove) (o : Option ℕ) (c : ℕ) → option_and_then (λ k. sub_in (get g.nodes k)) o ≡ Some c → option_and_then (λ k. inner_in (get g.nodes k)) o ≡ Some c
+box_on g None c h = absurd (none-some c h)
+box_on g (Some k) c h = sub_inner (get g.nodes k) c h
+
+step_on : (g : Grove) (here : Option ℕ) (n c : ℕ) → option_and_then (λ canvas. sub_step_in g canvas n) here ≡ Some c → option_and_then (λ canvas. step_in g canvas n) here ≡ Some c
+step_on g None n c h = absurd (none-some c h)
+step_on g (Some canvas) n c h = box_on g (slice_get (keys_in (get g.boards canvas)) n) c h
+
+nowhere : (g : Grove) (path : List ℕ) → sub_reached g None path ≡ None
+nowhere g [] = refl
+nowhere g (n ∷ path) = nowhere g path
+
+from_step : (g : Grove) (path : List ℕ) (c : ℕ) (s r : Option ℕ) → ((x : ℕ) → s ≡ Some x → r ≡ Some x)
+    → ((here : Option ℕ) → sub_reached g here path ≡ Some c → reached g here path ≡ Some c) → sub_reached g s path ≡ Some c → reached g r path ≡ Some c
+from_step g path c None r f P h = absurd (none-some c (sym (nowhere g path) ∙ h))
+from_step g path c (Some x) r f P h = subst (λ (o : Option ℕ). reached g o path ≡ Some c) (sym (f x refl)) (P (Some x) h)
+
+sub_leads : (g : Grove) (path : List ℕ) (here : Option ℕ) (c : ℕ) → sub_reached g here path ≡ Some c → reached g here path ≡ Some c
+sub_leads g [] here c h = h
+sub_leads g (n ∷ path) here c h =
+    from_step g path c (option_and_then (λ canvas. sub_step_in g canvas n) here) (option_and_then (λ canvas. step_in g canvas n) here)
+    (λ x e. step_on g here n x e) (λ o e. sub_leads g path o c e) h
+
+-- ---- an edit that is planned is one of the canvas at its path
+
+abbrev canvas_told : Result Plan EditRefusal → Option ℕ
+canvas_told (Ok plan) = Some (canvas_of plan)
+canvas_told (Err why) = None
+
+-- what is planned is planned for the canvas that was found
+abbrev IsOf : Option ℕ → Result Plan EditRefusal → Type 0
+IsOf found r = IfSome (canvas_told r) (λ c. found ≡ Some c)
+
+few_of : (b : Bool) (c : ℕ) (l : Line) → IsOf (Some c) (cond b (Ok (Attaches c l)) (Err TooManyWires))
+few_of true c l = refl
+few_of false c l = tt
+
+attach_of : (w : Web) (c : ℕ) (r : Result Line WireRefusal) → IsOf (Some c) (attaching w c r)
+attach_of w c (Err why) = tt
+attach_of w c (Ok l) = few_of _ c l
+
+wire_of : (c : ℕ) (l : Line) (o : Option ℕ) → IsOf (Some c) (wire_found c l o)
+wire_of c l None = tt
+wire_of c l (Some key) = refl
+
+detach_of : (w : Web) (c : ℕ) (r : Result Line WireRefusal) → IsOf (Some c) (detaching w c r)
+detach_of w c (Err why) = tt
+detach_of w c (Ok l) = wire_of c l _
+
+connect_of : (p : Patch) (v : Wire) (o : Option ℕ) → IsOf o (connecting p v o)
+connect_of p v None = tt
+connect_of p v (Some c) = attach_of p.web c _
+
+disconnect_of : (p : Patch) (v : Wire) (o : Option ℕ) → IsOf o (disconnecting p v o)
+disconnect_of p v None = tt
+disconnect_of p v (Some c) = detach_of p.web c _
+
+planned_of : (p : Patch) (path : List ℕ) (e : Edit) → IsOf (sub_reached p.grove (Some p.grove.root) path) (planned p path e)
+planned_of p path (edit.Connect v) = connect_of p v (sub_reached p.grove (Some p.grove.root) path)
+planned_of p path (edit.Disconnect v) = disconnect_of p v (sub_reached p.grove (Some p.grove.root) path)
+planned_of p path (edit.Obj x y text) = tt
+planned_of p path (edit.Msg x y text) = tt
+planned_of p path (edit.Comment x y text) = tt
+planned_of p path (edit.FloatBox x y text) = tt
+planned_of p path (edit.SymbolBox x y text) = tt
+planned_of p path (edit.Sub x y name) = tt
+planned_of p path (edit.Delete number) = tt
+planned_of p path (edit.Retype number text) = tt
+planned_of p path (edit.Move number x y) = tt
+
+rewired_at : (p q : Patch) (path : List ℕ) (e : Edit) (canvas : ℕ) → IsRewired p q path e canvas → reached p.grove (Some p.grove.root) path ≡ Some canvas
+rewired_at p q path e canvas r =
+    let found : sub_reached p.grove (Some p.grove.root) path ≡ Some (canvas_of r.plan) =
+    subst (λ (x : Result Plan EditRefusal). IsOf (sub_reached p.grove (Some p.grove.root) path) x) r.is_planned (planned_of p path e) in
+    sub_leads p.grove path (Some p.grove.root) canvas (found ∙ ap (λ (x : ℕ). Some x) (sym r.canvas_is))
+
+-- ---- the patch that the edit makes has the boxes of the one that grew
+
+-- the boxes and their numbers stay, and wires can be changed again
+record StaysWith (p q : Patch) : Type 0 where
+  grove : q.grove ≡ p.grove
+  numbers : q.numbers ≡ p.numbers
+  rewires : CanRewire q
+
+stays_with : (plan : Plan) (p q : Patch) → IsCarriedOut plan p q → StaysWith p q
+stays_with (Attaches c l) p q h = record { grove = h.rest.grove; numbers = h.rest.numbers; rewires = h.rewires }
+stays_with (Detaches c key l) p q h = record { grove = h.rest.grove; numbers = h.rest.numbers; rewires = h.rewires }
+
+-- with the wires of another patch of the same boxes, wires can be changed
+pub rewires_with : (asks : AsksAlike) (p : Patch) (s : Stage) (path : List ℕ) (e : Edit) (m : Made) → IsStageOf p s → (h : IsMade s path e m)
+    → CanRewire (with_wires p h.new.web h.new.links h.new.orders)
+rewires_with asks p s path e m at h =
+    let k : StaysWith h.old h.new = stays_with h.rewired.plan h.old h.new h.rewired.done in
+    asks h.new (with_wires p h.new.web h.new.links h.new.orders) (record {
+      nodes = λ j. sym (ap (λ (n : block.Net). n.nodes j) at.net) ∙ ap (λ (n : Net). n.nodes j) h.stands.net ∙ ap (λ (g : Grove). bare (get g.nodes j)) (sym k.grove);
+      boards = sym (ap (λ (n : block.Net). n.boards) at.net) ∙ ap (λ (n : Net). n.boards) h.stands.net ∙ ap (λ (g : Grove). g.boards) (sym k.grove);
+      web = refl;
+      links = refl;
+      orders = refl;
+      numbers = sym (ap (λ (n : block.Net). n.numbers) at.net) ∙ ap (λ (n : Net). n.numbers) h.stands.net ∙ sym k.numbers;
+    }) k.rewires
+
+-- a path leads where it leads in a patch whose net the stage has
+led_at : (p q : Patch) (s : Stage) (path : List ℕ) (c : ℕ) → s.net ≡ net_of q → TellsOf p s → reached q.grove (Some q.grove.root) path ≡ Some c → reached p.grove (Some p.grove.root) path ≡ Some c
+led_at p q s path c stands tells e =
+    let there : led_to s.net (Some s.net.root) path ≡ Some c =
+    subst (λ (n : Net). led_to n (Some n.root) path ≡ Some c) (sym stands) (led_is q (Some q.grove.root) path ∙ e) in
+    sym (led_is p (Some p.grove.root) path) ∙ sym (led_other p s.net.blocks (Some p.grove.root) path)
+    ∙ subst (λ (n : Net). led_to n (Some n.root) path ≡ Some c) (same_net p s tells) there
+
+pub made_at : (p : Patch) (s : Stage) (path : List ℕ) (e : Edit) (m : Made) → IsStageOf p s → (h : IsMade s path e m) → reached p.grove (Some p.grove.root) path ≡ Some h.canvas
+made_at p s path e m at h =
+    led_at (with_wires p at.web at.links at.orders) h.old s path h.canvas h.stands.net at.net (rewired_at h.old h.new path e h.canvas h.rewired)
+
+pub made_told : (q : Patch) (canvas : ℕ) → ((o : Listing) → order_in q.orders.items canvas ≡ Some o → length o.chain + length o.stuck ≤ most_boxes) → TellsLoop q (Loop canvas)
+made_told q canvas short = stuck_told q (order_in q.orders.items canvas) short
