@@ -2,8 +2,8 @@
 # Read by ./play: whether the program is that of the sources as they stand, and how it is built.
 #
 # It is proved by `rt ci` in a copy of the crates that it stands on, without their must-fail edits: as many crates side by side as there are processors
-# and memory, the longest chain first. That run is ended once the program is there. What it proved is kept on this machine, so that `rt ci` of the
-# whole repository doesn't prove it again; what `rt run` proves would count for nothing there.
+# and memory, the longest chain first. That run is ended once the program is there. Where the kit keeps what was proved on this machine, `rt ci` of
+# the whole repository doesn't prove it again; what `rt run` proves would count for nothing there.
 #
 # It uses $top, $program, $room, $running, say and stop of play.
 # shellcheck disable=SC2154
@@ -97,7 +97,7 @@ estimate() {
       print int((work > least ? work : least) / 60000) + 1
     }')
   say "building pdplay: $# of its $(crates_of_program | wc -l) crates are to be proved, $jobs at a time"
-  say "allow $minutes minutes, twice that on a slow processor, and less where they were proved on this machine before; later calls take seconds"
+  say "allow $minutes minutes, twice that on a slow processor, and less where the kit has kept what was proved on this machine before; later calls take seconds"
 }
 
 # Stops where the toolchain isn't there.
