@@ -1,0 +1,10 @@
+pub mod NowLemmas
+pub mod MadeLemmas
+pub mod FreshLemmas
+pub mod ReloadLemmas
+pub mod SortedLemmas
+pub mod FanLemmas
+pub mod FollowLemmas
+pub mod LaidLemmas
+pub mod EditLemmas
+pub mod StayLemmas

@@ -1,0 +1,3 @@
+pub mod Saving
+pub mod Reloading
+pub mod Wires
