@@ -1,0 +1,12 @@
+pub mod OutLemmas
+pub mod OrderLemmas
+pub mod AnswerLemmas
+pub mod ListLemmas
+pub mod BoundLemmas
+pub mod StandLemmas
+pub mod LessLemmas
+pub mod FollowLemmas
+pub mod LeafLemmas
+pub mod PartLemmas
+pub mod AlterLemmas
+pub mod TurnLemmas

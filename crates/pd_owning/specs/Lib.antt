@@ -1,0 +1,3 @@
+pub mod Order
+pub mod Bound
+pub mod Parts
