@@ -1,0 +1,5 @@
+pub mod Acts
+pub mod Inverses
+pub mod Codes
+pub mod Histories
+pub mod Kept
