@@ -6,9 +6,8 @@
 //! the bytes of its script, by which each voice in turn goes from the left to the right.
 //!
 //! A `Tally` is the sum of the magnitudes of samples that come as bytes in pieces of any length, and how many bytes came;
-//! both stay at 2^64 - 1 once they would go above it. `Summing` is a sink that passes bytes on and tallies exactly those
-//! that were taken: what it has taken and its faults are those of the sink behind it. `Summary::line` gives exactly the
-//! bytes of the last line of a run.
+//! both stay at 2^64 - 1 once they would go above it. `ScriptSource` gives the bytes of a script that is at hand, and
+//! never fails. `Summary::line` gives exactly the bytes of the last line of a run.
 //!
 //! Laws: the text of the document is what one writes by hand (`made_texts`); bytes in two pieces are tallied as those in
 //! a row, and from nothing the sum is that of their magnitudes (`pieces_join`). Free: want of memory. Nothing above makes
@@ -21,14 +20,14 @@
 mod document;
 mod laws;
 mod script;
+mod source;
 mod summary;
-mod summing;
 mod tally;
 mod words;
 
 pub use document::make_doc;
 pub use laws::{made_texts, pieces_join};
 pub use script::make_script;
+pub use source::ScriptSource;
 pub use summary::Summary;
-pub use summing::Summing;
 pub use tally::Tally;

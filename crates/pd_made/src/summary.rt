@@ -13,9 +13,9 @@ pub struct Summary {
     /// How many voices were asked for.
     pub voices: u32,
     /// How many elements the document has at the end.
-    pub boxes: u32,
+    pub boxes: u64,
     /// How many wires it has at the end.
-    pub wires: u32,
+    pub wires: u64,
     /// How many blocks ran.
     pub blocks: u64,
     /// The sum of the magnitudes of all samples.
@@ -29,8 +29,8 @@ impl Summary {
     {
         let mut line = ArrayVec::new();
         put_count(b"made ", u64::from(self.voices), &mut line);
-        put_count(b": ", u64::from(self.boxes), &mut line);
-        put_count(b" boxes, ", u64::from(self.wires), &mut line);
+        put_count(b": ", self.boxes, &mut line);
+        put_count(b" boxes, ", self.wires, &mut line);
         put_count(b" wires, ", self.blocks, &mut line);
         put_count(b" blocks, sum ", self.sum, &mut line);
         append(b"\n", &mut line);
