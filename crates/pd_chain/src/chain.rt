@@ -36,6 +36,3 @@ pub fn order_of<L: Ledger>(
     order.fold(&graph, signal, steps);
     Ok(order)
 }
-
-#[cfg(test)]
-mod tests;

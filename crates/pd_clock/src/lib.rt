@@ -15,8 +15,6 @@
 mod clocks;
 mod compaction;
 mod slots;
-#[cfg(test)]
-mod tests;
 mod times;
 
 pub use clocks::Clocks;

@@ -27,8 +27,6 @@ mod buffer;
 mod feed;
 mod laws;
 mod scan;
-#[cfg(test)]
-mod tests;
 
 pub use feed::{Fed, RecordFeed};
 pub use laws::script_laws;

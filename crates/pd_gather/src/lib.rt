@@ -22,8 +22,6 @@ mod library;
 mod reading;
 mod refusal;
 mod root;
-#[cfg(test)]
-mod tests;
 
 pub use boxes::Site;
 pub use library::Library;

@@ -23,8 +23,6 @@ ghost use Rattle.pd_lex.specs.Reading.{units_len, semicolon as semicolon_at, ste
 use memchr::memchr2;
 
 mod escapes;
-#[cfg(test)]
-mod tests;
 
 pub use escapes::{escapes_read, put_escaped, unescape};
 

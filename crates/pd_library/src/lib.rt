@@ -17,6 +17,3 @@ mod files;
 pub use answers::Answer;
 pub use drafts::Drafts;
 pub use files::Files;
-
-#[cfg(test)]
-mod tests;

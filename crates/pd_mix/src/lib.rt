@@ -10,8 +10,6 @@
 
 mod samples;
 mod sums;
-#[cfg(test)]
-mod tests;
 
 pub use samples::{BYTES, write_samples};
 pub use sums::{add, copy, fill, silence};

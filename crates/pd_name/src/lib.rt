@@ -12,8 +12,6 @@ ghost use Rattle.std.specs.Prelude.{◌≡◌, ◌<◌, ◌≤◌, ◌+◌, [], 
 ghost use Rattle.pd_name.specs.Rows.{owners_of, spare_of, without, AllStay, OthersStay, OwnersStay};
 
 mod lists;
-#[cfg(test)]
-mod tests;
 
 use indexmap::IndexMap;
 use lists::{Key, Lists};

@@ -27,8 +27,6 @@ mod numbers;
 mod printing;
 mod reading;
 mod signals;
-#[cfg(test)]
-mod tests;
 
 pub use numbers::Num;
 pub use signals::Sig;

@@ -8,8 +8,6 @@
 //! Definitions: `Room`; the clocks themselves are `pd_clock`'s.
 #![tactic(auto)]
 
-#[cfg(test)]
-mod tests;
 mod timers;
 
 pub use timers::Timers;

@@ -15,6 +15,3 @@ mod numbers;
 mod reading;
 
 pub use reading::{Words, read_words};
-
-#[cfg(test)]
-mod tests;
