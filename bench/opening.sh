@@ -41,7 +41,7 @@ for form in known unknown files; do
     [ "$form $count" = "files 4000" ] && break
     now=$(seconds_of "$form" "$count")
     awk -v f="$form" -v c="$count" -v t="$now" -v b="$before" 'BEGIN {
-      printf "%-9s %8d %9.0f ms %7s\n", f, c, t * 1000, b > 0 ? sprintf("%.1f", t / b) : "-"
+      printf "%-9s %8d %9.0f ms %7s\n", f, c, t * 1000, (b > 0 ? sprintf("%.1f", t / b) : "-")
     }'
     before=$now
   done

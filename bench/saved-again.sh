@@ -6,7 +6,7 @@
 #
 #   opens    it opens: the exit code is 0
 #   saved    its file was written anew
-#   again    the second save wrote the same bytes as the first
+#   again    the second save wrote the same bytes as the first, which it doesn't where a patch turns a toggle that keeps its value as it opens
 #   alike    both runs printed the same lines, but for wires that don't fit, which a save leaves out, and wrote the same samples
 #
 # Build the program first, by ./play, or name another one in PDPLAY. A patch may take SECONDS_EACH seconds (120).
