@@ -19,8 +19,8 @@
 # Build the program first, by ./play, or name another one in PDPLAY. A patch may take SECONDS_EACH seconds (120).
 set -u
 top=$(cd "$(dirname "$0")/.." && pwd) || exit 2
-program=$(readlink -f "${PDPLAY:-$top/crates/pdplay/out/pdplay}")
-[ -x "$program" ] || { echo "bench: build the program first: ./play examples/hello/main.pd" >&2; exit 2; }
+# shellcheck source=bench/program.sh
+. "$top/bench/program.sh"
 [ $# -gt 0 ] || { echo "usage: bench/compatibility.sh FOLDER-OR-PATCH.." >&2; exit 2; }
 limit=${SECONDS_EACH:-120}
 room=$(mktemp -d)

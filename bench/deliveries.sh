@@ -13,8 +13,8 @@
 # nine runs and by those in the middle. The runs of the two take turns. Build the program first, by ./play, or name another one in PDPLAY.
 set -u
 top=$(cd "$(dirname "$0")/.." && pwd) || exit 2
-program=$(readlink -f "${PDPLAY:-$top/crates/pdplay/out/pdplay}")
-[ -x "$program" ] || { echo "bench: build the program first: ./play examples/hello/main.pd" >&2; exit 2; }
+# shellcheck source=bench/program.sh
+. "$top/bench/program.sh"
 events=${1:-50}
 folder=$(mktemp -d)
 trap 'rm -rf "$folder"' EXIT

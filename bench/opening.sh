@@ -6,8 +6,8 @@
 # times longer a patch of twice the boxes takes. Build the program first, by ./play, or name another one in PDPLAY.
 set -u
 top=$(cd "$(dirname "$0")/.." && pwd) || exit 2
-program=$(readlink -f "${PDPLAY:-$top/crates/pdplay/out/pdplay}")
-[ -x "$program" ] || { echo "bench: build the program first: ./play examples/hello/main.pd" >&2; exit 2; }
+# shellcheck source=bench/program.sh
+. "$top/bench/program.sh"
 folder=$(mktemp -d)
 trap 'rm -rf "$folder"' EXIT
 # shellcheck source=bench/seconds.sh
