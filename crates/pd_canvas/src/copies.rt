@@ -40,8 +40,9 @@ fn copy_elements(alloc: Global, elements: &[Element]) -> Result<Vec<Element>, Al
     Ok(copies)
 }
 
+/// An element that equals another and shares nothing with it.
 #[cycle(copy)]
-fn copy_element(element: &Element) -> Result<Element, AllocError>
+pub fn copy_element(element: &Element) -> Result<Element, AllocError>
     ensures { IfOk result (λ e. entry_of e ≡ entry_of element.now) }
 {
     Ok(Element {

@@ -30,7 +30,7 @@ mod tree;
 mod turns;
 mod wires;
 
-pub use copies::copy;
+pub use copies::{copy, copy_element};
 pub use edits::{Edit, Place, apply_plain, can_apply};
 pub use laws::{edits_keep_proper, fan_outs};
 pub use lists::{AtomRows, Atoms, Numbers, Nums};

@@ -7,7 +7,7 @@ use Rattle.pd_kind.specs.declared.states.State.{State}
 use Rattle.pd_kind.specs.declared.states.State.TheVariants as state
 use Rattle.pd_kind.specs.States.{start_of}
 
--- the state of the same objects with each number 0 and each list empty, at one rate
+-- the state of the same objects with each number 0 and each list empty, at one rate; whether a toggle is saved with its values never changes
 abbrev pub blank : State → State
 blank state.Bare = state.Bare
 blank (state.Message text) = state.Message []
@@ -39,7 +39,7 @@ blank (state.Division left right) = state.Division (pos 0) (pos 0)
 blank (state.Clip low high) = state.Clip (pos 0) (pos 0)
 blank (state.Table values) = state.Table []
 blank (state.Tabwrite index) = state.Tabwrite (pos 0)
-blank (state.Toggle value other saved) = state.Toggle (pos 0) (pos 0) false
+blank (state.Toggle value other saved) = state.Toggle (pos 0) (pos 0) saved
 blank (state.Phasor held phase rate) = state.Phasor (pos 0) 0 R44100
 blank (state.Osc held phase rate) = state.Osc (pos 0) 0 R44100
 blank (state.Noise seed) = state.Noise 0

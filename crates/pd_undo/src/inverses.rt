@@ -8,10 +8,11 @@ ghost use Rattle.pd_canvas.specs.Edits.{Fits};
 ghost use Rattle.pd_undo.specs.Acts.{Put as put_act, Swap as swap_act, Wires as wires_act, act_of, placed, done, IsThere, HasRoom, AreThere, HaveRoom};
 ghost use Rattle.pd_undo.specs.Inverses.{page_at, around, box_at, at, wires_around, box_back, turns_back, opposite, opposites, wires_for, wires_of, inverse};
 
-use crate::copies::{copy_element, copy_turn};
+use crate::copies::copy_turn;
 use crate::turns::Turns;
 use pd_canvas::{
-    Canvas, Change, Doc, Edit, Element, Numbers, Turn, Wires, canvas_at, copy, plain_turn,
+    Canvas, Change, Doc, Edit, Element, Numbers, Turn, Wires, canvas_at, copy, copy_element,
+    plain_turn,
 };
 use std::alloc::{AllocError, Global};
 
@@ -25,7 +26,7 @@ pub fn inverse_of(alloc: Global, doc: &Doc, path: &[u32], edit: &Edit) -> Result
     requires { IsSomeAnd (along path.now doc.now.root) (Fits edit.now) }
     ensures { IfOk result (λ t. t ≡ turns_back path.now edit.now doc.now.root) }
 {
-    let change = change_back(alloc, doc, path, edit)?;
+    let change = change_back(doc, path, edit)?;
     let mut turns = Vec::with_capacity(alloc, 3)?;
     push_change(alloc, path, change, &mut turns)?;
     push_wires(alloc, doc, path, &mut turns)?;
@@ -183,44 +184,35 @@ fn opposite_in(
     ensures { IfOk result (λ o. map act_of (option_to_list o) ≡ opposite (act_of change.now) (page_at path.now doc.now.root)) }
 {
     match canvas_at(&doc.root, path) {
-        Some(canvas) => opposite_change(alloc, canvas, change),
+        Some(canvas) => opposite_change(canvas, change),
         None => unreachable!(),
     }
 }
 
-fn opposite_change(
-    alloc: Global,
-    canvas: &Canvas,
-    change: &Change,
-) -> Result<Option<Change>, AllocError>
+fn opposite_change(canvas: &Canvas, change: &Change) -> Result<Option<Change>, AllocError>
     requires { IsThere (act_of change.now) canvas.now }
     ensures { IfOk result (λ o. map act_of (option_to_list o) ≡ opposite (act_of change.now) canvas.now) }
 {
     match change {
         Change::Put { number, .. } => Ok(Some(Change::Take { number: *number })),
-        Change::Take { number } => Ok(Some(put_back(alloc, canvas, *number)?)),
-        Change::Swap { number, .. } => Ok(Some(swap_back(alloc, canvas, *number)?)),
+        Change::Take { number } => Ok(Some(put_back(canvas, *number)?)),
+        Change::Swap { number, .. } => Ok(Some(swap_back(canvas, *number)?)),
         Change::Wires { .. } => Ok(None),
     }
 }
 
 /// The change of its box by which an edit is taken back, if it has a box, in the canvas that a path leads to.
-fn change_back(
-    alloc: Global,
-    doc: &Doc,
-    path: &[u32],
-    edit: &Edit,
-) -> Result<Option<Change>, AllocError>
+fn change_back(doc: &Doc, path: &[u32], edit: &Edit) -> Result<Option<Change>, AllocError>
     requires { IsSomeAnd (along path.now doc.now.root) (Fits edit.now) }
     ensures { IfOk result (λ o. map act_of (option_to_list o) ≡ box_back edit.now (page_at path.now doc.now.root)) }
 {
     match canvas_at(&doc.root, path) {
-        Some(canvas) => box_change(alloc, canvas, edit),
+        Some(canvas) => box_change(canvas, edit),
         None => unreachable!(),
     }
 }
 
-fn box_change(alloc: Global, canvas: &Canvas, edit: &Edit) -> Result<Option<Change>, AllocError>
+fn box_change(canvas: &Canvas, edit: &Edit) -> Result<Option<Change>, AllocError>
     requires { Fits edit.now canvas.now }
     ensures { IfOk result (λ o. map act_of (option_to_list o) ≡ box_back edit.now canvas.now) }
 {
@@ -232,9 +224,9 @@ fn box_change(alloc: Global, canvas: &Canvas, edit: &Edit) -> Result<Option<Chan
         | Edit::SymbolBox { .. }
         | Edit::Sub { .. } => Ok(Some(take_next(canvas)?)),
         Edit::Connect { .. } | Edit::Disconnect { .. } => Ok(None),
-        Edit::Delete { number } => Ok(Some(put_back(alloc, canvas, *number)?)),
+        Edit::Delete { number } => Ok(Some(put_back(canvas, *number)?)),
         Edit::Retype { number, .. } | Edit::Move { number, .. } => {
-            Ok(Some(swap_back(alloc, canvas, *number)?))
+            Ok(Some(swap_back(canvas, *number)?))
         }
     }
 }
@@ -250,33 +242,33 @@ fn take_next(canvas: &Canvas) -> Result<Change, AllocError>
 }
 
 /// Puts a box back at its number.
-fn put_back(alloc: Global, canvas: &Canvas, number: u32) -> Result<Change, AllocError>
+fn put_back(canvas: &Canvas, number: u32) -> Result<Change, AllocError>
     requires { number < length (elements_of canvas.now) }
     ensures { IfOk result (λ c. act_of c ≡ put_act number (box_at number canvas.now)) }
 {
-    let element = copy_box(alloc, canvas, number)?;
+    let element = copy_box(canvas, number)?;
     Ok(Change::Put { number, element })
 }
 
 /// Puts a box back in the place of another.
-fn swap_back(alloc: Global, canvas: &Canvas, number: u32) -> Result<Change, AllocError>
+fn swap_back(canvas: &Canvas, number: u32) -> Result<Change, AllocError>
     requires { number < length (elements_of canvas.now) }
     ensures { IfOk result (λ c. act_of c ≡ swap_act number (box_at number canvas.now)) }
 {
-    let element = copy_box(alloc, canvas, number)?;
+    let element = copy_box(canvas, number)?;
     Ok(Change::Swap { number, element })
 }
 
-fn copy_box(alloc: Global, canvas: &Canvas, number: u32) -> Result<Element, AllocError>
+fn copy_box(canvas: &Canvas, number: u32) -> Result<Element, AllocError>
     requires { number < length (elements_of canvas.now) }
     ensures { IfOk result (λ e. entry_of e ≡ box_at number canvas.now) }
 {
-    copy_from(alloc, canvas.boxes.as_slice(), number)
+    copy_from(canvas.boxes.as_slice(), number)
 }
 
-fn copy_from(alloc: Global, elements: &[Element], number: u32) -> Result<Element, AllocError>
+fn copy_from(elements: &[Element], number: u32) -> Result<Element, AllocError>
     requires { number < length elements.now }
     ensures { IfOk result (λ e. (d : Entry) → entry_of e ≡ get_or (entries_of elements.now) number d) }
 {
-    copy_element(alloc, &elements[number as usize])
+    copy_element(&elements[number as usize])
 }
