@@ -1,14 +1,14 @@
-mod JackLemmas
-mod SocketLemmas
-mod EndLemmas
-mod WireLemmas
-mod HopLemmas
-mod BehindLemmas
-mod ChangeLemmas
-mod CountLemmas
-mod RoomLemmas
-mod LineLemmas
-mod FanLemmas
-mod HomeLemmas
+pub mod JackLemmas
+pub mod SocketLemmas
+pub mod EndLemmas
+pub mod WireLemmas
+pub mod HopLemmas
+pub mod BehindLemmas
+pub mod ChangeLemmas
+pub mod CountLemmas
+pub mod RoomLemmas
+pub mod LineLemmas
+pub mod FanLemmas
+pub mod HomeLemmas
 pub mod NumberLemmas
 pub mod TreeFits

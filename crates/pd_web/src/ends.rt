@@ -12,7 +12,7 @@ use pd_wire::{End, WireBook};
 use std::alloc::AllocError;
 
 /// The end of a port, where it has one.
-pub(crate) fn end_at(sockets: &[Sockets], spot: Spot) -> Option<End>
+pub fn end_at(sockets: &[Sockets], spot: Spot) -> Option<End>
     ensures { result ≡ end_told sockets.now spot }
 {
     let number = port_at(sockets, spot.side, spot.node, spot.port)?.end?;
@@ -20,7 +20,7 @@ pub(crate) fn end_at(sockets: &[Sockets], spot: Spot) -> Option<End>
 }
 
 /// The end of a port, made where it has none yet.
-pub(crate) fn end_for(
+pub fn end_for(
     sockets: &mut [Sockets],
     spots: &mut Vec<Spot>,
     book: &mut WireBook,
@@ -67,7 +67,7 @@ fn put_spot(spots: &mut Vec<Spot>, number: usize, spot: Spot) -> Result<(), Allo
 }
 
 /// Writes which end a port has.
-pub(crate) fn put_end(sockets: &mut [Sockets], spot: Spot, end: u32)
+pub fn put_end(sockets: &mut [Sockets], spot: Spot, end: u32)
     requires { IsThere sockets.old spot }
     ensures { Gives sockets.old sockets.new spot end }
 {

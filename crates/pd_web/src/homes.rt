@@ -10,7 +10,7 @@ use pd_grove::Side;
 use std::alloc::{AllocError, Global};
 
 /// For each box that is a port of its canvas, which port of the box around it is.
-pub(crate) fn lay_homes(alloc: Global, sockets: &[Sockets]) -> Result<Vec<Option<Spot>>, AllocError>
+pub fn lay_homes(alloc: Global, sockets: &[Sockets]) -> Result<Vec<Option<Spot>>, AllocError>
     requires near { AreNear sockets.now }
     requires few { AreFew sockets.now }
     requires keys { length sockets.now ≤ 2 ^ 32 }
@@ -49,7 +49,7 @@ fn no_homes(alloc: Global, count: usize) -> Result<Vec<Option<Spot>>, AllocError
 }
 
 /// Writes of each box that is a port of this one, which.
-fn settle_box(homes: &mut [Option<Spot>], own: &Sockets, key: u32)
+pub fn settle_box(homes: &mut [Option<Spot>], own: &Sockets, key: u32)
     requires { (side : Side) → length (side_ports side own.now) < 2 ^ 32 }
     ensures { Settles homes.old homes.new (IsOf own.now key) }
 {
@@ -80,7 +80,7 @@ fn settle(homes: &mut [Option<Spot>], inner: Option<u32>, spot: Spot)
     }
 }
 
-fn put_home(homes: &mut [Option<Spot>], inner: usize, spot: Spot)
+pub fn put_home(homes: &mut [Option<Spot>], inner: usize, spot: Spot)
     ensures is { inner < length homes.old → home_at homes.new inner ≡ Some spot }
     ensures others { (j : ℕ) → j ≢ inner → home_at homes.new j ≡ home_at homes.old j }
     ensures far { length homes.old ≤ inner → homes.new ≡ homes.old }

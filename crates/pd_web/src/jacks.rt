@@ -19,12 +19,7 @@ pub struct Jack {
 }
 
 /// The ports of a box on a side: those of the canvas in it, or else those of its kind.
-pub(crate) fn jacks_at(
-    alloc: Global,
-    grove: &Grove,
-    side: Side,
-    key: u32,
-) -> Result<Vec<Jack>, AllocError>
+pub fn jacks_at(alloc: Global, grove: &Grove, side: Side, key: u32) -> Result<Vec<Jack>, AllocError>
     requires { KindsSmall grove.now }
     ensures { IfOk result (λ jacks. jacks.items ≡ jacks_of_box side grove.now key) }
 {
@@ -35,7 +30,7 @@ pub(crate) fn jacks_at(
 }
 
 /// Whether a box is made. One that holds a canvas is.
-pub(crate) fn is_made_at(grove: &Grove, key: u32) -> bool
+pub fn is_made_at(grove: &Grove, key: u32) -> bool
     ensures { result ≡ made_in (get grove.now.nodes key) }
 {
     match grove.node(key) {

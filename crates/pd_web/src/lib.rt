@@ -35,10 +35,12 @@ mod sockets;
 mod web;
 mod wires;
 
-pub use jacks::Jack;
+pub use ends::{end_at, put_end};
+pub use homes::{put_home, settle_box};
+pub use jacks::{Jack, is_made_at, jacks_at};
 pub use joints::Joint;
 pub use laws::{canvases_wire_their_own_boxes, standing_canvases_are_trimmed, wires_are_counted};
 pub use lay::{MOST_WIRES, Unlaid};
 pub use lines::Line;
-pub use sockets::{Port, Sockets, Spot};
+pub use sockets::{Port, Sockets, Spot, box_sockets, port_at, sockets_at};
 pub use web::{Hop, Web};

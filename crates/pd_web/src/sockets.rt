@@ -38,7 +38,7 @@ pub struct Spot {
 }
 
 impl Sockets {
-    pub(crate) fn ports(&self, side: Side) -> &[Port]
+    pub fn ports(&self, side: Side) -> &[Port]
         ensures { result.now ≡ side_ports side self.now }
     {
         match side {
@@ -49,21 +49,21 @@ impl Sockets {
 }
 
 /// The ports of the box of a key.
-pub(crate) fn sockets_at(sockets: &[Sockets], node: u32) -> Option<&Sockets>
+pub fn sockets_at(sockets: &[Sockets], node: u32) -> Option<&Sockets>
     ensures { option_copied result ≡ slice_get sockets.now node }
 {
     sockets.get(node as usize)
 }
 
 /// A port of the box of a key.
-pub(crate) fn port_at(sockets: &[Sockets], side: Side, node: u32, port: u32) -> Option<&Port>
+pub fn port_at(sockets: &[Sockets], side: Side, node: u32, port: u32) -> Option<&Port>
     ensures { option_copied result ≡ port_under sockets.now side node port }
 {
     sockets_at(sockets, node)?.ports(side).get(port as usize)
 }
 
 /// The ports of every box, by key.
-pub(crate) fn lay_sockets(alloc: Global, grove: &Grove) -> Result<Vec<Sockets>, AllocError>
+pub fn lay_sockets(alloc: Global, grove: &Grove) -> Result<Vec<Sockets>, AllocError>
     requires { KindsSmall grove.now }
     ensures told { IfOk result (λ all. (side : Side) (k : ℕ) → ports_at all.items side k ≡ loose_ports (jacks_of_box side grove.now k)) }
     ensures made { IfOk result (λ all. (k : ℕ) → made_at all.items k ≡ made_in (get grove.now.nodes k)) }
@@ -81,7 +81,7 @@ pub(crate) fn lay_sockets(alloc: Global, grove: &Grove) -> Result<Vec<Sockets>, 
 }
 
 /// A number above all keys, where every key is below 2^32.
-pub(crate) fn keys_end(end: usize) -> Result<usize, AllocError>
+pub fn keys_end(end: usize) -> Result<usize, AllocError>
     ensures same { IfOk result (λ same. same ≡ end) }
     ensures small { OnOk result (end ≤ 2 ^ 32) }
 {
@@ -92,7 +92,7 @@ pub(crate) fn keys_end(end: usize) -> Result<usize, AllocError>
 }
 
 /// The ports of a box.
-fn box_sockets(alloc: Global, grove: &Grove, key: u32) -> Result<Sockets, AllocError>
+pub fn box_sockets(alloc: Global, grove: &Grove, key: u32) -> Result<Sockets, AllocError>
     requires { KindsSmall grove.now }
     ensures told { IfOk result (λ s. (side : Side) → side_ports side s ≡ loose_ports (jacks_of_box side grove.now key)) }
     ensures made { IfOk result (λ s. s.is_made ≡ made_in (get grove.now.nodes key)) }

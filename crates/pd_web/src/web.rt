@@ -10,12 +10,15 @@ use pd_wire::{WireBook, WireKey};
 /// The ports of the boxes of a running patch and the wires between them, by the boxes' keys.
 #[derive(Drop)]
 pub struct Web {
-    pub(crate) sockets: Vec<Sockets>,
-    pub(crate) spots: Vec<Spot>,
-    pub(crate) homes: Vec<Option<Spot>>,
-    pub(crate) book: WireBook,
+    /// The ports of each box, by key.
+    pub sockets: Vec<Sockets>,
+    /// The port of each end of the book.
+    pub spots: Vec<Spot>,
+    /// By the key of a box that is a port of its canvas, which port of the box around it is.
+    pub homes: Vec<Option<Spot>>,
+    pub book: WireBook,
     /// Ends set aside for ports that get their first wire.
-    pub(crate) spare: Vec<u32>,
+    pub spare: Vec<u32>,
     ghost few: { AreFew sockets.items },
     ghost tied: { AreTied sockets.items spots.items book },
     ghost free: { AreFree sockets.items book spare.items },

@@ -1,0 +1,13 @@
+mod ListLemmas
+mod FillLemmas
+mod LiveLemmas
+mod BoxLemmas
+mod EndLemmas
+mod HomeLemmas
+mod CloseLemmas
+mod TakeLemmas
+mod MoveLemmas
+mod ListedLemmas
+mod SpotLemmas
+mod SetLemmas
+mod MeetLemmas
