@@ -1,5 +1,5 @@
 -- Blocks of boxes, one box after another.
-use Rattle.std.proofs.Common.{arith, ◌≡◌, ℕ, zero, suc, ◌+◌, ◌<◌, ◌≤◌, ℤ, Bool, true, false, List, [], ◌∷◌, ◌++◌, length, map, Option, Some, None, IsSome, refl, sym, ap, ◌∙◌, inl, inr}
+use Rattle.std.proofs.Common.{arith, ◌≡◌, ℕ, zero, suc, ◌+◌, ◌<◌, ◌≤◌, ◌^◌, ℤ, Bool, true, false, List, [], ◌∷◌, ◌++◌, length, map, Option, Some, None, IsSome, refl, sym, ap, ◌∙◌, inl, inr}
 use Rattle.std.specs.Prelude.{replicate, option_and_then, slice_get, ◌||◌, if◌then◌else◌}
 use Rattle.std.specs.List.{list_any}
 use Rattle.std.proofs.lemmas.Bool.{cases_eq, cases_lt}
@@ -75,6 +75,10 @@ live_below nodes k count end l e live = elim (cases_lt k (length nodes.slots)) [
     none_live : (o : Option Node) → o ≡ None → IsSome o → ⊥
     none_live None q s = absurd (cc)
     none_live (Some n) q s = absurd (cc)
+
+-- and the numbers below one that has 32 bits
+pub small_keys : (k end : ℕ) → k < end → end < 2 ^ 32 → k < 2 ^ 32
+small_keys k end h l = omega (arith, h, l)
 
 -- so have all, where those below a number above all keys have theirs
 pub all_silent : {A : Type 0} (f : A → List (List ℤ)) (g : Grove) (w : Web) (vs : List A) (end : ℕ) → length g.nodes.slots ≤ end

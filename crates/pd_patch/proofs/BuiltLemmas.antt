@@ -32,6 +32,7 @@ silent_blocks g w blocks h k live =
 pub is_built : (p : Patch) (names : Names) (file : List ℕ) (rate : Rate) → IsFresh p names file rate → IsBuilt p names file rate
 is_built p names file rate fresh = record {
   own = fresh.own;
+  keys = fresh.keys;
   ports = record {
     ports = fresh.wires.ports;
     made = fresh.wires.made;

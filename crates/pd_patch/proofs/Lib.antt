@@ -15,3 +15,4 @@ pub mod CanvasLemmas
 pub mod BlockLemmas
 pub mod BuiltLemmas
 pub mod LinkingLemmas
+pub mod FedLemmas

@@ -1,5 +1,5 @@
 -- What a patch has as long as it runs, and what it has at first alone.
-use Rattle.std.specs.Prelude.{◌≡◌, ◌<◌, ℕ, ℤ, List, [], map, length, replicate, slice_get, Some, None, IsSome, option_map}
+use Rattle.std.specs.Prelude.{◌≡◌, ◌<◌, ◌^◌, ℕ, ℤ, List, [], map, length, replicate, slice_get, Some, None, IsSome, option_map}
 use Rattle.slab.specs.Slab.{get}
 use Rattle.pd_atom.specs.Names.{Names}
 use Rattle.pd_clock.specs.declared.times.Rate.{Rate}
@@ -38,11 +38,12 @@ pub record HasPorts (g : Grove) (w : Web) : Type 0 where
   pub homes : (j k i : ℕ) → port_told w j ≡ Some (k, i) → IsPortOf g j k i
   pub homes_found : (j k i : ℕ) → IsPortOf g j k i → IsSome (port_told w j)
 
--- What a patch has as long as it runs: boxes that lie in one canvas each, and their ports; under each name its owners, in text order; wires that
+-- What a patch has as long as it runs: boxes that lie in one canvas each, with keys below 2^32, and their ports; under each name its owners, in text order; wires that
 -- stay in their canvases, the signal wires as links, and the signal order of each canvas; each box's number; of each box as many blocks of 64 values as its outlets ask for, and none under another key; and room
 -- for one clock of each box.
 pub record IsBuilt (p : Patch) (names : Names) (file : List ℕ) (rate : Rate) : Type 0 where
   pub own : AreOwn (get p.grove.nodes) (get p.grove.boards)
+  pub keys : (k : ℕ) → IsSome (get p.grove.nodes k) → k < 2 ^ 32
   pub ports : HasPorts p.grove p.web
   pub owners : (class : Class) (name : ℕ) → owners_of p.names class name ≡ owners_in names file p.grove class name
   pub apart : get p.grove.nodes root_owner ≡ None

@@ -1,5 +1,5 @@
 -- What the growth of a patch gives, and why it is refused.
-use Rattle.std.specs.Prelude.{◌≡◌, ◌<◌, ◌≤◌, ◌+◌, ℕ, List, [], length, Some, None, IsSome}
+use Rattle.std.specs.Prelude.{◌≡◌, ◌<◌, ◌≤◌, ◌+◌, ◌^◌, ℕ, List, [], length, Some, None, IsSome}
 use Rattle.slab.specs.Slab.{get}
 use Rattle.pd_atom.specs.Names.{Names}
 use Rattle.pd_clock.specs.declared.times.Rate.{Rate}
@@ -27,6 +27,7 @@ use Rattle.pd_web.specs.Canvases.{keys_at}
 use Rattle.pd_patch.specs.declared.patch.Patch.{Patch}
 use Rattle.pd_patch.specs.declared.refusal.GrowRefusal.{GrowRefusal}
 use Rattle.pd_patch.specs.declared.refusal.GrowRefusal.TheVariants.{SymbolsFull, TooManyBoxes, TooManyWires, TooMuchSound, NoMemory}
+use Rattle.pd_patch.specs.Fed.{AreFed}
 use Rattle.pd_patch.specs.Numbers.{AreUnder}
 use Rattle.pd_patch.specs.Linked.{HasLinks}
 use Rattle.pd_patch.specs.Orders.{AreOrdered}
@@ -44,12 +45,14 @@ pub record AreLaid (g : Grove) (w : Web) : Type 0 where
   pub homes_found : (j k i : ℕ) → IsPortOf g j k i → IsSome (port_told w j)
   pub few : length (all_lines g) ≤ 65536
 
--- What a patch has whose tree was just planted: boxes that lie in one canvas each; its wires; under each name its owners, in text order;
--- its signal wires as links; the signal order of each canvas; each box's number; no clock, and room for one of each box; and of each box the first state and,
+-- What a patch has whose tree was just planted: boxes that lie in one canvas each, with keys below 2^32; its wires, each once among those of its
+-- inlet; under each name its owners, in text order; its signal wires as links; the signal order of each canvas; each box's number; no clock, and room for one of each box; and of each box the first state and,
 -- where it has signal outlets, a silent block for each outlet. No key but a box's has a block.
 pub record IsFresh (p : Patch) (names : Names) (file : List ℕ) (rate : Rate) : Type 0 where
   pub own : AreOwn (get p.grove.nodes) (get p.grove.boards)
+  pub keys : (k : ℕ) → IsSome (get p.grove.nodes k) → k < 2 ^ 32
   pub wires : AreLaid p.grove p.web
+  pub fed : AreFed p.web
   pub owners : (class : Class) (name : ℕ) → owners_of p.names class name ≡ owners_in names file p.grove class name
   pub apart : get p.grove.nodes root_owner ≡ None
   pub linked : HasLinks p.web p.links

@@ -16,3 +16,4 @@ pub mod Wires
 pub mod Document
 pub mod Looks
 pub mod Linked
+pub mod Fed

@@ -16,6 +16,7 @@ ghost use Rattle.pd_grove.specs.Standing.{GroveStands, NodesOf};
 ghost use Rattle.pd_web.specs.Jacks.{KindsSmall};
 ghost use Rattle.pd_grove.specs.TextOrder.{keys_in_order};
 ghost use Rattle.pd_patch.specs.Report.{notices_in, loads_among};
+ghost use Rattle.pd_patch.specs.Fed.{AreFed};
 ghost use Rattle.pd_patch.specs.Grown.{AreLaid, IsFresh, IsTree, HasCause};
 
 use crate::linking::links_of;
@@ -125,10 +126,14 @@ fn plant_whole(
 /// The ports and wires of a tree of which no more wires fit than may.
 fn web_of(alloc: Global, grove: &Grove) -> Result<Web, AllocError>
     requires { KindsSmall grove.now }
-    ensures { IfOk result (λ web. AreLaid grove.now web) }
+    ensures laid { IfOk result (λ web. AreLaid grove.now web) }
+    ensures fed { IfOk result (λ web. AreFed web) }
 {
     match Web::lay(alloc, grove) {
-        Ok(web) => Ok(web),
+        Ok(web) => {
+            web.laws();
+            Ok(web)
+        }
         Err(_) => Err(AllocError),
     }
 }

@@ -1,6 +1,6 @@
 //! The numbers of boxes in their canvases.
 
-ghost use Rattle.std.specs.Prelude.{◌≡◌, ◌≤◌, length, IfOk, OnOk};
+ghost use Rattle.std.specs.Prelude.{◌≡◌, ◌<◌, ◌≤◌, ◌^◌, length, IfOk, OnOk};
 ghost use Rattle.pd_web.specs.Canvases.{keys_at};
 ghost use Rattle.pd_patch.specs.Numbers.{AreApart, AreUnder, Spares, AreNumbered};
 
@@ -10,7 +10,8 @@ use std::alloc::{AllocError, Global};
 
 /// A number above the keys of all boxes.
 pub(crate) fn box_end(grove: &Grove) -> Result<u32, AllocError>
-    ensures { IfOk result (λ end. length grove.now.nodes.slots ≤ end) }
+    ensures above { IfOk result (λ end. length grove.now.nodes.slots ≤ end) }
+    ensures small { IfOk result (λ end. end < 2 ^ 32) }
 {
     match u32::try_from(grove.nodes_end()) {
         Ok(end) => Ok(end),

@@ -65,6 +65,7 @@ pub rebuilt : (p q : Patch) (names : Names) (file : List ℕ) (rate : Rate) → 
     → IsBuilt p names file rate → IsBuilt q names file rate
 rebuilt p q names file rate grove same_names timers values same_rate K can b = record {
   own = can.own;
+  keys = rw grove b.keys;
   ports = can.ports;
   owners = λ class name. rw (same_names, grove) (b.owners class name);
   apart = rw grove b.apart;

@@ -13,7 +13,7 @@ loop-key-preserved c =
 
 pub returns : goal.returns
 returns c =
-    let high = c.in_ok-end.ensures in
+    let high = c.in_ok-end.ensures.above in
     let past = c.loop-key-test.false in
     links_told c.args.grove.now c.args.web.now c.in_ok-links.links c.loop-key.key c.loop-key.wires.items c.requires (omega (arith, high, past)) c.loop-key.invariant
     (subst (AreLinked c.in_ok-links.links) c.as_slice.ensures.value c.in_ok-links.ensures)

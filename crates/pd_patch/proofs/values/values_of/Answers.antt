@@ -24,7 +24,7 @@ loop-key-preserved c =
 pub returns-clause-silent : goal.returns-clause-silent
 returns-clause-silent c =
     let g = c.args.grove.now in
-    let end : length g.nodes.slots ≤ c.in_ok-end.end = c.in_ok-end.ensures in
+    let end : length g.nodes.slots ≤ c.in_ok-end.end = c.in_ok-end.ensures.above in
     let past = c.loop-key-test.false in
     all_silent (λ b. b.items) g c.args.web.now c.loop-key.values.items c.loop-key.key (omega (arith, end, past)) c.loop-key.invariant.each
 
