@@ -24,7 +24,7 @@ use Rattle.pd_grove.specs.States.{NodesFresh}
 use Rattle.pd_grove.specs.Telling.{state_in}
 use Rattle.pd_patch.specs.declared.patch.Patch.{Patch}
 use Rattle.pd_block.specs.Nets.{states_of}
-use Rattle.pd_guards.proofs.FactLemmas.{either_by}
+use Rattle.pd_keeping_law.proofs.FactLemmas.{either_by}
 use Rattle.pd_bounds_law.specs.Bounds.{IsWholeFrom, HasBounds}
 
 -- all boxes keep what is within its bounds

@@ -24,7 +24,6 @@ pub mod PatchLemmas
 pub mod CommandLemmas
 pub mod SignalLemmas
 pub mod BlockLemmas
-pub mod KeepLemmas
 pub mod HeldLemmas
 pub mod RunLemmas
 pub mod ToldLemmas

@@ -29,7 +29,7 @@ use Rattle.pd_vline.specs.Ramps.{value_on, base_at}
 use Rattle.pd_vline.specs.Taken.{Front, front, taken}
 use Rattle.pd_guards.specs.Order.{IsNumber}
 use Rattle.pd_guards.specs.Sounds.{IsValue, AreValues, IsRamp, IsBase}
-use Rattle.pd_guards.proofs.FactLemmas.{either, either_by, all-append, all-take, all-drop, all-set}
+use Rattle.pd_guards.proofs.FactLemmas.{either, either_by, all-append, all-take, all-drop, all-set, all-made}
 use Rattle.pd_guards.proofs.NumberLemmas.{far, abs_neg, abs_div, get_in}
 
 pub near_value : (z : ℤ) → unsigned_abs z ≤ 1000000000000000000 → IsValue z
@@ -53,18 +53,9 @@ signal_value z h =
     near_value (signal_of z) (omega arith)
 
 -- lists
-pub all-index : {A : Type 0} (P : A → Type 0) (xs : List A) (i : ℕ) (d : A) → P d → AllByRecursion P xs → P (slice_index_or xs i d)
-all-index P [] i d k h = k
-all-index P (x ∷ xs) zero d k h = h.0
-all-index P (x ∷ xs) (suc i) d k h = all-index P xs i d k h.1
-
 pub all-same : {A : Type 0} (P : A → Type 0) (n : ℕ) (x : A) → P x → AllByRecursion P (replicate n x)
 all-same P zero x h = tt
 all-same P (suc n) x h = (h, all-same P n x h)
-
-pub all-made : {A B : Type 0} (P : B → Type 0) (f : A → B) → ((x : A) → P (f x)) → (xs : List A) → AllByRecursion P (map f xs)
-all-made P f k [] = tt
-all-made P f k (x ∷ xs) = (k x, all-made P f k xs)
 
 all-made_of : {A B : Type 0} (P : A → Type 0) (Q : B → Type 0) (f : A → B) → ((x : A) → P x → Q (f x)) → (xs : List A) → AllByRecursion P xs → AllByRecursion Q (map f xs)
 all-made_of P Q f k [] h = tt

@@ -420,7 +420,7 @@ module _ (net : Net) (now : ℕ) where
       sym (outcome_freely w s ∙ (outcome_ends net now (free.rules net now) (IsInOrder net now) (IsNearTaskAt net now) (delivers_freely near) w s h k).0)
 
 -- at a later time
-kept_later : (names : Names) (now later : ℕ) → now ≤ later → (s : State) → IsKept names now s → IsKept names later s
+pub kept_later : (names : Names) (now later : ℕ) → now ≤ later → (s : State) → IsKept names now s → IsKept names later s
 kept_later names now later l (state.Vline r) h = omega arith
 kept_later names now later l s h = h
 

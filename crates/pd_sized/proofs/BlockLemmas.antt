@@ -1,8 +1,7 @@
 -- A block leaves the sizes of what the boxes keep as they were, and each outlet gives 64 values.
-use Rattle.std.proofs.Common.{◌≡◌, ◌⊎◌, ℕ, ℤ, zero, suc, ◌+◌, ◌*◌, ◌<◌, ◌≤◌, ◌==◌, ◌&&◌, inl, inr, Bool, true, false, nat_le, nat_lt, List, [], ◌∷◌, length, map, replicate, slice_get, slice_set, slice_index_or, unwrap_or, Option, Some, None, IfSome, option_map, option_and_then, refl, sym, ap, subst, ◌∙◌, arith}
+use Rattle.std.proofs.Common.{◌≡◌, ◌⊎◌, ℕ, ℤ, pos, zero, suc, ◌+◌, ◌*◌, ◌<◌, ◌≤◌, ◌==◌, ◌&&◌, inl, inr, Bool, true, false, nat_le, nat_lt, List, [], ◌∷◌, length, map, replicate, Option, Some, None, refl, sym, ap, subst, ◌∙◌, arith}
 use Rattle.std.proofs.lemmas.Bool.{leb-true, ltb-true, eqb-true, eq-eqb}
-use Rattle.std.proofs.lemmas.List.FromFn.{length-map-range_with_len}
-use Rattle.std.specs.List.{AllByRecursion, range_with_len}
+use Rattle.std.specs.List.{AllByRecursion}
 use Rattle.pd_num.specs.Scale.{billionths, signal_of, sum_of, difference_of}
 use Rattle.pd_object.specs.declared.kinds.Kind.{Kind}
 use Rattle.pd_object.specs.declared.kinds.Kind.TheVariants as kind
@@ -31,23 +30,16 @@ use Rattle.pd_signal.specs.Ramps.{ramp_of}
 use Rattle.pd_signal.specs.Tables.{value_at}
 use Rattle.pd_signal.specs.SharedRows.{RanShared, SignalFits, Fits, or_silence, heard_from, receive_row, throw_row, delread_row, shared_row, shared_run_of, tabread_row, table_row, table_run_of}
 use Rattle.pd_vline.specs.Taken.{left_by_run, state_at}
-use Rattle.pd_turn.specs.declared.sizes.Few.{Few}
-use Rattle.pd_turn.specs.declared.sorts.Manner.{Manner}
-use Rattle.pd_turn.specs.declared.sorts.Manner.TheVariants.{Own, Beside, Table, Dac, Inlet, Outlet, Never}
 use Rattle.pd_turn.specs.Held.{held_of}
-use Rattle.pd_turn.specs.Sizes.{few_of}
-use Rattle.pd_turn.specs.Rows.{Ran, ran, still, silent_outs, is_ring, is_sized, may_run, vline_if, signal_ran, table_ran, own_ran, is_fitting}
-use Rattle.pd_turn.specs.Pairs.{Pair, RanWith, line_at, ran_beside, ran_alone, with_values, by_values, pair_by}
-use Rattle.pd_web.specs.declared.web.Web.{Web}
-use Rattle.pd_web.specs.declared.web.Hop.{Hop}
-use Rattle.pd_web.specs.Hops.{port_told, jack_told, signal_in}
-use Rattle.pd_grove.specs.declared.ports.Side.TheVariants.{Outlets}
-use Rattle.pd_patch.specs.Values.{Blocks, block_at, with_block, with_silence}
-use Rattle.pd_block.specs.Inlets.{brought, gathered, sum_from, wires_to, steady, inlet_block, inlet_blocks}
-use Rattle.pd_block.specs.Nets.{Net, Sound, kind_at, inner_at, chain_at, stuck_at, set_at}
-use Rattle.pd_block.specs.Blocks.{Played, played, left_by, own_with, own_in, own_by, table_beside, table_with, table_in, table_by, held_by, port_block, inlet_by, given_at, outlet_by, Aside, pair_few, pair_in, alone_few, alone_in, owner_in, aside_alone, aside_owner, aside_found, aside_by, with_none, beside_by, ran_as, manner_by, ran_plain, each, silenced, ran_box, ran_one, ran_canvas, begun, block_of}
-use Rattle.pd_guards.proofs.FactLemmas.{either, either_by, all-take, all-set, all-at}
-use Rattle.pd_guards.proofs.SignalLemmas.{all-index, all-made}
+use Rattle.pd_turn.specs.Rows.{ran, still, silent_outs, is_ring, is_sized, may_run, vline_if, signal_ran, table_ran, own_ran, is_fitting}
+use Rattle.pd_turn.specs.Pairs.{RanWith, line_at, ran_beside, ran_alone, with_values, by_values, pair_by}
+use Rattle.pd_block.specs.Inlets.{steady}
+use Rattle.pd_block.specs.Nets.{Net, Sound}
+use Rattle.pd_block.specs.Blocks.{Played, ran_plain, each, silenced, ran_box, ran_canvas, begun, block_of}
+use Rattle.pd_keeping_law.proofs.FactLemmas.{either, either_by, all-take, all-set, all-index}
+use Rattle.pd_keeping_law.proofs.BlockLemmas.{box_keeps, silent_keeps, canvas_keeps}
+use Rattle.pd_keeping_law.proofs.SoundLemmas.{inlets_of, HasInlets, RanIn, PairIn, IsLeftByTurns}
+use Rattle.pd_keeping_law.proofs.SoundLemmas as kept
 use Rattle.pd_sized.specs.Sizes.{HasSizes, IsBlock, IsWhole}
 use Rattle.pd_sized.proofs.StartLemmas.{ring_true, silent_count, silent_sized}
 use Rattle.pd_sized.proofs.TurnLemmas.{first_true, second_true, some_same}
@@ -57,82 +49,26 @@ use Rattle.pd_sized.proofs.LengthLemmas.{zip_block, map_block, same_block, low_b
 abbrev pub AreWhole : List (List ℤ) → Type 0
 AreWhole blocks = AllByRecursion IsBlock blocks
 
-abbrev pub AreBlocks : Blocks → Type 0
-AreBlocks blocks = AllByRecursion AreWhole blocks
-
--- there are so many at least
-abbrev HasInlets : ℕ → List (List ℤ) → Type 0
-HasInlets count ins = AreWhole ins × (count ≤ length ins)
-
--- how many signal inlets a box of a kind has
-abbrev inlets_by : Option Few → ℕ
-inlets_by None = 0
-inlets_by (Some few) = few.inlets
-
-abbrev inlets_of : Kind → ℕ
-inlets_of k = inlets_by (few_of k)
-
 -- what comes to inlets
 at_block : (ins : List (List ℤ)) (i : ℕ) → i < length ins → AreWhole ins → IsBlock (inlet ins i)
 at_block [] i l h = absurd (omega arith)
 at_block (x ∷ xs) zero l h = h.0
 at_block (x ∷ xs) (suc i) l h = at_block xs i (omega arith) h.1
 
-only_block : (ins : List (List ℤ)) → HasInlets 1 ins → IsBlock (inlet ins 0)
+only_block : (ins : List (List ℤ)) → HasInlets IsBlock 1 ins → IsBlock (inlet ins 0)
 only_block ins i = let l : 1 ≤ length ins = i.1 in at_block ins 0 (omega arith) i.0
 
-left_block : (ins : List (List ℤ)) → HasInlets 2 ins → IsBlock (inlet ins 0)
+left_block : (ins : List (List ℤ)) → HasInlets IsBlock 2 ins → IsBlock (inlet ins 0)
 left_block ins i = let l : 2 ≤ length ins = i.1 in at_block ins 0 (omega arith) i.0
 
-right_block : (ins : List (List ℤ)) → HasInlets 2 ins → IsBlock (inlet ins 1)
+right_block : (ins : List (List ℤ)) → HasInlets IsBlock 2 ins → IsBlock (inlet ins 1)
 right_block ins i = let l : 2 ≤ length ins = i.1 in at_block ins 1 (omega arith) i.0
 
 steady_in : (z : ℤ) → IsBlock (steady z)
 unfolding steady
 steady_in z = same_block (signal_of z)
 
-own_block : (own : Option (List (List ℤ))) (outlet : ℕ) → IfSome own AreWhole → IfSome (option_and_then (λ (b : List (List ℤ)). slice_get b outlet) own) IsBlock
-own_block None outlet h = tt
-own_block (Some own) outlet h = all-at IsBlock own outlet h
-
-brought_in : (web : Web) (blocks : Blocks) (hop : Hop) → AreBlocks blocks → IfSome (brought web blocks hop) IsBlock
-brought_in web blocks hop h =
-    either (λ (o : Option (List ℤ)). IfSome o IsBlock) (signal_in (jack_told web Outlets hop.node hop.port)) (block_at blocks hop.node hop.port) None
-    (own_block (slice_get blocks hop.node) hop.port (all-at AreWhole blocks hop.node h)) tt
-
-gathered_in : (sum block : Option (List ℤ)) → IfSome sum IsBlock → IfSome block IsBlock → IfSome (gathered sum block) IsBlock
-gathered_in None None h k = tt
-gathered_in (Some sum) None h k = h
-gathered_in None (Some block) h k = k
-gathered_in (Some sum) (Some block) h k = zip_block (sum_of billionths) sum block h k
-
-sum_in : (web : Web) (blocks : Blocks) (sum : Option (List ℤ)) (hops : List Hop) → AreBlocks blocks → IfSome sum IsBlock → IfSome (sum_from web blocks sum hops) IsBlock
-sum_in web blocks sum [] b h = h
-sum_in web blocks sum (hop ∷ hops) b h = sum_in web blocks (gathered sum (brought web blocks hop)) hops b (gathered_in sum (brought web blocks hop) h (brought_in web blocks hop b))
-
-unwrapped : (o : Option (List ℤ)) (d : List ℤ) → IfSome o IsBlock → IsBlock d → IsBlock (unwrap_or o d)
-unwrapped None d h k = k
-unwrapped (Some b) d h k = h
-
-block_in : (web : Web) (blocks : Blocks) (node i : ℕ) (z : ℤ) → AreBlocks blocks → IsBlock (inlet_block web blocks node i z)
-block_in web blocks node i z b = unwrapped (sum_from web blocks None (wires_to web node i)) (steady z) (sum_in web blocks None (wires_to web node i) b tt) (steady_in z)
-
-ins_in : (web : Web) (blocks : Blocks) (node wanted count : ℕ) (s : State) → wanted ≡ count → AreBlocks blocks → HasInlets wanted (inlet_blocks web blocks node count s)
-ins_in web blocks node wanted count s e b =
-    let l : length (inlet_blocks web blocks node count s) ≡ count = length-map-range_with_len (λ (i : ℕ). inlet_block web blocks node i (held_of s i)) 0 count in
-    (all-made IsBlock (λ (i : ℕ). inlet_block web blocks node i (held_of s i)) (λ i. block_in web blocks node i (held_of s i) b) (range_with_len 0 count), omega arith)
-
 -- blocks that outlets give
-put_in : (blocks : Blocks) (node outlet : ℕ) (block : List ℤ) → AreBlocks blocks → IsBlock block → AreBlocks (with_block blocks node outlet block)
-put_in blocks node outlet block b h =
-    all-set AreWhole blocks node (slice_set (slice_index_or blocks node []) outlet block)
-    (all-set IsBlock (slice_index_or blocks node []) outlet block h (all-index AreWhole blocks node [] tt b)) b
-
-quiet_in : (blocks : Blocks) (node : ℕ) → AreBlocks blocks → AreBlocks (with_silence blocks node)
-quiet_in blocks node b =
-    all-set AreWhole blocks node (map (λ (_ : List ℤ). silent_block) (slice_index_or blocks node []))
-    (all-made IsBlock (λ (_ : List ℤ). silent_block) (λ _. silent_count) (slice_index_or blocks node [])) b
-
 outs_in : (count : ℕ) → AreWhole (silent_outs count)
 outs_in count = all-take IsBlock count (silent_block ∷ []) (silent_count, tt)
 
@@ -151,22 +87,22 @@ sig_in : (s : State) (outs : List (List ℤ)) → HasSizes s → AreWhole outs �
 sig_in (state.Sig z) outs h o = giving (state.Sig z) outs (replicate 64 (signal_of z)) h o (same_block (signal_of z))
 sig_in s outs h o = stays s outs h o
 
-pair_in-row : (p : SignalOperation) (s : State) (ins outs : List (List ℤ)) → HasSizes s → HasInlets 2 ins → AreWhole outs → RowIn (operation_row p None s ins outs)
+pair_in-row : (p : SignalOperation) (s : State) (ins outs : List (List ℤ)) → HasSizes s → HasInlets IsBlock 2 ins → AreWhole outs → RowIn (operation_row p None s ins outs)
 pair_in-row p (state.SignalOperation left right) ins outs h i o =
     giving (state.SignalOperation left right) outs (zip_with (operation_of p) (inlet ins 0) (inlet ins 1)) h o (zip_block (operation_of p) (inlet ins 0) (inlet ins 1) (left_block ins i) (right_block ins i))
 pair_in-row p s ins outs h i o = stays s outs h o
 
-steady_in-row : (p : SignalOperation) (a : ℤ) (s : State) (ins outs : List (List ℤ)) → HasSizes s → HasInlets 1 ins → AreWhole outs → RowIn (operation_row p (Some a) s ins outs)
+steady_in-row : (p : SignalOperation) (a : ℤ) (s : State) (ins outs : List (List ℤ)) → HasSizes s → HasInlets IsBlock 1 ins → AreWhole outs → RowIn (operation_row p (Some a) s ins outs)
 steady_in-row p a (state.SignalOperation left right) ins outs h i o =
     giving (state.SignalOperation left right) outs (zip_with (operation_of p) (inlet ins 0) (replicate 64 (signal_of right))) h o
     (zip_block (operation_of p) (inlet ins 0) (replicate 64 (signal_of right)) (only_block ins i) (same_block (signal_of right)))
 steady_in-row p a s ins outs h i o = stays s outs h o
 
-function_in : (f : SignalFunction) (s : State) (ins outs : List (List ℤ)) → HasSizes s → HasInlets 1 ins → AreWhole outs → RowIn (function_row f s ins outs)
+function_in : (f : SignalFunction) (s : State) (ins outs : List (List ℤ)) → HasSizes s → HasInlets IsBlock 1 ins → AreWhole outs → RowIn (function_row f s ins outs)
 function_in f (state.SignalFunction held) ins outs h i o = giving (state.SignalFunction held) outs (map (function_of f) (inlet ins 0)) h o (map_block (function_of f) (inlet ins 0) (only_block ins i))
 function_in f s ins outs h i o = stays s outs h o
 
-clip_in : (s : State) (ins outs : List (List ℤ)) → HasSizes s → HasInlets 1 ins → AreWhole outs → RowIn (clip_row s ins outs)
+clip_in : (s : State) (ins outs : List (List ℤ)) → HasSizes s → HasInlets IsBlock 1 ins → AreWhole outs → RowIn (clip_row s ins outs)
 clip_in (state.SignalClip held low high) ins outs h i o =
     giving (state.SignalClip held low high) outs (map (clipped (signal_of low) (signal_of high)) (inlet ins 0)) h o (map_block (clipped (signal_of low) (signal_of high)) (inlet ins 0) (only_block ins i))
 clip_in s ins outs h i o = stays s outs h o
@@ -175,17 +111,17 @@ line_in : (s : State) (outs : List (List ℤ)) → HasSizes s → AreWhole outs 
 line_in (state.Line slope) outs h o = giving _ outs (ramp_of slope) h o (ramp_block slope)
 line_in s outs h o = stays s outs h o
 
-samphold_in : (s : State) (ins outs : List (List ℤ)) → HasSizes s → HasInlets 2 ins → AreWhole outs → RowIn (samphold_row s ins outs)
+samphold_in : (s : State) (ins outs : List (List ℤ)) → HasSizes s → HasInlets IsBlock 2 ins → AreWhole outs → RowIn (samphold_row s ins outs)
 samphold_in (state.Samphold held control last kept) ins outs h i o =
     giving _ outs (kept_values last kept (inlet ins 0) (inlet ins 1)) h o (kept_block last kept (inlet ins 0) (inlet ins 1) (left_block ins i) (right_block ins i))
 samphold_in s ins outs h i o = stays s outs h o
 
-lop_in : (s : State) (ins outs : List (List ℤ)) → HasSizes s → HasInlets 1 ins → AreWhole outs → RowIn (lop_row s ins outs)
+lop_in : (s : State) (ins outs : List (List ℤ)) → HasSizes s → HasInlets IsBlock 1 ins → AreWhole outs → RowIn (lop_row s ins outs)
 lop_in (state.Lop held hertz value rate) ins outs h i o =
     giving _ outs (low_passed (factor_of rate hertz) value (inlet ins 0)) h o (low_block (factor_of rate hertz) value (inlet ins 0) (only_block ins i))
 lop_in s ins outs h i o = stays s outs h o
 
-hip_in : (s : State) (ins outs : List (List ℤ)) → HasSizes s → HasInlets 1 ins → AreWhole outs → RowIn (hip_row s ins outs)
+hip_in : (s : State) (ins outs : List (List ℤ)) → HasSizes s → HasInlets IsBlock 1 ins → AreWhole outs → RowIn (hip_row s ins outs)
 hip_in (state.Hip held hertz value rate) ins outs h i o =
     giving _ outs (zip_with (difference_of billionths) (inlet ins 0) (low_passed (factor_of rate hertz) value (inlet ins 0))) h o
     (zip_block (difference_of billionths) (inlet ins 0) (low_passed (factor_of rate hertz) value (inlet ins 0)) (only_block ins i) (low_block (factor_of rate hertz) value (inlet ins 0) (only_block ins i)))
@@ -216,7 +152,7 @@ delwrite_in : (s : State) (ins outs : List (List ℤ)) → HasSizes s → AreWho
 delwrite_in (state.Delwrite held ring next ran) ins outs h o = stays _ outs (ring_on ring (inlet ins 0) next h) o
 delwrite_in s ins outs h o = stays s outs h o
 
-send_in : (s : State) (ins outs : List (List ℤ)) → HasSizes s → HasInlets 1 ins → AreWhole outs → RowIn (send_row s ins outs)
+send_in : (s : State) (ins outs : List (List ℤ)) → HasSizes s → HasInlets IsBlock 1 ins → AreWhole outs → RowIn (send_row s ins outs)
 send_in (state.SignalSend held block) ins outs h i o = stays (state.SignalSend held (inlet ins 0)) outs (eq-eqb (length (inlet ins 0)) 64 (only_block ins i)) o
 send_in s ins outs h i o = stays s outs h o
 
@@ -228,7 +164,7 @@ snapshot_in : (s : State) (ins outs : List (List ℤ)) → HasSizes s → AreWho
 snapshot_in (state.Snapshot held last) ins outs h o = stays _ outs h o
 snapshot_in s ins outs h o = stays s outs h o
 
-signal_row-in : (g : Signal) (s : State) (ins outs : List (List ℤ)) → HasSizes s → HasInlets (inlets_of (kind.Signal g)) ins → AreWhole outs → RowIn (signal_row g s ins outs)
+signal_row-in : (g : Signal) (s : State) (ins outs : List (List ℤ)) → HasSizes s → HasInlets IsBlock (inlets_of (kind.Signal g)) ins → AreWhole outs → RowIn (signal_row g s ins outs)
 signal_row-in (signal.Sig z) s ins outs h i o = sig_in s outs h o
 signal_row-in (signal.Operation p None) s ins outs h i o = pair_in-row p s ins outs h i o
 signal_row-in (signal.Operation p (Some a)) s ins outs h i o = steady_in-row p a s ins outs h i o
@@ -244,7 +180,7 @@ signal_row-in (signal.Catch name) s ins outs h i o = catch_in s outs h o
 signal_row-in signal.Snapshot s ins outs h i o = snapshot_in s ins outs h o
 signal_row-in g s ins outs h i o = stays s outs h o
 
-run_in : (k : Kind) (s : State) (ins outs : List (List ℤ)) → HasSizes s → HasInlets (inlets_of k) ins → AreWhole outs → RowIn (run_of k s ins outs)
+run_in : (k : Kind) (s : State) (ins outs : List (List ℤ)) → HasSizes s → HasInlets IsBlock (inlets_of k) ins → AreWhole outs → RowIn (run_of k s ins outs)
 unfolding run_of
 run_in (kind.Signal g) s ins outs h i o = signal_row-in g s ins outs h i o
 run_in k s ins outs h i o = stays s outs h o
@@ -268,7 +204,7 @@ summed [] block b f = refl
 summed (x ∷ xs) block b (inl e) = absurd (let n : length (x ∷ xs) ≡ 0 = ap length e in omega arith)
 summed (x ∷ xs) block b (inr e) = zip_block (sum_of billionths) (x ∷ xs) block e b ∙ sym e
 
-throw_in : (s : State) (ins outs : List (List ℤ)) (shared : List ℤ) → HasSizes s → HasInlets 1 ins → AreWhole outs → ((shared ≡ []) ⊎ IsBlock shared) → SharedIn shared (throw_row s ins outs shared)
+throw_in : (s : State) (ins outs : List (List ℤ)) (shared : List ℤ) → HasSizes s → HasInlets IsBlock 1 ins → AreWhole outs → ((shared ≡ []) ⊎ IsBlock shared) → SharedIn shared (throw_row s ins outs shared)
 throw_in (state.Throw held) ins outs shared h i o f = record { ran = stays (state.Throw held) outs h o; count = summed shared (inlet ins 0) (only_block ins i) f }
 throw_in s ins outs shared h i o f = record { ran = stays s outs h o; count = refl }
 
@@ -286,28 +222,28 @@ delread_in (state.Delread time rate) outs shared line h o f =
     ]))
 delread_in s outs shared line h o f = stays s outs h o
 
-shared_in : (g : Signal) (s : State) (ins outs : List (List ℤ)) (shared : List ℤ) (line : Line) → HasSizes s → HasInlets (inlets_of (kind.Signal g)) ins → AreWhole outs → SignalFits g shared line
+shared_in : (g : Signal) (s : State) (ins outs : List (List ℤ)) (shared : List ℤ) (line : Line) → HasSizes s → HasInlets IsBlock (inlets_of (kind.Signal g)) ins → AreWhole outs → SignalFits g shared line
     → SharedIn shared (shared_row g s ins outs shared line)
 shared_in (signal.Receive w name) s ins outs shared line h i o f = record { ran = receive_in s outs shared h o (or_block shared f); count = refl }
 shared_in (signal.Throw name) s ins outs shared line h i o f = throw_in s ins outs shared h i o f
 shared_in (signal.Delread name time) s ins outs shared line h i o f = record { ran = delread_in s outs shared line h o f; count = refl }
 shared_in g s ins outs shared line h i o f = record { ran = stays s outs h o; count = refl }
 
-shared_run : (k : Kind) (s : State) (ins outs : List (List ℤ)) (shared : List ℤ) (line : Line) → HasSizes s → HasInlets (inlets_of k) ins → AreWhole outs → Fits k shared line → SharedIn shared (shared_run_of k s ins outs shared line)
+shared_run : (k : Kind) (s : State) (ins outs : List (List ℤ)) (shared : List ℤ) (line : Line) → HasSizes s → HasInlets IsBlock (inlets_of k) ins → AreWhole outs → Fits k shared line → SharedIn shared (shared_run_of k s ins outs shared line)
 unfolding shared_run_of
 shared_run (kind.Signal g) s ins outs shared line h i o f = shared_in g s ins outs shared line h i o f
 shared_run k s ins outs shared line h i o f = record { ran = stays s outs h o; count = refl }
 
 -- beside a table
-tabread_in : (s : State) (ins outs : List (List ℤ)) (table : List ℤ) → HasSizes s → HasInlets 1 ins → AreWhole outs → RowIn (tabread_row s ins outs table)
+tabread_in : (s : State) (ins outs : List (List ℤ)) (table : List ℤ) → HasSizes s → HasInlets IsBlock 1 ins → AreWhole outs → RowIn (tabread_row s ins outs table)
 tabread_in (state.SignalTabread held) ins outs table h i o = giving (state.SignalTabread held) outs (map (value_at table) (inlet ins 0)) h o (map_block (value_at table) (inlet ins 0) (only_block ins i))
 tabread_in s ins outs table h i o = stays s outs h o
 
-table_signal : (g : Signal) (s : State) (ins outs : List (List ℤ)) (table : List ℤ) → HasSizes s → HasInlets (inlets_of (kind.Signal g)) ins → AreWhole outs → RowIn (table_row g s ins outs table)
+table_signal : (g : Signal) (s : State) (ins outs : List (List ℤ)) (table : List ℤ) → HasSizes s → HasInlets IsBlock (inlets_of (kind.Signal g)) ins → AreWhole outs → RowIn (table_row g s ins outs table)
 table_signal (signal.Tabread name) s ins outs table h i o = tabread_in s ins outs table h i o
 table_signal g s ins outs table h i o = stays s outs h o
 
-table_run : (k : Kind) (s : State) (ins outs : List (List ℤ)) (table : List ℤ) → HasSizes s → HasInlets (inlets_of k) ins → AreWhole outs → RowIn (table_run_of k s ins outs table)
+table_run : (k : Kind) (s : State) (ins outs : List (List ℤ)) (table : List ℤ) → HasSizes s → HasInlets IsBlock (inlets_of k) ins → AreWhole outs → RowIn (table_run_of k s ins outs table)
 unfolding table_run_of
 table_run (kind.Signal g) s ins outs table h i o = table_signal g s ins outs table h i o
 table_run k s ins outs table h i o = stays s outs h o
@@ -330,48 +266,44 @@ tone_run (kind.Tone t) s ins outs h i o = tone_in t s ins outs h i o
 tone_run k s ins outs h i o = record { state = h; outs = o }
 
 -- a box's turn
-record RanIn (r : Ran) : Type 0 where
-  is : HasSizes r.state
-  block : IsBlock r.block
-
-ran_in : (s : State) (outs : List (List ℤ)) → HasSizes s → AreWhole outs → RanIn (ran s outs)
+ran_in : (s : State) (outs : List (List ℤ)) → HasSizes s → AreWhole outs → RanIn HasSizes IsBlock (ran s outs)
 ran_in s outs h o = record { is = h; block = all-index IsBlock outs 0 silent_block silent_count o }
 
-row_ran : (r : SignalRan) → RowIn r → RanIn (ran r.state r.outs)
+row_ran : (r : SignalRan) → RowIn r → RanIn HasSizes IsBlock (ran r.state r.outs)
 row_ran r h = ran_in r.state r.outs h.state h.outs
 
-still_in : (s : State) → HasSizes s → RanIn (still s)
+still_in : (s : State) → HasSizes s → RanIn HasSizes IsBlock (still s)
 still_in s h = record { is = h; block = silent_count }
 
 vline_left : (start : ℕ) (s : State) → HasSizes s → HasSizes (left_by_run start s)
 vline_left start (state.Vline r) h = h
 vline_left start s h = h
 
-vline_in : (start : ℕ) (b : Bool) (s : State) → HasSizes s → RanIn (vline_if b start s)
+vline_in : (start : ℕ) (b : Bool) (s : State) → HasSizes s → RanIn HasSizes IsBlock (vline_if b start s)
 vline_in start true s h = record { is = vline_left start s h; block = made_block (λ (i : ℕ). state_at s (start + i * 1000000000)) }
 vline_in start false s h = still_in s h
 
-signal_turn : (k : Kind) (s : State) (ins : List (List ℤ)) → HasSizes s → HasInlets (inlets_of k) ins → RanIn (signal_ran k s ins)
+signal_turn : (k : Kind) (s : State) (ins : List (List ℤ)) → HasSizes s → HasInlets IsBlock (inlets_of k) ins → RanIn HasSizes IsBlock (signal_ran k s ins)
 signal_turn k s ins h i =
     let outs : List (List ℤ) = silent_outs (ports_of k).signal_outlets in
-    either RanIn (is_sized s) _ (still s) (row_ran (run_of k s ins outs) (run_in k s ins outs h i (outs_in (ports_of k).signal_outlets))) (still_in s h)
+    either (RanIn HasSizes IsBlock) (is_sized s) _ (still s) (row_ran (run_of k s ins outs) (run_in k s ins outs h i (outs_in (ports_of k).signal_outlets))) (still_in s h)
 
-tone_turn : (k : Kind) (s : State) (ins : List (List ℤ)) → HasSizes s → AreWhole ins → RanIn (ran (row k s ins (silent_block ∷ [])).state (row k s ins (silent_block ∷ [])).outs)
+tone_turn : (k : Kind) (s : State) (ins : List (List ℤ)) → HasSizes s → AreWhole ins → RanIn HasSizes IsBlock (ran (row k s ins (silent_block ∷ [])).state (row k s ins (silent_block ∷ [])).outs)
 tone_turn k s ins h i =
     let r : ToneIn (row k s ins (silent_block ∷ [])) = tone_run k s ins (silent_block ∷ []) h i (silent_count, tt) in
     ran_in (row k s ins (silent_block ∷ [])).state (row k s ins (silent_block ∷ [])).outs r.state r.outs
 
-own_turn : (start : ℕ) (k : Kind) (s : State) (ins : List (List ℤ)) → HasSizes s → HasInlets (inlets_of k) ins → RanIn (own_ran start k s ins)
+own_turn : (start : ℕ) (k : Kind) (s : State) (ins : List (List ℤ)) → HasSizes s → HasInlets IsBlock (inlets_of k) ins → RanIn HasSizes IsBlock (own_ran start k s ins)
 own_turn start (kind.Tone t) s ins h i = tone_turn (kind.Tone t) s ins h i.0
 own_turn start kind.Vline s ins h i = vline_in start (may_run start s) s h
 own_turn start k s ins h i = signal_turn k s ins h i
 
-table_turn : (k : Kind) (s : State) (ins : List (List ℤ)) (table : List ℤ) → HasSizes s → HasInlets (inlets_of k) ins → RanIn (table_ran k s ins table)
+table_turn : (k : Kind) (s : State) (ins : List (List ℤ)) (table : List ℤ) → HasSizes s → HasInlets IsBlock (inlets_of k) ins → RanIn HasSizes IsBlock (table_ran k s ins table)
 table_turn k s ins table h i =
     let outs : List (List ℤ) = silent_outs (ports_of k).signal_outlets in
     row_ran (table_run_of k s ins outs table) (table_run k s ins outs table h i (outs_in (ports_of k).signal_outlets))
 
-beside_in : (k : Kind) (s : State) (ins : List (List ℤ)) (values : List ℤ) (line : Line) → HasSizes s → HasInlets (inlets_of k) ins → Fits k values line → SharedIn values (ran_beside k s ins values line)
+beside_in : (k : Kind) (s : State) (ins : List (List ℤ)) (values : List ℤ) (line : Line) → HasSizes s → HasInlets IsBlock (inlets_of k) ins → Fits k values line → SharedIn values (ran_beside k s ins values line)
 beside_in k s ins values line h i f = shared_run k s ins (silent_outs (ports_of k).signal_outlets) values line h i (outs_in (ports_of k).signal_outlets) f
 
 -- no values fit
@@ -381,7 +313,7 @@ none_fit (kind.Signal (signal.Throw name)) line = inl refl
 none_fit (kind.Signal (signal.Delread name time)) line = inl refl
 none_fit k line = tt
 
-alone_turn : (k : Kind) (s : State) (ins : List (List ℤ)) (line : Line) → HasSizes s → HasInlets (inlets_of k) ins → RanIn (ran_alone k s ins line)
+alone_turn : (k : Kind) (s : State) (ins : List (List ℤ)) (line : Line) → HasSizes s → HasInlets IsBlock (inlets_of k) ins → RanIn HasSizes IsBlock (ran_alone k s ins line)
 alone_turn k s ins line h i = row_ran (ran_beside k s ins [] line).ran (beside_in k s ins [] line h i (none_fit k line)).ran
 
 -- values that are looked at fit
@@ -409,188 +341,77 @@ shared_sized (state.Delwrite held ring next ran) values left e l h =
 shared_sized s values left e l h = h
 
 record WithIn (values : List ℤ) (r : RanWith) : Type 0 where
-  is : RanIn r.ran
+  is : RanIn HasSizes IsBlock r.ran
   count : length r.values ≡ length values
 
-with_in : (k : Kind) (s : State) (ins : List (List ℤ)) (line : Line) (values : List ℤ) → HasSizes s → HasInlets (inlets_of k) ins → Fits k values line → WithIn values (with_values k s ins line values)
+with_in : (k : Kind) (s : State) (ins : List (List ℤ)) (line : Line) (values : List ℤ) → HasSizes s → HasInlets IsBlock (inlets_of k) ins → Fits k values line → WithIn values (with_values k s ins line values)
 with_in k s ins line values h i f =
     let r : SharedIn values (ran_beside k s ins values line) = beside_in k s ins values line h i f in
     record { is = row_ran (ran_beside k s ins values line).ran r.ran; count = r.count }
 
-by_in : (k : Kind) (s : State) (ins : List (List ℤ)) (line : Line) (values : List ℤ) → HasSizes s → HasInlets (inlets_of k) ins → WithIn values (by_values k s ins line values)
+by_in : (k : Kind) (s : State) (ins : List (List ℤ)) (line : Line) (values : List ℤ) → HasSizes s → HasInlets IsBlock (inlets_of k) ins → WithIn values (by_values k s ins line values)
 by_in k s ins line values h i =
     either_by (WithIn values) (is_fitting k (length values) line) (with_values k s ins line values) _ (λ e. with_in k s ins line values h i (fitting k values line e))
     (λ e. record { is = alone_turn k s ins line h i; count = refl })
 
-record PairIn (p : Pair) : Type 0 where
-  ran : RanIn p.ran
-  other : HasSizes p.other
-
-pair_by-in : (k : Kind) (s : State) (ins : List (List ℤ)) (other : State) (line : Line) (o : Option (List ℤ)) → shared_of other ≡ o → HasSizes s → HasInlets (inlets_of k) ins → HasSizes other → PairIn (pair_by k s ins other line o)
+pair_by-in : (k : Kind) (s : State) (ins : List (List ℤ)) (other : State) (line : Line) (o : Option (List ℤ)) → shared_of other ≡ o → HasSizes s → HasInlets IsBlock (inlets_of k) ins → HasSizes other → PairIn HasSizes IsBlock (pair_by k s ins other line o)
 pair_by-in k s ins other line None e h i j = record { ran = alone_turn k s ins line h i; other = j }
 pair_by-in k s ins other line (Some values) e h i j =
     let w : WithIn values (by_values k s ins line values) = by_in k s ins line values h i in
     record { ran = w.is; other = shared_sized other values (by_values k s ins line values).values e w.count j }
 
+begun_state : (s : State) → HasSizes s → HasSizes (block_begun s)
+begun_state (state.Delwrite held values next ran) h = h
+begun_state s h = h
+
+-- nothing is asked of tables
+abbrev AnyTable : List ℤ → Type 0
+AnyTable table = Unit {0}
+
+-- each turn leaves it so
+turns_in : (start : ℕ) → IsLeftByTurns start HasSizes IsBlock AnyTable
+turns_in start =
+    record {
+      silence = silent_count;
+      sums = zip_block (sum_of billionths);
+      held = λ s i h. steady_in (held_of s i);
+      unheld = steady_in (pos 0);
+      tables = λ o h. tt;
+      no_table = tt;
+      own = own_turn start;
+      table = λ k s ins table h i v. table_turn k s ins table h i;
+      alone = alone_turn;
+      pair = λ k s ins other h i j. pair_by-in k s ins other (line_at other) (shared_of other) refl h i j;
+      begun = begun_state;
+    }
+
 -- what all boxes keep, and the blocks of their outlets
-abbrev pub AllIn : (ℕ → Option State) → Type 0
-AllIn states = (k : ℕ) → IfSome (states k) HasSizes
+abbrev pub SoundIn : Sound → Type 0
+SoundIn s = kept.SoundIn HasSizes IsBlock s
 
-pub record SoundIn (s : Sound) : Type 0 where
-  pub is : AllIn s.states
-  pub blocks : AreBlocks s.blocks
-
-set_in : (states : ℕ → Option State) (node : ℕ) (o : Option State) → AllIn states → IfSome o HasSizes → AllIn (set_at states node o)
-set_in states node o a h j = either (λ (x : Option State). IfSome x HasSizes) (j == node) o (states j) h (a j)
-
-left_in : (s : Sound) (node : ℕ) (r : Ran) → SoundIn s → RanIn r → SoundIn (left_by s node r)
-left_in s node r a h = record { is = set_in s.states node (Some r.state) a.is h.is; blocks = put_in s.blocks node 0 r.block a.blocks h.block }
-
-port_in : (web : Web) (blocks : Blocks) (o : Option (ℕ × ℕ)) (z : ℤ) → AreBlocks blocks → IsBlock (port_block web blocks o z)
-port_in web blocks None z b = steady_in z
-port_in web blocks (Some port) z b = block_in web blocks port.0 port.1 z b
-
-given_in : (blocks : Blocks) (o : Option (ℕ × ℕ)) (block : List ℤ) → AreBlocks blocks → IsBlock block → AreBlocks (given_at blocks o block)
-given_in blocks None block b h = b
-given_in blocks (Some port) block b h = put_in blocks port.0 port.1 block b h
+pub record PlayedIn (p : Played) : Type 0 where
+  pub is : SoundIn p.sound
 
 module _ (net : Net) (start : ℕ) where
-  own_few : (web : Web) (blocks : Blocks) (node : ℕ) (k : Kind) (s : State) (o : Option Few) → few_of k ≡ o → AreBlocks blocks → HasSizes s → RanIn (own_with web blocks start node k s o)
-  own_few web blocks node k s None e b h = still_in s h
-  own_few web blocks node k s (Some few) e b h = own_turn start k s (inlet_blocks web blocks node few.inlets s) h (ins_in web blocks node (inlets_of k) few.inlets s (ap inlets_by e) b)
-
-  own_some : (web : Web) (blocks : Blocks) (node : ℕ) (k : Option Kind) (s : State) → AreBlocks blocks → HasSizes s → RanIn (own_in web blocks start node k s)
-  own_some web blocks node None s b h = still_in s h
-  own_some web blocks node (Some k) s b h = own_few web blocks node k s (few_of k) refl b h
-
-  own_sound : (s : Sound) (node : ℕ) (k : Option Kind) (o : Option State) → SoundIn s → IfSome o HasSizes → SoundIn (own_by net start s node k o)
-  own_sound s node k None a h = a
-  own_sound s node k (Some st) a h = left_in s node (own_in net.web s.blocks start node k st) a (own_some net.web s.blocks node k st a.blocks h)
-
-  table_few : (web : Web) (blocks : Blocks) (node : ℕ) (k : Kind) (s : State) (table : List ℤ) (o : Option Few) → few_of k ≡ o → AreBlocks blocks → HasSizes s → RanIn (table_with web blocks node k s table o)
-  table_few web blocks node k s table None e b h = still_in s h
-  table_few web blocks node k s table (Some few) e b h = table_turn k s (inlet_blocks web blocks node few.inlets s) table h (ins_in web blocks node (inlets_of k) few.inlets s (ap inlets_by e) b)
-
-  table_some : (web : Web) (blocks : Blocks) (node : ℕ) (k : Option Kind) (s : State) (table : List ℤ) → AreBlocks blocks → HasSizes s → RanIn (table_in web blocks node k s table)
-  table_some web blocks node None s table b h = still_in s h
-  table_some web blocks node (Some k) s table b h = table_few web blocks node k s table (few_of k) refl b h
-
-  table_sound : (s : Sound) (node : ℕ) (k : Option Kind) (o : Option State) → SoundIn s → IfSome o HasSizes → SoundIn (table_by net s node k o)
-  table_sound s node k None a h = a
-  table_sound s node k (Some st) a h =
-      left_in s node (table_in net.web s.blocks node k st (table_beside net.owners s.states node k)) a (table_some net.web s.blocks node k st (table_beside net.owners s.states node k) a.blocks h)
-
-  alone_few-in : (web : Web) (blocks : Blocks) (node : ℕ) (k : Kind) (s : State) (o : Option Few) → few_of k ≡ o → AreBlocks blocks → HasSizes s → RanIn (alone_few web blocks node k s o)
-  alone_few-in web blocks node k s None e b h = still_in s h
-  alone_few-in web blocks node k s (Some few) e b h = alone_turn k s (inlet_blocks web blocks node few.inlets s) _ h (ins_in web blocks node (inlets_of k) few.inlets s (ap inlets_by e) b)
-
-  alone_some : (web : Web) (blocks : Blocks) (node : ℕ) (k : Option Kind) (s : State) → AreBlocks blocks → HasSizes s → RanIn (alone_in web blocks node k s)
-  alone_some web blocks node None s b h = still_in s h
-  alone_some web blocks node (Some k) s b h = alone_few-in web blocks node k s (few_of k) refl b h
-
-  pair_few-in : (web : Web) (blocks : Blocks) (node : ℕ) (k : Kind) (s other : State) (o : Option Few) → few_of k ≡ o → AreBlocks blocks → HasSizes s → HasSizes other → PairIn (pair_few web blocks node k s other o)
-  pair_few-in web blocks node k s other None e b h i = record { ran = still_in s h; other = i }
-  pair_few-in web blocks node k s other (Some few) e b h i =
-      pair_by-in k s (inlet_blocks web blocks node few.inlets s) other (line_at other) (shared_of other) refl h (ins_in web blocks node (inlets_of k) few.inlets s (ap inlets_by e) b) i
-
-  pair_some : (web : Web) (blocks : Blocks) (node : ℕ) (k : Option Kind) (s other : State) → AreBlocks blocks → HasSizes s → HasSizes other → PairIn (pair_in web blocks node k s other)
-  pair_some web blocks node None s other b h i = record { ran = still_in s h; other = i }
-  pair_some web blocks node (Some k) s other b h i = pair_few-in web blocks node k s other (few_of k) refl b h i
-
-  record AsideIn (a : Aside) : Type 0 where
-    ran : RanIn a.ran
-    sound : SoundIn a.sound
-
-  aside_alone-in : (s : Sound) (node : ℕ) (k : Option Kind) (st : State) → SoundIn s → HasSizes st → AsideIn (aside_alone net.web s node k st)
-  aside_alone-in s node k st a h = record { ran = alone_some net.web s.blocks node k st a.blocks h; sound = a }
-
-  aside_owner-in : (s : Sound) (node : ℕ) (k : Option Kind) (st : State) (owner : ℕ) (o : Option State) → SoundIn s → HasSizes st → IfSome o HasSizes → AsideIn (aside_owner net.web s node k st owner o)
-  aside_owner-in s node k st owner None a h i = aside_alone-in s node k st a h
-  aside_owner-in s node k st owner (Some other) a h i =
-      let p : PairIn (pair_in net.web s.blocks node k st other) = pair_some net.web s.blocks node k st other a.blocks h i in
-      record { ran = p.ran; sound = record { is = set_in s.states owner (Some (pair_in net.web s.blocks node k st other).other) a.is p.other; blocks = a.blocks } }
-
-  aside_found-in : (s : Sound) (node : ℕ) (k : Option Kind) (st : State) (o : Option ℕ) → SoundIn s → HasSizes st → AsideIn (aside_found net.web s node k st o)
-  aside_found-in s node k st None a h = aside_alone-in s node k st a h
-  aside_found-in s node k st (Some owner) a h = aside_owner-in s node k st owner (s.states owner) a h (a.is owner)
-
-  beside_sound : (s : Sound) (node : ℕ) (k : Option Kind) (o : Option State) → SoundIn s → IfSome o HasSizes → SoundIn (beside_by net s node k o)
-  beside_sound s node k None a h = a
-  beside_sound s node k (Some st) a h =
-      let i : AsideIn (aside_by net (with_none s node) node k st) =
-      aside_found-in (with_none s node) node k st (owner_in net.owners k) (record { is = set_in s.states node None a.is tt; blocks = a.blocks }) h in
-      left_in (aside_by net (with_none s node) node k st).sound node (aside_by net (with_none s node) node k st).ran i.sound i.ran
-
-  inlet_sound : (s : Sound) (node : ℕ) → SoundIn s → SoundIn (inlet_by net s node)
-  inlet_sound s node a =
-      record {
-        is = a.is;
-        blocks = put_in s.blocks node 0 (port_block net.web s.blocks (port_told net.web node) (held_by (s.states node))) a.blocks (port_in net.web s.blocks (port_told net.web node) (held_by (s.states node)) a.blocks);
-      }
-
-  outlet_sound : (s : Sound) (node : ℕ) → SoundIn s → SoundIn (outlet_by net s node)
-  outlet_sound s node a =
-      record {
-        is = a.is;
-        blocks = given_in s.blocks (port_told net.web node) (inlet_block net.web s.blocks node 0 (held_by (s.states node))) a.blocks (block_in net.web s.blocks node 0 (held_by (s.states node)) a.blocks);
-      }
-
-  -- boxes and canvases
-  pub record PlayedIn (p : Played) : Type 0 where
-    pub is : SoundIn p.sound
-
-  as_in : (p : Played) (node : ℕ) (k : Option Kind) (m : Manner) → PlayedIn p → PlayedIn (ran_as net start p node k m)
-  as_in p node k Own a = record { is = own_sound p.sound node k (p.sound.states node) a.is (a.is.is node) }
-  as_in p node k Beside a = record { is = beside_sound p.sound node k (p.sound.states node) a.is (a.is.is node) }
-  as_in p node k Table a = record { is = table_sound p.sound node k (p.sound.states node) a.is (a.is.is node) }
-  as_in p node k Dac a = record { is = a.is }
-  as_in p node k Inlet a = record { is = inlet_sound p.sound node a.is }
-  as_in p node k Outlet a = record { is = outlet_sound p.sound node a.is }
-  as_in p node k Never a = a
-
-  plain_in : (p : Played) (node : ℕ) → PlayedIn p → PlayedIn (ran_plain net start p node)
-  unfolding ran_plain
-  plain_in p node a = as_in p node (kind_at net node) (manner_by (kind_at net node)) a
+  plain_in : (p : Played) (node : ℕ) → SoundIn p.sound → SoundIn (ran_plain net start p node).sound
+  plain_in = kept.plain_in net start HasSizes IsBlock AnyTable (turns_in start)
 
   silenced_in : (s : Sound) (node : ℕ) → SoundIn s → SoundIn (silenced s node)
-  silenced_in s node a = record { is = a.is; blocks = quiet_in s.blocks node a.blocks }
+  silenced_in = kept.silenced_in net start HasSizes IsBlock AnyTable (turns_in start)
 
   pub box_in : (inside : Played → ℕ → Played) → ((p : Played) (c : ℕ) → PlayedIn p → PlayedIn (inside p c)) → (p : Played) (node : ℕ) (o : Option ℕ) → PlayedIn p → PlayedIn (ran_box net start inside p node o)
-  box_in inside k p node None a = plain_in p node a
-  box_in inside k p node (Some inner) a = k (played (silenced p.sound node) p.out) inner (record { is = silenced_in p.sound node a.is })
-
-  each_in : (one : Played → ℕ → Played) → ((p : Played) (n : ℕ) → PlayedIn p → PlayedIn (one p n)) → (p : Played) (ns : List ℕ) → PlayedIn p → PlayedIn (each one p ns)
-  each_in one k p [] a = a
-  each_in one k p (n ∷ ns) a = each_in one k (one p n) ns (k p n a)
+  box_in inside k p node o a = record { is = box_keeps net start SoundIn plain_in silenced_in inside (λ q c h. (k q c (record { is = h })).is) p node o a.is }
 
   pub silent_in : (s : Sound) (ns : List ℕ) → SoundIn s → SoundIn (each silenced s ns)
-  silent_in s [] a = a
-  silent_in s (n ∷ ns) a = silent_in (silenced s n) ns (silenced_in s n a)
+  silent_in = silent_keeps net start SoundIn plain_in silenced_in
 
   pub canvas_in : (levels : ℕ) (p : Played) (canvas : ℕ) → PlayedIn p → PlayedIn (ran_canvas net start levels p canvas)
-  unfolding ran_canvas
-  canvas_in zero p canvas a = a
-  canvas_in (suc levels) p canvas a =
-      each_in (ran_one net start (ran_canvas net start levels)) (λ q node b. box_in (ran_canvas net start levels) (canvas_in levels) q node (inner_at net node) b)
-      (played (each silenced p.sound (stuck_at net canvas)) p.out) (chain_at net canvas) (record { is = silent_in p.sound (stuck_at net canvas) a.is })
-
-  begun_state : (s : State) → HasSizes s → HasSizes (block_begun s)
-  begun_state (state.Delwrite held values next ran) h = h
-  begun_state s h = h
-
-  begun_some : (o : Option State) → IfSome o HasSizes → IfSome (option_map block_begun o) HasSizes
-  begun_some None h = tt
-  begun_some (Some s) h = begun_state s h
+  canvas_in levels p canvas a = record { is = canvas_keeps net start SoundIn plain_in silenced_in levels p canvas a.is }
 
   pub begun_in : (s : Sound) → SoundIn s → SoundIn (begun s)
-  begun_in s a =
-      record { is = λ k. either (λ (o : Option State). IfSome o HasSizes) (nat_lt k 4294967296) (option_map block_begun (s.states k)) (s.states k) (begun_some (s.states k) (a.is k)) (a.is k); blocks = a.blocks }
-
-  whole_in : (s : Sound) → SoundIn s → SoundIn (block_of net s start).sound
-  unfolding block_of
-  whole_in s a = let p : PlayedIn (ran_canvas net start 257 _ net.root) = canvas_in 257 _ net.root (record { is = begun_in s a }) in p.is
+  begun_in = kept.begun_in net start HasSizes IsBlock AnyTable (turns_in start)
 
 pub block_whole : (net : Net) (start : ℕ) (s : Sound) → IsWhole s → IsWhole (block_of net s start).sound
 block_whole net start s h =
-    let a : SoundIn (block_of net s start).sound = whole_in net start s (record { is = h.states; blocks = h.blocks }) in
+    let a : SoundIn (block_of net s start).sound = kept.whole_in net start HasSizes IsBlock AnyTable (turns_in start) s (record { is = h.states; blocks = h.blocks }) in
     record { states = a.is; blocks = a.blocks }

@@ -1,16 +1,11 @@
 pub mod StartLemmas
 pub mod TurnLemmas
-pub mod KeepLemmas
-pub mod HeldLemmas
 pub mod RunLemmas
 pub mod LengthLemmas
 pub mod BlockLemmas
 pub mod FreshLemmas
 pub mod KindLemmas
 pub mod OwnerLemmas
-pub mod AlikeLemmas
-pub mod AlikeHeldLemmas
 pub mod AlikeRunLemmas
-pub mod AlikeTurnLemmas
 pub mod AlikeBlockLemmas
 pub mod ServeLemmas

@@ -1,0 +1,9 @@
+pub mod FactLemmas
+pub mod SameTurns
+pub mod ChangeLemmas
+pub mod RowLemmas
+pub mod HeldLemmas
+pub mod RunLemmas
+pub mod TurnLemmas
+pub mod BlockLemmas
+pub mod SoundLemmas
