@@ -1,5 +1,5 @@
 -- Of each kind: its ports are few where it runs of its own, beside another box or beside a table, and it doesn't look at its own kind.
-use Rattle.std.proofs.Common.{arith, ◌≡◌, ◌≤◌, ℕ, ℤ, List, [], length, Option, Some, None, option_map, unwrap_or, refl, sym}
+use Rattle.std.proofs.Common.{arith, ◌≡◌, ◌≤◌, ◌^◌, ℕ, ℤ, List, [], length, Option, Some, None, option_map, unwrap_or, refl, sym, ap, true≢false}
 use Rattle.pd_clock.specs.declared.times.Rate.TheVariants.{R44100}
 use Rattle.pd_object.specs.declared.kinds.Kind.{Kind}
 use Rattle.pd_object.specs.declared.kinds.Kind.TheVariants as kind
@@ -13,18 +13,20 @@ use Rattle.pd_kind.specs.declared.states.State.TheVariants as state
 use Rattle.pd_kind.specs.Fit.{blank}
 use Rattle.pd_kind.specs.States.{start_of, signal_start}
 use Rattle.pd_kind.specs.Tables.{shared_of}
+use Rattle.pd_vline.specs.Rows.{IsOpen}
 use Rattle.pd_turn.specs.declared.sizes.Few.{Few}
 use Rattle.pd_turn.specs.declared.sorts.Manner.{Manner}
 use Rattle.pd_turn.specs.declared.sorts.Manner.TheVariants.{Own, Beside, Table, Dac, Inlet, Outlet, Never}
 use Rattle.pd_turn.specs.Sizes.{few_of_tone, few_of_signal, few_of}
-use Rattle.pd_turn.specs.Rows.{signal_manner, manner_of, own_ran}
+use Rattle.pd_turn.specs.Rows.{signal_manner, manner_of, vline_ran, own_ran}
 use Rattle.pd_block.specs.Blocks.{channels_of}
 use Rattle.pd_channels_law.specs.Channels.{HasFewChannels}
 use Rattle.pd_sized.specs.Kinds.{blank_of}
 use Rattle.pd_sized.specs.Sizes.{HasSizes, LooksAtSignal, LooksAt, Finds}
-use Rattle.pd_sized.proofs.TurnLemmas.{own_whole}
+use Rattle.pd_sized.proofs.TurnLemmas.{own_whole, line_whole}
 use Rattle.pd_sized.proofs.ServeLemmas.{goes_on}
-use Rattle.pd_sound_law.specs.Freely.{own_row, shares}
+use Rattle.pd_ends_law.proofs.OpenLemmas.{is_line}
+use Rattle.pd_sound_law.specs.Freely.{vline_row, own_row, shares}
 use Rattle.pd_sound_law.specs.Ready.{HasRow}
 
 -- the ports of a kind
@@ -64,11 +66,16 @@ few_ports kind.Vline h = refl
 few_ports (kind.Signal g) h = few_signal g h
 few_ports k h = absurd h
 
--- what has its sizes does what its row says
-pub own_freely : (start : ℕ) (k : Kind) (s : State) (ins : List (List ℤ)) → HasSizes s → own_ran start k s ins ≡ own_row start k s ins
-own_freely start (kind.Tone t) s ins h = refl
-own_freely start kind.Vline s ins h = refl
-own_freely start k s ins h = own_whole k s ins h
+-- a `vline~` that has run no later block runs
+line_freely : (start : ℕ) (s : State) → start ≤ 2 ^ 101 → IsOpen start s → blank s ≡ blank_of kind.Vline → vline_ran start s ≡ vline_row start s
+line_freely start (state.Vline r) top h e = line_whole [] r start top h
+line_freely start s top h e = absurd (true≢false (sym (ap is_line e)))
+
+-- what has its sizes, and has run no later block, does what its row says
+pub own_freely : (start : ℕ) (k : Kind) (s : State) (ins : List (List ℤ)) → HasSizes s → start ≤ 2 ^ 101 → IsOpen start s → blank s ≡ blank_of k → own_ran start k s ins ≡ own_row start k s ins
+own_freely start (kind.Tone t) s ins z top h e = refl
+own_freely start kind.Vline s ins z top h e = line_freely start s top h e
+own_freely start k s ins z top h e = own_whole k s ins z
 
 -- what a box looks at shares values
 shared_signal : (g : Signal) (s : State) → LooksAtSignal g s → shared_of s ≡ Some (shares s)

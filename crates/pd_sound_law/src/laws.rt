@@ -16,6 +16,7 @@ ghost use Rattle.pd_web.specs.declared.web.Web.{Web};
 ghost use Rattle.pd_web.specs.Hops.{feed_hops};
 ghost use Rattle.pd_patch.specs.declared.patch.Patch.{Patch};
 ghost use Rattle.pd_patch.specs.Built.{IsBuilt};
+ghost use Rattle.pd_patch.specs.Fed.{AreFed};
 ghost use Rattle.pd_patch.specs.Grown.{IsFresh, IsTree};
 ghost use Rattle.pd_canvas.specs.Pages.{Page};
 ghost use Rattle.pd_canvas.specs.Proper.{IsProper};
@@ -31,8 +32,10 @@ ghost use Rattle.pd_block.specs.Blocks.{begun, block_within, block_of};
 ghost use Rattle.pd_sized.specs.Alike.{AreAlike};
 ghost use Rattle.pd_sized.specs.Kinds.{kinds_of, KeepsOfKind};
 ghost use Rattle.pd_sized.specs.Sizes.{IsWhole};
-ghost use Rattle.pd_sound_law.specs.Freely.{Feeds, free_block};
-ghost use Rattle.pd_sound_law.specs.Ready.{IsReady, HasFewFeeds, HasRow};
+ghost use Rattle.pd_ends_law.specs.Ends.{AreOpen};
+ghost use Rattle.pd_ends_law.specs.Once.{RunsOnce};
+ghost use Rattle.pd_sound_law.specs.Freely.{free_block};
+ghost use Rattle.pd_sound_law.specs.Ready.{HasBlocks, IsReady, HasFewFeeds, HasRow};
 
 /// A box that runs of its own, beside another box or beside a table has at most two signal inlets and one signal outlet, so that none is
 /// silent for the number of its ports.
@@ -57,28 +60,32 @@ pub fn delay_lines_begin()
     ensures { (s : Sound) → ((k : ℕ) → 2 ^ 32 ≤ k → s.states k ≡ None) → (k : ℕ) → (begun s).states k ≡ option_map block_begun (s.states k) }
 {}
 
-/// Where all is ready for it, a block is the one in which nothing is looked at, with the wires that are summed.
+/// Where all is ready for it, no `vline~` has run a block that ends after its start, no box runs twice in it, and events come at its start, a
+/// block is the one in which nothing is looked at.
 pub fn blocks_are_free()
-    ensures { (net : Net) (feeds : Feeds) (s : Sound) (start levels : ℕ) → IsReady net s → ((node inlet : ℕ) → wires_to net.web node inlet ≡ feeds node inlet) →
-        block_within levels net s start ≡ free_block levels net feeds s start }
+    ensures { (net : Net) (s : Sound) (start levels : ℕ) → IsReady net s → AreOpen start s.states → RunsOnce levels net → start ≤ 2 ^ 101 →
+        block_within levels net s start ≡ free_block levels net s start }
 {}
 
-/// In a patch that stands all is ready for a block, where a `dac~` has at most 1,024 channels and boxes keep what is of their kinds, with its
-/// sizes; so it is in one that has just grown. It stays so where what they keep is of the same objects and has its sizes, and over each block.
+/// In a patch that stands all is ready for a block, where a `dac~` has at most 1,024 channels, no inlet has more than 65,536 wires, boxes keep
+/// what is of their kinds, with its sizes, and each outlet that carries signals has a block; so it is in one that has just grown. It stays so
+/// where what they keep is of the same objects and has its sizes, and over each block.
 pub fn patches_stay_ready()
     ensures stands { (p : Patch) (names : Names) (file : List ℕ) (rate : Rate) (clocks : List Clock) (s : Sound) → IsBuilt p names file rate →
-        NodesHaveFew (get p.grove.nodes) → KeepsOfKind (kinds_of p) s.states → IsWhole s → IsReady (with_clocks (net_of p) clocks) s }
+        NodesHaveFew (get p.grove.nodes) → AreFed p.web → KeepsOfKind (kinds_of p) s.states → IsWhole s → HasBlocks p.web s.blocks →
+        IsReady (with_clocks (net_of p) clocks) s }
     ensures grown { (p : Patch) (names : Names) (file : List ℕ) (rate : Rate) → IsFresh p names file rate → NodesHaveFew (get p.grove.nodes) →
         IsWhole (sound_of p) → IsReady (net_of p) (sound_of p) }
-    ensures lasts { (net : Net) (s t : Sound) → IsReady net s → AreAlike s.states t.states → IsWhole t → IsReady net t }
+    ensures lasts { (net : Net) (s t : Sound) → IsReady net s → AreAlike s.states t.states → IsWhole t → HasBlocks net.web t.blocks → IsReady net t }
     ensures block { (net : Net) (start : ℕ) (s : Sound) → IsReady net s → IsReady net (block_of net s start).sound }
 {}
 
 /// In a patch that stands, with the root at most 256 canvases deep, a block is the one in which each box runs its own row, whatever clocks it has, where a `dac~` has at most
-/// 1,024 channels and boxes keep what is of their kinds, with its sizes. Any number of levels that is greater than that of its canvases gives the same block.
+/// 1,024 channels, no inlet has more than 65,536 wires, boxes keep what is of their kinds, with its sizes, each outlet that carries signals has a block, no `vline~` has run a
+/// block that ends after the start, and events come then. Any number of levels that is greater than that of its canvases gives the same block.
 pub fn patches_play_freely()
-    ensures { (p : Patch) (names : Names) (file : List ℕ) (rate : Rate) (t : Tree) (feeds : Feeds) (clocks : List Clock) (s : Sound) (start levels : ℕ) →
-        GroveStands p.grove t.sheet t.boxes → deep t.boxes + 1 ≤ 256 → IsBuilt p names file rate → NodesHaveFew (get p.grove.nodes) → ((node inlet : ℕ) → wires_to p.web node inlet ≡ feeds node inlet) →
-        deep t.boxes < levels → KeepsOfKind (kinds_of p) s.states → IsWhole s →
-        block_of (with_clocks (net_of p) clocks) s start ≡ free_block levels (with_clocks (net_of p) clocks) feeds s start }
+    ensures { (p : Patch) (names : Names) (file : List ℕ) (rate : Rate) (t : Tree) (clocks : List Clock) (s : Sound) (start levels : ℕ) →
+        GroveStands p.grove t.sheet t.boxes → deep t.boxes + 1 ≤ 256 → IsBuilt p names file rate → NodesHaveFew (get p.grove.nodes) → AreFed p.web →
+        deep t.boxes < levels → KeepsOfKind (kinds_of p) s.states → IsWhole s → HasBlocks p.web s.blocks → AreOpen start s.states → start ≤ 2 ^ 101 →
+        block_of (with_clocks (net_of p) clocks) s start ≡ free_block levels (with_clocks (net_of p) clocks) s start }
 {}

@@ -1,4 +1,4 @@
-use Rattle.pd_sound_law.proofs.ReadyLemmas.{lines_begin}
+use Rattle.pd_sound_law.proofs.FreeLemmas.{lines_begin}
 use Rattle.pd_sound_law.proofs.laws.delay_lines_begin.Goals as goal
 
 pub returns : goal.returns

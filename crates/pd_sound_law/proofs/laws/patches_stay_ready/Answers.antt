@@ -2,7 +2,7 @@ use Rattle.pd_sound_law.proofs.ReadyLemmas.{ready_built, ready_grown, ready_last
 use Rattle.pd_sound_law.proofs.laws.patches_stay_ready.Goals as goal
 
 pub returns-clause-stands : goal.returns-clause-stands
-returns-clause-stands c = λ p names file rate clocks s built few kept whole. ready_built p names file rate built few clocks s kept whole
+returns-clause-stands c = λ p names file rate clocks s built few fed kept whole blocks. ready_built p names file rate built few fed clocks s kept whole blocks
 
 pub returns-clause-lasts : goal.returns-clause-lasts
 returns-clause-lasts c = ready_lasts

@@ -1,0 +1,5 @@
+pub mod OpenLemmas
+pub mod LineLemmas
+pub mod RunLemmas
+pub mod BlockLemmas
+pub mod OnceLemmas
