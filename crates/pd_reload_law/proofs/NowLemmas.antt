@@ -52,7 +52,7 @@ head_by (Array values) s c e = refl
 head_by Obj s c e = object_head (option_and_then saved_of s) s c e refl
 head_by f s c e = sym (head_kept f s c.head e refl refl)
 
-cell_head : (s : Option State) (c : Cell) → (cell_now s c).head ≡ present_head s c.head
+pub cell_head : (s : Option State) (c : Cell) → (cell_now s c).head ≡ present_head s c.head
 cell_head s c = head_by c.head.form s c refl
 
 -- ---- growing again

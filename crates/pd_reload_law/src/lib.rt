@@ -13,7 +13,7 @@
 //! that fit, in their order (`laid_wires_are_saved`). Where a wire comes or goes, they change as by the same edit of a
 //! document (`saved_wires_follow`), and the document that is saved changes in that canvas alone (`documents_follow_wires`).
 //!
-//! Left: that messages leave what boxes keep theirs.
+//! That messages and blocks leave what boxes keep theirs is in `pd_proper_law` (`what_boxes_keep_is_theirs`).
 //!
 //! Definitions: `Saving` (the tree as it stands), `Reloading` (what has grown, and stands by now), `Wires`.
 #![tactic(auto)]

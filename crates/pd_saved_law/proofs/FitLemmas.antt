@@ -1,14 +1,14 @@
 -- Wires that fit, at first and after edits.
-use Rattle.std.proofs.Common.{◌≡◌, ◌≢◌, ℕ, suc, Bool, true, false, cond, ◌==◌, ◌&&◌, List, [], ◌∷◌, map, filter, slice_get, Option, Some, None, Result, Ok, Err, refl, sym, ap, ◌∙◌, subst, arith}
-use Rattle.std.specs.Prelude.{nat_lt, length}
+use Rattle.std.proofs.Common.{◌≡◌, ◌≢◌, ℕ, suc, Bool, true, false, cond, ◌==◌, ◌&&◌, List, [], ◌∷◌, ◌++◌, map, filter, slice_get, Option, Some, None, Result, Ok, Err, refl, sym, ap, ◌∙◌, subst, arith}
+use Rattle.std.specs.Prelude.{nat_lt, length, not}
 use Rattle.std.specs.List.{AllByRecursion, flat_map, range_with_len}
 use Rattle.std.proofs.lemmas.Bool.Decides.{nat_tests}
 use Rattle.slab.specs.Slab.{get}
 use Rattle.pd_canvas.specs.declared.edits.Edit.{Edit}
 use Rattle.pd_canvas.specs.declared.edits.Edit.TheVariants as edit
 use Rattle.pd_canvas.specs.declared.wires.Wire.{Wire}
-use Rattle.pd_canvas.specs.Wiring.{with_wire, without_wire, fan_out}
-use Rattle.pd_canvas.proofs.SortLemmas.{all_with, all_without}
+use Rattle.pd_canvas.specs.Wiring.{with_wire, fan_out}
+use Rattle.pd_canvas.proofs.SortLemmas.{all_with}
 use Rattle.pd_tree.specs.Ports.{Sockets, fits}
 use Rattle.pd_grove.specs.declared.grove.Grove.{Grove}
 use Rattle.pd_grove.specs.declared.ports.Side.{Side}
@@ -16,6 +16,7 @@ use Rattle.pd_grove.specs.declared.ports.Side.TheVariants.{Inlets, Outlets}
 use Rattle.pd_grove.specs.Owning.{AreOwn}
 use Rattle.pd_web.specs.declared.jacks.Jack.{Jack}
 use Rattle.pd_web.specs.declared.lines.Line.{Line}
+use Rattle.pd_web.specs.declared.web.Hop.{Hop}
 use Rattle.pd_web.specs.declared.web.Web.{Web}
 use Rattle.pd_web.specs.Canvases.{keys_at, sink_place}
 use Rattle.pd_web.specs.Changes.{KeepsPorts}
@@ -24,21 +25,20 @@ use Rattle.pd_web.specs.Jacks.{jacks_at, made_in}
 use Rattle.pd_web.specs.Lines.{seen_by, seen_at, laid_at, boxes_in, wires_in}
 use Rattle.pd_web.specs.Sockets.{made_at}
 use Rattle.pd_web.proofs.NumberLemmas.{fed_by_number}
-use Rattle.pd_present.specs.Presents.{outlet_wires, box_wires, wires_among}
+use Rattle.pd_present.specs.Presents.{wire_along, outlet_wires, box_wires, wires_among}
 use Rattle.pd_patch.specs.declared.patch.Patch.{Patch}
 use Rattle.pd_patch.specs.Grown.{AreLaid}
 use Rattle.pd_patch.specs.Numbers.{AreUnder}
 use Rattle.pd_patch.proofs.WiredLemmas.{own_canvas}
 use Rattle.pd_wiring.specs.declared.asking.WireRefusal.{WireRefusal}
 use Rattle.pd_wiring.specs.Asking.{line_fitting, line_between, line_by_keys, line_asked}
-use Rattle.pd_wiring.specs.Changes.{CanRewire}
+use Rattle.pd_wiring.specs.Changes.{CanRewire, SameButRoom}
 use Rattle.pd_wiring.specs.Plans.{Plan, Attached, Detached, connecting, attaching, planned, IsCarriedOut, IsRewired}
-use Rattle.pd_reload_law.specs.Wires.{StandOnce}
-use Rattle.pd_reload_law.proofs.FollowLemmas.{join_follows, join_elsewhere, cut_follows, cut_elsewhere}
+use Rattle.pd_reload_law.proofs.FollowLemmas.{join_follows, join_elsewhere}
 use Rattle.pd_reload_law.proofs.LaidLemmas.{back, along_back, backs, passes, fitting_joins}
 use Rattle.pd_reload_law.proofs.SortedLemmas.{by_test, all_on, all_append}
 use Rattle.pd_saved_law.specs.Fitting.{WiresFit}
-use Rattle.pd_saved_law.proofs.EditLemmas.{never_plan, never_line, cond_line, IsLine, Goes, comes, goes, wire_same, elsewhere, stays_among}
+use Rattle.pd_saved_law.proofs.EditLemmas.{never_plan, never_line, cond_line, IsLine, comes, goes, wire_same, elsewhere}
 
 -- ---- lists
 
@@ -137,7 +137,7 @@ connecting_fits p v (Some d) c plan e at =
     same_some a b e = cc
 
 -- the canvas of the edit, and any other
-same_or : {P : Type 0} (c d : ℕ) → (d ≡ c → P) → (d ≢ c → P) → P
+pub same_or : {P : Type 0} (c d : ℕ) → (d ≡ c → P) → (d ≢ c → P) → P
 same_or c d f g = by_test (d == c) (λ t. f (yes d c t)) (λ t. g (no d c t))
   where
     yes : (a b : ℕ) → (a == b) ≡ true → a ≡ b
@@ -172,31 +172,69 @@ attached_fit p q v c l r h i fit a =
     (λ apart. fit_by p.web q.web p.numbers.items (keys_at p.grove d) (wires_among p.web p.numbers.items (keys_at p.grove d)) a.joins.kept
     (join_elsewhere p.web q.web p.numbers.items (keys_at p.grove d) a.key l _ a.place (r.numbers d) (elsewhere p c d v.source l.source r apart i.source) a.joins) (h.all d)))
 
-detached_fit : (p q : Patch) (v : Wire) (here : Option ℕ) (plan : Plan) (h : Goes p.web p.grove v here plan) → StandOnce p.web → CanRewire p → WiresFit p → Detached p q h.key h.line → WiresFit q
-detached_fit p q v here plan h once r f a =
-    let c = h.canvas in
-    let l = h.line in
-    let i = h.is in
-    fit_patch p q a.rest.grove a.rest.numbers (λ d. same_or c d
-    (λ is. subst (λ x. Fit q.web p.numbers.items (keys_at p.grove x)) (sym is)
-    (fit_by p.web q.web p.numbers.items (keys_at p.grove c) (without_wire v (wires_among p.web p.numbers.items (keys_at p.grove c))) a.cuts.kept
-    (cut_follows p.web q.web p.numbers.items (keys_at p.grove c) h.key l v.source (r.numbers c) once (stays_among p c r) i.source (v.sink, i.sink) h.first a.cuts
-    ∙ ap (λ x. without_wire x (wires_among p.web p.numbers.items (keys_at p.grove c))) (wire_same p c v l r i))
-    (all_without (λ x. fits (boxes_told p.web (keys_at p.grove c)) x ≡ true) v (wires_among p.web p.numbers.items (keys_at p.grove c)) (f.all c))))
-    (λ apart. fit_by p.web q.web p.numbers.items (keys_at p.grove d) (wires_among p.web p.numbers.items (keys_at p.grove d)) a.cuts.kept
-    (cut_elsewhere p.web q.web p.numbers.items (keys_at p.grove d) h.key l (r.numbers d) once (elsewhere p c d v.source l.source r apart i.source) h.first a.cuts) (f.all d)))
+-- what holds of each wire that is saved holds of those that are left of them
+first_all : {X : Type 0} (P : X → Type 0) (xs ys : List X) → AllByRecursion P (xs ++ ys) → AllByRecursion P xs
+first_all P [] ys h = tt
+first_all P (x ∷ xs) ys h = (h.0, first_all P xs ys h.1)
 
-fit_edit : (p q : Patch) (path : List ℕ) (e : Edit) (plan : Plan) → StandOnce p.web → CanRewire p → WiresFit p → planned p path e ≡ Ok plan → IsCarriedOut plan p q → WiresFit q
-fit_edit p q path (edit.Connect v) plan once r f e done =
+last_all : {X : Type 0} (P : X → Type 0) (xs ys : List X) → AllByRecursion P (xs ++ ys) → AllByRecursion P ys
+last_all P [] ys h = h
+last_all P (x ∷ xs) ys h = last_all P xs ys h.1
+
+flat_on : {X : Type 0} (P : X → Type 0) (f g : ℕ → List X) → ((x : ℕ) → AllByRecursion P (f x) → AllByRecursion P (g x)) → (xs : List ℕ) → AllByRecursion P (flat_map f xs) → AllByRecursion P (flat_map g xs)
+flat_on P f g k [] h = tt
+flat_on P f g k (x ∷ xs) h = all_append P (g x) (flat_map g xs) (k x (first_all P (f x) (flat_map f xs) h)) (flat_on P f g k xs (last_all P (f x) (flat_map f xs) h))
+
+some_left : {X Y : Type 0} (P : Y → Type 0) (f : X → Y) (p : X → Bool) (xs : List X) → AllByRecursion P (map f xs) → AllByRecursion P (map f (filter p xs))
+some_left P f p [] h = tt
+some_left P f p (x ∷ xs) h = step (p x) h.0 (some_left P f p xs h.1)
+  where
+    step : (b : Bool) → P (f x) → AllByRecursion P (map f (filter p xs)) → AllByRecursion P (map f (cond b (x ∷ filter p xs) (filter p xs)))
+    step true k m = (k, m)
+    step false k m = m
+
+left_saved : (w w2 : Web) (numbers keys : List ℕ) (P : Wire → Type 0) → KeepsPorts w w2 → ((k o : ℕ) → AllByRecursion P (outlet_wires w numbers k o) → AllByRecursion P (outlet_wires w2 numbers k o))
+    → AllByRecursion P (wires_among w numbers keys) → AllByRecursion P (wires_among w2 numbers keys)
+left_saved w w2 numbers keys P kept less h =
+    flat_on P (box_wires w numbers) (box_wires w2 numbers) (λ k a.
+    subst (λ (ports : List Jack). AllByRecursion P (flat_map (outlet_wires w2 numbers k) (range_with_len 0 (length ports)))) (sym (kept.ports Outlets k))
+    (flat_on P (outlet_wires w numbers k) (outlet_wires w2 numbers k) (λ o b. less k o b) (range_with_len 0 (length (ports_told w Outlets k))) a)) keys h
+
+abbrev Fitting : Web → List ℕ → Wire → Type 0
+Fitting w keys v = fits (boxes_told w keys) v ≡ true
+
+left_fit : (w w2 : Web) (numbers keys : List ℕ) → KeepsPorts w w2
+    → ((k o : ℕ) → AllByRecursion (Fitting w keys) (outlet_wires w numbers k o) → AllByRecursion (Fitting w keys) (outlet_wires w2 numbers k o)) → Fit w numbers keys → Fit w2 numbers keys
+left_fit w w2 numbers keys kept less h =
+    subst (λ (x : List Sockets). AllByRecursion (λ v. fits x v ≡ true) (wires_among w2 numbers keys)) (sym (told_same w w2 keys kept))
+    (left_saved w w2 numbers keys (Fitting w keys) kept less h)
+
+cut_fit : (p q : Patch) (key : ℕ) (l : Line) → WiresFit p → Detached p q key l → WiresFit q
+cut_fit p q key l f a =
+    fit_patch p q a.rest.grove a.rest.numbers (λ c.
+    let keys = keys_at p.grove c in
+    left_fit p.web q.web p.numbers.items keys a.cuts.kept (λ k o h.
+    subst (λ (hops : List Hop). AllByRecursion (Fitting p.web keys) (map (wire_along p.numbers.items k o) hops)) (sym (a.cuts.fans k o))
+    (some_left (Fitting p.web keys) (wire_along p.numbers.items k o) (λ (h : Hop). not (h.key == key)) (fan_hops p.web k o) h)) (f.all c))
+
+pub room_fits : (p q : Patch) → SameButRoom p q → WiresFit p → WiresFit q
+room_fits p q s f =
+    fit_patch p q s.grove s.numbers (λ c.
+    let keys = keys_at p.grove c in
+    left_fit p.web q.web p.numbers.items keys s.web.kept (λ k o h.
+    subst (λ (hops : List Hop). AllByRecursion (Fitting p.web keys) (map (wire_along p.numbers.items k o) hops)) (sym (s.web.fans k o)) h) (f.all c))
+
+fit_edit : (p q : Patch) (path : List ℕ) (e : Edit) (plan : Plan) → CanRewire p → WiresFit p → planned p path e ≡ Ok plan → IsCarriedOut plan p q → WiresFit q
+fit_edit p q path (edit.Connect v) plan r f e done =
     let h = comes p v _ plan e in
     attached_fit p q v h.canvas h.line r f h.is (connecting_fits p v _ h.canvas plan e h.at) (subst (λ x. IsCarriedOut x p q) h.plan_is done)
-fit_edit p q path (edit.Disconnect v) plan once r f e done =
+fit_edit p q path (edit.Disconnect v) plan r f e done =
     let h = goes p v _ plan e in
-    detached_fit p q v _ plan h once r f (subst (λ x. IsCarriedOut x p q) h.plan_is done)
-fit_edit p q path e plan once r f h done = absurd (never_plan _ plan h)
+    cut_fit p q h.key h.line f (subst (λ x. IsCarriedOut x p q) h.plan_is done)
+fit_edit p q path e plan r f h done = absurd (never_plan _ plan h)
 
-pub edits_fit : (p q : Patch) (path : List ℕ) (e : Edit) (canvas : ℕ) → StandOnce p.web → CanRewire p → WiresFit p → IsRewired p q path e canvas → WiresFit q
-edits_fit p q path e canvas once r f x = fit_edit p q path e x.plan once r f x.is_planned x.done
+pub edits_fit : (p q : Patch) (path : List ℕ) (e : Edit) (canvas : ℕ) → CanRewire p → WiresFit p → IsRewired p q path e canvas → WiresFit q
+edits_fit p q path e canvas r f x = fit_edit p q path e x.plan r f x.is_planned x.done
 
 -- wires that all fit
 pub all_fit : (p : Wire → Bool) (ws : List Wire) → AllByRecursion (λ v. p v ≡ true) ws → filter p ws ≡ ws

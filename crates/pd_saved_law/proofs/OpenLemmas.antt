@@ -28,7 +28,7 @@ levels_below : (n : ℕ) → n + 1 ≤ 256 → n ≤ 255
 levels_below n h = omega (arith, h)
 
 -- what a proper document gave has grown from it
-has_grown : (files : List (ℕ × Answer)) (name : List ℕ) (d : Page) (before names : Names) (n : ℕ) (rate : Rate) (first : Patch) → IsProper before d → AreProper before files
+pub has_grown : (files : List (ℕ × Answer)) (name : List ℕ) (d : Page) (before names : Names) (n : ℕ) (rate : Rate) (first : Patch) → IsProper before d → AreProper before files
     → (grew : IsTree first names rate (grown (answer_in files) name d (beginning before n)))
     → HasGrown (answer_in files) name d (beginning before n) grew.tree grew.given.after
 has_grown files name d before names n rate first proper found grew = record {

@@ -32,7 +32,7 @@ ghost use Rattle.pd_reload_law.specs.Reloading.{RunsAs};
 ghost use Rattle.pd_reload_law.specs.Saving.{tree_now, AreMade};
 ghost use Rattle.pd_reload_law.specs.Wires.{StandOnce};
 ghost use Rattle.pd_saved_law.specs.Fitting.{WiresFit, HaveSameWires};
-ghost use Rattle.pd_wiring.specs.Changes.{CanRewire};
+ghost use Rattle.pd_wiring.specs.Changes.{CanRewire, SameButRoom};
 ghost use Rattle.pd_wiring.specs.Plans.{IsRewired};
 
 /// An edit of wires that is made changes the document of the patch as the same edit of a document does, in the canvas at its path and nowhere
@@ -64,11 +64,12 @@ pub fn saved_patches_open_again()
     pd_doc::written_read();
 }
 
-/// In a patch that has just grown all wires fit, and so they do after each edit of wires that is made.
+/// In a patch that has just grown all wires fit, and so they do after each edit of wires that is made, and where room was set aside.
 pub fn wires_go_on_fitting()
     ensures fresh { (p : Patch) (names : Names) (file : List ℕ) (rate : Rate) → IsFresh p names file rate → WiresFit p }
-    ensures edited { (p q : Patch) (path : List ℕ) (e : Edit) (canvas : ℕ) → StandOnce p.web → CanRewire p → WiresFit p →
+    ensures edited { (p q : Patch) (path : List ℕ) (e : Edit) (canvas : ℕ) → CanRewire p → WiresFit p →
         IsRewired p q path e canvas → WiresFit q }
+    ensures room { (p q : Patch) → SameButRoom p q → WiresFit p → WiresFit q }
 {}
 
 /// A patch that has grown to the tree of another one as it stands has in each canvas of the document the same ports and the same wires, at each
