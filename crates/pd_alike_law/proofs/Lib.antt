@@ -1,0 +1,10 @@
+pub mod MatchLemmas
+pub mod SoundLemmas
+pub mod OrderLemmas
+pub mod OwnerLemmas
+pub mod MeetLemmas
+pub mod FeedLemmas
+pub mod NameLemmas
+pub mod FirstLemmas
+pub mod OpenLemmas
+pub mod OnceLemmas
