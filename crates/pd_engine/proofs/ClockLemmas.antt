@@ -7,6 +7,7 @@ use Rattle.slab.specs.Slab.{get}
 use Rattle.pd_atom.specs.Names.{Names}
 use Rattle.pd_grove.specs.declared.grove.Grove.{Grove}
 use Rattle.pd_grove.specs.Telling.{state_in}
+use Rattle.pd_made.specs.declared.tally.Tally.{Tally}
 use Rattle.pd_patch.specs.declared.patch.Patch.{Patch}
 use Rattle.pd_patch.specs.Walking.{RestStays, AllButTime}
 use Rattle.pd_hearing.specs.Worlds.{Net, net_of, states_of}
@@ -91,8 +92,8 @@ unfolding fires_below
 fires_no_more n limit s is = rw is refl
 
 -- where a patch stands
-abbrev pub stage_with : List ℕ → Patch → Names → ℕ → ℕ → ℕ → List Choice → Stage
-stage_with file p names time block_end fired ahead = record {
+abbrev pub stage_with : List ℕ → Patch → Names → ℕ → ℕ → ℕ → Tally → List Choice → Stage
+stage_with file p names time block_end fired tally ahead = record {
   file = file;
   net = net_of p;
   states = states_of p;
@@ -101,12 +102,13 @@ stage_with file p names time block_end fired ahead = record {
   time = time;
   block_end = block_end;
   fired = fired;
+  tally = tally;
   ahead = ahead;
 }
 
 -- a clock was taken off the patch
-abbrev parted : List ℕ → Net → Grove → List Clock → Names → ℕ → ℕ → ℕ → List Choice → Stage
-parted file net grove clocks names time block_end fired ahead = record {
+abbrev parted : List ℕ → Net → Grove → List Clock → Names → ℕ → ℕ → ℕ → Tally → List Choice → Stage
+parted file net grove clocks names time block_end fired tally ahead = record {
   file = file;
   net = net;
   states = λ k. state_in (get grove.nodes k);
@@ -115,20 +117,21 @@ parted file net grove clocks names time block_end fired ahead = record {
   time = time;
   block_end = block_end;
   fired = fired;
+  tally = tally;
   ahead = ahead;
 }
 
-pub clocks_taken : (p p' : Patch) (file : List ℕ) (names : Names) (time block_end fired : ℕ) (ahead : List Choice) (cs : List Clock) → p'.grove ≡ p.grove → RestStays p p' → p'.timers.end ≡ p.timers.end
-    → p'.timers.clocks.clocks ≡ cs → stage_with file p' names time block_end fired ahead ≡ with_taken (stage_with file p names time block_end fired ahead) cs
-clocks_taken p p' file names time block_end fired ahead cs grove rest end is =
-    ap (λ (n : Net). parted file n p'.grove p'.timers.clocks.clocks names time block_end fired ahead) (clocks-net p p' grove rest end)
-    ∙ ap (λ (g : Grove). parted file (net_of p) g p'.timers.clocks.clocks names time block_end fired ahead) grove
-    ∙ ap (λ (c : List Clock). parted file (net_of p) p.grove c names time block_end fired ahead) is
+pub clocks_taken : (p p' : Patch) (file : List ℕ) (names : Names) (time block_end fired : ℕ) (tally : Tally) (ahead : List Choice) (cs : List Clock) → p'.grove ≡ p.grove → RestStays p p' → p'.timers.end ≡ p.timers.end
+    → p'.timers.clocks.clocks ≡ cs → stage_with file p' names time block_end fired tally ahead ≡ with_taken (stage_with file p names time block_end fired tally ahead) cs
+clocks_taken p p' file names time block_end fired tally ahead cs grove rest end is =
+    ap (λ (n : Net). parted file n p'.grove p'.timers.clocks.clocks names time block_end fired tally ahead) (clocks-net p p' grove rest end)
+    ∙ ap (λ (g : Grove). parted file (net_of p) g p'.timers.clocks.clocks names time block_end fired tally ahead) grove
+    ∙ ap (λ (c : List Clock). parted file (net_of p) p.grove c names time block_end fired tally ahead) is
 
 -- the time of the event was set
-pub now_set : (p p' : Patch) (file : List ℕ) (names : Names) (time block_end fired : ℕ) (ahead : List Choice) → AllButTime p p'
-    → stage_with file p' names time block_end fired ahead ≡ stage_with file p names time block_end fired ahead
-now_set p p' file names time block_end fired ahead h =
+pub now_set : (p p' : Patch) (file : List ℕ) (names : Names) (time block_end fired : ℕ) (tally : Tally) (ahead : List Choice) → AllButTime p p'
+    → stage_with file p' names time block_end fired tally ahead ≡ stage_with file p names time block_end fired tally ahead
+now_set p p' file names time block_end fired tally ahead h =
     let q : Patch = record {
       grove = p'.grove;
       web = p'.web;
@@ -141,7 +144,7 @@ now_set p p' file names time block_end fired ahead h =
       rate = p'.rate;
       present = p.present;
     } in
-    clocks_taken p q file names time block_end fired ahead p.timers.clocks.clocks h.tree
+    clocks_taken p q file names time block_end fired tally ahead p.timers.clocks.clocks h.tree
     (record { web = h.web; names = h.names; links = h.links; orders = h.orders; numbers = h.numbers; values = h.values; rate = h.rate; present = refl })
     (ap (λ t. t.end) h.timers) (ap (λ t. t.clocks.clocks) h.timers)
 
@@ -166,6 +169,7 @@ timed s time fired = record {
   time = time;
   block_end = s.block_end;
   fired = fired;
+  tally = s.tally;
   ahead = s.ahead;
 }
 

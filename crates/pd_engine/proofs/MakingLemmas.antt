@@ -14,6 +14,7 @@ use Rattle.pd_queue.specs.Entries.{wire_edit}
 use Rattle.pd_web.specs.declared.lines.Line.{Line}
 use Rattle.pd_web.specs.declared.web.Web.{Web}
 use Rattle.pd_web.specs.Changes.{wires_told}
+use Rattle.pd_made.specs.declared.tally.Tally.{Tally}
 use Rattle.pd_patch.specs.declared.patch.Patch.{Patch}
 use Rattle.pd_say.specs.Lines.{refusal_text}
 use Rattle.pd_say.specs.declared.refusals.Request.TheVariants as request
@@ -183,9 +184,9 @@ plan_stays : (plan : Plan) (p q : Patch) → IsCarriedOut plan p q → (source :
 plan_stays (Attaches c l) p q h = (l.source, h.rest)
 plan_stays (Detaches c key l) p q h = (l.source, h.rest)
 
-module _ (path : List ℕ) (e : Edit) (file : List ℕ) (names : Names) (time block_end fired : ℕ) where
+module _ (path : List ℕ) (e : Edit) (file : List ℕ) (names : Names) (time block_end fired : ℕ) (tally : Tally) where
   abbrev at : Patch → List Choice → Stage
-  at p m = stage_with file p names time block_end fired m
+  at p m = stage_with file p names time block_end fired tally m
 
   abbrev wanted : Wanted
   wanted = Edits None path e
@@ -286,33 +287,33 @@ module _ (path : List ℕ) (e : Edit) (file : List ℕ) (names : Names) (time bl
   edited old new (Err cause) looks looks' before now (same, inr d) = refused_so old new cause looks looks' before same d
 
 -- it was told
-module _ {E : Type 0} (r : Result Outcome E) (path : List ℕ) (e : Edit) (file : List ℕ) (names : Names) (time block_end fired : ℕ) (old new : Patch) (to : List Choice → Stage)
+module _ {E : Type 0} (r : Result Outcome E) (path : List ℕ) (e : Edit) (file : List ℕ) (names : Names) (time block_end fired : ℕ) (tally : Tally) (old new : Patch) (to : List Choice → Stage)
     (done : Result ℕ EditRefusal) (t t' : Option (List ℕ)) (k k' : ℕ) (before : CanRewire old) (now : CanRewire new) (edits : EditsTo old new path e done k k')
-    (stands : to ≡ stage_with file new names time block_end fired) where
-  told : Told (Edits None path e) (stage_with file old names time block_end fired []) (stage_with file new names time block_end fired) (edit_text new done) (edit_outcome done) k k'
-  told = edited path e file names time block_end fired old new done k k' before now edits
+    (stands : to ≡ stage_with file new names time block_end fired tally) where
+  told : Told (Edits None path e) (stage_with file old names time block_end fired tally []) (stage_with file new names time block_end fired tally) (edit_text new done) (edit_outcome done) k k'
+  told = edited path e file names time block_end fired tally old new done k k' before now edits
 
-  so : t' ≡ grown t (edit_text new done) → IsEdited path e (edit_outcome done) (stage_with file old names time block_end fired) to t t' k k'
+  so : t' ≡ grown t (edit_text new done) → IsEdited path e (edit_outcome done) (stage_with file old names time block_end fired tally) to t t' k k'
   so said = λ samples held faults.
-      subst (λ (x : List Choice → Stage). IsTakenSo (Edits None path e) (edit_outcome done) (stage_with file old names time block_end fired) x (sinks t samples k held faults) (sinks t' samples k' held faults))
+      subst (λ (x : List Choice → Stage). IsTakenSo (Edits None path e) (edit_outcome done) (stage_with file old names time block_end fired tally) x (sinks t samples k held faults) (sinks t' samples k' held faults))
       (sym stands)
-      (told_so (Edits None path e) (stage_with file old names time block_end fired []) (stage_with file new names time block_end fired) (edit_text new done) (edit_outcome done) t t' samples k k' held faults told said)
+      (told_so (Edits None path e) (stage_with file old names time block_end fired tally []) (stage_with file new names time block_end fired tally) (edit_text new done) (edit_outcome done) t t' samples k k' held faults told said)
 
-  answered_so : (o : Outcome) → t' ≡ grown t (edit_text new done) → o ≡ edit_outcome done → IsEdited path e o (stage_with file old names time block_end fired) to t t' k k'
+  answered_so : (o : Outcome) → t' ≡ grown t (edit_text new done) → o ≡ edit_outcome done → IsEdited path e o (stage_with file old names time block_end fired tally) to t t' k k'
   answered_so o said is = λ samples held faults.
-      subst (λ (x : Outcome). IsTakenSo (Edits None path e) x (stage_with file old names time block_end fired) to (sinks t samples k held faults) (sinks t' samples k' held faults)) (sym is) (so said samples held faults)
+      subst (λ (x : Outcome). IsTakenSo (Edits None path e) x (stage_with file old names time block_end fired tally) to (sinks t samples k held faults) (sinks t' samples k' held faults)) (sym is) (so said samples held faults)
 
-  pub says_edit : t' ≡ grown t (edit_text new done) → Says (edit_taken (Edits None path e)) (stage_with file old names time block_end fired) to t t' k k'
+  pub says_edit : t' ≡ grown t (edit_text new done) → Says (edit_taken (Edits None path e)) (stage_with file old names time block_end fired tally) to t t' k k'
   says_edit said = λ samples held faults. (so said samples held faults).comes
 
-  pub part_edit : TookPart t t' (edit_text new done) → SaysPart (edit_taken (Edits None path e)) (stage_with file old names time block_end fired) t t' k k'
+  pub part_edit : TookPart t t' (edit_text new done) → SaysPart (edit_taken (Edits None path e)) (stage_with file old names time block_end fired tally) t t' k k'
   part_edit part = λ samples held faults.
-      told_part (Edits None path e) (stage_with file old names time block_end fired []) (stage_with file new names time block_end fired) (edit_text new done) (edit_outcome done) t t' samples k k' held faults told part
+      told_part (Edits None path e) (stage_with file old names time block_end fired tally []) (stage_with file new names time block_end fired tally) (edit_text new done) (edit_outcome done) t t' samples k k' held faults told part
 
-  pub edited_so : OnOk r (t' ≡ grown t (edit_text new done)) → IfOk r (λ o. o ≡ edit_outcome done) → IfOk r (λ o. IsEdited path e o (stage_with file old names time block_end fired) to t t' k k')
+  pub edited_so : OnOk r (t' ≡ grown t (edit_text new done)) → IfOk r (λ o. o ≡ edit_outcome done) → IfOk r (λ o. IsEdited path e o (stage_with file old names time block_end fired tally) to t t' k k')
   edited_so said is = both_ok r (λ o a b. answered_so o a b) said is
 
-  pub edited_part : OnErr r (TookPart t t' (edit_text new done)) → OnErr r (SaysPart (edit_taken (Edits None path e)) (stage_with file old names time block_end fired) t t' k k')
+  pub edited_part : OnErr r (TookPart t t' (edit_text new done)) → OnErr r (SaysPart (edit_taken (Edits None path e)) (stage_with file old names time block_end fired tally) t t' k k')
   edited_part part = on_err_weaker r (λ a. part_edit a) part
 
 -- what `make` is told to make is the edit of wires that was asked for, or none

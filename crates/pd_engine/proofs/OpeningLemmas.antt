@@ -22,6 +22,8 @@ use Rattle.pd_gather.specs.declared.refusal.GatherRefusal.{GatherRefusal}
 use Rattle.pd_gather.specs.declared.refusal.GatherRefusal.TheVariants as gather
 use Rattle.pd_gather.specs.Fetching.{given}
 use Rattle.pd_gather.specs.Gather.{Known, Gathered, Full, known, Gathers, AnswersAll, growth, asked_by}
+use Rattle.pd_made.specs.declared.tally.Tally.{Tally}
+use Rattle.pd_made.specs.Tallies.{nothing}
 use Rattle.pd_patch.specs.declared.patch.Patch.{Patch}
 use Rattle.pd_patch.specs.declared.report.Remark.{Remark}
 use Rattle.pd_patch.specs.declared.refusal.GrowRefusal.{GrowRefusal}
@@ -115,8 +117,10 @@ grow_refused s rate grow.TooMuchSound none h = (refl, h)
 grow_refused s rate grow.NoMemory none h = tt
 
 -- a patch that has grown stands at its first stage
-pub begins_at : (file : List ℕ) (p : Patch) (names : Names) (time end : ℕ) → time ≡ 0 → end ≡ block_units → stage_with file p names time end 0 ≡ first_stage file p names
-begins_at file p names time end zero one = ap (λ (t : ℕ). stage_with file p names t end 0) zero ∙ ap (λ (t : ℕ). stage_with file p names 0 t 0) one
+pub begins_at : (file : List ℕ) (p : Patch) (names : Names) (time end : ℕ) (tally : Tally) → time ≡ 0 → end ≡ block_units → tally ≡ nothing
+    → stage_with file p names time end 0 tally ≡ first_stage file p names
+begins_at file p names time end tally zero one none =
+    ap (λ (t : ℕ). stage_with file p names t end 0 tally) zero ∙ ap (λ (t : ℕ). stage_with file p names 0 t 0 tally) one ∙ ap (λ (t : Tally). stage_with file p names 0 block_units 0 t) none
 
 -- nobody reads how many looks there were
 took_unlooked : (t t' u : Option (List ℕ)) (k k' n : ℕ) (h : Option (List FileRow)) (f : ℕ) (items : List Item) (edits : List Taken) → Took (sinks t u k h f) (sinks t' u k' h f) items edits

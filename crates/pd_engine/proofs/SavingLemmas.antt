@@ -6,8 +6,9 @@ use Rattle.pd_io.specs.Stream.{grown, TookPart}
 use Rattle.pd_io.specs.declared.files.FileRow.{FileRow}
 use Rattle.pd_io.specs.declared.shelves.ShelfError.{ShelfError}
 use Rattle.pd_io.specs.declared.shelves.ShelfError.TheVariants as shelf
-use Rattle.pd_atom.specs.Names.{Names}
+use Rattle.pd_atom.specs.Names.{Names, IsTable}
 use Rattle.pd_doc.specs.Writing.{text_of}
+use Rattle.pd_made.specs.declared.tally.Tally.{Tally}
 use Rattle.pd_patch.specs.declared.patch.Patch.{Patch}
 use Rattle.pd_patch.specs.Document.{present_document}
 use Rattle.pd_say.proofs.GatheringLemmas.{printed_nothing}
@@ -15,6 +16,7 @@ use Rattle.pd_say.specs.Lines.{refusal_text}
 use Rattle.pd_say.specs.declared.refusals.Request.TheVariants as request
 use Rattle.pd_say.specs.declared.refusals.Why.{Why}
 use Rattle.pd_say.specs.declared.refusals.Why.TheVariants as why
+use Rattle.pd_reload_law.specs.Wires.{StandOnce}
 use Rattle.pd_wiring.specs.Changes.{CanRewire}
 use Rattle.pd_wiring.specs.declared.refusals.EditRefusal.TheVariants as refusal
 use Rattle.pd_hearing.specs.Worlds.{net_of, states_of}
@@ -32,9 +34,9 @@ use Rattle.pd_engine.specs.Edits.{IsSavedSo}
 use Rattle.pd_engine.proofs.ClockLemmas.{stage_with}
 use Rattle.pd_engine.proofs.MakingLemmas.{Came, came_so, came_part}
 
-module _ (file : List ℕ) (p : Patch) (names : Names) (time block_end fired : ℕ) (rewires : CanRewire p) (t u : Option (List ℕ)) (k : ℕ) (h h' : Option (List FileRow)) (f f' : ℕ) (counted : f ≤ f') where
+module _ (file : List ℕ) (p : Patch) (names : Names) (time block_end fired : ℕ) (tally : Tally) (rewires : CanRewire p) (t u : Option (List ℕ)) (k : ℕ) (h h' : Option (List FileRow)) (f f' : ℕ) (counted : f ≤ f') where
   abbrev s : Stage
-  s = stage_with file p names time block_end fired []
+  s = stage_with file p names time block_end fired tally []
 
   pub stands : StandsAt p s
   stands = record { net = refl; states = refl; rewires = rewires }
@@ -51,10 +53,10 @@ module _ (file : List ℕ) (p : Patch) (names : Names) (time block_end fired : �
     looks = 0;
   }
 
-  abbrev pub saved_came : Came (Saves None) s (with_ahead s) [] Done
-  saved_came = record {
+  abbrev pub saved_came : IsTable names → StandOnce p.web → Came (Saves None) s (with_ahead s) [] Done
+  saved_came table once = record {
     choice = Makes saved;
-    may = record { patch = p; stands = stands; net = refl; states = refl; clocks = refl; names = refl; lines = refl; files = refl; looks = refl };
+    may = record { patch = p; stands = stands; table = table; once = once; net = refl; states = refl; clocks = refl; names = refl; lines = refl; files = refl; looks = refl };
     text_is = refl;
     stage = λ m. refl;
     answer = refl;
@@ -71,9 +73,9 @@ module _ (file : List ℕ) (p : Patch) (names : Names) (time block_end fired : �
         few_faults = inl (omega arith);
       }
 
-  pub save_so : h' ≡ stored file (text_of names (present_document p)) h → IsSavedSo Done (with_ahead s) (with_ahead s) (sinks t u k h f) (sinks t u k h' f')
-  save_so put =
-      came_so (Saves None) s (with_ahead s) [] Done saved_came (sinks t u k h f) t t u k h' f' (saved_took put) (printed_nothing t [] refl)
+  pub save_so : IsTable names → StandOnce p.web → h' ≡ stored file (text_of names (present_document p)) h → IsSavedSo Done (with_ahead s) (with_ahead s) (sinks t u k h f) (sinks t u k h' f')
+  save_so table once put =
+      came_so (Saves None) s (with_ahead s) [] Done (saved_came table once) (sinks t u k h f) t t u k h' f' (saved_took put) (printed_nothing t [] refl)
 
   -- it was refused
   refused_took : (reason : Why) → KeptOrUntold h h' → RoseBy (faults_of (taken_at (Saves None) s (Refuses reason) ∷ [])) f f'

@@ -10,6 +10,7 @@ use Rattle.pd_clock.specs.declared.times.Rate.{Rate}
 use Rattle.pd_doc.specs.declared.refusal.DocRefusal.{DocRefusal}
 use Rattle.pd_doc.specs.Reading.{document_of}
 use Rattle.pd_library.specs.Files.{answer_in}
+use Rattle.pd_made.specs.Tallies.{nothing}
 use Rattle.pd_library.specs.declared.answers.Answer.{Answer}
 use Rattle.pd_tree.specs.Trees.{Tree}
 use Rattle.pd_growth.specs.declared.growing.Stop.TheVariants as stop
@@ -36,7 +37,8 @@ use Rattle.pd_engine.specs.Refusals.{unread}
 use Rattle.pd_engine.specs.Remarks.{remarks_text}
 use Rattle.pd_stage.specs.Times.{block_units}
 
--- a patch that has just grown from the file of this name, with these names: the time is 0, the first block is to come, and the edits to come lead to this
+-- a patch that has just grown from the file of this name, with these names: the time is 0, the first block is to come, no sample is added up, and the
+-- edits to come lead to this
 abbrev pub first_stage : List ℕ → Patch → Names → List Choice → Stage
 first_stage file p names ahead = record {
   file = file;
@@ -47,6 +49,7 @@ first_stage file p names ahead = record {
   time = 0;
   block_end = block_units;
   fired = 0;
+  tally = nothing;
   ahead = ahead;
 }
 

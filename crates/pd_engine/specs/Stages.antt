@@ -16,5 +16,6 @@ stage_at e ahead = record {
   time = e.time;
   block_end = e.block_end;
   fired = e.fired;
+  tally = e.tally;
   ahead = ahead;
 }

@@ -139,6 +139,9 @@ impl Engine {
         ensures stays { self.new.stopped ≡ self.old.stopped }
         ensures library { self.new.library ≡ self.old.library }
     {
+        // These are called for what they say of the names and of the wires, which the proof cites.
+        let _names = self.symbols.len();
+        pd_reload_law::wires_stand_once(&self.patch.web);
         let name = self.file.as_slice();
         let put = put_document(self.alloc, &self.patch, &self.symbols, name, shelf);
         let Err(error) = put else {

@@ -22,6 +22,7 @@ use pd_atom::Symbols;
 use pd_clock::Time;
 use pd_gather::Library;
 use pd_io::{Shelf, Sink, SinkFailed};
+use pd_made::Tally;
 use pd_num::Num;
 use pd_order::Steps;
 use pd_patch::Patch;
@@ -53,6 +54,8 @@ pub struct Engine {
     pub(crate) block_end: Time,
     /// How many clocks fired since the last block.
     pub(crate) fired: u32,
+    /// What the samples so far add up to.
+    pub(crate) tally: Tally,
     pub(crate) stopped: bool,
     ghost rewires: { ∥ CanRewire patch ∥₁ },
     ghost counted: { wires ≡ wires_told patch.web },
@@ -66,6 +69,13 @@ impl Engine {
         ensures { result.now ≡ self.now.symbols }
     {
         &self.symbols
+    }
+
+    /// What the samples of the blocks so far add up to.
+    pub fn tally(&self) -> Tally
+        ensures { result ≡ self.now.tally }
+    {
+        self.tally
     }
 
     /// The running patch.

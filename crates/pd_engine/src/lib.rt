@@ -16,7 +16,8 @@
 //! a sink fails, the sinks took the lines and the samples of one first part of that list, and so no sample before a
 //! line that comes first (`part`); `WriteFault` comes only where a count of faults of the sinks rose in that call
 //! (`cause`); after it, and only after it, calls answer `Stopped`, and then nothing changes (`nothing`).
-//! `read_record` is pd_script's reading on the engine's own table; `document` is the document of the running patch.
+//! `read_record` is pd_script's reading on the engine's own table; `document` is the document of the running patch, and
+//! `tally` what the samples of the blocks so far add up to.
 //!
 //! `open` and `from_doc` (`opens`): the document is what pd_doc's definition reads of the file, which is the one
 //! that the folder holds where it tells; its files are gathered; it and they are proper; the patch is one that

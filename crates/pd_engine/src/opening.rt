@@ -28,6 +28,7 @@ use pd_clock::{Rate, Time};
 use pd_doc::{Doc, proper_extended, read};
 use pd_gather::Library;
 use pd_io::{Fetched, Shelf, ShelfError, Sink, SinkFailed};
+use pd_made::Tally;
 use pd_order::Steps;
 use pd_patch::{Patch, Report, what_grows_is_built};
 use pd_queue::EditQueue;
@@ -263,6 +264,7 @@ fn begin<L: Sink>(
         numbers,
     } = room;
     let wires = patch.web.wire_count();
+    let tally = Tally::new();
     let mut engine = Engine {
         alloc,
         file,
@@ -277,6 +279,7 @@ fn begin<L: Sink>(
         time: Time::of_units(0),
         block_end: Time::of_units(BLOCK),
         fired: 0,
+        tally,
         stopped: false,
     };
     match engine.load_whole(&report, lines) {

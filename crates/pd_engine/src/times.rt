@@ -86,7 +86,7 @@ impl Engine {
         self.sound_block(pcm)
     }
 
-    /// Runs the boxes for the next block, and writes its samples.
+    /// Runs the boxes for the next block, adds up its samples, and writes them.
     fn sound_block<P: Sink>(&mut self, pcm: &mut P) -> Result<(), SinkFailed>
         ensures ok { OnOk result ((lines : Option (List ℕ)) (looks : ℕ) → Sounds block_sounds (stage_at self.old) (stage_at self.new) lines lines (P.taken pcm.old) (P.taken pcm.new) looks looks) }
         ensures err { OnErr result ((lines : Option (List ℕ)) (looks : ℕ) → SoundsPart block_sounds (stage_at self.old) lines lines (P.taken pcm.old) (P.taken pcm.new) looks looks) }
@@ -101,6 +101,7 @@ impl Engine {
         run_block(&mut self.patch, start, &mut block);
         let mut samples = [0; BYTES];
         write_samples(&block, &mut samples);
+        self.tally.add(&samples);
         self.time = later(self.time, self.block_end);
         self.block_end = Time::of_units(end.saturating_add(BLOCK));
         self.fired = 0;

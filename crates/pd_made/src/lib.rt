@@ -10,8 +10,7 @@
 //! never fails. `Summary::line` gives exactly the bytes of the last line of a run.
 //!
 //! Laws: the text of the document is what one writes by hand (`made_texts`); bytes in two pieces are tallied as those in
-//! a row, and from nothing the sum is that of their magnitudes (`pieces_join`). Free: want of memory. Nothing above makes
-//! a patch yet.
+//! a row, and from nothing the sum is that of their magnitudes (`pieces_join`). Free: want of memory.
 //!
 //! Definitions: `Voices` (the voices and the words of their texts), `Documents`, `Texts` (the document, and as one writes
 //! it by hand), `Scripts`, `Tallies`, `Summaries`.

@@ -162,11 +162,11 @@ last_few : (m : ℕ) (xs : List ℕ) (x : ℕ) → AllByRecursion (λ v. v ≤ m
 last_few m [] x h l = (l, tt)
 last_few m (y ∷ xs) x h l = (h.0, last_few m xs x h.1 l)
 
-voices_few : (n m : ℕ) → n ≤ m → AllByRecursion (λ v. v ≤ m) (voices n)
+pub voices_few : (n m : ℕ) → n ≤ m → AllByRecursion (λ v. v ≤ m) (voices n)
 voices_few zero m h = tt
 voices_few (suc n) m h = last_few m (voices n) (suc n) (voices_few n m (omega (arith, h))) h
 
-voices_count : (n : ℕ) → length (voices n) ≡ n
+pub voices_count : (n : ℕ) → length (voices n) ≡ n
 voices_count zero = refl
 voices_count (suc n) = length-append (voices n) (suc n ∷ []) ∙ ap (λ (k : ℕ). k + 1) (voices_count n) ∙ omega arith
 

@@ -23,6 +23,7 @@ use Rattle.pd_stage.specs.Lawful.{StandsAt, IsMade, IsShort, IsSaved, MayCome, A
 use Rattle.pd_stage.specs.Leads.{Sinks, sinks, Took, Leads, Comes, Stops}
 use Rattle.pd_stage.specs.Events.{Beginning, with_net, stage_by, files_put, edit_by, edit_taken, edit_asked, edits_taken, delivered, with_kept, event}
 use Rattle.pd_stage.specs.Times.{with_wires, IsStageOf}
+use Rattle.pd_stage.proofs.FedLemmas.{KeepsFed, none_kept, kept_then, same_kept, edit_kept}
 use Rattle.pd_stage.proofs.LeadLemmas.{leads_then, broke_after, written_leads, written_breaks, lawful_first, lawful_second}
 use Rattle.pd_stage.proofs.ItemLemmas.{no_lines, no_samples, held-none, kept_same}
 
@@ -128,28 +129,37 @@ pub record IsRewiredStage (s r : Stage) : Type 0 where
   pub boards : patch.grove.boards ≡ s.net.boards
   pub numbers : patch.numbers ≡ s.net.numbers
   pub rewires : CanRewire patch
+  pub kept : KeepsFed s.net.web patch.web
   pub is : r ≡ rewired s patch.web patch.links patch.orders ahead
 
 abbrev pub Changes : Stage → Stage → Type 0
 Changes s r = IsLeft s r ⊎ IsRewiredStage s r
 
--- but its wires, a stage is as it was
+-- but its wires, a stage is as it was; the ports stay, and the wires to each inlet stay few and apart
 pub record ButWires (s r : Stage) : Type 0 where
   pub web : Web
   pub links : Links
   pub orders : Orders
   pub ahead : List Choice
+  pub kept : KeepsFed s.net.web web
   pub is : r ≡ rewired s web links orders ahead
 
 pub but_wires : (s r : Stage) → Changes s r → ButWires s r
-but_wires s r (inl h) = record { web = s.net.web; links = s.net.links; orders = s.net.orders; ahead = h.ahead; is = h.is }
-but_wires s r (inr h) = record { web = h.patch.web; links = h.patch.links; orders = h.patch.orders; ahead = h.ahead; is = h.is }
+but_wires s r (inl h) = record { web = s.net.web; links = s.net.links; orders = s.net.orders; ahead = h.ahead; kept = none_kept s.net.web; is = h.is }
+but_wires s r (inr h) = record { web = h.patch.web; links = h.patch.links; orders = h.patch.orders; ahead = h.ahead; kept = h.kept; is = h.is }
 
 pub but_none : (s : Stage) → ButWires s s
-but_none s = record { web = s.net.web; links = s.net.links; orders = s.net.orders; ahead = s.ahead; is = refl }
+but_none s = record { web = s.net.web; links = s.net.links; orders = s.net.orders; ahead = s.ahead; kept = none_kept s.net.web; is = refl }
 
 pub but_then : (s r q : Stage) → ButWires s r → ButWires r q → ButWires s q
-but_then s r q a b = record { web = b.web; links = b.links; orders = b.orders; ahead = b.ahead; is = b.is ∙ ap (λ (x : Stage). rewired x b.web b.links b.orders b.ahead) a.is }
+but_then s r q a b = record {
+  web = b.web;
+  links = b.links;
+  orders = b.orders;
+  ahead = b.ahead;
+  kept = kept_then s.net.web a.web b.web a.kept (subst (λ (x : Stage). KeepsFed x.net.web b.web) a.is b.kept);
+  is = b.is ∙ ap (λ (x : Stage). rewired x b.web b.links b.orders b.ahead) a.is;
+}
 
 -- what a plan that was carried out leaves
 plan_grove : (plan : Plan) (p q : Patch) → IsCarriedOut plan p q → (source : ℕ) × StaysButWire p q source
@@ -175,6 +185,10 @@ boards_at s old new at grove = rw grove (sym (ap (λ (n : Net). n.boards) at.net
 numbers_at : (s : Stage) (old new : Patch) → StandsAt old s → new.numbers ≡ old.numbers → new.numbers ≡ s.net.numbers
 numbers_at s old new at numbers = numbers ∙ sym (ap (λ (n : Net). n.numbers) at.net)
 
+-- the web of a patch that stands at a stage is the stage's
+kept_at_stage : (s : Stage) (old : Patch) (web : Web) → StandsAt old s → KeepsFed old.web web → KeepsFed s.net.web web
+kept_at_stage s old web at k = subst (λ (n : Net). KeepsFed n.web web) (sym at.net) k
+
 plan_rewires : (plan : Plan) (p q : Patch) → IsCarriedOut plan p q → CanRewire q
 plan_rewires (Attaches c l) p q h = h.rewires
 plan_rewires (Detaches c key l) p q h = h.rewires
@@ -193,6 +207,7 @@ edit_made s ahead path e m h =
       boards = boards_at (with_ahead s []) h.old h.new h.stands r.1.grove;
       numbers = numbers_at (with_ahead s []) h.old h.new h.stands r.1.numbers;
       rewires = plan_rewires h.rewired.plan h.old h.new h.rewired.done;
+      kept = kept_at_stage (with_ahead s []) h.old h.new.web h.stands (edit_kept h.rewired.plan h.old h.new path e h.rewired.is_planned h.rewired.done);
       is = made_stage (with_ahead s ahead) m (rewired_net s.net h.new.web h.new.links h.new.orders)
           (h.net ∙ new_net (with_ahead s []) h.old h.new r.0 h.stands r.1) h.states h.clocks h.names;
     }
@@ -206,6 +221,7 @@ edit_short s ahead path e net h =
       boards = boards_at (with_ahead s []) h.old h.new h.stands h.same.grove;
       numbers = numbers_at (with_ahead s []) h.old h.new h.stands h.same.numbers;
       rewires = h.rewires;
+      kept = kept_at_stage (with_ahead s []) h.old h.new.web h.stands (same_kept h.old.web h.new.web h.same.web);
       is = ap (λ (n : Net). with_net (with_ahead s ahead) n) (h.net_is ∙ same_net (with_ahead s []) h.old h.new h.stands h.same);
     }
 

@@ -1,3 +1,5 @@
+pub mod FedLemmas
 pub mod ItemLemmas
 pub mod LeadLemmas
 pub mod EditLemmas
+pub mod SumLemmas

@@ -49,6 +49,7 @@ with_kept s k = record {
   time = s.time;
   block_end = s.block_end;
   fired = s.fired;
+  tally = s.tally;
   ahead = s.ahead;
 }
 
@@ -66,6 +67,7 @@ with_net s net = record {
   time = s.time;
   block_end = s.block_end;
   fired = s.fired;
+  tally = s.tally;
   ahead = s.ahead;
 }
 
@@ -82,6 +84,7 @@ stage_by s (Makes m) = record {
   time = s.time;
   block_end = s.block_end;
   fired = s.fired;
+  tally = s.tally;
   ahead = s.ahead;
 }
 

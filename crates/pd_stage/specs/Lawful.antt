@@ -1,10 +1,12 @@
 -- What an edit may come to.
 use Rattle.std.specs.Prelude.{◌≡◌, ◌⊎◌, ℕ, List, [], ◌∷◌, Some, None, Ok, Err}
 use Rattle.std.specs.List.{AllByRecursion}
+use Rattle.pd_atom.specs.Names.{IsTable}
 use Rattle.pd_canvas.specs.declared.edits.Edit.{Edit}
 use Rattle.pd_doc.specs.Writing.{text_of}
 use Rattle.pd_patch.specs.declared.patch.Patch.{Patch}
 use Rattle.pd_patch.specs.Document.{present_document}
+use Rattle.pd_reload_law.specs.Wires.{StandOnce}
 use Rattle.pd_wiring.specs.Changes.{CanRewire, SameButRoom}
 use Rattle.pd_wiring.specs.Plans.{Plan, planned, IsRewired, most_looks}
 use Rattle.pd_wiring.specs.declared.refusals.EditRefusal.{EditRefusal}
@@ -78,10 +80,12 @@ IsEditLawful s path e (Refuses reason) = IsRefusedFor s path e reason
 IsEditLawful s path e (Lacks net) = IsShort s path e net
 IsEditLawful s path e (Makes m) = IsMade s path e m
 
--- the patch's document is put under the name of its file, and all else stays
+-- The patch's document is put under the name of its file, by a table of names; each wire of the patch stands once; and all else stays.
 pub record IsSaved (s : Stage) (m : Made) : Type 0 where
   pub patch : Patch
   pub stands : StandsAt patch s
+  pub table : IsTable s.names
+  pub once : StandOnce patch.web
   pub net : m.net ≡ s.net
   pub states : m.states ≡ s.states
   pub clocks : m.clocks ≡ s.clocks

@@ -6,3 +6,4 @@ pub mod Lawful
 pub mod Leads
 pub mod Events
 pub mod Times
+pub mod Sums

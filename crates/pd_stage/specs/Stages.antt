@@ -3,13 +3,14 @@ use Rattle.std.specs.Prelude.{ℕ, ◌+◌, List, [], ◌∷◌, ◌++◌, map, 
 use Rattle.pd_atom.specs.Names.{Names}
 use Rattle.pd_clock.specs.Queue.{Clock}
 use Rattle.pd_kind.specs.declared.states.State.{State}
+use Rattle.pd_made.specs.declared.tally.Tally.{Tally}
 use Rattle.pd_hearing.specs.Worlds.{Net, Kept}
 use Rattle.pd_stage.specs.Items.{Item, said}
 use Rattle.pd_stage.specs.Choices.{Wanted, Choice, looks_of_choice, faults_of_choice}
 
 -- A patch between events: the name of its file; what messages leave as it is; what the boxes keep, their clocks, and the table of names;
--- the time; when the block ends that comes next; how many clocks fired since the last block; and what the edits to come lead to, one after
--- the other.
+-- the time; when the block ends that comes next; how many clocks fired since the last block; what the samples so far add up to; and what the
+-- edits to come lead to, one after the other.
 pub record Stage : Type 0 where
   pub file : List ℕ
   pub net : Net
@@ -19,6 +20,7 @@ pub record Stage : Type 0 where
   pub time : ℕ
   pub block_end : ℕ
   pub fired : ℕ
+  pub tally : Tally
   pub ahead : List Choice
 
 -- the same with another table of names
@@ -32,6 +34,7 @@ with_names s names = record {
   time = s.time;
   block_end = s.block_end;
   fired = s.fired;
+  tally = s.tally;
   ahead = s.ahead;
 }
 
@@ -46,6 +49,7 @@ with_ahead s ahead = record {
   time = s.time;
   block_end = s.block_end;
   fired = s.fired;
+  tally = s.tally;
   ahead = ahead;
 }
 

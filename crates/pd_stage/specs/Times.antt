@@ -8,6 +8,7 @@ use Rattle.pd_order.specs.Listing.{Listing}
 use Rattle.pd_web.specs.declared.web.Web.{Web}
 use Rattle.pd_wiring.specs.Changes.{CanRewire}
 use Rattle.pd_mix.specs.Samples.{block_bytes}
+use Rattle.pd_made.specs.Tallies.{tallied}
 use Rattle.pd_hearing.specs.Worlds.{Net}
 use Rattle.pd_patch.specs.declared.patch.Patch.{Patch}
 use Rattle.pd_block.specs.Nets as block
@@ -62,6 +63,7 @@ with_taken s clocks = record {
   time = s.time;
   block_end = s.block_end;
   fired = s.fired;
+  tally = s.tally;
   ahead = s.ahead;
 }
 
@@ -76,6 +78,7 @@ with_fired s time = record {
   time = max s.time time;
   block_end = s.block_end;
   fired = s.fired + 1;
+  tally = s.tally;
   ahead = s.ahead;
 }
 
@@ -155,7 +158,7 @@ played_at s = block_of (block_net s) (sound_at s) (s.block_end - block_units)
 abbrev pub most_time : ℕ
 most_time = 340282366920938463463374607431768211455
 
--- the block has run: the time is raised to its end, and the next one ends one block later
+-- the block has run: the time is raised to its end, the next one ends one block later, and its samples are added up
 abbrev pub with_played : Stage → Played → Stage
 with_played s p = record {
   file = s.file;
@@ -166,6 +169,7 @@ with_played s p = record {
   time = max s.time s.block_end;
   block_end = min (s.block_end + block_units) most_time;
   fired = 0;
+  tally = tallied s.tally (block_bytes p.out);
   ahead = s.ahead;
 }
 
@@ -196,6 +200,7 @@ with_time to s = record {
   time = max s.time to;
   block_end = s.block_end;
   fired = s.fired;
+  tally = s.tally;
   ahead = s.ahead;
 }
 

@@ -1,9 +1,13 @@
 //! Laws of parts of a run.
 
-ghost use Rattle.std.specs.Prelude.{◌≡◌, List};
+ghost use Rattle.std.specs.Prelude.{◌≡◌, ℕ, List};
 ghost use Rattle.pd_io.specs.Stream.{IsPrefix};
 ghost use Rattle.pd_stage.specs.Items.{Item, lines_of, samples_of, IsFront};
-ghost use Rattle.pd_stage.specs.Stages.{Passage, still, joined};
+ghost use Rattle.pd_stage.specs.Choices.{Wanted};
+ghost use Rattle.pd_stage.specs.Stages.{Stage, Passage, still, joined};
+ghost use Rattle.pd_stage.specs.Events.{Beginning, event, edit_taken};
+ghost use Rattle.pd_stage.specs.Times.{advanced, finished};
+ghost use Rattle.pd_stage.specs.Sums.{AddsUp};
 
 /// It makes no difference which of several parts are taken together, and where nothing happens nothing is added.
 pub fn parts_join()
@@ -15,4 +19,12 @@ pub fn parts_join()
 pub fn fronts_are_fronts()
     ensures lines { (part whole : List Item) → IsFront part whole → IsPrefix (lines_of part) (lines_of whole) }
     ensures samples { (part whole : List Item) → IsFront part whole → IsPrefix (samples_of part) (samples_of whole) }
+{}
+
+/// The samples on the way are added up to those before: no edit and no event has any, and each block has its own.
+pub fn samples_are_added_up()
+    ensures edits { (wanted : Wanted) (s : Stage) → AddsUp s (edit_taken wanted s) }
+    ensures events { (s : Stage) (b : Beginning) → AddsUp s (event s b) }
+    ensures times { (to : ℕ) (s : Stage) → AddsUp s (advanced to s) }
+    ensures ends { (s : Stage) → AddsUp s (finished s) }
 {}

@@ -1,8 +1,8 @@
 //! Where a patch stands between events, and what a part of a run leads to. It has no code that runs.
 //!
 //! Between events a patch stands at a stage: what messages leave as it is, what the boxes keep, the clocks, the
-//! table of names, the time, when the next block ends, how many clocks fired since the last one, and what the edits
-//! to come lead to. Whether an edit is made or refused can hang on memory, and so it is told apart: each edit that is
+//! table of names, the time, when the next block ends, how many clocks fired since the last one, what the samples so
+//! far add up to, and what the edits to come lead to. Whether an edit is made or refused can hang on memory, and so it is told apart: each edit that is
 //! asked for takes the first of what is ahead, and where none is left it is refused for want of memory. A part of a
 //! run leads to another stage. What happens on the way is one list in its order: each byte of a line, each byte of a
 //! block of samples, and each file that is put under a name. Beside it stands the log of the edits that were taken,
@@ -30,13 +30,14 @@
 //!
 //! Laws: parts of a run can be taken together in any way, and where nothing happens nothing is added
 //! (`parts_join`); of a first part of the list each sink gets a first part of what it gets of all
-//! (`fronts_are_fronts`).
+//! (`fronts_are_fronts`); and what a stage has added up is what all samples on the way to it add up to
+//! (`samples_are_added_up`).
 //!
 //! Definitions: `Items` (what happens, and what each sink gets of it), `Choices` (what edits come to), `Stages`
 //! (stages, edits that were taken, parts of a run), `Lines` (lines with the numbers of boxes), `Lawful` (what edits
-//! may come to), `Leads` (what was taken of a part), `Events`, `Times` (clocks and blocks).
+//! may come to), `Leads` (what was taken of a part), `Events`, `Times` (clocks and blocks), `Sums`.
 #![tactic(auto)]
 
 mod laws;
 
-pub use laws::{fronts_are_fronts, parts_join};
+pub use laws::{fronts_are_fronts, parts_join, samples_are_added_up};

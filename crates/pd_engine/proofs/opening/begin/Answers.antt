@@ -22,7 +22,7 @@ returns-in-Ok-clause-ok g c =
     let t : Option (List ℕ) = g.L.Sink.taken c.args.lines.now in
     let t' : Option (List ℕ) = g.L.Sink.taken c.load_whole.new.lines in
     subst (λ (from : List Choice → Stage). (looks : ℕ) → Says part from (stage_at c.load_whole.new.self) t t' looks looks)
-    (begins_at c.args.room.file.items c.args.patch c.args.symbols c.of_units.result c.of_units-2.result c.of_units.ensures c.of_units-2.ensures) c.in-Ok.ensures.ok
+    (begins_at c.args.room.file.items c.args.patch c.args.symbols c.of_units.result c.of_units-2.result c.new-tally.result c.of_units.ensures c.of_units-2.ensures c.new-tally.ensures) c.in-Ok.ensures.ok
 
 pub returns-clause-err : goal.returns-clause-err
 returns-clause-err g c =
@@ -30,4 +30,18 @@ returns-clause-err g c =
     let t : Option (List ℕ) = g.L.Sink.taken c.args.lines.now in
     let t' : Option (List ℕ) = g.L.Sink.taken c.load_whole.new.lines in
     subst (λ (from : List Choice → Stage). (looks : ℕ) → SaysPart part from t t' looks looks)
-    (begins_at c.args.room.file.items c.args.patch c.args.symbols c.of_units.result c.of_units-2.result c.of_units.ensures c.of_units-2.ensures) c.in-Err.ensures.err
+    (begins_at c.args.room.file.items c.args.patch c.args.symbols c.of_units.result c.of_units-2.result c.new-tally.result c.of_units.ensures c.of_units-2.ensures c.new-tally.ensures) c.in-Err.ensures.err
+
+pub invariant_of-engine-clause-rewires : goal.invariant_of-engine-clause-rewires
+invariant_of-engine-clause-rewires g c =
+    ∣ record {
+      own = c.requires.own;
+      ports = c.requires.ports;
+      inside = c.requires.inside;
+      linked = c.requires.linked;
+      orders = c.requires.orders;
+      numbers = c.requires.numbers;
+    } ∣₁
+
+pub invariant_of-engine-clause-counted : goal.invariant_of-engine-clause-counted
+invariant_of-engine-clause-counted g c = c.wire_count-wires.ensures

@@ -28,7 +28,7 @@ pub returns-in_default-clause-ok : goal.returns-in_default-clause-ok
 returns-in_default-clause-ok g c = λ samples held faults.
     let e = c.loop-self.self in
     clocks_end c.args.limit _ _ (stage_at e) _ _ _
-    (λ m. clocks_taken e.patch c.next_clock.new.self e.file.items e.symbols e.time e.block_end e.fired m e.patch.timers.clocks.clocks c.next_clock.ensures.tree c.next_clock.ensures.rest c.next_clock.ensures.end
+    (λ m. clocks_taken e.patch c.next_clock.new.self e.file.items e.symbols e.time e.block_end e.fired e.tally m e.patch.timers.clocks.clocks c.next_clock.ensures.tree c.next_clock.ensures.rest c.next_clock.ensures.end
     (ap (λ (q : ClockList). q.clocks) c.in_default.ensures.none.0))
     (λ m. fires_none _ c.args.limit (stage_at e m) (none_is c.args.limit e.patch.timers.clocks.clocks c.in_default.ensures.none.1))
     (c.loop-self.invariant.way samples held faults)
@@ -37,7 +37,7 @@ pub loop-self-smaller : goal.loop-self-smaller
 loop-self-smaller g c =
     let e = c.loop-self.self in
     let more : c.fire.new.self.fired ≡ e.fired + 1 = fired_more (stage_at e []) _ (record { time = _; owner = _ }) (stage_at c.fire.new.self) _ _
-    (clocks_taken e.patch c.next_clock.new.self e.file.items e.symbols e.time e.block_end e.fired [] _ c.next_clock.ensures.tree c.next_clock.ensures.rest c.next_clock.ensures.end
+    (clocks_taken e.patch c.next_clock.new.self e.file.items e.symbols e.time e.block_end e.fired e.tally [] _ c.next_clock.ensures.tree c.next_clock.ensures.rest c.next_clock.ensures.end
     (left_is e.patch.timers.clocks.clocks _ (record { time = _; owner = _ }) c.in-Some.ensures.some.1)) (c.in_ok-fire.ensures.ok None None 0) in
     omega arith
 
@@ -45,12 +45,12 @@ pub loop-self-preserved : goal.loop-self-preserved
 loop-self-preserved g c =
     let e = c.loop-self.self in
     let more : c.fire.new.self.fired ≡ e.fired + 1 = fired_more (stage_at e []) _ (record { time = _; owner = _ }) (stage_at c.fire.new.self) _ _
-    (clocks_taken e.patch c.next_clock.new.self e.file.items e.symbols e.time e.block_end e.fired [] _ c.next_clock.ensures.tree c.next_clock.ensures.rest c.next_clock.ensures.end
+    (clocks_taken e.patch c.next_clock.new.self e.file.items e.symbols e.time e.block_end e.fired e.tally [] _ c.next_clock.ensures.tree c.next_clock.ensures.rest c.next_clock.ensures.end
     (left_is e.patch.timers.clocks.clocks _ (record { time = _; owner = _ }) c.in-Some.ensures.some.1)) (c.in_ok-fire.ensures.ok None None 0) in
     record {
       way = λ samples held faults. clock_goes_on c.args.limit _ (stage_at e []) _ (record { time = _; owner = _ }) _ _ _ (omega arith)
           (next_is c.args.limit e.patch.timers.clocks.clocks _ (record { time = _; owner = _ }) c.in-Some.ensures.some.0 c.in-Some.ensures.some.1)
-          (clocks_taken e.patch c.next_clock.new.self e.file.items e.symbols e.time e.block_end e.fired [] _ c.next_clock.ensures.tree c.next_clock.ensures.rest c.next_clock.ensures.end
+          (clocks_taken e.patch c.next_clock.new.self e.file.items e.symbols e.time e.block_end e.fired e.tally [] _ c.next_clock.ensures.tree c.next_clock.ensures.rest c.next_clock.ensures.end
           (left_is e.patch.timers.clocks.clocks _ (record { time = _; owner = _ }) c.in-Some.ensures.some.1))
           (c.loop-self.invariant.way samples held faults) (stage_at c.fire.new.self) c.fire.new.self.fired more (c.in_ok-fire.ensures.ok samples held faults);
       counted = omega arith;
@@ -65,7 +65,7 @@ returns-in_err-fire-clause-err g c =
     rw p.1
     (λ samples held faults. clock_breaks c.args.limit _ (stage_at e []) _ (record { time = _; owner = _ }) _ _ _ (omega arith)
     (next_is c.args.limit e.patch.timers.clocks.clocks _ (record { time = _; owner = _ }) c.in-Some.ensures.some.0 c.in-Some.ensures.some.1)
-    (clocks_taken e.patch c.next_clock.new.self e.file.items e.symbols e.time e.block_end e.fired [] _ c.next_clock.ensures.tree c.next_clock.ensures.rest c.next_clock.ensures.end
+    (clocks_taken e.patch c.next_clock.new.self e.file.items e.symbols e.time e.block_end e.fired e.tally [] _ c.next_clock.ensures.tree c.next_clock.ensures.rest c.next_clock.ensures.end
     (left_is e.patch.timers.clocks.clocks _ (record { time = _; owner = _ }) c.in-Some.ensures.some.1))
     (c.loop-self.invariant.way samples held faults) (c.in_err-fire.ensures.err samples held faults))
 

@@ -22,10 +22,10 @@ returns-in_err-deliver-clause-err g c =
     let p = err_from_is_err_and c.from_residual.result c.from_residual.ensures.1 in
     let t : Option (List ℕ) = g.L.Sink.taken c.args.lines.now in
     let t' : Option (List ℕ) = g.L.Sink.taken c.deliver.new.lines in
-    let s : Stage = stage_with e.file.items c.set_now.new.self e.symbols e.time e.block_end e.fired [] in
+    let s : Stage = stage_with e.file.items c.set_now.new.self e.symbols e.time e.block_end e.fired e.tally [] in
     rw p.1
     (λ samples held faults. subst (λ (r : Stage). Stops (λ x. event x (beginning_of c.args.start.now)) (with_ahead r) (sinks t samples c.args.steps.now held faults) (sinks t' samples c.args.steps.now held faults))
-    (now_set e.patch c.set_now.new.self e.file.items e.symbols e.time e.block_end e.fired [] c.set_now.ensures.rest)
+    (now_set e.patch c.set_now.new.self e.file.items e.symbols e.time e.block_end e.fired e.tally [] c.set_now.ensures.rest)
     (event_breaks s s c.args.start.now _ [] _ c.new-budget.result t t' samples c.args.steps.now held faults c.clear.ensures c.new-budget.ensures c.in_err-deliver.ensures.err))
 
 pub returns-clause-ok : goal.returns-clause-ok
@@ -33,13 +33,13 @@ returns-clause-ok g c =
     let e = c.args.self.now in
     let t : Option (List ℕ) = g.L.Sink.taken c.args.lines.now in
     let t' : Option (List ℕ) = g.L.Sink.taken c.take_queued.new.lines in
-    let s : Stage = stage_with e.file.items c.set_now.new.self e.symbols e.time e.block_end e.fired [] in
-    let s' : Stage = stage_with e.file.items c.deliver.new.patch c.deliver.new.symbols e.time e.block_end e.fired [] in
+    let s : Stage = stage_with e.file.items c.set_now.new.self e.symbols e.time e.block_end e.fired e.tally [] in
+    let s' : Stage = stage_with e.file.items c.deliver.new.patch c.deliver.new.symbols e.time e.block_end e.fired e.tally [] in
     on_ok_weaker c.take_queued.result
     (λ h samples held faults. subst (λ (r : Stage). Comes (λ x. event x (beginning_of c.args.start.now)) (with_ahead r) (stage_at c.take_queued.new.self) (sinks t samples c.args.steps.now held faults) (sinks t' samples c.take_queued.new.steps held faults))
-    (now_set e.patch c.set_now.new.self e.file.items e.symbols e.time e.block_end e.fired [] c.set_now.ensures.rest)
+    (now_set e.patch c.set_now.new.self e.file.items e.symbols e.time e.block_end e.fired e.tally [] c.set_now.ensures.rest)
     (event_comes s s' c.args.start.now _ _ _ _ t _ samples c.args.steps.now held faults c.clear.ensures c.new-budget.ensures c.in_ok-deliver.ensures.ok
-    refl c.in_ok-deliver.ensures.net refl refl refl (stage_at c.take_queued.new.self) (sinks t' samples c.take_queued.new.steps held faults) (h samples held faults)))
+    refl c.in_ok-deliver.ensures.net refl refl refl refl (stage_at c.take_queued.new.self) (sinks t' samples c.take_queued.new.steps held faults) (h samples held faults)))
     c.take_queued.ensures.ok
 
 pub returns-clause-err : goal.returns-clause-err
@@ -47,11 +47,11 @@ returns-clause-err g c =
     let e = c.args.self.now in
     let t : Option (List ℕ) = g.L.Sink.taken c.args.lines.now in
     let t' : Option (List ℕ) = g.L.Sink.taken c.take_queued.new.lines in
-    let s : Stage = stage_with e.file.items c.set_now.new.self e.symbols e.time e.block_end e.fired [] in
-    let s' : Stage = stage_with e.file.items c.deliver.new.patch c.deliver.new.symbols e.time e.block_end e.fired [] in
+    let s : Stage = stage_with e.file.items c.set_now.new.self e.symbols e.time e.block_end e.fired e.tally [] in
+    let s' : Stage = stage_with e.file.items c.deliver.new.patch c.deliver.new.symbols e.time e.block_end e.fired e.tally [] in
     on_err_weaker c.take_queued.result
     (λ h samples held faults. subst (λ (r : Stage). Stops (λ x. event x (beginning_of c.args.start.now)) (with_ahead r) (sinks t samples c.args.steps.now held faults) (sinks t' samples c.take_queued.new.steps held faults))
-    (now_set e.patch c.set_now.new.self e.file.items e.symbols e.time e.block_end e.fired [] c.set_now.ensures.rest)
+    (now_set e.patch c.set_now.new.self e.file.items e.symbols e.time e.block_end e.fired e.tally [] c.set_now.ensures.rest)
     (event_breaks_late s s' c.args.start.now _ _ _ _ t _ samples c.args.steps.now held faults c.clear.ensures c.new-budget.ensures c.in_ok-deliver.ensures.ok
-    refl c.in_ok-deliver.ensures.net refl refl refl (sinks t' samples c.take_queued.new.steps held faults) (h samples held faults)))
+    refl c.in_ok-deliver.ensures.net refl refl refl refl (sinks t' samples c.take_queued.new.steps held faults) (h samples held faults)))
     c.take_queued.ensures.err

@@ -2,6 +2,7 @@ use Rattle.std.proofs.Common.{◌≡◌, ◌-◌, refl, ◌∙◌, ap, subst, �
 use Rattle.std.proofs.lemmas.Result.{on_ok_weaker, on_err_weaker}
 use Rattle.pd_io.specs.Stream.{grown, TookPart}
 use Rattle.pd_mix.specs.Samples.{block_bytes}
+use Rattle.pd_made.specs.Tallies.{tallied}
 use Rattle.pd_block.specs.Nets as block
 use Rattle.pd_block.specs.Blocks.{Played, played, block_of}
 use Rattle.pd_engine.specs.Stages.{stage_at}
@@ -27,7 +28,8 @@ returns-clause-ok g c =
     (λ e lines looks held faults. block_comes s _ lines _ _ looks held faults
     (played_stage s _ (played_at s) refl (played_net before c.run_block.new.patch (played_at s) c.run_block.ensures.net (ap (λ (x : Played). x.sound.blocks) ran))
     (ap (λ (x : Played). x.sound.states) ran) (ap (λ (n : block.Net). n.clocks) c.run_block.ensures.net) refl c.later-self.ensures
-    (omega (arith, c.of_units-self.ensures, c.saturating_add.ensures, c.units-end.ensures)) refl refl)
+    (omega (arith, c.of_units-self.ensures, c.saturating_add.ensures, c.units-end.ensures)) refl
+    (c.add.ensures ∙ ap (λ (x : List ℕ). tallied c.args.self.now.tally x) (c.write_samples.ensures ∙ ap (λ (x : Played). block_bytes x.out) ran)) refl)
     (e ∙ ap (λ (x : List ℕ). grown (g.P.Sink.taken c.args.pcm.now) x) (c.write_samples.ensures ∙ ap (λ (x : Played). block_bytes x.out) ran)))
     c.write_whole.ensures.whole
 

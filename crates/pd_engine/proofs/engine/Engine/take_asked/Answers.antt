@@ -24,7 +24,7 @@ returns-in_err-tell-clause-err g c =
     (sym (get_or_from_slice_get e.queue c.args.i asked d (sym c.in-Some.ensures)))
     (subst (λ (path : List ℕ). SaysPart (edit_taken (Edits None path asked.1)) (stage_at e) (g.L.Sink.taken c.args.lines.now) (g.L.Sink.taken c.tell.new.lines) c.args.steps.now c.make-done.new.steps)
     c.path.ensures
-    (part_edit c.tell.result c.path.result.now asked.1 e.file.items e.symbols e.time e.block_end e.fired e.patch c.make-done.new.patch (stage_at c.tell.new.self)
+    (part_edit c.tell.result c.path.result.now asked.1 e.file.items e.symbols e.time e.block_end e.fired e.tally e.patch c.make-done.new.patch (stage_at c.tell.new.self)
     c.make-done.result (g.L.Sink.taken c.args.lines.now) (g.L.Sink.taken c.tell.new.lines) c.args.steps.now c.make-done.new.steps
     (rewires_sure e.patch e.rewires) c.make-done.ensures.rewires (c.make-done.ensures.edits asked.1 (sym c.wire_edit-edit.ensures)) c.in_err-tell.ensures.stage c.in_err-tell.ensures.err)))
 
@@ -36,6 +36,6 @@ returns-clause-ok g c =
     (sym (get_or_from_slice_get e.queue c.args.i asked d (sym c.in-Some.ensures)))
     (subst (λ (path : List ℕ). Says (edit_taken (Edits None path asked.1)) (stage_at e) (stage_at c.tell.new.self) (g.L.Sink.taken c.args.lines.now) (g.L.Sink.taken c.tell.new.lines) c.args.steps.now c.make-done.new.steps)
     c.path.ensures
-    (says_edit c.tell.result c.path.result.now asked.1 e.file.items e.symbols e.time e.block_end e.fired e.patch c.make-done.new.patch (stage_at c.tell.new.self)
+    (says_edit c.tell.result c.path.result.now asked.1 e.file.items e.symbols e.time e.block_end e.fired e.tally e.patch c.make-done.new.patch (stage_at c.tell.new.self)
     c.make-done.result (g.L.Sink.taken c.args.lines.now) (g.L.Sink.taken c.tell.new.lines) c.args.steps.now c.make-done.new.steps
     (rewires_sure e.patch e.rewires) c.make-done.ensures.rewires (c.make-done.ensures.edits asked.1 (sym c.wire_edit-edit.ensures)) c.in_ok-tell.ensures.stage c.in_ok-tell.ensures.ok))
