@@ -1,5 +1,5 @@
 -- An event that begins in order passes nothing over, and leaves the stage steady where its edits are fair.
-use Rattle.std.proofs.Common.{◌≡◌, ◌≤◌, ◌+◌, ◌^◌, ℕ, List, Option, refl, sym, ap, subst, ◌∙◌}
+use Rattle.std.proofs.Common.{◌≡◌, ◌≤◌, ◌+◌, ◌-◌, ◌^◌, ℕ, List, Option, slice_get, refl, sym, ap, subst, ◌∙◌}
 use Rattle.pd_atom.specs.Names.{Names}
 use Rattle.pd_atom.specs.declared.Atom.{Atom}
 use Rattle.pd_kind.specs.declared.states.State.{State}
@@ -9,6 +9,12 @@ use Rattle.pd_walk.specs.declared.walker.Start.{Start}
 use Rattle.pd_walk.specs.declared.walker.Start.TheVariants as start
 use Rattle.pd_walk.specs.Outcome.{outcome}
 use Rattle.pd_hearing.specs.Worlds.{Net, Kept}
+use Rattle.pd_grove.specs.declared.ports.Side.TheVariants.{Outlets}
+use Rattle.pd_web.specs.declared.jacks.Jack.{Jack}
+use Rattle.pd_web.specs.declared.web.Web.{Web}
+use Rattle.pd_web.specs.Changes.{KeepsPorts}
+use Rattle.pd_web.specs.Hops.{signal_in}
+use Rattle.pd_patch.specs.Values.{Blocks}
 use Rattle.pd_block.specs.Nets.{Net as BlockNet, Sound}
 use Rattle.pd_block.specs.Blocks.{block_of}
 use Rattle.pd_guards.specs.Order.{HasFirst, IsName, AreAtoms}
@@ -18,18 +24,22 @@ use Rattle.pd_guards.specs.Sounds.{HaveValues, IsSounding}
 use Rattle.pd_guards.specs.Freely.{outcome as free_outcome}
 use Rattle.pd_sized.specs.Sizes.{HaveSizes}
 use Rattle.pd_sized.specs.Alike.{AreAlike}
+use Rattle.pd_sized.specs.Kinds.{KeepsOfKind}
 use Rattle.pd_sized.proofs.AlikeRunLemmas.{outcome_alike}
-use Rattle.pd_sound_law.specs.Ready.{IsReady}
+use Rattle.pd_ends_law.specs.Ends.{AreOpen, kinds_in}
+use Rattle.pd_ends_law.proofs.RunLemmas.{outcome_open}
+use Rattle.pd_sound_law.specs.Ready.{HasBlocks, IsReady}
 use Rattle.pd_sound_law.proofs.ReadyLemmas.{ready_lasts}
 use Rattle.pd_stage.specs.Stages.{Stage, Passage}
 use Rattle.pd_engine.specs.Messages.{message_in}
-use Rattle.pd_stage.specs.Times.{block_net, sound_at}
+use Rattle.pd_stage.specs.Times.{block_units, block_net, sound_at}
 use Rattle.pd_stage.specs.Events as engine
 use Rattle.pd_stage.specs.Events.{Beginning, Message, Firing, Loading, begun, delivered, with_kept, event_after, event}
 use Rattle.pd_stage.proofs.EditLemmas.{ButWires}
 use Rattle.pd_steady.specs.Freely.{deliveries, event_freely}
-use Rattle.pd_steady.specs.Steady.{IsSteady}
+use Rattle.pd_steady.specs.Steady.{HasTree, IsSteady}
 use Rattle.pd_steady.proofs.FairLemmas.{AreFair, edits_left}
+use Rattle.pd_steady.proofs.TreeLemmas.{tree_on, edits_tree}
 
 -- what the laws of pd_guards say
 pub record Guards : Type 0 where
@@ -57,7 +67,7 @@ Begins names (Message name selector atoms) = IsNamed names name selector atoms
 Begins names (Firing owner) = Unit {0}
 Begins names (Loading boxes) = Unit {0}
 
-starts : (names : Names) (b : Beginning) → Begins names b → IsStart names (start_of b)
+pub starts : (names : Names) (b : Beginning) → Begins names b → IsStart names (start_of b)
 starts names (Message name selector atoms) h = h
 starts names (Firing owner) h = tt
 starts names (Loading boxes) h = tt
@@ -82,15 +92,17 @@ record IsDelivered (net : Net) (now : ℕ) (states : ℕ → Option State) (v u 
   values : HaveValues v.kept.states
   sizes : HaveSizes v.kept.states
   objects : AreAlike states v.kept.states
+  ends : (t : ℕ) → AreOpen t states → AreOpen t v.kept.states
 
 deliver : (g : Guards) (net : Net) (now : ℕ) (w v u : World Kept) (st : Start) → outcome net now w st ≡ v → free_outcome net now w st ≡ u → AreNear net → IsInOrder net now w.kept
-    → HaveValues w.kept.states → HaveSizes w.kept.states → IsStart w.kept.names st → IsDelivered net now w.kept.states v u
-deliver g net now w v u st is free near h a z k = record {
+    → HaveValues w.kept.states → HaveSizes w.kept.states → KeepsOfKind (kinds_in net) w.kept.states → IsStart w.kept.names st → IsDelivered net now w.kept.states v u
+deliver g net now w v u st is free near h a z kinds k = record {
   same = sym free ∙ sym (g.freely net now w st near h k) ∙ is;
   order = subst (λ (x : World Kept). IsInOrder net now x.kept) is (g.order net now w st h k);
   values = subst (λ (x : World Kept). HaveValues x.kept.states) is (g.values net now w st h k a);
   sizes = subst (λ (x : World Kept). HaveSizes x.kept.states) is (g.sizes net now w st z);
   objects = subst (λ (x : World Kept). AreAlike w.kept.states x.kept.states) is (outcome_alike net now w st);
+  ends = λ t o. subst (λ (x : World Kept). AreOpen t x.kept.states) is (record { each = outcome_open net now t w st kinds o.each });
 }
 
 -- a part of a run is the same freely, and leads to a steady stage where its edits are fair
@@ -98,18 +110,32 @@ pub record IsFree (most : ℕ) (p q : Passage) : Type 0 where
   pub same : q ≡ p
   pub steady : AreFair p.edits → IsSteady most p.stage
 
+-- where the ports stay each outlet that carries signals has its block
+blocks_stay : (w v : Web) (blocks : Blocks) → KeepsPorts w v → HasBlocks w blocks → HasBlocks v blocks
+blocks_stay w v blocks kept h k o sounds = h k o (ap (λ (js : List Jack). signal_in (slice_get js o)) (sym (kept.ports Outlets k)) ∙ sounds)
+
 -- other wires leave a stage steady
-pub wires_steady : (most : ℕ) (s r : Stage) → IsSteady most s → ButWires s r → IsSteady most r
-wires_steady most s r h e =
-    subst (λ (x : Stage). IsSteady most x) (sym e.is)
-    (record {
+pub wires_steady : (most : ℕ) (s r : Stage) → IsSteady most s → ButWires s r → HasTree r → IsSteady most r
+wires_steady most s r h e tree =
+    subst (λ (x : Stage). HasTree x → IsSteady most x) (sym e.is)
+    (λ t. record {
       time = h.time;
       near = h.near;
       order = record { time = h.order.time; first = h.order.first; kinds = h.order.kinds; states = h.order.states };
       values = record { states = h.values.states; blocks = h.values.blocks };
-      ready = record { kinds = h.ready.kinds; whole = record { states = h.ready.whole.states; blocks = h.ready.whole.blocks }; owners = h.ready.owners; channels = h.ready.channels };
+      ready = record {
+        kinds = h.ready.kinds;
+        whole = record { states = h.ready.whole.states; blocks = h.ready.whole.blocks };
+        owners = h.ready.owners;
+        channels = h.ready.channels;
+        keys = h.ready.keys;
+        fed = e.kept.fed h.ready.fed;
+        blocks = blocks_stay s.net.web e.web s.net.blocks e.kept.ports h.ready.blocks;
+      };
       block = h.block;
-    })
+      ends = h.ends;
+      tree = t;
+    }) tree
 
 kept_steady : (most : ℕ) (s : Stage) (v u : World Kept) → IsSteady most s → IsDelivered s.net s.time s.states v u → IsSteady most (with_kept s v.kept)
 kept_steady most s v u h d = record {
@@ -118,16 +144,19 @@ kept_steady most s v u h d = record {
   order = record { time = d.order.time; first = d.order.first; kinds = d.order.kinds; states = d.order.states };
   values = record { states = d.values; blocks = h.values.blocks };
   ready = let r : IsReady (block_net s) (record { states = v.kept.states; blocks = s.net.blocks }) =
-      ready_lasts (block_net s) (sound_at s) (record { states = v.kept.states; blocks = s.net.blocks }) h.ready d.objects (record { states = d.sizes; blocks = h.ready.whole.blocks }) in
-      record { kinds = r.kinds; whole = record { states = r.whole.states; blocks = r.whole.blocks }; owners = r.owners; channels = r.channels };
+      ready_lasts (block_net s) (sound_at s) (record { states = v.kept.states; blocks = s.net.blocks }) h.ready d.objects (record { states = d.sizes; blocks = h.ready.whole.blocks }) h.ready.blocks in
+      record { kinds = r.kinds; whole = record { states = r.whole.states; blocks = r.whole.blocks }; owners = r.owners; channels = r.channels; keys = r.keys; fed = r.fed; blocks = r.blocks };
   block = h.block;
+  ends = d.ends (s.block_end - block_units) h.ends;
+  tree = tree_on s (with_kept s v.kept) refl h.tree;
 }
 
 -- an event that comes to this world, and freely to that one
 after_free : (most : ℕ) (s : Stage) (v u : World Kept) → IsSteady most s → IsDelivered s.net s.time s.states v u → IsFree most (event_after s v) (event_after s u)
 after_free most s v u h d = record {
   same = ap (λ (w : World Kept). event_after s w) d.same;
-  steady = λ l. wires_steady most (with_kept s v.kept) (event_after s v).stage (kept_steady most s v u h d) (edits_left v.kept.queue (with_kept s v.kept) l);
+  steady = λ l. wires_steady most (with_kept s v.kept) (event_after s v).stage (kept_steady most s v u h d) (edits_left v.kept.queue (with_kept s v.kept) l)
+      (edits_tree v.kept.queue (with_kept s v.kept) l (tree_on s (with_kept s v.kept) refl h.tree));
 }
 
 pub event_free : (g : Guards) (most : ℕ) (s : Stage) (b : Beginning) → IsSteady most s → Begins s.names b → IsFree most (event s b) (event_freely s b)
@@ -135,4 +164,11 @@ unfolding event event_freely
 event_free g most s b h k =
     after_free most s (delivered s b) (deliveries s.net s.time (begun s) b) h
     (deliver g s.net s.time (begun s) (delivered s b) (deliveries s.net s.time (begun s) b) (start_of b) (outcome_is s.net s.time (begun s) b) (free_is s.net s.time (begun s) b)
-    h.near h.order h.values.states h.ready.whole.states (starts s.names b k))
+    h.near h.order h.values.states h.ready.whole.states h.ready.kinds (starts s.names b k))
+
+-- what deliveries leave is steady
+pub delivered_steady : (g : Guards) (most : ℕ) (s : Stage) (b : Beginning) → IsSteady most s → Begins s.names b → IsSteady most (with_kept s (delivered s b).kept)
+delivered_steady g most s b h k =
+    kept_steady most s (delivered s b) (deliveries s.net s.time (begun s) b) h
+    (deliver g s.net s.time (begun s) (delivered s b) (deliveries s.net s.time (begun s) b) (start_of b) (outcome_is s.net s.time (begun s) b) (free_is s.net s.time (begun s) b)
+    h.near h.order h.values.states h.ready.whole.states h.ready.kinds (starts s.names b k))

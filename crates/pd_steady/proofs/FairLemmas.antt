@@ -8,6 +8,7 @@ use Rattle.pd_stage.specs.Choices.{Wanted, Choice, Refuses, Lacks, Makes, first_
 use Rattle.pd_stage.specs.Stages.{Stage, Taken, with_ahead}
 use Rattle.pd_stage.specs.Lawful.{IsLawful, AreLawful}
 use Rattle.pd_stage.specs.Events.{Beginning, with_kept, edit_by, edit_taken, edit_asked, edits_taken, delivered, event}
+use Rattle.pd_stage.proofs.FedLemmas.{none_kept}
 use Rattle.pd_stage.proofs.EditLemmas.{ButWires, but_none, but_then, taken_rewires}
 
 -- it is refused, and nothing changes
@@ -37,7 +38,7 @@ fair_second (t ∷ a) b h = fair_second a b h.1
 
 -- what they leave
 refused_left : (wanted : Wanted) (s : Stage) (c : Choice) → IsRefusal c → ButWires s (edit_by wanted s c).stage
-refused_left wanted s (Refuses why) h = record { web = s.net.web; links = s.net.links; orders = s.net.orders; ahead = later s.ahead; is = refl }
+refused_left wanted s (Refuses why) h = record { web = s.net.web; links = s.net.links; orders = s.net.orders; ahead = later s.ahead; kept = none_kept s.net.web; is = refl }
 refused_left wanted s (Lacks net) h = absurd h
 refused_left wanted s (Makes m) h = absurd h
 

@@ -1,5 +1,6 @@
 pub mod OwnLemmas
 pub mod FairLemmas
+pub mod TreeLemmas
 pub mod EventLemmas
 pub mod TimeLemmas
 pub mod RunLemmas

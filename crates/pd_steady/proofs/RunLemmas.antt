@@ -9,13 +9,14 @@ use Rattle.pd_grove.specs.TextOrder.{keys_in_order}
 use Rattle.pd_grove.specs.Telling.{kind_in}
 use Rattle.pd_patch.specs.declared.patch.Patch.{Patch}
 use Rattle.pd_patch.specs.Report.{notices_in, loads_among}
-use Rattle.pd_hearing.specs.Worlds.{net_of, kept_of}
+use Rattle.pd_hearing.specs.Worlds.{net_of, states_of, kept_of}
 use Rattle.pd_guards.specs.Order.{HasFirst, IsKept, IsKind}
 use Rattle.pd_guards.specs.Near.{AreNear}
 use Rattle.pd_guards.specs.Worlds.{IsInOrder}
 use Rattle.pd_guards.specs.Sounds.{IsSounding, sound_with}
 use Rattle.pd_block.specs.Nets as nets
 use Rattle.pd_block.specs.Nets.{sound_of}
+use Rattle.pd_ends_law.specs.Ends.{AreOpen}
 use Rattle.pd_sound_law.specs.Ready.{IsReady}
 use Rattle.pd_guards.proofs.FactLemmas.{some-weaker}
 use Rattle.pd_guards.proofs.MoreLemmas.{longer, first_more, kind_more, kept_more}
@@ -29,9 +30,10 @@ use Rattle.pd_engine.specs.Remarks.{remarks_text}
 use Rattle.pd_engine.specs.Opening.{first_stage, opened}
 use Rattle.pd_steady.specs.Runs.{own_ways, commanded_by, advanced_by, finished_by, opened_by}
 use Rattle.pd_steady.specs.Freely.{event_freely, free_ways}
-use Rattle.pd_steady.specs.Steady.{IsSteady, IsCommand}
+use Rattle.pd_steady.specs.Steady.{HasTree, IsSteady, IsCommand}
 use Rattle.pd_steady.specs.Steps.{Step, Does, Learns, Comes, IsStep, AreSteps, step_by, steps_by, run_by}
 use Rattle.pd_steady.proofs.FairLemmas.{AreFair, fair_first, fair_second, taken_left}
+use Rattle.pd_steady.proofs.TreeLemmas.{tree_on, taken_tree}
 use Rattle.pd_steady.proofs.EventLemmas.{Guards, IsFree, event_free, wires_steady}
 use Rattle.pd_steady.proofs.TimeLemmas.{followed, advanced_free, finished_free}
 use Rattle.pd_steady.proofs.OwnLemmas.{commanded_own, advanced_own, finished_own}
@@ -56,11 +58,11 @@ unfolding commanded commanded_by
 commanded_free g most (command.Send name atoms) s h k =
     let b : Beginning = Message name (message_in atoms).selector (cut_atoms (message_in atoms).atoms) in
     said_free most s (cut_text (message_in atoms).atoms) (event s b) (event_freely s b) (event_free g most s b h (g.begins s.names name atoms h.order.first k.0 k.1))
-commanded_free g most (command.Edit place edit) s h k = record { same = refl; steady = λ l. wires_steady most s (commanded (command.Edit place edit) s).stage h (taken_left _ s l) }
-commanded_free g most (command.Save document) s h k = record { same = refl; steady = λ l. wires_steady most s (commanded (command.Save document) s).stage h (taken_left _ s l) }
+commanded_free g most (command.Edit place edit) s h k = record { same = refl; steady = λ l. wires_steady most s (commanded (command.Edit place edit) s).stage h (taken_left _ s l) (taken_tree _ s l h.tree) }
+commanded_free g most (command.Save document) s h k = record { same = refl; steady = λ l. wires_steady most s (commanded (command.Save document) s).stage h (taken_left _ s l) (taken_tree _ s l h.tree) }
 commanded_free g most (command.Show path) s h k = record { same = refl; steady = λ l. h }
-commanded_free g most command.Undo s h k = record { same = refl; steady = λ l. wires_steady most s (commanded command.Undo s).stage h (taken_left _ s l) }
-commanded_free g most command.Redo s h k = record { same = refl; steady = λ l. wires_steady most s (commanded command.Redo s).stage h (taken_left _ s l) }
+commanded_free g most command.Undo s h k = record { same = refl; steady = λ l. wires_steady most s (commanded command.Undo s).stage h (taken_left _ s l) (taken_tree _ s l h.tree) }
+commanded_free g most command.Redo s h k = record { same = refl; steady = λ l. wires_steady most s (commanded command.Redo s).stage h (taken_left _ s l) (taken_tree _ s l h.tree) }
 
 -- names
 pub named_steady : (most : ℕ) (s : Stage) (names : Names) → IsSteady most s → Extends s.names names → IsSteady most (with_names s names)
@@ -78,26 +80,30 @@ named_steady most s names h e =
       values = h.values;
       ready = h.ready;
       block = h.block;
+      ends = h.ends;
+      tree = tree_on s (with_names s names) refl h.tree;
     }
 
 -- where a patch opens, at first
-first_steady : (most : ℕ) (file : List ℕ) (p : Patch) (table : Names) (ahead : List Choice) → AreNear (net_of p) → IsInOrder (net_of p) 0 (kept_of p table []) → IsSounding (sound_with (net_of p) (kept_of p table [])) → IsReady (nets.net_of p) (sound_of p)
-    → IsSteady most (first_stage file p table ahead)
-first_steady most file p table ahead near o v w = record {
+pub first_steady : (most : ℕ) (file : List ℕ) (p : Patch) (table : Names) (ahead : List Choice) → AreNear (net_of p) → IsInOrder (net_of p) 0 (kept_of p table []) → IsSounding (sound_with (net_of p) (kept_of p table [])) → IsReady (nets.net_of p) (sound_of p)
+    → AreOpen 0 (states_of p) → HasTree (first_stage file p table ahead) → IsSteady most (first_stage file p table ahead)
+first_steady most file p table ahead near o v w ended tree = record {
   time = early most;
   near = near;
   order = record { time = o.time; first = o.first; kinds = o.kinds; states = o.states };
   values = record { states = v.states; blocks = v.blocks };
-  ready = record { kinds = w.kinds; whole = record { states = w.whole.states; blocks = w.whole.blocks }; owners = w.owners; channels = w.channels };
+  ready = record { kinds = w.kinds; whole = record { states = w.whole.states; blocks = w.whole.blocks }; owners = w.owners; channels = w.channels; keys = w.keys; fed = w.fed; blocks = w.blocks };
   block = first_end;
+  ends = ended;
+  tree = tree;
 }
 
 pub opened_free : (g : Guards) (most : ℕ) (file : List ℕ) (p : Patch) (table : Names) (ahead : List Choice) → AreNear (net_of p) → IsInOrder (net_of p) 0 (kept_of p table []) → IsSounding (sound_with (net_of p) (kept_of p table [])) → IsReady (nets.net_of p) (sound_of p)
-    → IsFree most (opened file p table ahead) (opened_by free_ways file p table ahead)
-opened_free g most file p table ahead near o v w =
+    → AreOpen 0 (states_of p) → HasTree (first_stage file p table ahead) → IsFree most (opened file p table ahead) (opened_by free_ways file p table ahead)
+opened_free g most file p table ahead near o v w ended tree =
     let s : Stage = first_stage file p table ahead in
     let b : Beginning = Loading (loads_among p.grove (keys_in_order p.grove)) in
-    said_free most s (remarks_text table p (notices_in p.grove p.web p.orders.items)) (event s b) (event_freely s b) (event_free g most s b (first_steady most file p table ahead near o v w) tt)
+    said_free most s (remarks_text table p (notices_in p.grove p.web p.orders.items)) (event s b) (event_freely s b) (event_free g most s b (first_steady most file p table ahead near o v w ended tree) tt)
 
 pub at_first : 0 ≤ 2 ^ 101
 at_first = early (2 ^ 101)
@@ -130,9 +136,9 @@ module _ (g : Guards) (most : ℕ) (top : most ≤ 2 ^ 101) where
 
 -- whole runs
 pub run_free : (g : Guards) (file : List ℕ) (p : Patch) (table : Names) (most : ℕ) (xs : List Step) (ahead : List Choice) → AreNear (net_of p) → IsInOrder (net_of p) 0 (kept_of p table []) → IsSounding (sound_with (net_of p) (kept_of p table [])) → IsReady (nets.net_of p) (sound_of p)
-    → most + block_units ≤ 2 ^ 101 → AreSteps most xs (opened file p table ahead).stage → AreFair (run_by own_ways file p table ahead xs).edits
+    → AreOpen 0 (states_of p) → HasTree (first_stage file p table ahead) → most + block_units ≤ 2 ^ 101 → AreSteps most xs (opened file p table ahead).stage → AreFair (run_by own_ways file p table ahead xs).edits
     → run_by free_ways file p table ahead xs ≡ run_by own_ways file p table ahead xs
-run_free g file p table most xs ahead near first sounds ready top k l =
+run_free g file p table most xs ahead near first sounds ready ended tree top k l =
     let o : Passage = opened file p table ahead in
     let free : Passage = opened_by free_ways file p table ahead in
     let s : Stage = o.stage in
@@ -141,7 +147,7 @@ run_free g file p table most xs ahead near first sounds ready top k l =
     let up_to : AreFair b.edits = fair_first b.edits (finished_by own_ways r).edits l in
     let end : AreFair (finished r).edits = subst (λ (x : Passage). AreFair x.edits) (finished_own r) (fair_second b.edits (finished_by own_ways r).edits l) in
     let a : IsFree most b (followed_by free (steps_by free_ways xs)) =
-    followed most o free (steps_by own_ways xs) (steps_by free_ways xs) (opened_free g most file p table ahead near first sounds ready)
+    followed most o free (steps_by own_ways xs) (steps_by free_ways xs) (opened_free g most file p table ahead near first sounds ready ended tree)
     (λ h v. steps_free g most (room_left most top) xs s h k v) up_to in
     let c : IsFree (most + block_units) (finished r) (finished_by free_ways r) = finished_free g most r top (a.steady up_to) end in
     let e : finished_by free_ways r ≡ finished_by own_ways r = c.same ∙ sym (finished_own r) in

@@ -7,21 +7,22 @@ use Rattle.pd_guards.specs.Sounds.{IsSounding}
 use Rattle.pd_guards.proofs.FactLemmas.{either_by}
 use Rattle.pd_stage.specs.Stages.{Stage, Passage, kept_at, still, joined, followed_by}
 use Rattle.pd_stage.specs.Events.{Firing}
-use Rattle.pd_stage.specs.Times.{block_units, most_fired, first_clock, if_below, next_clock, taken_off, with_taken, with_fired, fires, fires_or_not, fires_below, clocks_fire, block_net, sound_at, sounding, block_sounds, block_runs, blocks_run, with_time, time_is, comes_to, advanced, finished}
+use Rattle.pd_stage.specs.Times.{block_units, most_fired, first_clock, if_below, next_clock, taken_off, with_taken, with_fired, fires, fires_or_not, fires_below, clocks_fire, block_net, sound_at, sounding, most_time, played_at, with_played, block_sounds, block_runs, blocks_run, with_time, time_is, comes_to, advanced, finished}
 use Rattle.pd_stage.proofs.EditLemmas.{event_times}
-use Rattle.pd_block.specs.Inlets.{wires_to}
 use Rattle.pd_block.specs.Blocks.{Played, block_of}
+use Rattle.pd_ends_law.proofs.OpenLemmas.{open_later}
+use Rattle.pd_ends_law.proofs.BlockLemmas.{block_open}
 use Rattle.pd_sound_law.specs.Ready.{IsReady}
-use Rattle.pd_sound_law.proofs.FreeLemmas.{block_is_free}
-use Rattle.pd_sound_law.proofs.ReadyLemmas.{ready_on}
+use Rattle.pd_sound_law.proofs.ReadyLemmas.{ready_on, whole_free}
 use Rattle.pd_steady.specs.Runs.{fires_by, fires_or_not_by, fires_below_by, clocks_fire_by, block_runs_by, blocks_run_by, comes_to_by, advanced_by, finished_by}
 use Rattle.pd_steady.specs.Freely.{block_freely, free_ways}
 use Rattle.pd_steady.specs.Steady.{IsSteady}
 use Rattle.pd_steady.proofs.FairLemmas.{AreFair, fair_first, fair_second}
+use Rattle.pd_steady.proofs.TreeLemmas.{tree_on, tree_once}
 use Rattle.pd_steady.proofs.EventLemmas.{Guards, IsFree, event_free}
 
 -- a clock that is next is below the limit
-below_limit : (limit : ℕ) (o : Option Clock) → IfSome (if_below limit o) (λ (c : Clock). c.time < limit)
+pub below_limit : (limit : ℕ) (o : Option Clock) → IfSome (if_below limit o) (λ (c : Clock). c.time < limit)
 below_limit limit None = tt
 below_limit limit (Some c) =
     either_by (λ (o : Option Clock). IfSome o (λ (d : Clock). d.time < limit)) (nat_lt c.time limit) (Some c) None (λ e. ltb-true c.time limit e) (λ e. tt)
@@ -31,16 +32,16 @@ end_by : (s : Stage) (rest : Stage → Passage) (o : Option Clock) → ((x : Sta
 end_by s rest None stays = refl
 end_by s rest (Some c) stays = stays (fires s c).stage ∙ (event_times (with_fired (with_taken s (taken_off s.clocks)) c.time) (Firing c.owner)).block_end
 
-fires_end : (n limit : ℕ) (s : Stage) → (fires_below n limit s).stage.block_end ≡ s.block_end
+pub fires_end : (n limit : ℕ) (s : Stage) → (fires_below n limit s).stage.block_end ≡ s.block_end
 unfolding fires_below
 fires_end zero limit s = refl
 fires_end (suc n) limit s = end_by s (fires_below n limit) (next_clock limit s.clocks) (λ x. fires_end n limit x)
 
 -- numbers apart, since tactics read all that is in scope
-within : (a b c : ℕ) → a ≤ b → b ≤ c → a ≤ c
+pub within : (a b c : ℕ) → a ≤ b → b ≤ c → a ≤ c
 within a b c h k = omega arith
 
-below : (a b c : ℕ) → a < b → b ≤ c → a ≤ c
+pub below : (a b c : ℕ) → a < b → b ≤ c → a ≤ c
 below a b c h k = omega arith
 
 greatest : (a b most : ℕ) → a ≤ most → b ≤ most → max a b ≤ most
@@ -52,25 +53,35 @@ no_less a b = omega arith
 in_block : (time end : ℕ) → block_units ≤ end → (end - block_units) + 64000000000 ≤ max time end
 in_block time end h = omega arith
 
-same_end : (a b most : ℕ) → a ≡ b → b ≤ most → a ≤ most
+pub same_end : (a b most : ℕ) → a ≡ b → b ≤ most → a ≤ most
 same_end a b most e h = omega arith
 
 one_block_more : (most : ℕ) → most ≤ most + block_units
 one_block_more most = omega arith
 
-ends_soon : (end time most : ℕ) → end < time + block_units → time ≤ most → end ≤ most + block_units
+pub ends_soon : (end time most : ℕ) → end < time + block_units → time ≤ most → end ≤ most + block_units
 ends_soon end time most h k = omega arith
 
 later_end : (n : ℕ) → block_units ≤ n → block_units ≤ min (n + block_units) 340282366920938463463374607431768211455
 later_end n l = omega arith
 
+next_start : (end most : ℕ) → block_units ≤ end → end ≤ most → most ≤ 2 ^ 101 → (end - block_units) + 64000000000 ≤ min (end + block_units) most_time - block_units
+next_start end most h l top = omega arith
+
+no_earlier : (a b : ℕ) → a + 64000000000 ≤ b → a ≤ b
+no_earlier a b h = omega arith
+
+early_start : (end most : ℕ) → end ≤ most → most ≤ 2 ^ 101 → end - block_units ≤ 2 ^ 101
+early_start end most l top = omega arith
+
 pub steady_longer : (most more : ℕ) (s : Stage) → most ≤ more → IsSteady most s → IsSteady more s
-steady_longer most more s l h = record { time = within s.time most more h.time l; near = h.near; order = h.order; values = h.values; ready = h.ready; block = h.block }
+steady_longer most more s l h = record { time = within s.time most more h.time l; near = h.near; order = h.order; values = h.values; ready = h.ready; block = h.block; ends = h.ends; tree = h.tree }
 
 -- the block that comes next passes nothing over
-sounds_freely : (s : Stage) → IsReady (block_net s) (sound_at s) → block_freely s ≡ block_sounds s
+sounds_freely : (most : ℕ) (s : Stage) → IsSteady most s → s.block_end - block_units ≤ 2 ^ 101 → block_freely s ≡ block_sounds s
 unfolding block_sounds block_freely
-sounds_freely s ready = ap (λ (p : Played). sounding s p) (sym (block_is_free (block_net s) (wires_to s.net.web) (s.block_end - block_units) (λ node inlet. refl) (sound_at s) ready))
+sounds_freely most s h early =
+    ap (λ (p : Played). sounding s p) (sym (whole_free (block_net s) (sound_at s) (s.block_end - block_units) h.ready h.ends (tree_once s h.tree 257) early))
 
 -- one part, and then another from where it leads
 pub followed : (most : ℕ) (p q : Passage) (next free : Stage → Passage) → IsFree most p q → (IsSteady most p.stage → AreFair (next p.stage).edits → IsFree most (next p.stage) (free p.stage))
@@ -89,7 +100,7 @@ module _ (g : Guards) (most : ℕ) (top : most ≤ 2 ^ 101) where
       g.lasts s.net s.time (max s.time time) (kept_at s) h.order (no_less s.time time)
       (within (max s.time time) most (2 ^ 101) (greatest s.time time most h.time l) top)
 
-  fired_steady : (s : Stage) (c : Clock) → c.time ≤ most → IsSteady most s → IsSteady most (with_fired (with_taken s (taken_off s.clocks)) c.time)
+  pub fired_steady : (s : Stage) (c : Clock) → c.time ≤ most → IsSteady most s → IsSteady most (with_fired (with_taken s (taken_off s.clocks)) c.time)
   fired_steady s c l h =
       let o : IsInOrder s.net (max s.time c.time) (kept_at s) = later s c.time l h in
       record {
@@ -97,11 +108,13 @@ module _ (g : Guards) (most : ℕ) (top : most ≤ 2 ^ 101) where
         near = h.near;
         order = record { time = o.time; first = o.first; kinds = o.kinds; states = o.states };
         values = h.values;
-        ready = record { kinds = h.ready.kinds; whole = h.ready.whole; owners = h.ready.owners; channels = h.ready.channels };
+        ready = record { kinds = h.ready.kinds; whole = h.ready.whole; owners = h.ready.owners; channels = h.ready.channels; keys = h.ready.keys; fed = h.ready.fed; blocks = h.ready.blocks };
         block = h.block;
+        ends = h.ends;
+        tree = tree_on s (with_fired (with_taken s (taken_off s.clocks)) c.time) refl h.tree;
       }
 
-  timed_steady : (s : Stage) (to : ℕ) → to ≤ most → IsSteady most s → IsSteady most (with_time to s)
+  pub timed_steady : (s : Stage) (to : ℕ) → to ≤ most → IsSteady most s → IsSteady most (with_time to s)
   timed_steady s to l h =
       let o : IsInOrder s.net (max s.time to) (kept_at s) = later s to l h in
       record {
@@ -109,8 +122,10 @@ module _ (g : Guards) (most : ℕ) (top : most ≤ 2 ^ 101) where
         near = h.near;
         order = record { time = o.time; first = o.first; kinds = o.kinds; states = o.states };
         values = h.values;
-        ready = record { kinds = h.ready.kinds; whole = h.ready.whole; owners = h.ready.owners; channels = h.ready.channels };
+        ready = record { kinds = h.ready.kinds; whole = h.ready.whole; owners = h.ready.owners; channels = h.ready.channels; keys = h.ready.keys; fed = h.ready.fed; blocks = h.ready.blocks };
         block = h.block;
+        ends = h.ends;
+        tree = tree_on s (with_time to s) refl h.tree;
       }
 
   here : (s : Stage) → IsSteady most s → IsFree most (still s) (still s)
@@ -133,11 +148,13 @@ module _ (g : Guards) (most : ℕ) (top : most ≤ 2 ^ 101) where
       clock_free s (fires_below n limit) (fires_below_by free_ways n limit) limit (next_clock limit s.clocks) l (below_limit limit (first_clock s.clocks)) (λ r k v. clocks_free n limit r l k v) h w
 
   -- blocks
-  sounds_steady : (s : Stage) → s.block_end ≤ most → IsSteady most s → IsSteady most (block_sounds s).stage
+  pub sounds_steady : (s : Stage) → s.block_end ≤ most → IsSteady most s → IsSteady most (block_sounds s).stage
   unfolding block_sounds
   sounds_steady s l h =
       let o : IsInOrder s.net (max s.time s.block_end) (kept_at s) = later s s.block_end l h in
       let start : ℕ = s.block_end - block_units in
+      let next : ℕ = min (s.block_end + block_units) most_time - block_units in
+      let soon : start + 64000000000 ≤ next = next_start s.block_end most h.block l top in
       record {
         time = greatest s.time s.block_end most h.time l;
         near = h.near;
@@ -150,8 +167,10 @@ module _ (g : Guards) (most : ℕ) (top : most ≤ 2 ^ 101) where
         values = let v : IsSounding (block_of (block_net s) (sound_at s) start).sound = g.sounds (block_net s) s.names s.time start (sound_at s) h.order.states h.values in
             record { states = v.states; blocks = v.blocks };
         ready = let r : IsReady (block_net s) (block_of (block_net s) (sound_at s) start).sound = ready_on (block_net s) start (sound_at s) h.ready in
-            record { kinds = r.kinds; whole = record { states = r.whole.states; blocks = r.whole.blocks }; owners = r.owners; channels = r.channels };
+            record { kinds = r.kinds; whole = record { states = r.whole.states; blocks = r.whole.blocks }; owners = r.owners; channels = r.channels; keys = r.keys; fed = r.fed; blocks = r.blocks };
         block = later_end s.block_end h.block;
+        ends = record { each = block_open (block_net s) start next (sound_at s) h.ready.kinds soon (open_later start next s.states (no_earlier start next soon) h.ends.each) };
+        tree = tree_on s (with_played s (played_at s)) refl h.tree;
       }
 
   pub block_free : (s : Stage) → s.block_end ≤ most → IsSteady most s → AreFair (block_runs s).edits → IsFree most (block_runs s) (block_runs_by free_ways s)
@@ -161,7 +180,7 @@ module _ (g : Guards) (most : ℕ) (top : most ≤ 2 ^ 101) where
       clocks_free (most_fired - s.fired) s.block_end s l h (fair_first c.edits (block_sounds c.stage).edits w) in
       let e : c.stage.block_end ≡ s.block_end = fires_end (most_fired - s.fired) s.block_end s in
       followed most c (clocks_fire_by free_ways s.block_end s) block_sounds block_freely a
-      (λ k v. record { same = sounds_freely c.stage k.ready; steady = λ x. sounds_steady c.stage (same_end c.stage.block_end s.block_end most e l) k }) w
+      (λ k v. record { same = sounds_freely most c.stage k (early_start c.stage.block_end most (same_end c.stage.block_end s.block_end most e l) top); steady = λ x. sounds_steady c.stage (same_end c.stage.block_end s.block_end most e l) k }) w
 
   pub if_free : (b : Bool) (p q free : Passage) (r : Passage) → (b ≡ true → AreFair p.edits → IsFree most p free) → IsFree most q r → AreFair (if b then p else q).edits
       → IsFree most (if b then p else q) (if b then free else r)

@@ -94,6 +94,7 @@ pub built_rewired : (p : Patch) (names : Names) (file : List ℕ) (rate : Rate) 
     → CanRewire (with_wires p web links orders) → IsBuilt (with_wires p web links orders) names file rate
 built_rewired p names file rate web links orders b r = record {
   own = b.own;
+  keys = b.keys;
   ports = r.ports;
   owners = b.owners;
   apart = b.apart;

@@ -5,7 +5,6 @@ use Rattle.pd_turns.specs.Turns.{World}
 use Rattle.pd_hearing.specs.Worlds.{Net, Kept}
 use Rattle.pd_hearing.specs.Hearing.{fired_at}
 use Rattle.pd_stack.specs.Tasks.{to_name}
-use Rattle.pd_block.specs.Inlets.{wires_to}
 use Rattle.pd_block.specs.Blocks.{Played}
 use Rattle.pd_sound_law.specs.Freely.{free_block}
 use Rattle.pd_guards.specs.Freely.{ran, told_by, all_loaded}
@@ -26,7 +25,7 @@ event_freely s b = event_after s (deliveries s.net s.time (begun s) b)
 
 -- the boxes run for the block that comes next, each its own row
 abbrev pub played_freely : Stage → Played
-played_freely s = free_block 257 (block_net s) (wires_to s.net.web) (sound_at s) (s.block_end - block_units)
+played_freely s = free_block 257 (block_net s) (sound_at s) (s.block_end - block_units)
 
 -- its samples are written
 unfoldable pub block_freely : Stage → Passage

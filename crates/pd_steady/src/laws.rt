@@ -19,7 +19,7 @@ ghost use Rattle.pd_stage.specs.Lawful.{IsMade, AreLawful};
 ghost use Rattle.pd_stage.specs.Stages.{Stage, with_names, followed_by};
 ghost use Rattle.pd_stage.specs.Times.{IsStageOf, block_units, advanced, finished};
 ghost use Rattle.pd_engine.specs.Commands.{commanded, led_to};
-ghost use Rattle.pd_engine.specs.Opening.{Grows, opened};
+ghost use Rattle.pd_engine.specs.Opening.{Grows, first_stage, opened};
 ghost use Rattle.pd_steady.specs.Runs.{own_ways, commanded_by, advanced_by, finished_by, opened_by};
 ghost use Rattle.pd_steady.specs.Freely.{free_ways};
 ghost use Rattle.pd_steady.specs.Steady.{IsSteady, IsCommand};
@@ -75,8 +75,11 @@ pub fn names_stay_steady()
     ensures { (most : ℕ) (s : Stage) (names : Names) → IsSteady most s → Extends s.names names → IsSteady most (with_names s names) }
 {}
 
-/// Where a patch opens, the stage is steady, where the edits of its load event are lawful, and nothing is passed over in that event.
+/// Where a patch opens, the stage is steady, at first and, where the edits of its load event are lawful, after it, and nothing is passed over in
+/// that event.
 pub fn opening_is_steady()
+    ensures first { (holds : Option (List FileRow)) (name : List ℕ) (rate : Rate) (d : Page) (names table : Names) (p : Patch) (most : ℕ)
+        (ahead : List Choice) → Grows holds name rate d names p table → IsSteady most (first_stage name p table ahead) }
     ensures steady { (holds : Option (List FileRow)) (name : List ℕ) (rate : Rate) (d : Page) (names table : Names) (p : Patch) (most : ℕ)
         (ahead : List Choice) → Grows holds name rate d names p table → AreLawful (opened name p table ahead).edits →
         IsSteady most (opened name p table ahead).stage }

@@ -2,14 +2,16 @@
 //!
 //! A stage is steady where the patch is in order at its time, the canvases that own names are near, the values of
 //! signals are in their range, and all is ready for the next block: what boxes keep is of their kinds, with its
-//! sizes, and who looks for a box by its name finds it. Where a patch opens the stage is steady
+//! sizes, who looks for a box by its name finds it, each outlet that carries signals has a block, no inlet has more
+//! wires than a patch may have, and no `vline~` has run a block that ends later; and a tree stands, so that no box
+//! runs twice in a block. Where a patch opens the stage is steady
 //! (`opening_is_steady`); it stays so through commands whose names are of the table (`commands_stay_steady`), names
 //! that records bring (`names_stay_steady`) and time (`time_stays_steady`), in a run in which each edit is lawful:
 //! edits of wires and saves leave all that steadiness speaks of.
 //!
 //! So a whole run in which each edit is lawful, from where a patch opens to its end, is the one in which each event
 //! is the depth-first recursion over the objects' own definitions, and in each block each box runs its own row
-//! (`free_block` of `pd_sound_law`, whose head names the few conditions that are still looked at). Nothing is ever
+//! (`free_block` of `pd_sound_law`, whose head names the one condition that is still looked at). Nothing is ever
 //! passed over in it, in lines, samples, files that are put, edits and where it leads (`runs_pass_nothing_over`).
 //! With pd_engine's own events and blocks these runs are pd_engine's (`runs_are_by_events`). In a run the lines of a
 //! canvas's order tell all its boxes (`lines_tell_all_boxes`), and so does the line of each signal loop, where a

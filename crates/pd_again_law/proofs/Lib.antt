@@ -1,0 +1,3 @@
+pub mod FewLemmas
+pub mod FoundLemmas
+pub mod AgainLemmas
