@@ -6,4 +6,6 @@ pub mod TakenLemmas
 pub mod EndLemmas
 pub mod WholeLemmas
 pub mod AskedLemmas
+pub mod MadeLemmas
 pub mod CompleteLemmas
+pub mod AgainLemmas

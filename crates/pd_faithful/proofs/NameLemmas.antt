@@ -21,6 +21,7 @@ use Rattle.pd_stage.specs.Events.{Firing, begun, delivered, event}
 use Rattle.pd_stage.specs.Times.{most_fired, first_clock, if_below, next_clock, taken_off, with_taken, with_fired, fires, fires_or_not, fires_below, clocks_fire, block_sounds, block_runs, blocks_run, time_is, comes_to, advanced}
 use Rattle.pd_steady.specs.Steady.{IsSteady}
 use Rattle.pd_steady.proofs.FairLemmas.{AreFair, fair_first, fair_second, event_left}
+use Rattle.pd_steady.proofs.TreeLemmas.{tree_on}
 use Rattle.pd_steady.proofs.EventLemmas.{Guards, event_free}
 use Rattle.pd_steady.proofs.TimeLemmas.{block_free}
 
@@ -133,8 +134,10 @@ module _ (g : Guards) (most : ℕ) (top : most ≤ 2 ^ 101) where
         near = h.near;
         order = record { time = o.time; first = o.first; kinds = o.kinds; states = o.states };
         values = h.values;
-        ready = record { kinds = h.ready.kinds; whole = h.ready.whole; owners = h.ready.owners; channels = h.ready.channels };
+        ready = record { kinds = h.ready.kinds; whole = h.ready.whole; owners = h.ready.owners; channels = h.ready.channels; keys = h.ready.keys; fed = h.ready.fed; blocks = h.ready.blocks };
         block = h.block;
+        ends = h.ends;
+        tree = tree_on s (with_fired (with_taken s (taken_off s.clocks)) c.time) refl h.tree;
       }
 
   fires_keep : (s : Stage) (c : Clock) → c.time ≤ most → IsSteady most s → AreFair (fires s c).edits → Keeps most s (fires s c).stage

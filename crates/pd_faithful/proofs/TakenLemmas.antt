@@ -219,9 +219,9 @@ log_fair : (log rest : List Taken) → AreLawful log → Follow (choices_of log)
 log_fair [] rest l h = rest_fair rest h
 log_fair (t ∷ log) rest l h = (inl l.0, log_fair log rest l.1 h.1)
 
-pub played_fair : (name : List ℕ) (run : Run) (log : List Taken) (status : Status) (x y : Sinks) → AreLawful log → Takes (choices_of log) run.passage → Plays (with_line name run) log status x y
+pub played_fair : (name : List ℕ) (closing : Stage → List ℕ) (run : Run) (log : List Taken) (status : Status) (x y : Sinks) → AreLawful log → Takes (choices_of log) run.passage → Plays (with_line name closing run) log status x y
     → AreFair run.passage.edits
-played_fair name run log status x y l h (inl k) = subst (λ (e : List Taken). AreFair e) (sym k.edits_are ∙ append-nil run.passage.edits) (lawful_fair log l)
-played_fair name run log status x y l h (inr k) =
+played_fair name closing run log status x y l h (inl k) = subst (λ (e : List Taken). AreFair e) (sym k.edits_are ∙ append-nil run.passage.edits) (lawful_fair log l)
+played_fair name closing run log status x y l h (inr k) =
     let is : run.passage.edits ≡ log ++ k.begins.rest = sym (append-nil run.passage.edits) ∙ k.begins.edits_are in
     subst (λ (e : List Taken). AreFair e) (sym is) (log_fair log k.begins.rest l (subst (λ (e : List Taken). Follow (choices_of log) e) is h.follow))

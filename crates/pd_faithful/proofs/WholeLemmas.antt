@@ -1,5 +1,5 @@
 -- A patch opens at a steady point, and from there nothing is passed over.
-use Rattle.std.proofs.Common.{◌≡◌, ◌≤◌, ◌⊎◌, inl, inr, ℕ, List, [], ◌++◌, Option, None, refl, sym, ap, subst, ◌∙◌, arith}
+use Rattle.std.proofs.Common.{◌≡◌, ◌≤◌, ◌⊎◌, inl, inr, ℕ, List, [], ◌++◌, Option, Some, None, refl, sym, ap, subst, ◌∙◌, arith}
 use Rattle.pd_io.specs.declared.files.FileRow.{FileRow}
 use Rattle.pd_atom.specs.Names.{Names}
 use Rattle.pd_canvas.specs.Pages.{Page}
@@ -20,19 +20,24 @@ use Rattle.pd_steady.specs.Runs.{opened_by}
 use Rattle.pd_steady.specs.Freely.{free_ways}
 use Rattle.pd_steady.specs.Steady.{IsSteady}
 use Rattle.pd_steady.proofs.FairLemmas.{AreFair, fair_second}
-use Rattle.pd_play.specs.Ending.{status_line}
+use Rattle.pd_again_law.specs.Again.{IsAgain, AreAgain}
+use Rattle.pd_made.specs.Documents.{made_document}
+use Rattle.pd_made.specs.Scripts.{made_script}
+use Rattle.pd_play.specs.Ending.{no_line, last_line}
+use Rattle.pd_play.specs.Made.{made_names, summary_line}
 use Rattle.pd_play.specs.Runs.{Run, Ending, Broken, most_time, behind, run_after, run_of, MeetsEnd}
 use Rattle.pd_play.specs.Playing.{Plays}
-use Rattle.pd_play.specs.Patches.{start, with_line, once_open, PlaysOpened}
+use Rattle.pd_play.specs.Patches.{start, with_line, once_open, PlaysFrom, PlaysOpened, PlaysMadeOpened}
 use Rattle.pd_play.specs.declared.status.Status.{Status}
 use Rattle.pd_play.specs.declared.status.Status.TheVariants.{Done}
 use Rattle.pd_play.proofs.RunLemmas.{played_after}
 use Rattle.pd_faithful.specs.Scripts.{run_of_by, played_by}
 use Rattle.pd_faithful.specs.Points.{most_units, IsSteadyAt}
-use Rattle.pd_faithful.specs.Whole.{PlaysFreely}
+use Rattle.pd_faithful.specs.Whole.{PlaysGrown, PlaysFreely, PlaysMadeFreely}
 use Rattle.pd_faithful.proofs.FreeLemmas.{Laws, run_free}
 use Rattle.pd_faithful.proofs.TakenLemmas.{whole_takes, played_fair}
 use Rattle.pd_faithful.proofs.EndLemmas.{end_met}
+use Rattle.pd_faithful.proofs.AgainLemmas.{AgainLaws, played_again, told_all}
 
 -- what the laws say of opening
 pub record Opens : Type 0 where
@@ -55,9 +60,10 @@ few_samples hz.R96000 = omega arith
 starts_steady : (s : Stage) (rate : Rate) → IsSteady most_units s → IsSteadyAt (start s (samples rate))
 starts_steady s rate h = record { stage = h; rate = few_samples rate; time = early most_time }
 
-line_after : (name : List ℕ) (items : List Item) (edits : List Taken) (run : Run) → with_line name (run_after items edits run) ≡ run_after items edits (with_line name run)
-line_after name items edits run =
-    ap (λ (x : Passage). record { status = run.status; passage = x }) (after-joined items edits run.passage (saying run.passage.stage (status_line name run.status)))
+line_after : (name : List ℕ) (closing : Stage → List ℕ) (items : List Item) (edits : List Taken) (run : Run)
+    → with_line name closing (run_after items edits run) ≡ run_after items edits (with_line name closing run)
+line_after name closing items edits run =
+    ap (λ (x : Passage). record { status = run.status; passage = x }) (after-joined items edits run.passage (saying run.passage.stage (last_line name closing run.status run.passage.stage)))
 
 -- a count of faults that rose while a patch opened
 faults_more : (n x y : ℕ) → x ≤ y → RoseBy n x x → RoseBy n x y
@@ -95,9 +101,10 @@ module _ (opens : Opens) where
       (starts_steady (opened name p table edits).stage rate (opens.steady holds name rate d names table p most_units edits g l)) w)
 
   -- a patch that was opened is played by a script
-  module _ (name : List ℕ) (rate : Rate) (status : Status) (left left' : Option (List ℕ)) (read read' : ℕ) (old new : Sinks) (h : PlaysOpened name rate status left left' read read' old new) where
-    abbrev o : EngineOpens old.held name rate h.opens.document h.opens.names h.library h.stage old.lines h.printed
-    o = h.opens.opens
+  module _ (saves : AgainLaws) (d : Page) (names : Names) (name : List ℕ) (closing : Stage → List ℕ) (rate : Rate) (status : Status) (left left' : Option (List ℕ)) (read read' : ℕ) (old new : Sinks)
+      (h : PlaysFrom (EngineOpens old.held name rate d names) name closing rate status left left' read read' old new) where
+    abbrev o : EngineOpens old.held name rate d names h.library h.stage old.lines h.printed
+    o = h.opens
 
     abbrev led : LeadsOn (opened name o.patch o.table) (λ m. still (h.stage m)) (sinks old.lines old.samples old.looks old.held old.faults) (sinks h.printed old.samples old.looks old.held old.faults)
     led = o.says old.looks old.samples old.held old.faults
@@ -139,24 +146,24 @@ module _ (opens : Opens) where
       few_faults = faults_more (faults_of led.edits) old.faults h.faults h.counted led.took.few_faults;
     }
 
-    lined_so : with_line name (own h.plays.ending) ≡ run_after led.items led.edits (with_line name (run h.plays.ending))
-    lined_so = ap (λ (r : Run). with_line name r) (own_so h.plays.ending) ∙ line_after name led.items led.edits (run h.plays.ending)
+    lined_so : with_line name closing (own h.plays.ending) ≡ run_after led.items led.edits (with_line name closing (run h.plays.ending))
+    lined_so = ap (λ (r : Run). with_line name closing r) (own_so h.plays.ending) ∙ line_after name closing led.items led.edits (run h.plays.ending)
 
-    own_tells : Plays (with_line name (own h.plays.ending)) log status old new
+    own_tells : Plays (with_line name closing (own h.plays.ending)) log status old new
     unfolding run_at
     own_tells =
         subst (λ (r : Run). Plays r log status old new) (sym lined_so)
-        (played_after led.items led.edits h.plays.edits (with_line name (run h.plays.ending)) status old (once_open old h.printed h.faults) new led.lawful h.plays.lawful opening_took h.plays.tells)
+        (played_after led.items led.edits h.plays.edits (with_line name closing (run h.plays.ending)) status old (once_open old h.printed h.faults) new led.lawful h.plays.lawful opening_took h.plays.tells)
 
     own_fair : AreFair (own h.plays.ending).passage.edits
     own_fair =
-        played_fair name (own h.plays.ending) log status old new lawful
+        played_fair name closing (own h.plays.ending) log status old new lawful
         (whole_takes name o.patch o.table (choices_of log) h.plays.ending text (start (opened name o.patch o.table (choices_of log)).stage (samples rate)) refl) own_tells
 
     free_so : (ending : Ending) → AreFair (own ending).passage.edits → played_by free_ways name o.patch o.table (choices_of log) (samples rate) ending text ≡ own ending
     free_so ending w =
         let p : Passage = opened name o.patch o.table (choices_of log) in
-        whole_free old.held name rate h.opens.document h.opens.names o.table o.patch (choices_of log) ending text o.grows opened_lawful
+        whole_free old.held name rate d names o.table o.patch (choices_of log) ending text o.grows opened_lawful
         (fair_second p.edits (run_of ending text (start p.stage (samples rate))).passage.edits w)
 
     -- where an `end` is met, the run is one
@@ -174,11 +181,15 @@ module _ (opens : Opens) where
         let fair : AreFair (own Broken).passage.edits = subst (λ (r : Run). AreFair r.passage.edits) (broken_so e) own_fair in
         inr (ap (λ (r : Run). r.status) (free_so Broken fair ∙ own_so Broken) ∙ e)
 
-    pub plays_free : PlaysFreely name rate status left left' read read' old new
+    log_again : AreAgain o.grows.files.files name rate o.grows.tree.tree log
+    log_again =
+        let p : Passage = opened name o.patch o.table (choices_of log) in
+        told_all (IsAgain o.grows.files.files name rate o.grows.tree.tree) name closing (own h.plays.ending) log status old new own_tells
+        (played_again opens.laws saves old.held name rate d names o.patch o.table o.grows (choices_of log) h.plays.ending text
+        (starts_steady p.stage rate (opens.steady old.held name rate d names o.table o.patch most_units (choices_of log) o.grows opened_lawful)) own_fair)
+
+    plays_free : PlaysGrown d names name closing rate status left left' read read' old new
     plays_free = record {
-      document = h.opens.document;
-      names = h.opens.names;
-      reads = h.opens.reads;
       patch = o.patch;
       table = o.table;
       grows = o.grows;
@@ -187,6 +198,28 @@ module _ (opens : Opens) where
       is_script = h.plays.is_script;
       edits = log;
       lawful = lawful;
-      tells = subst (λ (r : Run). Plays r log status old new) (sym (ap (λ (r : Run). with_line name r) (free_so h.plays.ending own_fair))) own_tells;
+      again = log_again;
+      tells = subst (λ (r : Run). Plays r log status old new) (sym (ap (λ (r : Run). with_line name closing r) (free_so h.plays.ending own_fair))) own_tells;
       over = λ e. over_free (h.plays.over e);
     }
+
+  pub opened_free : AgainLaws → (name : List ℕ) (rate : Rate) (status : Status) (left left' : Option (List ℕ)) (read read' : ℕ) (old new : Sinks) → PlaysOpened name rate status left left' read read' old new
+      → PlaysFreely name rate status left left' read read' old new
+  opened_free saves name rate status left left' read read' old new h =
+      let d : Page = h.opens.document in
+      let names : Names = h.opens.names in
+      let from : PlaysFrom (EngineOpens old.held name rate d names) name no_line rate status left left' read read' old new = record {
+        library = h.library;
+        stage = h.stage;
+        printed = h.printed;
+        faults = h.faults;
+        counted = h.counted;
+        opens = h.opens.opens;
+        plays = h.plays;
+      } in
+      record { document = d; names = names; reads = h.opens.reads; plays = plays_free saves d names name no_line rate status left left' read read' old new from }
+
+  pub made_free : AgainLaws → (n : ℕ) (name : List ℕ) (rate : Rate) (status : Status) (left' : Option (List ℕ)) (old new : Sinks) → PlaysMadeOpened n name rate status left' old new
+      → PlaysMadeFreely n name rate status left' old new
+  made_free saves n name rate status left' old new h =
+      plays_free saves (made_document made_names n) made_names name (summary_line n) rate status (Some (made_script n)) left' 0 0 old new h

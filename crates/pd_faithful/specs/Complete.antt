@@ -1,5 +1,5 @@
 -- When a run is sure to come to its end.
-use Rattle.std.specs.Prelude.{◌≡◌, ◌≤◌, ◌⊎◌, ℕ, true, List, Option, Some, Ok, IfSome}
+use Rattle.std.specs.Prelude.{◌≡◌, ◌≤◌, ◌⊎◌, ℕ, List, Option, Some, None, Ok, IfSome}
 use Rattle.pd_io.specs.Faults.{Rose}
 use Rattle.pd_io.specs.declared.files.FileRow.{FileRow}
 use Rattle.pd_atom.specs.Names.{Names, first_names}
@@ -19,7 +19,6 @@ use Rattle.pd_stage.specs.Lawful.{AreLawful}
 use Rattle.pd_engine.specs.Opening.{Reads, Grows, GathersAll, growth_of}
 use Rattle.pd_steady.specs.Freely.{free_ways}
 use Rattle.pd_play.specs.Runs.{Whole}
-use Rattle.pd_play.specs.Telling.{is_unmade}
 use Rattle.pd_play.specs.declared.status.Status.{Status}
 use Rattle.pd_play.specs.declared.status.Status.TheVariants.{Done, NoMemory}
 use Rattle.pd_faithful.specs.Scripts.{played_by}
@@ -52,9 +51,21 @@ pub record NoneRose (folder folder' read read' lines lines' pcm pcm' : ℕ) : Ty
   pub lines_stay : Rose lines lines' → ⊥
   pub samples_stay : Rose pcm pcm' → ⊥
 
--- For words that ask for a patch that is there, a folder and a script that tell what they hold, a patch that can be played by the script, and
--- without a fault, the run is done but where memory is short.
+-- The folder and the source of the script tell what they hold, and that can be played.
+pub record IsHeldPlayable (holds : Option (List FileRow)) (name : List ℕ) (rate : Rate) (left : Option (List ℕ)) : Type 0 where
+  pub rows : List FileRow
+  pub script : List ℕ
+  pub held : holds ≡ Some rows
+  pub told : left ≡ Some script
+  pub playable : IsPlayable rows name rate script
+
+-- What the words ask for can be played to its end: the patch of a file name where it can be played by the script, and a made patch always.
+abbrev pub CanEnd : Option ℕ → Option (List FileRow) → List ℕ → Rate → Option (List ℕ) → Type 0
+CanEnd None holds name rate left = IsHeldPlayable holds name rate left
+CanEnd (Some n) holds name rate left = Unit {0}
+
+-- For words that ask for what can be played to its end, and without a fault, the run is done but where memory is short.
 abbrev pub Completes : Option Asked → Option (List FileRow) → Option (List ℕ) → Status → (folder folder' read read' lines lines' pcm pcm' : ℕ) → Type 0
 Completes asked holds left status folder folder' read read' lines lines' pcm pcm' =
-    IfSome asked (λ a. IfSome holds (λ rows. IfSome left (λ script. is_unmade a.make ≡ true → (rate : Rate) → samples rate ≡ a.rate →
-    IsPlayable rows a.patch rate script → NoneRose folder folder' read read' lines lines' pcm pcm' → (status ≡ Done) ⊎ (status ≡ NoMemory))))
+    IfSome asked (λ a. (rate : Rate) → samples rate ≡ a.rate → CanEnd a.make holds a.patch rate left →
+    NoneRose folder folder' read read' lines lines' pcm pcm' → (status ≡ Done) ⊎ (status ≡ NoMemory))

@@ -15,11 +15,11 @@ ghost use Rattle.pd_steady.specs.Runs.{own_ways};
 ghost use Rattle.pd_engine.specs.Opening.{Files, Grows, OpensFile, opened};
 ghost use Rattle.pd_steady.specs.Freely.{free_ways};
 ghost use Rattle.pd_play.specs.Runs.{Point, Ending, behind, run_of};
-ghost use Rattle.pd_play.specs.Patches.{start, PlaysOpened};
+ghost use Rattle.pd_play.specs.Patches.{start, PlaysOpened, PlaysMadeOpened};
 ghost use Rattle.pd_play.specs.declared.status.Status.{Status};
 ghost use Rattle.pd_faithful.specs.Scripts.{run_of_by, played_by};
 ghost use Rattle.pd_faithful.specs.Points.{most_units, IsSteadyAt, IsStepped};
-ghost use Rattle.pd_faithful.specs.Whole.{PlaysFreely};
+ghost use Rattle.pd_faithful.specs.Whole.{PlaysFreely, PlaysMadeFreely};
 
 /// With pd_engine's own events and blocks the run of a script is pd_play's.
 pub fn scripts_are_by_events()
@@ -64,10 +64,13 @@ pub fn scripts_pass_nothing_over()
     pd_steady::opening_is_steady();
 }
 
-/// What a call of `play` prints, writes and puts into the folder, where the patch opens, is a run in which nothing is ever passed over.
+/// What a call of `play` prints, writes and puts into the folder, where the patch opens, is a run in which nothing is ever passed over. So it is
+/// with a made patch.
 pub fn play_passes_nothing_over()
-    ensures { (name : List ℕ) (rate : Rate) (status : Status) (left left' : Option (List ℕ)) (read read' : ℕ) (old new : Sinks) →
+    ensures opened { (name : List ℕ) (rate : Rate) (status : Status) (left left' : Option (List ℕ)) (read read' : ℕ) (old new : Sinks) →
         PlaysOpened name rate status left left' read read' old new → PlaysFreely name rate status left left' read read' old new }
+    ensures made { (n : ℕ) (name : List ℕ) (rate : Rate) (status : Status) (left' : Option (List ℕ)) (old new : Sinks) →
+        PlaysMadeOpened n name rate status left' old new → PlaysMadeFreely n name rate status left' old new }
 {
     pd_guards::delivery_passes_nothing_over();
     pd_guards::messages_keep_values();
@@ -77,4 +80,7 @@ pub fn play_passes_nothing_over()
     pd_guards::commands_begin_in_order();
     pd_script::tables_go_on();
     pd_steady::opening_is_steady();
+    pd_wiring::rewiring_asks_alike();
+    pd_reload_law::documents_tell_trees();
+    pd_doc::written_read();
 }

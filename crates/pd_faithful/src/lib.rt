@@ -3,21 +3,25 @@
 //! Messages are delivered under conditions that the program looks at when it runs, and what is out of order is
 //! passed over, in the definitions of pd_engine and pd_play too. In a run that never comes. So the clause `plays` of
 //! `play` says what a call prints, writes and puts into the folder by the run in which each event is the depth-first
-//! recursion over the objects' own definitions, where the words ask for a patch that is there. Its file is read and
+//! recursion over the objects' own definitions. Where the words ask for the patch of a file name, its file is read and
 //! grows; then come the lines of opening, the run of the script, whatever its bytes are, and the line of the status,
 //! with lines, samples and files that are put in one list in their order. Edits of wires and saves of the patch's own
-//! document are made: what each came to stands in the run, and it is lawful (pd_stage's `Lawful`). All of the list was
+//! document are made: what each came to stands in the run, and it is lawful (pd_stage's `Lawful`). Each save puts a text
+//! that opens again as the patch that was saved (pd_again_law's `Again`). All of the list was
 //! taken, and the status is the run's; or a sink failed, the status is `WriteFault`, and what was taken and put is
 //! one first part of it. The folder then holds what it held with the files of that list, one after the other, where
 //! it still tells what it holds, and of the saves no more were refused for a fault of it than it counted. With
 //! `Done` nothing is left of the script, where the source tells that, or the run met an `end`. Where the patch
 //! doesn't open, its cause is told, no script is read, no sample is written, and the folder holds what it held.
 //!
-//! A run comes to its end where it can (`completes`): the words ask for a patch that is there, the folder and the
+//! Where they ask for a made patch, the document and the script are those of pd_made, and all else is the same; nothing
+//! of the script's source is read (`unread`), and the last line of a run that is done tells what it came to.
+//!
+//! A run comes to its end where it can (`completes`): the words ask for the patch of a file, the folder and the
 //! source tell what they hold, its file reads and grows within the limits of a patch, with the files that are held,
 //! the script is commands up to its end or to an `end`, whatever the edits of the run lawfully come to, and no fault
-//! comes. Then the status is `Done`, or memory was short. An edit that is refused, for want of memory too, ends no
-//! run.
+//! comes; or they ask for a made patch, and no fault comes. Then the status is `Done`, or memory was short. An edit
+//! that is refused, for want of memory too, ends no run.
 //!
 //! The other clauses are those of pd_play's `play`: a fault has its cause (`causes`), and the folder's count of
 //! faults never falls (`folder_counted`); with other words the usage line is told, and the folder, the source of the
@@ -30,8 +34,8 @@
 //! record brings, the time that it comes to, and its command; then the last block, where the run comes to its end
 //! (`scripts_are_steps`). With pd_engine's own events and blocks the run is pd_play's (`scripts_are_by_events`).
 //!
-//! In each block of the run each box runs its own row on the sums of its wires (`free_block` of `pd_sound_law`). Its
-//! definition looks at few conditions still, which that crate's head names. Free: want of memory for the words or in
+//! In each block of the run each box runs its own row on the sums of all its wires (`free_block` of `pd_sound_law`). Its
+//! definition looks at one condition still, which that crate's head names. Free: want of memory for the words or in
 //! opening, and in each edit and save, which is refused then with its line.
 //!
 //! Definitions: `Whole` (a play in which no message is passed over), `Complete` (when a run is sure to end),

@@ -1,8 +1,11 @@
 pub mod AheadLemmas
 pub mod CauseLemmas
 pub mod LateLemmas
+pub mod MadeLemmas
 pub mod OpenedLemmas
 pub mod PatchLemmas
 pub mod ReportLemmas
 pub mod RunLemmas
+pub mod SumLemmas
 pub mod TookLemmas
+pub mod WordLemmas

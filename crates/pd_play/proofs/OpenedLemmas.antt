@@ -7,8 +7,8 @@ use Rattle.pd_stage.specs.Choices.{Choice}
 use Rattle.pd_stage.specs.Stages.{Stage}
 use Rattle.pd_stage.specs.Leads.{Sinks}
 use Rattle.pd_play.specs.Runs.{Point}
-use Rattle.pd_play.specs.Playing.{Ends}
-use Rattle.pd_play.specs.Patches.{unread, started}
+use Rattle.pd_play.specs.Playing.{unread, Ends}
+use Rattle.pd_play.specs.Patches.{started}
 use Rattle.pd_play.specs.declared.status.Status.{Status}
 
 abbrev point : (List Choice → Stage) → ℕ → ℕ → ℕ → List Choice → Point
@@ -18,9 +18,9 @@ begins_at : (stage : List Choice → Stage) (r rate : Rate) (number time : ℕ) 
 begins_at stage r rate number time same none zero =
     ap (λ (x : Rate). point stage (samples x) number time) same ∙ ap (λ (n : ℕ). point stage (samples rate) n time) none ∙ ap (λ (t : ℕ). point stage (samples rate) 0 t) zero
 
-pub ends_opened : (f : Feed) (stage : List Choice → Stage) (r rate : Rate) (number time : ℕ) (status : Status) (left left' : Option (List ℕ)) (read read' : ℕ) (x y : Sinks)
-    → (r ≡ rate) × (number ≡ 0) × (time ≡ 0) × (f ≡ unread)
-    → Ends f (point stage (samples r) number time) status left left' read read' x y → Ends unread (started stage (samples rate)) status left left' read read' x y
-ends_opened f stage r rate number time status left left' read read' x y begins ends =
-    subst (λ (g : Feed). Ends g (started stage (samples rate)) status left left' read read' x y) begins.3
-    (subst (λ (p : List Choice → Point). Ends f p status left left' read read' x y) (begins_at stage r rate number time begins.0 begins.1 begins.2) ends)
+pub ends_opened : (f : Feed) (stage : List Choice → Stage) (r rate : Rate) (number time : ℕ) (status : Status) (to : List Choice → Point) (left left' : Option (List ℕ)) (read read' : ℕ) (x y : Sinks)
+    → r ≡ rate → number ≡ 0 → time ≡ 0 → f ≡ unread
+    → Ends f (point stage (samples r) number time) status to left left' read read' x y → Ends unread (started stage (samples rate)) status to left left' read read' x y
+ends_opened f stage r rate number time status to left left' read read' x y same none zero new ends =
+    subst (λ (g : Feed). Ends g (started stage (samples rate)) status to left left' read read' x y) new
+    (subst (λ (p : List Choice → Point). Ends f p status to left left' read read' x y) (begins_at stage r rate number time same none zero) ends)

@@ -82,10 +82,17 @@ part_goes_on run part s s' p p' x y came same on = record {
   lawful = came.lawful;
 }
 
+-- a run that was cut, or that met a bad record, isn't done
+cut_undone : (status : Status) → status ≡ WriteFault → status ≡ Done → ⊥
+cut_undone status is e = let no : WriteFault ≡ Done = sym is ∙ e in cc
+
+bad_undone : (number : ℕ) (status : Status) → status ≡ ScriptBad number → status ≡ Done → ⊥
+bad_undone number status is e = let no : ScriptBad number ≡ Done = sym is ∙ e in cc
+
 -- a sink failed in a part of a run
-pub part_cut : (run : Part) (part : Stage → Passage) (other : Part) (s : List Choice → Stage) (status : Status) (x y : Sinks) → Stops part s x y → status ≡ WriteFault
-    → ((m : List Choice) (rest : Point → Run) → run m rest ≡ behind (part (s m)) (other m rest)) → IsPlayed run status x y
-part_cut run part other s status x y off is same = record {
+pub part_cut : (run : Part) (part : Stage → Passage) (other : Part) (s : List Choice → Stage) (status : Status) (to : List Choice → Point) (x y : Sinks) → Stops part s x y → status ≡ WriteFault
+    → ((m : List Choice) (rest : Point → Run) → run m rest ≡ behind (part (s m)) (other m rest)) → IsPlayed run status to x y
+part_cut run part other s status to x y off is same = record {
   edits = off.edits;
   plays = λ m rest.
       let n : List Choice = choices_of off.edits ++ m in
@@ -95,29 +102,37 @@ part_cut run part other s status x y off is same = record {
         begins = subst (λ (r : Run). Begins off.items off.edits r.passage) (sym (same n rest)) (begins_more off.items off.edits (part (s n)) (other n rest).passage (off.begins m));
         took = off.took;
       });
+  stands = λ e m rest. absurd (cut_undone status is e);
   lawful = off.lawful;
 }
 
+-- what a run is of which a part was played
+part_then : (run : Part) (part : Stage → Passage) (end : Stage → Run) (s s' : List Choice → Stage) (x y : Sinks) (came : Comes part s s' x y)
+    → ((m : List Choice) (rest : Point → Run) → run m rest ≡ behind (part (s m)) (end (part (s m)).stage)) → (edits : List Taken) (m : List Choice) (rest : Point → Run)
+    → run (choices_of (came.edits ++ edits) ++ m) rest ≡ run_after came.items came.edits (end (s' (choices_of edits ++ m)))
+part_then run part end s s' x y came same edits m rest =
+    let n : List Choice = choices_of edits ++ m in
+    ap (λ (c : List Choice). run c rest) (choices-more came.edits edits m) ∙ same (choices_of came.edits ++ n) rest
+    ∙ ap (λ (q : Passage). behind q (end q.stage)) (came.same n) ∙ run_behind came.items came.edits (still (s' n)) (end (s' n))
+
 -- a part was played, and then the run to its end from where it leads
-pub part_played : (run : Part) (part : Stage → Passage) (end : Stage → Run) (s s' : List Choice → Stage) (status : Status) (x y z : Sinks) → Comes part s s' x y
+pub part_played : (run : Part) (part : Stage → Passage) (end : Stage → Run) (s s' : List Choice → Stage) (status : Status) (to : List Choice → Point) (x y z : Sinks) → Comes part s s' x y
     → ((m : List Choice) (rest : Point → Run) → run m rest ≡ behind (part (s m)) (end (part (s m)).stage))
-    → IsPlayed (λ m rest. end (s' m)) status y z → IsPlayed run status x z
-part_played run part end s s' status x y z came same h = record {
+    → IsPlayed (λ m rest. end (s' m)) status to y z → IsPlayed run status to x z
+part_played run part end s s' status to x y z came same h = record {
   edits = came.edits ++ h.edits;
   plays = λ m rest.
       let n : List Choice = choices_of h.edits ++ m in
-      let is : run (choices_of (came.edits ++ h.edits) ++ m) rest ≡ run_after came.items came.edits (end (s' n)) =
-      ap (λ (c : List Choice). run c rest) (choices-more came.edits h.edits m) ∙ same (choices_of came.edits ++ n) rest
-      ∙ ap (λ (q : Passage). behind q (end q.stage)) (came.same n) ∙ run_behind came.items came.edits (still (s' n)) (end (s' n)) in
-      subst (λ (r : Run). Plays r (came.edits ++ h.edits) status x z) (sym is)
+      subst (λ (r : Run). Plays r (came.edits ++ h.edits) status x z) (sym (part_then run part end s s' x y came same h.edits m rest))
       (played_after came.items came.edits h.edits (end (s' n)) status x y z came.lawful h.lawful came.took (h.plays m rest));
+  stands = λ e m rest. ap (λ (r : Run). r.passage.stage) (part_then run part end s s' x y came same h.edits m rest) ∙ h.stands e m rest;
   lawful = lawful_both came.edits h.edits came.lawful h.lawful;
 }
 
 -- the last part of a run was played
-pub last_played : (part : Stage → Passage) (s s' : List Choice → Stage) (status : Status) (x y : Sinks) → Comes part s s' x y
-    → IsPlayed (λ m rest. record { status = status; passage = part (s m) }) status x y
-last_played part s s' status x y came = record {
+pub last_played : (part : Stage → Passage) (s s' : List Choice → Stage) (status : Status) (to : List Choice → Point) (x y : Sinks) → Comes part s s' x y
+    → ((m : List Choice) → (to m).stage ≡ s' m) → IsPlayed (λ m rest. record { status = status; passage = part (s m) }) status to x y
+last_played part s s' status to x y came at = record {
   edits = came.edits;
   plays = λ m rest.
       subst (λ (q : Passage). Plays (record { status = status; passage = q }) came.edits status x y) (sym (came.same m))
@@ -126,13 +141,14 @@ last_played part s s' status x y came = record {
         edits_are = append-nil came.edits;
         took = subst (λ (i : List Item). Took x y i came.edits) (sym (append-nil came.items)) came.took;
       }));
+  stands = λ e m rest. ap (λ (q : Passage). q.stage) (came.same m) ∙ sym (at m);
   lawful = came.lawful;
 }
 
 -- it was cut
-pub last_cut : (run : Part) (part : Stage → Passage) (s : List Choice → Stage) (status : Status) (x y : Sinks) → Stops part s x y → status ≡ WriteFault
-    → ((m : List Choice) (rest : Point → Run) → (run m rest).passage ≡ part (s m)) → IsPlayed run status x y
-last_cut run part s status x y off is same = record {
+pub last_cut : (run : Part) (part : Stage → Passage) (s : List Choice → Stage) (status : Status) (to : List Choice → Point) (x y : Sinks) → Stops part s x y → status ≡ WriteFault
+    → ((m : List Choice) (rest : Point → Run) → (run m rest).passage ≡ part (s m)) → IsPlayed run status to x y
+last_cut run part s status to x y off is same = record {
   edits = off.edits;
   plays = λ m rest.
       inr (record {
@@ -141,6 +157,7 @@ last_cut run part s status x y off is same = record {
         begins = subst (λ (q : Passage). Begins off.items off.edits q) (sym (same (choices_of off.edits ++ m) rest)) (off.begins m);
         took = off.took;
       });
+  stands = λ e m rest. absurd (cut_undone status is e);
   lawful = off.lawful;
 }
 
@@ -148,11 +165,13 @@ last_cut run part s status x y off is same = record {
 pub nothing_goes_on : (run : Part) (p : List Choice → Point) (x : Sinks) → ((m : List Choice) (rest : Point → Run) → run m rest ≡ rest (p m)) → GoesOn run p x x
 nothing_goes_on run p x same = record { items = []; edits = []; same = same; took = took_nothing x; lawful = tt }
 
--- the run has ended
-pub nothing_played : (run : Part) (p : List Choice → Point) (status : Status) (x : Sinks) → ((m : List Choice) (rest : Point → Run) → run m rest ≡ ended (p m) status) → IsPlayed run status x x
-nothing_played run p status x same = record {
+-- the run has ended at a bad record
+pub nothing_played : (run : Part) (p to : List Choice → Point) (number : ℕ) (status : Status) (x : Sinks) → status ≡ ScriptBad number
+    → ((m : List Choice) (rest : Point → Run) → run m rest ≡ ended (p m) (ScriptBad number)) → IsPlayed run status to x x
+nothing_played run p to number status x is same = record {
   edits = [];
-  plays = λ m rest. subst (λ (r : Run). Plays r [] status x x) (sym (same m rest)) (ended_played (p m) status x);
+  plays = λ m rest. subst (λ (r : Run). Plays r [] status x x) (sym (same m rest ∙ ap (ended (p m)) (sym is))) (ended_played (p m) status x);
+  stands = λ e m rest. absurd (bad_undone number status is e);
   lawful = tt;
 }
 
@@ -168,6 +187,7 @@ leads_same None f g p x y e h = record {
 leads_same (Some status) f g p x y e h = record {
   edits = h.edits;
   plays = λ m rest. subst (λ (q : Run). Plays q h.edits status x y) (sym (e (choices_of h.edits ++ m) rest)) (h.plays m rest);
+  stands = λ d m rest. ap (λ (q : Run). q.passage.stage) (e (choices_of h.edits ++ m) rest) ∙ h.stands d m rest;
   lawful = h.lawful;
 }
 
@@ -196,12 +216,13 @@ record_bad text p e read rest =
 
 -- ---- an answer of the feed that is no record
 
-pub end_played : (v : Fed) (text : List ℕ) (p : List Choice → Point) (status : Status) (x y : Sinks) → v ≡ fed.End → IsPlayed (λ m rest. done (p m).stage) status x y →
-    IsPlayed (λ m rest. fed_run v text (p m) rest) status x y
+pub end_played : (v : Fed) (text : List ℕ) (p : List Choice → Point) (status : Status) (to : List Choice → Point) (x y : Sinks) → v ≡ fed.End
+    → IsPlayed (λ m rest. done (p m).stage) status to x y → IsPlayed (λ m rest. fed_run v text (p m) rest) status to x y
 unfolding end_run
-end_played v text p status x y e h = record {
+end_played v text p status to x y e h = record {
   edits = h.edits;
   plays = λ m rest. subst (λ (w : Fed). Plays (fed_run w text (p (choices_of h.edits ++ m)) rest) h.edits status x y) (sym e) (h.plays m rest);
+  stands = λ d m rest. ap (λ (w : Fed). (fed_run w text (p (choices_of h.edits ++ m)) rest).passage.stage) e ∙ h.stands d m rest;
   lawful = h.lawful;
 }
 
@@ -210,11 +231,11 @@ unfolding end_run
 rest_is v text p rest (inl e) = ap (λ (x : Fed). fed_run x text p rest) e
 rest_is v text p rest (inr e) = ap (λ (x : Fed). fed_run x text p rest) e
 
-pub rest_played : (v : Fed) (text : List ℕ) (p : List Choice → Point) (number : ℕ) (status : Status) (x : Sinks) → (v ≡ fed.TooLong) ⊎ (v ≡ fed.Unfinished) →
-    ((m : List Choice) → (p m).number ≡ number) → status ≡ ScriptBad (number + 1) → IsPlayed (λ m rest. fed_run v text (p m) rest) status x x
-rest_played v text p number status x e same is =
-    nothing_played (λ m rest. fed_run v text (p m) rest) (λ m. counted (p m)) status x
-    (λ m rest. rest_is v text (p m) rest e ∙ ap (λ (n : ℕ). ended (counted (p m)) (ScriptBad (n + 1))) (same m) ∙ ap (ended (counted (p m))) (sym is))
+pub rest_played : (v : Fed) (text : List ℕ) (p to : List Choice → Point) (number : ℕ) (status : Status) (x : Sinks) → (v ≡ fed.TooLong) ⊎ (v ≡ fed.Unfinished) →
+    ((m : List Choice) → (p m).number ≡ number) → status ≡ ScriptBad (number + 1) → IsPlayed (λ m rest. fed_run v text (p m) rest) status to x x
+rest_played v text p to number status x e same is =
+    nothing_played (λ m rest. fed_run v text (p m) rest) (λ m. counted (p m)) to (number + 1) status x is
+    (λ m rest. rest_is v text (p m) rest e ∙ ap (λ (n : ℕ). ended (counted (p m)) (ScriptBad (n + 1))) (same m))
 
 -- ---- a step of the run ahead
 
@@ -253,9 +274,9 @@ fails : Point → Run
 fails q = ended q ReadFault
 
 -- the run ends at what was read, and all that is left comes behind it
-fed_ends : (v : Fed) (f f' : Feed) (p : List Choice → Point) (status : Status) (left left' : Option (List ℕ)) (faults faults' : ℕ) (x y : Sinks) →
-    Feeds v f left f' left' → IsPlayed (λ m rest. fed_run v f'.last (p m) rest) status x y → Ends f p status left left' faults faults' x y
-fed_ends fed.Record f f' p status left left' faults faults' x y h played =
+fed_ends : (v : Fed) (f f' : Feed) (p : List Choice → Point) (status : Status) (to : List Choice → Point) (left left' : Option (List ℕ)) (faults faults' : ℕ) (x y : Sinks) →
+    Feeds v f left f' left' → IsPlayed (λ m rest. fed_run v f'.last (p m) rest) status to x y → Ends f p status to left left' faults faults' x y
+fed_ends fed.Record f f' p status to left left' faults faults' x y h played =
     let after : Ending → Point → Run = λ ending q. run_of ending (script_ahead f' (told left')) q in
     let at : List Choice → Point = λ m. p (choices_of played.edits ++ m) in
     record {
@@ -267,10 +288,11 @@ fed_ends fed.Record f f' p status left left' faults faults' x y h played =
       edits = played.edits;
       plays = λ m. subst (λ (r : Run). Plays r played.edits status x y) (sym (record_ends f f' (at m) left left' h Whole)) (played.plays m (after Whole));
       lawful = played.lawful;
+      stands = λ d m. ap (λ (r : Run). r.passage.stage) (record_ends f f' (at m) left left' h Whole) ∙ played.stands d m (after Whole);
       over = λ e. inr (λ m. ap (λ (r : Run). r.status) (record_ends f f' (at m) left left' h Broken)
           ∙ done_is (record_run f'.last (counted (at m)) (after Broken)) played.edits status x y (played.plays m (after Broken)) e);
     }
-fed_ends fed.End f f' p status left left' faults faults' x y h played = record {
+fed_ends fed.End f f' p status to left left' faults faults' x y h played = record {
   given = h.given;
   came = h.came;
   ending = Whole;
@@ -279,9 +301,10 @@ fed_ends fed.End f f' p status left left' faults faults' x y h played = record {
   edits = played.edits;
   plays = λ m. subst (λ s. Plays (run_of Whole s (p (choices_of played.edits ++ m))) played.edits status x y) (sym (end_ahead f f' left left' h)) (played.plays m fails);
   lawful = played.lawful;
+  stands = λ d m. ap (λ s. (run_of Whole s (p (choices_of played.edits ++ m))).passage.stage) (end_ahead f f' left left' h) ∙ played.stands d m fails;
   over = λ e. inl (h.ended refl);
 }
-fed_ends fed.TooLong f f' p status left left' faults faults' x y h played = record {
+fed_ends fed.TooLong f f' p status to left left' faults faults' x y h played = record {
   given = h.given;
   came = h.came;
   ending = Whole;
@@ -290,9 +313,10 @@ fed_ends fed.TooLong f f' p status left left' faults faults' x y h played = reco
   edits = played.edits;
   plays = λ m. subst (λ s. Plays (run_of Whole s (p (choices_of played.edits ++ m))) played.edits status x y) (sym (too_long_ahead f f' left left' h (told left'))) (played.plays m fails);
   lawful = played.lawful;
+  stands = λ d m. ap (λ s. (run_of Whole s (p (choices_of played.edits ++ m))).passage.stage) (too_long_ahead f f' left left' h (told left')) ∙ played.stands d m fails;
   over = λ e. absurd (rest_undone fed.TooLong f'.last (p (choices_of played.edits ++ nothing_more)) played.edits status x y fails (inl refl) (played.plays nothing_more fails) e);
 }
-fed_ends fed.Unfinished f f' p status left left' faults faults' x y h played = record {
+fed_ends fed.Unfinished f f' p status to left left' faults faults' x y h played = record {
   given = h.given;
   came = h.came;
   ending = Whole;
@@ -301,6 +325,7 @@ fed_ends fed.Unfinished f f' p status left left' faults faults' x y h played = r
   edits = played.edits;
   plays = λ m. subst (λ s. Plays (run_of Whole s (p (choices_of played.edits ++ m))) played.edits status x y) (sym (unfinished_ahead f f' left left' h)) (played.plays m fails);
   lawful = played.lawful;
+  stands = λ d m. ap (λ s. (run_of Whole s (p (choices_of played.edits ++ m))).passage.stage) (unfinished_ahead f f' left left' h) ∙ played.stands d m fails;
   over = λ e. absurd (rest_undone fed.Unfinished f'.last (p (choices_of played.edits ++ nothing_more)) played.edits status x y fails (inr refl) (played.plays nothing_more fails) e);
 }
 
@@ -314,7 +339,7 @@ fed_steps None v f f' f'' p p' left left' faults faults' x y h e n g =
     (record_moves f f' p p' left left' x y (subst (λ (w : Fed). Feeds w f left f' left') is h)
     (subst (λ (w : Fed). GoesOn (λ m rest. fed_run w f'.last (p m) rest) p' x y) is g))
 fed_steps (Some status) v f f' f'' p p' left left' faults faults' x y h e n g =
-    fed_ends v f f' p status left left' faults faults' x y h g
+    fed_ends v f f' p status p' left left' faults faults' x y h g
 
 -- the source failed
 broken_end : (v : Fed) (p : Point) → is_shown v ≡ false → end_run Broken v p ≡ ended p ReadFault
@@ -324,9 +349,9 @@ broken_end fed.End p e = refl
 broken_end fed.TooLong p e = absurd (cc)
 broken_end fed.Unfinished p e = refl
 
-pub waits_ends : (f f' : Feed) (p : List Choice → Point) (left left' : Option (List ℕ)) (faults faults' : ℕ) (x : Sinks) →
-    Waits f left f' left' → Rose faults faults' → Ends f p ReadFault left left' faults faults' x x
-waits_ends f f' p left left' faults faults' x h rose =
+pub waits_ends : (f f' : Feed) (p to : List Choice → Point) (left left' : Option (List ℕ)) (faults faults' : ℕ) (x : Sinks) →
+    Waits f left f' left' → Rose faults faults' → Ends f p ReadFault to left left' faults faults' x x
+waits_ends f f' p to left left' faults faults' x h rose =
     let is : (m : List Choice) → ahead Broken f (p m) h.given ≡ ended (p m) ReadFault =
     λ m. ap (λ s. run_of Broken s (p m)) (waits_ahead f f' left left' h) ∙ broken_end (fed_of f'.passed f'.blank f'.bytes) (p m) h.unshown in
     record {
@@ -340,6 +365,7 @@ waits_ends f f' p left left' faults faults' x h rose =
           subst (λ (r : Run). Plays r [] ReadFault x x) (sym (ap (λ (b : List ℕ). ahead Broken f (p m) b) (append-nil h.given) ∙ is m))
           (ended_played (p m) ReadFault x);
       lawful = tt;
+      stands = λ e m. absurd (cc);
       over = λ e. absurd (cc);
     }
 
@@ -399,9 +425,9 @@ ends_by_on : (ending : Ending) (more : List ℕ) (left : Option (List ℕ)) (x y
 ends_by_on Whole more left x y z l h = h
 ends_by_on Broken more left x y z l h = (h.0, rose_on x y z l h.1)
 
-pub moves_end : (f f' : Feed) (p p' : List Choice → Point) (status : Status) (l₁ l₂ l₃ : Option (List ℕ)) (j k n : ℕ) (x y z : Sinks) → j ≤ k →
-    Moves f p f' p' l₁ l₂ x y → Ends f' p' status l₂ l₃ k n y z → Ends f p status l₁ l₃ j n x z
-moves_end f f' p p' status l₁ l₂ l₃ j k n x y z l a b = record {
+pub moves_end : (f f' : Feed) (p p' : List Choice → Point) (status : Status) (to : List Choice → Point) (l₁ l₂ l₃ : Option (List ℕ)) (j k n : ℕ) (x y z : Sinks) → j ≤ k →
+    Moves f p f' p' l₁ l₂ x y → Ends f' p' status to l₂ l₃ k n y z → Ends f p status to l₁ l₃ j n x z
+moves_end f f' p p' status to l₁ l₂ l₃ j k n x y z l a b = record {
   given = a.given ++ b.given;
   came = a.came ∙ ap (with_front a.given) b.came ∙ front_front a.given b.given l₃;
   ending = b.ending;
@@ -413,6 +439,7 @@ moves_end f f' p p' status l₁ l₂ l₃ j k n x y z l a b = record {
       (sym (moved f f' p p' l₁ l₂ x y a b.ending b.given b.more b.edits m))
       (played_after a.items a.edits b.edits (ahead b.ending f' (p' (choices_of b.edits ++ m)) (b.given ++ b.more)) status x y z a.lawful b.lawful a.took (b.plays m));
   lawful = lawful_both a.edits b.edits a.lawful b.lawful;
+  stands = λ d m. ap (λ (r : Run). r.passage.stage) (moved f f' p p' l₁ l₂ x y a b.ending b.given b.more b.edits m) ∙ b.stands d m;
   over = λ e. at_end_on b.given b.more b.edits f f' p p' l₁ l₂ l₃ x y a (b.over e);
 }
 
@@ -434,9 +461,9 @@ moves_without f f' p p' left left' x y h = record {
   lawful = h.lawful;
 }
 
-pub ends_without : (f : Feed) (p : List Choice → Point) (status : Status) (left left' : Option (List ℕ)) (faults faults' : ℕ) (x y : Sinks) →
-    Ends f p status left left' faults faults' x y → Ends f p status left left' faults faults' (without_looks x) (without_looks y)
-ends_without f p status left left' faults faults' x y h = record {
+pub ends_without : (f : Feed) (p : List Choice → Point) (status : Status) (to : List Choice → Point) (left left' : Option (List ℕ)) (faults faults' : ℕ) (x y : Sinks) →
+    Ends f p status to left left' faults faults' x y → Ends f p status to left left' faults faults' (without_looks x) (without_looks y)
+ends_without f p status to left left' faults faults' x y h = record {
   given = h.given;
   came = h.came;
   ending = h.ending;
@@ -445,5 +472,6 @@ ends_without f p status left left' faults faults' x y h = record {
   edits = h.edits;
   plays = λ m. plays_without (ahead h.ending f (p (choices_of h.edits ++ m)) (h.given ++ h.more)) h.edits status x y (h.plays m);
   lawful = h.lawful;
+  stands = h.stands;
   over = h.over;
 }

@@ -25,6 +25,13 @@ pub record HasRunCauses (script script' lines lines' pcm pcm' : ℕ) (ends : Opt
   pub lines_counted : lines ≤ lines'
   pub pcm_counted : pcm ≤ pcm'
 
+-- the same of a made patch, whose script no source fails to give, and whose words are in order
+pub record HasMadeCauses (folder folder' lines lines' pcm pcm' : ℕ) (status : Status) : Type 0 where
+  pub shelf : status ≡ ShelfFault → Rose folder folder'
+  pub write : status ≡ WriteFault → Rose lines lines' ⊎ Rose pcm pcm'
+  pub read : status ≢ ReadFault
+  pub usage : status ≢ Usage
+
 -- a status for a fault of the folder, the script, the lines or the samples: its count rose in the call
 pub record HasCauses (folder folder' script script' lines lines' pcm pcm' : ℕ) (status : Status) : Type 0 where
   pub shelf : status ≡ ShelfFault → Rose folder folder'

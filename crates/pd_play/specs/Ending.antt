@@ -1,5 +1,6 @@
 -- How a run ends: the exit code of each status, and the line that tells of it.
-use Rattle.std.specs.Prelude.{ℕ, List, [], ◌++◌, codes, decimal}
+use Rattle.std.specs.Prelude.{ℕ, Bool, true, false, List, [], ◌++◌, codes, decimal}
+use Rattle.pd_stage.specs.Stages.{Stage}
 use Rattle.pd_play.specs.declared.status.Status.{Status}
 use Rattle.pd_play.specs.declared.status.Status.TheVariants.{Done, Usage, PatchAbsent, PatchBad, ScriptBad, ReadFault, WriteFault, ShelfFault, NoMemory}
 use Rattle.pd_engine.specs.declared.refusals.OpenRefusal.{OpenRefusal}
@@ -17,6 +18,10 @@ code_of ReadFault = 6
 code_of WriteFault = 7
 code_of ShelfFault = 8
 code_of NoMemory = 9
+
+abbrev pub is_end : Status → Bool
+is_end Done = true
+is_end status = false
 
 -- the words of a cause
 unfoldable pub cause_text : BadCause → List ℕ
@@ -44,6 +49,15 @@ status_line name ReadFault = codes "error: script read failed\n"
 status_line name WriteFault = []
 status_line name ShelfFault = codes "error: shelf failed\n"
 status_line name NoMemory = codes "error: out of memory\n"
+
+-- a run that is done has no last line but that of a made patch
+abbrev pub no_line : Stage → List ℕ
+no_line s = []
+
+-- the last line of a run that ends by a status: where it is done, the one that tells what it came to
+unfoldable pub last_line : List ℕ → (Stage → List ℕ) → Status → Stage → List ℕ
+last_line name closing Done s = closing s
+last_line name closing status s = status_line name status
 
 -- how a run ends whose patch doesn't open
 abbrev pub opened_as : OpenRefusal → Status

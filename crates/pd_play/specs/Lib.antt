@@ -1,5 +1,6 @@
 pub mod Causes
 pub mod Ending
+pub mod Made
 pub mod Patches
 pub mod Playing
 pub mod Refusing

@@ -2,6 +2,7 @@
 use Rattle.std.specs.Prelude.{◌≡◌, ◌≤◌, ◌⊎◌, ℕ, List, [], ◌++◌, Option, Some, None, IfSome}
 use Rattle.pd_io.specs.Faults.{Rose}
 use Rattle.pd_io.specs.Stream.{with_front}
+use Rattle.pd_clock.specs.declared.times.Rate.{Rate}
 use Rattle.pd_clock.specs.Rates.{samples}
 use Rattle.pd_feed.specs.Feed.{Feed, IsAtEnd, script_ahead}
 use Rattle.pd_feed.specs.declared.feed.Fed.{Fed}
@@ -17,9 +18,20 @@ use Rattle.pd_play.specs.declared.status.Status.{Status}
 use Rattle.pd_play.specs.declared.status.Status.TheVariants.{Done, WriteFault}
 use Rattle.pd_play.specs.declared.session.Session.{Session}
 
+-- nothing read
+abbrev pub unread : Feed
+unread = record { passed = 0; blank = 0; bytes = []; last = [] }
+
 -- where a session stands, where the edits to come lead to this
 abbrev pub point_at : Session → List Choice → Point
 point_at s m = record { stage = stage_at s.engine m; rate = samples s.rate; number = s.number; time = s.time }
+
+-- no record was read, and the time is 0
+pub record Starts (s : Session) (rate : Rate) : Type 0 where
+  pub rate_is : s.rate ≡ rate
+  pub number_is : s.number ≡ 0
+  pub time_is : s.time ≡ 0
+  pub feed_is : s.feed ≡ unread
 
 -- the engine may have changed, and the room for a command
 pub record StaysBut (old new : Session) : Type 0 where
@@ -61,16 +73,17 @@ pub record GoesOn (run : Part) (to : List Choice → Point) (old new : Sinks) : 
   pub took : Took old new items edits
   pub lawful : AreLawful edits
 
--- it was played to an end by a status
-pub record IsPlayed (run : Part) (status : Status) (old new : Sinks) : Type 0 where
+-- it was played to an end by a status, and where it is done, it stands here
+pub record IsPlayed (run : Part) (status : Status) (to : List Choice → Point) (old new : Sinks) : Type 0 where
   pub edits : List Taken
   pub plays : (more : List Choice) (rest : Point → Run) → Plays (run (choices_of edits ++ more) rest) edits status old new
+  pub stands : status ≡ Done → (more : List Choice) (rest : Point → Run) → (run (choices_of edits ++ more) rest).passage.stage ≡ (to more).stage
   pub lawful : AreLawful edits
 
 -- it goes on, or it ends by a status
 abbrev pub Leads : Option Status → Part → (List Choice → Point) → Sinks → Sinks → Type 0
 Leads None run to old new = GoesOn run to old new
-Leads (Some status) run to old new = IsPlayed run status old new
+Leads (Some status) run to old new = IsPlayed run status to old new
 
 -- what the answer of the feed leads to, where this is the record
 abbrev pub fed_run : Fed → List ℕ → Point → (Point → Run) → Run
@@ -99,8 +112,8 @@ EndsBy Whole more left faults faults' = IfSome left (λ bytes. bytes ≡ more)
 EndsBy Broken more left faults faults' = (more ≡ []) × Rose faults faults'
 
 -- The run ahead was played to its end: that of the bytes that the source gave, and of those that are still to come. It is done only at the end of
--- what the source has, or where it meets an `end`.
-pub record Ends (feed : Feed) (p : List Choice → Point) (status : Status) (left left' : Option (List ℕ)) (faults faults' : ℕ) (old new : Sinks) : Type 0 where
+-- what the source has, or where it meets an `end`, and then it stands here.
+pub record Ends (feed : Feed) (p : List Choice → Point) (status : Status) (to : List Choice → Point) (left left' : Option (List ℕ)) (faults faults' : ℕ) (old new : Sinks) : Type 0 where
   pub given : List ℕ
   pub came : left ≡ with_front given left'
   pub ending : Ending
@@ -109,9 +122,10 @@ pub record Ends (feed : Feed) (p : List Choice → Point) (status : Status) (lef
   pub edits : List Taken
   pub plays : (m : List Choice) → Plays (ahead ending feed (p (choices_of edits ++ m)) (given ++ more)) edits status old new
   pub lawful : AreLawful edits
+  pub stands : status ≡ Done → (m : List Choice) → (ahead ending feed (p (choices_of edits ++ m)) (given ++ more)).passage.stage ≡ (to m).stage
   pub over : status ≡ Done → IsAtEnd left' ⊎ ((m : List Choice) → MeetsEnd (script_ahead feed (given ++ more)) (p (choices_of edits ++ m)))
 
 -- one step of the run ahead
 abbrev pub Steps : Option Status → Feed → (List Choice → Point) → Feed → (List Choice → Point) → Option (List ℕ) → Option (List ℕ) → ℕ → ℕ → Sinks → Sinks → Type 0
 Steps None feed p feed' p' left left' faults faults' old new = Moves feed p feed' p' left left' old new
-Steps (Some status) feed p feed' p' left left' faults faults' old new = Ends feed p status left left' faults faults' old new
+Steps (Some status) feed p feed' p' left left' faults faults' old new = Ends feed p status p' left left' faults faults' old new

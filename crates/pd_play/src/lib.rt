@@ -1,7 +1,7 @@
 //! The player: what a run on the words of a command line reads, prints, saves and answers.
 //!
-//! The clause `plays` of `play` says what a run answers, prints and writes, where the words ask for a patch that is
-//! there. Its file opens as pd_engine's `open` says, with its lines; from there the script is run, and its bytes
+//! The clause `plays` of `play` says what a run answers, prints and writes, where the words ask for the patch of a
+//! file name or for a made one. The file opens as pd_engine's `open` says, with its lines; from there the script is run, and its bytes
 //! are all that the source had left, where it tells that, in whatever pieces they come. The run takes record by
 //! record. One of white space alone is counted and passed over. A record that is no command, that takes the time
 //! past 86,400,000 ms or that is too long ends the run with `ScriptBad` and its number, and so does a rest that is
@@ -24,9 +24,15 @@
 //! after the other, where it still tells what it holds. A save that fails for a fault of the folder is refused with
 //! its line, and the count of such faults rose. Where nothing is played, the folder holds what it held. A status
 //! that tells of a fault comes only where that count of faults rose (`causes`). The usage line is told where the
-//! words are none of the command, or ask for a made patch, unless memory is short or the line isn't taken
+//! words are none of the command, unless memory is short or the line isn't taken
 //! (`unplayed`); then the folder, the source of the script and the samples' sink are as they were (`untouched`).
 //! The status for it comes nowhere else (`usage`). The exit code of each status is exact (`Status::code`).
+//!
+//! A made patch opens from the document that pd_made defines, under the patch's name, and is played by the script that
+//! pd_made defines: the same run, but that no source can fail, and that the last line of a run that is done tells where
+//! the patch stands then (`summary_at`): elements, wires, blocks, and the sum of the samples. The source of the script
+//! is as it was (`unread`). Law: what stands there as the sum is that of all samples of the run, from where the patch
+//! opens (`runs_add_up`).
 //!
 //! Free: want of memory for the words or in opening, and in each edit and save, which is refused then with its line.
 //! Once the patch is open, it plays to its end: with `NoMemory` the source and the samples' sink are as they were, and
@@ -35,15 +41,18 @@
 //! `RecordFeed` and what it answers, `Fed`, are `pd_feed`'s.
 //!
 //! Definitions: `Patches` (a play of a patch by a script), `Runs` (the run of a script), `Playing` (what was taken
-//! of it), `Ending` (statuses, lines, codes), `Refusing`, `Causes`, `Telling`.
+//! of it), `Ending` (statuses, lines, codes), `Made` (what a made run came to), `Refusing`, `Causes`, `Telling`.
 #![tactic(auto)]
 
+mod laws;
+mod made;
 mod player;
 mod report;
 mod session;
 mod status;
 mod steps;
 
+pub use laws::runs_add_up;
 pub use pd_engine::BadCause;
 pub use pd_feed::{Fed, RecordFeed};
 pub use player::play;

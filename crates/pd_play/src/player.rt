@@ -1,15 +1,16 @@
 //! The player as one call.
 
-ghost use Rattle.std.specs.Prelude.{◌≡◌, ◌≢◌, ◌<◌, ◌≤◌, [], true, false, Some, map, is_some};
+ghost use Rattle.std.specs.Prelude.{◌≡◌, ◌≢◌, ◌<◌, ◌≤◌, [], true, false, Some, IfSome, map, is_some};
 ghost use Rattle.std.specs.String.{string_bytes};
 ghost use Rattle.pd_words.specs.Grammar.{words_of};
 ghost use Rattle.pd_script.specs.Room.{IsWhole};
 ghost use Rattle.pd_stage.specs.Leads.{sinks};
 ghost use Rattle.pd_play.specs.Causes.{HasRunCauses, HasCauses};
 ghost use Rattle.pd_play.specs.Playing.{point_at, IsCounted, Ends};
-ghost use Rattle.pd_play.specs.Patches.{Runs, PlaysPatch, PlaysAsked};
-ghost use Rattle.pd_play.specs.Telling.{IsUnplayed, is_played, is_unmade, told, Answers};
+ghost use Rattle.pd_play.specs.Patches.{Runs, PlaysPatch, PlaysBy, PlaysAsked};
+ghost use Rattle.pd_play.specs.Telling.{IsUnplayed};
 
+use crate::made::run_made;
 use crate::report::tell;
 use crate::session::Session;
 use crate::status::Status;
@@ -27,8 +28,9 @@ use std::sync::ledger::{Blank, Ledger};
 ///
 /// `plays` says what is printed, written and put into the folder: the lines of opening, the lines, samples and files of the script's
 /// run, and then the line of the status. Edits of wires and saves of the patch's own document are made; other edits and saves
-/// are refused so far, and there is nothing to undo. Words with `--make` give the usage line. After it the folder, the script and the samples'
-/// sink are as they were; where memory is short, the script and the samples' sink are, and what the folder holds.
+/// are refused so far, and there is nothing to undo. With `--make` a made patch is played by its own script, nothing of `script` is read, and
+/// the last line tells what the run came to. After the usage line the folder, the script and the samples' sink are as they were; where memory
+/// is short, the script and the samples' sink are, and what the folder holds.
 pub fn play<H: Shelf, S: Source, L: Sink, P: Sink>(
     alloc: Global,
     words: &[String],
@@ -40,11 +42,12 @@ pub fn play<H: Shelf, S: Source, L: Sink, P: Sink>(
     ensures folder_counted { H.faults shelf.old ≤ H.faults shelf.new }
     ensures causes { HasCauses (H.faults shelf.old) (H.faults shelf.new) (S.faults script.old) (S.faults script.new) (L.faults lines.old) (L.faults lines.new) (P.faults pcm.old) (P.faults pcm.new) result }
     ensures short { result ≡ Status.NoMemory → (H.holds shelf.new ≡ H.holds shelf.old) × (script.new ≡ script.old) × (pcm.new ≡ pcm.old) }
-    ensures usage { result ≡ Status.Usage → is_played (words_of (map (λ w. string_bytes w) words.now)) ≡ false }
-    ensures unplayed { is_played (words_of (map (λ w. string_bytes w) words.now)) ≡ false →
+    ensures usage { result ≡ Status.Usage → is_some (words_of (map (λ w. string_bytes w) words.now)) ≡ false }
+    ensures unplayed { is_some (words_of (map (λ w. string_bytes w) words.now)) ≡ false →
         IsUnplayed result (L.taken lines.old) (L.taken lines.new) (L.faults lines.old) (L.faults lines.new) }
-    ensures untouched { is_played (words_of (map (λ w. string_bytes w) words.now)) ≡ false →
+    ensures untouched { is_some (words_of (map (λ w. string_bytes w) words.now)) ≡ false →
         (shelf.new ≡ shelf.old) × (script.new ≡ script.old) × (pcm.new ≡ pcm.old) }
+    ensures unread { IfSome (words_of (map (λ w. string_bytes w) words.now)) (λ a. is_some a.make ≡ true → script.new ≡ script.old) }
     ensures plays { PlaysAsked (words_of (map (λ w. string_bytes w) words.now)) result (S.left script.old) (S.left script.new) (S.faults script.old) (S.faults script.new) (L.faults lines.old) (L.faults lines.new) (sinks (L.taken lines.old) (P.taken pcm.old) 0 (H.holds shelf.old) (H.faults shelf.old)) (sinks (L.taken lines.new) (P.taken pcm.new) 0 (H.holds shelf.new) (H.faults shelf.new)) }
 {
     let mut held = Held::new();
@@ -65,28 +68,20 @@ fn play_asked<H: Shelf, S: Source, L: Sink, P: Sink>(
     lines: &mut L,
     pcm: &mut P,
 ) -> Status
-    requires { held.old.items ≡ [] }
+    requires empty { held.old.items ≡ [] }
+    requires few { IfSome asked.now.make (λ n. n ≤ 1000) }
     ensures folder_counted { H.faults shelf.old ≤ H.faults shelf.new }
     ensures causes { HasCauses (H.faults shelf.old) (H.faults shelf.new) (S.faults script.old) (S.faults script.new) (L.faults lines.old) (L.faults lines.new) (P.faults pcm.old) (P.faults pcm.new) result }
     ensures short { result ≡ Status.NoMemory → (H.holds shelf.new ≡ H.holds shelf.old) × (script.new ≡ script.old) × (pcm.new ≡ pcm.old) }
-    ensures usage { result ≡ Status.Usage → is_some asked.now.make ≡ true }
-    ensures unplayed { is_some asked.now.make ≡ true → Answers (told [] Status.Usage) result (L.taken lines.old) (L.taken lines.new) (L.faults lines.old) (L.faults lines.new) }
-    ensures untouched { is_some asked.now.make ≡ true → (shelf.new ≡ shelf.old) × (script.new ≡ script.old) × (pcm.new ≡ pcm.old) }
-    ensures plays { is_unmade asked.now.make ≡ true → PlaysPatch asked.now.patch.now asked.now.rate result (S.left script.old) (S.left script.new) (S.faults script.old) (S.faults script.new) (L.faults lines.old) (L.faults lines.new) (sinks (L.taken lines.old) (P.taken pcm.old) 0 (H.holds shelf.old) (H.faults shelf.old)) (sinks (L.taken lines.new) (P.taken pcm.new) 0 (H.holds shelf.new) (H.faults shelf.new)) }
+    ensures usage { result ≢ Status.Usage }
+    ensures unread { is_some asked.now.make ≡ true → script.new ≡ script.old }
+    ensures plays { PlaysBy asked.now.make asked.now.patch.now asked.now.rate result (S.left script.old) (S.left script.new) (S.faults script.old) (S.faults script.new) (L.faults lines.old) (L.faults lines.new) (sinks (L.taken lines.old) (P.taken pcm.old) 0 (H.holds shelf.old) (H.faults shelf.old)) (sinks (L.taken lines.new) (P.taken pcm.new) 0 (H.holds shelf.new) (H.faults shelf.new)) }
 {
-    if asked.make.is_some() {
-        return tell(b"", Status::Usage, held, lines);
+    let name = asked.patch.as_bytes();
+    match asked.make {
+        None => run(alloc, name, asked.rate, shelf, script, held, lines, pcm),
+        Some(voices) => run_made(alloc, voices, name, asked.rate, shelf, held, lines, pcm),
     }
-    run(
-        alloc,
-        asked.patch.as_bytes(),
-        asked.rate,
-        shelf,
-        script,
-        held,
-        lines,
-        pcm,
-    )
 }
 
 /// Opens the patch, plays it, and tells how the run ended.
@@ -130,15 +125,16 @@ fn play_whole<H: Shelf, S: Source, L: Sink, P: Sink>(
 {
     match Session::open(alloc, patch, rate, shelf, lines) {
         Ok(session) => {
-            play_script::<H, S, L, P, Brand>(session, script, shelf, lines, pcm, Blank::new(1))
+            let mut session = session;
+            play_script::<H, S, L, P, Brand>(&mut session, script, shelf, lines, pcm, Blank::new(1))
         }
         Err(status) => status,
     }
 }
 
 /// Carries out the records of a script, one after the other. Nobody reads how many looks at signal wires that takes.
-fn play_script<H: Shelf, S: Source, L: Sink, P: Sink, K: Ledger>(
-    session: Session,
+pub(crate) fn play_script<H: Shelf, S: Source, L: Sink, P: Sink, K: Ledger>(
+    session: &mut Session,
     script: &mut S,
     shelf: &mut H,
     lines: &mut L,
@@ -148,14 +144,13 @@ fn play_script<H: Shelf, S: Source, L: Sink, P: Sink, K: Ledger>(
     requires name { blank.name ≡ K.name }
     requires parts { blank.parts ≡ K.parts }
     requires some { 0 < blank.parts }
-    requires running { session.engine.stopped ≡ false }
-    requires counted { IsCounted session.number session.feed }
-    requires whole { IsWhole session.room }
-    ensures plays { Ends session.feed (point_at session) result (S.left script.old) (S.left script.new) (S.faults script.old) (S.faults script.new) (sinks (L.taken lines.old) (P.taken pcm.old) 0 (H.holds shelf.old) (H.faults shelf.old)) (sinks (L.taken lines.new) (P.taken pcm.new) 0 (H.holds shelf.new) (H.faults shelf.new)) }
+    requires running { session.old.engine.stopped ≡ false }
+    requires counted { IsCounted session.old.number session.old.feed }
+    requires whole { IsWhole session.old.room }
+    ensures plays { Ends session.old.feed (point_at session.old) result (point_at session.new) (S.left script.old) (S.left script.new) (S.faults script.old) (S.faults script.new) (sinks (L.taken lines.old) (P.taken pcm.old) 0 (H.holds shelf.old) (H.faults shelf.old)) (sinks (L.taken lines.new) (P.taken pcm.new) 0 (H.holds shelf.new) (H.faults shelf.new)) }
     ensures folder_counted { H.faults shelf.old ≤ H.faults shelf.new }
     ensures causes { HasRunCauses (S.faults script.old) (S.faults script.new) (L.faults lines.old) (L.faults lines.new) (P.faults pcm.old) (P.faults pcm.new) (Some result) }
 {
-    let mut session = session;
     let mut steps = Steps::<K>::new(blank);
     'records: loop {
         if let Some(status) = session.step(script, shelf, lines, pcm, &mut steps) {

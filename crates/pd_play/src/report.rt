@@ -3,12 +3,13 @@ ghost use Rattle.std.specs.Prelude.{◌≡◌, ◌≤◌, ◌++◌, [], OnOk, On
 ghost use Rattle.pd_io.specs.Stream.{grown, TookPart};
 ghost use Rattle.pd_say.specs.Gathering.{Says, Fails, HasCause};
 ghost use Rattle.pd_play.specs.Ending.{bad_text, cause_text, status_line};
-ghost use Rattle.pd_play.specs.Telling.{told, Answers};
+ghost use Rattle.pd_play.specs.Telling.{told, done_with, Answers};
 
 use crate::status::Status;
 use itoa::Buffer;
 use pd_engine::BadCause;
 use pd_io::{Sink, SinkFailed};
+use pd_made::Summary;
 use pd_say::{Held, flush, put};
 
 /// The words of a cause.
@@ -142,6 +143,29 @@ fn print_status<L: Sink>(
 {
     put_status(name, status, held, sink)?;
     flush(held, sink)
+}
+
+/// Prints a line.
+fn print_line<L: Sink>(line: &[u8], held: &mut Held, sink: &mut L) -> Result<(), SinkFailed>
+    requires { held.old.items ≡ [] }
+    ensures ok { OnOk result (L.taken sink.new ≡ grown (L.taken sink.old) line.now) }
+    ensures err { OnErr result (TookPart (L.taken sink.old) (L.taken sink.new) line.now) }
+    ensures cause { HasCause (L.faults sink.old) (L.faults sink.new) result }
+{
+    put(line, held, sink)?;
+    flush(held, sink)
+}
+
+/// Prints what a run of a made patch came to that is done, or gives a fault where the line isn't taken.
+pub fn tell_summary<L: Sink>(summary: &Summary, held: &mut Held, sink: &mut L) -> Status
+    requires { held.old.items ≡ [] }
+    ensures answer { Answers (done_with summary.now) result (L.taken sink.old) (L.taken sink.new) (L.faults sink.old) (L.faults sink.new) }
+    ensures counted { L.faults sink.old ≤ L.faults sink.new }
+{
+    match print_line(summary.line().as_slice(), held, sink) {
+        Ok(()) => Status::Done,
+        Err(SinkFailed) => Status::WriteFault,
+    }
 }
 
 /// Prints the line of a status and gives it, or a fault where the line isn't taken.

@@ -1,6 +1,6 @@
 //! How a run ends.
 ghost use Rattle.std.specs.Prelude.{◌≡◌};
-ghost use Rattle.pd_play.specs.Ending.{code_of};
+ghost use Rattle.pd_play.specs.Ending.{code_of, is_end};
 
 use pd_engine::BadCause;
 
@@ -28,6 +28,23 @@ pub enum Status {
 }
 
 impl Status {
+    /// Whether the run came to its end.
+    pub(crate) fn is_done(&self) -> bool
+        ensures { result ≡ is_end self.now }
+    {
+        match self {
+            Status::Done => true,
+            Status::Usage => false,
+            Status::PatchAbsent => false,
+            Status::PatchBad { .. } => false,
+            Status::ScriptBad { .. } => false,
+            Status::ReadFault => false,
+            Status::WriteFault => false,
+            Status::ShelfFault => false,
+            Status::NoMemory => false,
+        }
+    }
+
     /// The exit code of a program that ends so.
     pub fn code(&self) -> u8
         ensures { result ≡ code_of self.now }

@@ -246,7 +246,7 @@ impl Session {
     ) -> Status
         requires { self.old.engine.stopped ≡ false }
         ensures stays { StaysBut self.old self.new }
-        ensures plays { IsPlayed (λ m rest. end_reached (point_at self.old m)) result (sinks (L.taken lines.old) (P.taken pcm.old) steps.old (H.holds shelf.old) (H.faults shelf.old)) (sinks (L.taken lines.new) (P.taken pcm.new) steps.new (H.holds shelf.new) (H.faults shelf.new)) }
+        ensures plays { IsPlayed (λ m rest. end_reached (point_at self.old m)) result (point_at self.new) (sinks (L.taken lines.old) (P.taken pcm.old) steps.old (H.holds shelf.old) (H.faults shelf.old)) (sinks (L.taken lines.new) (P.taken pcm.new) steps.new (H.holds shelf.new) (H.faults shelf.new)) }
         ensures shelf { shelf.new ≡ shelf.old }
         ensures causes { HasRunCauses 0 0 (L.faults lines.old) (L.faults lines.new) (P.faults pcm.old) (P.faults pcm.new) (Some result) }
     {
@@ -266,7 +266,7 @@ impl Session {
     ) -> Status
         requires { self.old.engine.stopped ≡ false }
         ensures stays { StaysBut self.old self.new }
-        ensures plays { IsPlayed (λ m rest. done (stage_at self.old.engine m)) result (sinks (L.taken lines.old) (P.taken pcm.old) steps.old (H.holds shelf.old) (H.faults shelf.old)) (sinks (L.taken lines.new) (P.taken pcm.new) steps.new (H.holds shelf.new) (H.faults shelf.new)) }
+        ensures plays { IsPlayed (λ m rest. done (stage_at self.old.engine m)) result (point_at self.new) (sinks (L.taken lines.old) (P.taken pcm.old) steps.old (H.holds shelf.old) (H.faults shelf.old)) (sinks (L.taken lines.new) (P.taken pcm.new) steps.new (H.holds shelf.new) (H.faults shelf.new)) }
         ensures shelf { shelf.new ≡ shelf.old }
         ensures causes { HasRunCauses 0 0 (L.faults lines.old) (L.faults lines.new) (P.faults pcm.old) (P.faults pcm.new) (Some result) }
     {

@@ -1,8 +1,8 @@
-use Rattle.pd_faithful.proofs.WholeLemmas.{plays_free}
+use Rattle.pd_faithful.proofs.WholeLemmas.{opened_free, made_free}
 use Rattle.pd_faithful.proofs.laws.play_passes_nothing_over.Goals as goal
 
-pub returns : goal.returns
-returns c = plays_free (record {
+pub returns-clause-opened : goal.returns-clause-opened
+returns-clause-opened c = opened_free (record {
   laws = record {
     guards = record {
       freely = c.delivery_passes_nothing_over.ensures.freely;
@@ -19,4 +19,34 @@ returns c = plays_free (record {
   };
   steady = c.opening_is_steady.ensures.steady;
   freely = c.opening_is_steady.ensures.freely;
+}) (record {
+  first = c.opening_is_steady.ensures.first;
+  asks = c.rewiring_asks_alike.ensures;
+  tells = c.documents_tell_trees.ensures.document;
+  reads = c.written_read.ensures;
+})
+
+pub returns-clause-made : goal.returns-clause-made
+returns-clause-made c = made_free (record {
+  laws = record {
+    guards = record {
+      freely = c.delivery_passes_nothing_over.ensures.freely;
+      order = c.delivery_passes_nothing_over.ensures.order;
+      values = c.messages_keep_values.ensures.delivery;
+      sizes = c.messages_keep_sizes.ensures.delivery;
+      lasts = c.order_lasts.ensures;
+      keeps = c.blocks_stay_in_order.ensures.kept;
+      sounds = c.blocks_stay_in_order.ensures.sounds;
+      begins = λ names name atoms first n h. c.commands_begin_in_order.ensures.message names name atoms first n h;
+    };
+    reads = c.tables_go_on.ensures;
+    sends = c.commands_begin_in_order.ensures.read;
+  };
+  steady = c.opening_is_steady.ensures.steady;
+  freely = c.opening_is_steady.ensures.freely;
+}) (record {
+  first = c.opening_is_steady.ensures.first;
+  asks = c.rewiring_asks_alike.ensures;
+  tells = c.documents_tell_trees.ensures.document;
+  reads = c.written_read.ensures;
 })

@@ -17,7 +17,7 @@ records-init g c = record {
 
 pub returns-in-Some-clause-plays : goal.returns-in-Some-clause-plays
 returns-in-Some-clause-plays g c =
-    moves_end _ _ _ _ _ _ _ _ _ _ _ _ _ _ c.records.invariant.script c.records.invariant.moves (ends_without _ _ _ _ _ _ _ _ _ c.in-Some.ensures.steps)
+    moves_end _ _ _ _ _ _ _ _ _ _ _ _ _ _ _ c.records.invariant.script c.records.invariant.moves (ends_without _ _ _ _ _ _ _ _ _ _ c.in-Some.ensures.steps)
 
 pub records-preserved : goal.records-preserved
 records-preserved g c =

@@ -9,7 +9,7 @@ invariant-records g l = record {
   running : l.session.engine.stopped ≡ false;
   counted : IsCounted l.session.number l.session.feed;
   whole : IsWhole l.session.room;
-  moves : Moves l.initial.session.feed (point_at l.initial.session) l.session.feed (point_at l.session) (g.S.Source.left l.fn.script) (g.S.Source.left l.script)
+  moves : Moves l.fn.session.feed (point_at l.fn.session) l.session.feed (point_at l.session) (g.S.Source.left l.fn.script) (g.S.Source.left l.script)
       (sinks (g.L.Sink.taken l.fn.lines) (g.P.Sink.taken l.fn.pcm) 0 (g.H.Shelf.holds l.fn.shelf) (g.H.Shelf.faults l.fn.shelf))
       (sinks (g.L.Sink.taken l.lines) (g.P.Sink.taken l.pcm) 0 (g.H.Shelf.holds l.shelf) (g.H.Shelf.faults l.shelf));
   folder : g.H.Shelf.faults l.fn.shelf ≤ g.H.Shelf.faults l.shelf;

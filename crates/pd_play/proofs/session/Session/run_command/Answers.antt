@@ -19,7 +19,7 @@ returns-in-Err-clause-leads g c =
     let p : List Choice → Point = point_at c.args.self.now in
     let part : Stage → Passage = λ x. followed_by (advanced time x) (commanded c.args.command) in
     rw c.reach.ensures.shelf
-    (part_cut _ part (λ m rest. rest (at_stage (p m) (part (s m)).stage)) s _ _ _ (stops_first (advanced time) (commanded c.args.command) s _ _ (c.in-Err.ensures.part _ _)) c.fault_of.ensures
+    (part_cut _ part (λ m rest. rest (at_stage (p m) (part (s m)).stage)) s _ _ _ _ (stops_first (advanced time) (commanded c.args.command) s _ _ (c.in-Err.ensures.part _ _)) c.fault_of.ensures
     (λ m rest. refl))
 
 pub returns-in-Err-command-clause-leads : goal.returns-in-Err-command-clause-leads
@@ -29,7 +29,7 @@ returns-in-Err-command-clause-leads g c =
     let s = stage_at c.args.self.now.engine in
     let p : List Choice → Point = point_at c.args.self.now in
     let part : Stage → Passage = λ x. followed_by (advanced time x) (commanded c.args.command) in
-    part_cut _ part (λ m rest. rest (at_stage (p m) (part (s m)).stage)) s _ _ _
+    part_cut _ part (λ m rest. rest (at_stage (p m) (part (s m)).stage)) s _ _ _ _
     (stops_then (advanced time) (commanded c.args.command) s (stage_at c.reach.new.self.engine) _ _ _ (c.in_default.ensures.passed _ _)
     (rw c.reach.ensures.shelf at (c.in-Err-command.ensures.part (g.P.Sink.taken c.reach.new.pcm))))
     c.fault_of-in-Err-command.ensures (λ m rest. refl)

@@ -2,8 +2,7 @@ use Rattle.std.proofs.Common.{◌≡◌, ◌==◌, List, ℕ, [], length, true, 
 use Rattle.pd_script.specs.Scripts.{command_of}
 use Rattle.pd_script.specs.Tokens.{tokens_of}
 use Rattle.pd_stage.specs.Choices.{Choice}
-use Rattle.pd_play.specs.declared.status.Status.{Status}
-use Rattle.pd_play.specs.Runs.{Point, counted, ended}
+use Rattle.pd_play.specs.Runs.{Point, counted}
 use Rattle.pd_play.specs.Playing.{point_at}
 use Rattle.pd_play.proofs.RunLemmas.{nothing_goes_on, nothing_played, leads_same, record_empty, record_read, record_bad}
 use Rattle.pd_play.proofs.session.Session.run_record.Goals as goal
@@ -30,4 +29,4 @@ returns-in-None-clause-leads g c =
     let p : List Choice → Point = λ m. counted (point_at c.args.self.now m) in
     let e : (length text == 0) ≡ false = ap (λ (l : List ℕ). length l == 0) (sym c.last.ensures.value) ∙ sym c.is_empty.ensures ∙ c.if-is_empty.false in
     let read = ap (λ (l : List ℕ). command_of (p []).stage.names (tokens_of l)) (sym c.last-2.ensures.value) ∙ c.in-None.ensures.exact in
-    nothing_played _ p _ _ (λ m rest. record_bad text (p m) e read rest ∙ ap (λ (x : Status). ended (p m) x) (sym c.bad_record.ensures))
+    nothing_played _ p _ _ _ _ c.bad_record.ensures (λ m rest. record_bad text (p m) e read rest)

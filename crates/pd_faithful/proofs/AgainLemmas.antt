@@ -1,0 +1,87 @@
+-- Each save of a play opens again.
+use Rattle.std.proofs.Common.{◌≡◌, ◌≤◌, ◌+◌, ◌^◌, ℕ, inl, inr, List, [], ◌∷◌, ◌++◌, length, Option, sym, subst, ◌∙◌}
+use Rattle.std.specs.List.{AllByRecursion}
+use Rattle.std.proofs.lemmas.List.{append-nil}
+use Rattle.pd_io.specs.declared.files.FileRow.{FileRow}
+use Rattle.pd_atom.specs.Names.{Names}
+use Rattle.pd_canvas.specs.Pages.{Page}
+use Rattle.pd_clock.specs.declared.times.Rate.{Rate}
+use Rattle.pd_clock.specs.Rates.{samples}
+use Rattle.pd_feed.specs.Script.{Script as Text}
+use Rattle.pd_patch.specs.declared.patch.Patch.{Patch}
+use Rattle.pd_stage.specs.Choices.{Choice}
+use Rattle.pd_stage.specs.Leads.{Sinks}
+use Rattle.pd_stage.specs.Stages.{Stage, Taken, Passage}
+use Rattle.pd_stage.specs.Times.{block_units}
+use Rattle.pd_stage.proofs.EditLemmas.{AsksAlike}
+use Rattle.pd_engine.specs.Opening.{Grows, first_stage, opened}
+use Rattle.pd_steady.specs.Runs.{own_ways}
+use Rattle.pd_steady.specs.Steady.{IsSteady}
+use Rattle.pd_steady.specs.Steps.{steps_by}
+use Rattle.pd_steady.proofs.FairLemmas.{AreFair, fair_first, fair_second}
+use Rattle.pd_again_law.specs.Again.{AreAgain}
+use Rattle.pd_again_law.proofs.FoundLemmas.{IsGood, AreFound, EndsWell, one_block, opened_leads, steps_lead, last_found, both_found}
+use Rattle.pd_again_law.proofs.AgainLemmas.{Tells, ReadsBack, keys, six, first_good, all_again}
+use Rattle.pd_play.specs.Runs.{Run, Point, Ending, run_of}
+use Rattle.pd_play.specs.Playing.{Plays}
+use Rattle.pd_play.specs.Patches.{start, with_line}
+use Rattle.pd_play.specs.declared.status.Status.{Status}
+use Rattle.pd_play.specs.declared.status.Status.TheVariants.{Done}
+use Rattle.pd_faithful.specs.Points.{most_units, IsSteadyAt, ended_by, IsStepped}
+use Rattle.pd_faithful.proofs.FreeLemmas.{Laws, block_more, in_range}
+use Rattle.pd_faithful.proofs.StepLemmas.{run_stepped}
+
+-- what the laws say of where a patch opens, of edits of wires, and of documents
+pub record AgainLaws : Type 0 where
+  pub first : (holds : Option (List FileRow)) (name : List ℕ) (rate : Rate) (d : Page) (names table : Names) (p : Patch) (most : ℕ) (ahead : List Choice) → Grows holds name rate d names p table
+      → IsSteady most (first_stage name p table ahead)
+  pub asks : AsksAlike
+  pub tells : Tells
+  pub reads : ReadsBack
+
+module _ (laws : Laws) (again : AgainLaws) (holds : Option (List FileRow)) (name : List ℕ) (rate : Rate) (d : Page) (names : Names) (p : Patch) (table : Names) (grows : Grows holds name rate d names p table) where
+  abbrev ks : List ℕ
+  ks = keys holds name rate d names p table grows
+
+  abbrev enough : 6 ≤ length table
+  enough = six holds name rate d names p table grows
+
+  ended_found : (status : Status) (r : Stage) → IsGood p table ks most_units r → AreFair (ended_by own_ways status r).edits → AreFound p table ks (most_units + block_units) (ended_by own_ways status r).edits
+  ended_found Done r h l = last_found p table ks laws.guards again.asks enough most_units block_more r h l
+  ended_found status r h l = tt
+
+  -- from where the patch opens the run of a script
+  pub played_again : (ahead : List Choice) (ending : Ending) (text : Text) → let o : Passage = opened name p table ahead in
+      let q : Point = start o.stage (samples rate) in
+      IsSteadyAt q → AreFair (o.edits ++ (run_of ending text q).passage.edits) → AreAgain grows.files.files name rate grows.tree.tree (o.edits ++ (run_of ending text q).passage.edits)
+  played_again ahead ending text steady w =
+      let o : Passage = opened name p table ahead in
+      let q : Point = start o.stage (samples rate) in
+      let run : Run = run_of ending text q in
+      let later : AreFair run.passage.edits = fair_second o.edits run.passage.edits w in
+      let begins : EndsWell p table ks most_units o =
+      opened_leads p table ks laws.guards again.asks enough most_units in_range name ahead
+      (first_good holds name rate d names p table grows most_units ahead (again.first holds name rate d names table p most_units ahead grows)) (fair_first o.edits run.passage.edits w) in
+      let k : IsStepped most_units o.stage run = run_stepped laws ending text q steady later in
+      let mid : Passage = steps_by own_ways k.steps o.stage in
+      let last : Passage = ended_by own_ways run.status mid.stage in
+      let both : AreFair (mid.edits ++ last.edits) = subst (λ (x : Passage). AreFair x.edits) k.same later in
+      let goes : EndsWell p table ks most_units mid =
+      steps_lead p table ks laws.guards again.asks enough most_units in_range k.steps o.stage k.are begins.stage (fair_first mid.edits last.edits both) in
+      let more : most_units ≤ most_units + block_units = one_block p table ks most_units in
+      let rest : AreFound p table ks (most_units + block_units) (mid.edits ++ last.edits) =
+      both_found p table ks most_units (most_units + block_units) more mid.edits last.edits goes.found (ended_found run.status mid.stage goes.stage (fair_second mid.edits last.edits both)) in
+      all_again holds name rate d names p table grows again.tells again.reads (most_units + block_units) (o.edits ++ run.passage.edits)
+      (both_found p table ks most_units (most_units + block_units) more o.edits run.passage.edits begins.found
+      (subst (λ (x : Passage). AreFound p table ks (most_units + block_units) x.edits) (sym k.same) rest))
+
+-- ---- the edits of a run that are told
+
+first_all : {X : Type 0} (P : X → Type 0) (xs ys : List X) → AllByRecursion P (xs ++ ys) → AllByRecursion P xs
+first_all P [] ys h = tt
+first_all P (x ∷ xs) ys h = (h.0, first_all P xs ys h.1)
+
+pub told_all : (P : Taken → Type 0) (name : List ℕ) (closing : Stage → List ℕ) (run : Run) (log : List Taken) (status : Status) (x y : Sinks) → Plays (with_line name closing run) log status x y
+    → AllByRecursion P run.passage.edits → AllByRecursion P log
+told_all P name closing run log status x y (inl k) h = subst (AllByRecursion P) (sym (append-nil run.passage.edits) ∙ k.edits_are) h
+told_all P name closing run log status x y (inr k) h = first_all P log k.begins.rest (subst (AllByRecursion P) (sym (append-nil run.passage.edits) ∙ k.begins.edits_are) h)
