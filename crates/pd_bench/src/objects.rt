@@ -1,6 +1,6 @@
 //! The signal objects: how long a sample takes of each, on values of ordinary size.
 
-ghost use Rattle.std.specs.Prelude.{◌≡◌};
+ghost use Rattle.std.specs.Prelude.{◌≡◌, IfSome};
 ghost use Rattle.pd_object.specs.declared.kinds.Kind.TheVariants as kind;
 ghost use Rattle.pd_object.specs.Ports.{IsSmallKind, IsSmallSignal};
 ghost use Rattle.pd_bench.specs.Objects.{HasSmallKinds};
@@ -124,91 +124,121 @@ fn measured<R: Measures>(rt: &R, object: &Object, blocks: u32) -> Result<()>
     measure_from(rt, object, &mut Kept { own, other }, blocks)
 }
 
-/// Measures an object that looks at no other box.
-fn alone<R: Measures>(rt: &R, blocks: u32, name: &'static str, feed: Feed, kind: Kind) -> Result<()>
+/// An object that looks at no other box.
+fn alone(name: &'static str, feed: Feed, kind: Kind) -> Object
     requires { IsSmallKind kind }
+    ensures { HasSmallKinds result }
 {
-    let object = Object {
+    Object {
         name,
         kind,
         feed,
         other: Kind::Unmade,
-    };
-    measured(rt, &object, blocks)
+    }
 }
 
-/// Measures an object that is fed values between -1 and 1.
-fn waved<R: Measures>(rt: &R, blocks: u32, name: &'static str, signal: Signal) -> Result<()>
+/// An object that is fed values between -1 and 1.
+fn waved(name: &'static str, signal: Signal) -> Object
     requires { IsSmallSignal signal }
+    ensures { HasSmallKinds result }
 {
-    alone(rt, blocks, name, Feed::Waves, Kind::Signal(signal))
+    alone(name, Feed::Waves, Kind::Signal(signal))
 }
 
-/// Measures an object that looks at a box of another kind.
-fn beside<R: Measures>(
-    rt: &R,
-    blocks: u32,
-    name: &'static str,
-    signal: Signal,
-    other: Signal,
-) -> Result<()>
+/// An object that looks at a box of another kind.
+fn beside(name: &'static str, signal: Signal, other: Signal) -> Object
     requires own { IsSmallSignal signal }
     requires other { IsSmallSignal other }
+    ensures { HasSmallKinds result }
 {
-    let object = Object {
+    Object {
         name,
         kind: Kind::Signal(signal),
         feed: Feed::Waves,
         other: Kind::Signal(other),
-    };
-    measured(rt, &object, blocks)
+    }
 }
 
 /// `phasor~`, `osc~` and `noise~`.
-fn voices<R: Measures>(rt: &R, blocks: u32) -> Result<()> {
+fn voice(number: u32) -> Option<Object>
+    ensures { IfSome result HasSmallKinds }
+{
     let hertz = Num::default();
-    let osc = Kind::Tone(Tone::Osc { hertz });
-    alone(rt, blocks, "osc~ at 440", Feed::Hertz(440), osc)?;
-    let osc = Kind::Tone(Tone::Osc { hertz });
-    alone(rt, blocks, "osc~ at 5000", Feed::Hertz(5000), osc)?;
-    let phasor = Kind::Tone(Tone::Phasor { hertz });
-    alone(rt, blocks, "phasor~ at 440", Feed::Hertz(440), phasor)?;
-    alone(rt, blocks, "noise~", Feed::Waves, Kind::Tone(Tone::Noise))
+    match number {
+        0 => Some(alone(
+            "osc~ at 440",
+            Feed::Hertz(440),
+            Kind::Tone(Tone::Osc { hertz }),
+        )),
+        1 => Some(alone(
+            "osc~ at 5000",
+            Feed::Hertz(5000),
+            Kind::Tone(Tone::Osc { hertz }),
+        )),
+        2 => Some(alone(
+            "phasor~ at 440",
+            Feed::Hertz(440),
+            Kind::Tone(Tone::Phasor { hertz }),
+        )),
+        3 => Some(alone("noise~", Feed::Waves, Kind::Tone(Tone::Noise))),
+        _ => None,
+    }
+}
+
+/// An arithmetic object of two signals.
+fn operation(name: &'static str, operation: SignalOperation, right: Option<Num>) -> Object
+    ensures { HasSmallKinds result }
+{
+    waved(name, Signal::Operation { operation, right })
 }
 
 /// The arithmetic objects of two signals, and `*~ 0.5`.
-fn operations<R: Measures>(rt: &R, blocks: u32) -> Result<()> {
-    let cases = [
-        ("+~", SignalOperation::Add, None),
-        ("-~", SignalOperation::Subtract, None),
-        ("*~", SignalOperation::Multiply, None),
-        ("*~ 0.5", SignalOperation::Multiply, Some(thousandths(500))),
-        ("/~", SignalOperation::Divide, None),
-        ("max~", SignalOperation::Greatest, None),
-    ];
-    for (name, operation, right) in cases {
-        waved(rt, blocks, name, Signal::Operation { operation, right })?;
+fn operation_at(number: u32) -> Option<Object>
+    ensures { IfSome result HasSmallKinds }
+{
+    let half = thousandths(500);
+    match number {
+        0 => Some(operation("+~", SignalOperation::Add, None)),
+        1 => Some(operation("-~", SignalOperation::Subtract, None)),
+        2 => Some(operation("*~", SignalOperation::Multiply, None)),
+        3 => Some(operation("*~ 0.5", SignalOperation::Multiply, Some(half))),
+        4 => Some(operation("/~", SignalOperation::Divide, None)),
+        5 => Some(operation("max~", SignalOperation::Greatest, None)),
+        _ => None,
     }
-    Ok(())
 }
 
 /// `abs~`, `wrap~`, `clip~` and `sig~`.
-fn functions<R: Measures>(rt: &R, blocks: u32) -> Result<()> {
+fn function(number: u32) -> Option<Object>
+    ensures { IfSome result HasSmallKinds }
+{
     let (low, high) = (thousandths(-100), thousandths(100));
-    let function = SignalFunction::Magnitude;
-    waved(rt, blocks, "abs~", Signal::Function { function })?;
-    let function = SignalFunction::Wrap;
-    waved(rt, blocks, "wrap~", Signal::Function { function })?;
-    waved(rt, blocks, "clip~", Signal::Clip { low, high })?;
-    waved(rt, blocks, "sig~", Signal::Sig { value: high })
+    let (magnitude, wrap) = (SignalFunction::Magnitude, SignalFunction::Wrap);
+    match number {
+        0 => Some(waved(
+            "abs~",
+            Signal::Function {
+                function: magnitude,
+            },
+        )),
+        1 => Some(waved("wrap~", Signal::Function { function: wrap })),
+        2 => Some(waved("clip~", Signal::Clip { low, high })),
+        3 => Some(waved("sig~", Signal::Sig { value: high })),
+        _ => None,
+    }
 }
 
 /// `lop~`, `hip~` and `samphold~`.
-fn filters<R: Measures>(rt: &R, blocks: u32) -> Result<()> {
+fn filter(number: u32) -> Option<Object>
+    ensures { IfSome result HasSmallKinds }
+{
     let hertz = thousandths(1_000_000);
-    waved(rt, blocks, "lop~", Signal::Lop { hertz })?;
-    waved(rt, blocks, "hip~", Signal::Hip { hertz })?;
-    waved(rt, blocks, "samphold~", Signal::Samphold)
+    match number {
+        0 => Some(waved("lop~", Signal::Lop { hertz })),
+        1 => Some(waved("hip~", Signal::Hip { hertz })),
+        2 => Some(waved("samphold~", Signal::Samphold)),
+        _ => None,
+    }
 }
 
 /// A `line~` on a ramp of so many samples.
@@ -229,7 +259,7 @@ fn ramp(length: u64) -> Kept {
 
 /// A `line~` that stands, and one on a ramp that lasts as long as all runs.
 fn lines<R: Measures>(rt: &R, blocks: u32) -> Result<()> {
-    waved(rt, blocks, "line~ that stands", Signal::Line)?;
+    measured(rt, &waved("line~ that stands", Signal::Line), blocks)?;
     let object = Object {
         name: "line~ on a ramp",
         kind: Kind::Signal(Signal::Line),
@@ -259,12 +289,20 @@ fn receive() -> Signal
 }
 
 /// Buses and sums.
-fn buses<R: Measures>(rt: &R, blocks: u32) -> Result<()> {
-    waved(rt, blocks, "send~", send())?;
-    beside(rt, blocks, "receive~", receive(), send())?;
-    let throw = Signal::Throw { name: None };
-    beside(rt, blocks, "throw~", throw, Signal::Catch { name: None })?;
-    waved(rt, blocks, "catch~", Signal::Catch { name: None })
+fn bus(number: u32) -> Option<Object>
+    ensures { IfSome result HasSmallKinds }
+{
+    match number {
+        0 => Some(waved("send~", send())),
+        1 => Some(beside("receive~", receive(), send())),
+        2 => Some(beside(
+            "throw~",
+            Signal::Throw { name: None },
+            Signal::Catch { name: None },
+        )),
+        3 => Some(waved("catch~", Signal::Catch { name: None })),
+        _ => None,
+    }
 }
 
 /// A delay line of a tenth of a second.
@@ -277,30 +315,72 @@ fn line() -> Signal
     }
 }
 
-/// `delwrite~`, and `delread~` halfway in its line.
-fn delays<R: Measures>(rt: &R, blocks: u32) -> Result<()> {
-    waved(rt, blocks, "delwrite~", line())?;
-    let reader = Signal::Delread {
+/// A `delread~` halfway in the line.
+fn reader() -> Signal
+    ensures { IsSmallSignal result }
+{
+    Signal::Delread {
         name: None,
         time: thousandths(50_000),
-    };
-    beside(rt, blocks, "delread~", reader, line())
+    }
 }
 
-/// `snapshot~`, and `tabread~` over a table of 64 values.
-fn readers<R: Measures>(rt: &R, blocks: u32) -> Result<()> {
-    waved(rt, blocks, "snapshot~", Signal::Snapshot)?;
-    let reader = Kind::Signal(Signal::Tabread { name: None });
-    alone(rt, blocks, "tabread~", Feed::Places, reader)
+/// `delwrite~` and `delread~`, `snapshot~`, and `tabread~` over a table of 64 values.
+fn memory(number: u32) -> Option<Object>
+    ensures { IfSome result HasSmallKinds }
+{
+    let table = Kind::Signal(Signal::Tabread { name: None });
+    match number {
+        0 => Some(waved("delwrite~", line())),
+        1 => Some(beside("delread~", reader(), line())),
+        2 => Some(waved("snapshot~", Signal::Snapshot)),
+        3 => Some(alone("tabread~", Feed::Places, table)),
+        _ => None,
+    }
+}
+
+/// The objects of a family, by their numbers from 0 on.
+#[derive(Clone, Copy)]
+enum Family {
+    Voices,
+    Operations,
+    Functions,
+    Filters,
+    Buses,
+    Memories,
+}
+
+impl Family {
+    fn object(self, number: u32) -> Option<Object>
+        ensures { IfSome result HasSmallKinds }
+    {
+        match self {
+            Family::Voices => voice(number),
+            Family::Operations => operation_at(number),
+            Family::Functions => function(number),
+            Family::Filters => filter(number),
+            Family::Buses => bus(number),
+            Family::Memories => memory(number),
+        }
+    }
+}
+
+/// Measures each object of a family.
+fn each_of<R: Measures>(rt: &R, blocks: u32, family: Family) -> Result<()> {
+    for number in 0..6 {
+        if let Some(object) = family.object(number) {
+            measured(rt, &object, blocks)?;
+        }
+    }
+    Ok(())
 }
 
 pub(crate) fn run<R: Measures>(rt: &R, blocks: u32) -> Result<()> {
-    voices(rt, blocks)?;
-    operations(rt, blocks)?;
-    functions(rt, blocks)?;
-    filters(rt, blocks)?;
+    each_of(rt, blocks, Family::Voices)?;
+    each_of(rt, blocks, Family::Operations)?;
+    each_of(rt, blocks, Family::Functions)?;
+    each_of(rt, blocks, Family::Filters)?;
     lines(rt, blocks)?;
-    buses(rt, blocks)?;
-    delays(rt, blocks)?;
-    readers(rt, blocks)
+    each_of(rt, blocks, Family::Buses)?;
+    each_of(rt, blocks, Family::Memories)
 }
