@@ -35,8 +35,8 @@
 //! (`scripts_are_steps`). With pd_engine's own events and blocks the run is pd_play's (`scripts_are_by_events`).
 //!
 //! In each block of the run each box runs its own row on the sums of all its wires (`free_block` of `pd_sound_law`). Its
-//! definition looks at one condition still, which that crate's head names. Free: want of memory for the words or in
-//! opening, and in each edit and save, which is refused then with its line.
+//! definition looks at no condition. Free: want of memory for the words or in opening, and in each edit and save, which
+//! is refused then with its line.
 //!
 //! Definitions: `Whole` (a play in which no message is passed over), `Complete` (when a run is sure to end),
 //! `Scripts` (runs with events that are given), `Points` (steady points, steps).

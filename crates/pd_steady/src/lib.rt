@@ -11,7 +11,7 @@
 //!
 //! So a whole run in which each edit is lawful, from where a patch opens to its end, is the one in which each event
 //! is the depth-first recursion over the objects' own definitions, and in each block each box runs its own row
-//! (`free_block` of `pd_sound_law`, whose head names the one condition that is still looked at). Nothing is ever
+//! (`free_block` of `pd_sound_law`, in which nothing is looked at). Nothing is ever
 //! passed over in it, in lines, samples, files that are put, edits and where it leads (`runs_pass_nothing_over`).
 //! With pd_engine's own events and blocks these runs are pd_engine's (`runs_are_by_events`). In a run the lines of a
 //! canvas's order tell all its boxes (`lines_tell_all_boxes`), and so does the line of each signal loop, where a
