@@ -44,8 +44,8 @@ impl Rows {
 impl<L: Ledger> SignalGraph<L> for Rows {
     ghost meaning = { λ g. rows g.count };
 
-    fn rank(&self, node: u32) -> u32 {
-        self.count.saturating_sub(1).saturating_sub(node)
+    fn rank(&self, node: u32) -> u64 {
+        u64::from(self.count.saturating_sub(1).saturating_sub(node))
     }
 
     fn feeder_count(&self, node: u32, steps: &mut Steps<L>) -> u32 {

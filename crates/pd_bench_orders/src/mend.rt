@@ -42,8 +42,8 @@ impl Voices {
 impl<L: Ledger> SignalGraph<L> for Voices {
     ghost meaning = { λ g. voices g.count g.cut };
 
-    fn rank(&self, node: u32) -> u32 {
-        node
+    fn rank(&self, node: u32) -> u64 {
+        u64::from(node)
     }
 
     fn feeder_count(&self, node: u32, steps: &mut Steps<L>) -> u32 {

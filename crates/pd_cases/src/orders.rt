@@ -107,8 +107,8 @@ impl Wires {
 impl<L: Ledger> SignalGraph<L> for Wires {
     ghost meaning = { λ w. wired w.sources.items w.sinks.items };
 
-    fn rank(&self, node: u32) -> u32 {
-        node
+    fn rank(&self, node: u32) -> u64 {
+        u64::from(node)
     }
 
     fn feeder_count(&self, node: u32, steps: &mut Steps<L>) -> u32 {

@@ -87,8 +87,8 @@ impl Graph {
 impl<L: Ledger> SignalGraph<L> for Graph {
     ghost meaning = { λ g. graph_in g };
 
-    fn rank(&self, node: u32) -> u32 {
-        self.places.first_at(node)
+    fn rank(&self, node: u32) -> u64 {
+        u64::from(self.places.first_at(node))
     }
 
     fn feeder_count(&self, node: u32, steps: &mut Steps<L>) -> u32 {

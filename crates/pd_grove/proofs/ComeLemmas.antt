@@ -1,6 +1,6 @@
 -- What came with a box into a forest is sound by itself, where a forest is left.
-use Rattle.std.proofs.Common.{◌≡◌, ◌≢◌, ℕ, ◌+◌, List, [], ◌∷◌, ◌++◌, Option, Some, None, IsSome, inl, inr, refl, sym, ap, ◌∙◌, subst}
-use Rattle.std.specs.Prelude.{slice_get, ◌⊎◌}
+use Rattle.std.proofs.Common.{◌≡◌, ◌≢◌, ℕ, List, ◌∷◌, ◌++◌, Option, Some, None, IsSome, sym, ap, ◌∙◌, subst}
+use Rattle.std.specs.Prelude.{slice_get}
 use mathlib.Core.Logic.{⊎_elim}
 use Rattle.std.proofs.lemmas.Bool.{cases_eq}
 use Rattle.std.proofs.lemmas.Option.{none-some}
@@ -10,7 +10,7 @@ use Rattle.pd_grove.specs.Standing.{depth_of}
 use Rattle.pd_grove.specs.Telling.{inner_in, keys_in}
 use Rattle.pd_grove.specs.Owning.{board_in}
 use Rattle.pd_grove.specs.Forest.{holder_in, IsForest}
-use Rattle.pd_grove.specs.Grafts.{HasOtherKeys, HasBoxMore, HasPartMore, sheet_in}
+use Rattle.pd_grove.specs.Grafts.{HasBoxMore, HasPartMore, sheet_in}
 use Rattle.pd_grove.proofs.UseLemmas.{none_or_some, not_both}
 use Rattle.pd_grove.proofs.GraftLemmas.{IsHere, IsThere, where_is, is_some, keys_had, keys_has, same_holder, same_depth}
 

@@ -1,8 +1,8 @@
 -- A forest stays one while boxes are planted.
-use Rattle.std.proofs.Common.{◌≡◌, ◌≢◌, ℕ, suc, ◌+◌, ◌<◌, List, [], ◌∷◌, ◌++◌, Option, Some, None, IsSome, refl, sym, ap, ◌∙◌, subst, arith}
-use Rattle.std.specs.Prelude.{option_map, max}
+use Rattle.std.proofs.Common.{◌≡◌, ◌≢◌, ℕ, ◌+◌, ◌<◌, List, [], ◌∷◌, ◌++◌, Option, Some, None, IsSome, refl, sym, ap, ◌∙◌, subst, arith}
+use Rattle.std.specs.Prelude.{option_map}
 use Rattle.std.proofs.lemmas.List.{append-nil}
-use Rattle.std.proofs.lemmas.Option.{none-some, same_Some}
+use Rattle.std.proofs.lemmas.Option.{same_Some}
 use Rattle.slab.specs.Slab.{Slab, get}
 use Rattle.pd_tree.specs.declared.rows.Sheet.{Sheet}
 use Rattle.pd_tree.specs.Trees.{Cell, Trees, Done, Leaf, Holder, Stand, width, stands_of}
@@ -13,12 +13,12 @@ use Rattle.pd_grove.specs.Planting.{with_keys}
 use Rattle.pd_grove.specs.Telling.{inner_in, keys_in}
 use Rattle.pd_grove.specs.Owning.{board_in}
 use Rattle.pd_grove.specs.TextOrder.{deep}
-use Rattle.pd_grove.specs.Forest.{holder_in, IsForest}
-use Rattle.pd_grove.specs.Grafts.{HasOtherKeys, HasBoxMore, HasCanvasMore}
+use Rattle.pd_grove.specs.Forest.{IsForest}
+use Rattle.pd_grove.specs.Grafts.{HasBoxMore}
 use Rattle.pd_grove.proofs.ForestLemmas.{live_board}
 use Rattle.pd_grove.proofs.GraftLemmas.{same_depth, forest_more}
 use Rattle.pd_grove.proofs.OpenLemmas.{forest_opened}
-use Rattle.pd_grove.proofs.Plantings.{first_cell, first_sheet, first_count, behind, gains_live}
+use Rattle.pd_grove.proofs.Plantings.{first_sheet, first_count, behind, gains_live}
 
 -- a box that comes last in its canvas
 pub box_more : (n₀ n₁ : ℕ → Option Node) (b₀ b₁ : ℕ → Option Board) (b k : ℕ) (n : Node) → n₀ k ≡ None → n₁ k ≡ Some n → n.board ≡ b → n.inner ≡ None → ((l : ℕ) → l ≢ k → n₁ l ≡ n₀ l)

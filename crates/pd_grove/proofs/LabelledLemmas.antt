@@ -5,11 +5,11 @@ use mathlib.Core.Logic.{⊎_elim}
 use Rattle.std.proofs.lemmas.Bool.{cases_eq}
 use Rattle.std.proofs.lemmas.List.{length-append, length-take}
 use Rattle.std.proofs.lemmas.Option.{none-some, same_Some}
-use Rattle.pd_label.specs.Labels.{label_of, Rise, RiseBut, Reach, AreApart, IsAway, PutsLabel}
+use Rattle.pd_label.specs.Labels.{label_of, Rise, RiseBut, Reach, IsAway, PutsLabel}
 use Rattle.pd_grove.specs.declared.nodes.Node.{Node}
 use Rattle.pd_grove.specs.declared.boards.Board.{Board}
 use Rattle.pd_grove.specs.Telling.{keys_in}
-use Rattle.pd_grove.specs.Owning.{board_in, AreOwn}
+use Rattle.pd_grove.specs.Owning.{AreOwn}
 use Rattle.pd_grove.specs.Grafts.{HasOtherKeys, TakesBox}
 use Rattle.pd_grove.specs.Labelled.{AreLabelled}
 use Rattle.pd_grove.proofs.GraftLemmas.{raised, raised_at, place_behind, IsHere, IsThere, where_is, keys_had, keys_has}

@@ -19,4 +19,5 @@ pub mod ComeLemmas
 pub mod PruneLemmas
 pub mod RefitLemmas
 pub mod LabelledLemmas
+pub mod LentLemmas
 pub mod RoomLemmas

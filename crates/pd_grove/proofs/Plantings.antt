@@ -36,6 +36,8 @@ pub record Halfway (nodes₀ nodes₁ : Slab Node) (boards₀ boards₁ : Slab B
   pub kept : Keeps (get nodes₀) (get nodes₁) (get boards₀) (get boards₁) b
   pub own_room : board_room (get boards₀ b) ≤ board_room (get boards₁ b) + i
   pub room : HaveRoom nodes₁ boards₁ (length seeds₁)
+  pub nodes_capacity : nodes₁.capacity ≡ nodes₀.capacity
+  pub boards_capacity : boards₁.capacity ≡ boards₀.capacity
   pub roomy : AreRoomy seeds₁
   pub fewer : length seeds₁ ≤ length seeds₀
   pub fresh : (rate : Rate) (now : ℕ) → AreFresh rate now seeds₀ → NodesFresh rate now (get nodes₀) → AreFresh rate now seeds₁ × NodesFresh rate now (get nodes₁)
@@ -97,6 +99,8 @@ halfway_start nodes boards labels seeds b d count l R A = record {
   room = R;
   roomy = A;
   fewer = omega arith;
+  nodes_capacity = refl;
+  boards_capacity = refl;
   fresh = λ rate now f g. (f, g);
   small = λ f g. (f, g);
   of_tree = λ t f g. (f, g);
@@ -161,7 +165,7 @@ pub halfway_next : (n₀ n₁ n₂ : Slab Node) (b₀ b₁ b₂ : Slab Board) (l
     → Halfway n₀ n₁ b₀ b₁ l₀ l₁ seeds₀ seeds₁ b d i count
     → Keeps (get n₁) (get n₂) (get b₁) (get b₂) b
     → board_room (get b₁ b) ≤ board_room (get b₂ b) + 1
-    → HaveRoom n₂ b₂ (length seeds₂) → AreRoomy seeds₂ → length seeds₂ ≤ length seeds₁
+    → HaveRoom n₂ b₂ (length seeds₂) → n₂.capacity ≡ n₁.capacity → b₂.capacity ≡ b₁.capacity → AreRoomy seeds₂ → length seeds₂ ≤ length seeds₁
     → ((rate : Rate) (now : ℕ) → AreFresh rate now seeds₁ → NodesFresh rate now (get n₁) → AreFresh rate now seeds₂ × NodesFresh rate now (get n₂))
     → (SeedsSmall seeds₁ → NodesSmall (get n₁) → SeedsSmall seeds₂ × NodesSmall (get n₂))
     → ((t : Trees) → SeedsOf t seeds₁ → NodesOf t (get n₁) → SeedsOf t seeds₂ × NodesOf t (get n₂))
@@ -171,10 +175,12 @@ pub halfway_next : (n₀ n₁ n₂ : Slab Node) (b₀ b₁ b₂ : Slab Board) (l
     → ((root : ℕ) (u : Trees) (rest : List Stand) → stands_ready seeds₁ ≡ stands_of u ++ rest → width u ≡ 1 → d + deep u < 257 → IsForest (get n₁) (get b₁) root → IsForest (get n₂) (get b₂) root)
     → ((u : Trees) (rest : List Stand) → stands_ready seeds₁ ≡ stands_of u ++ rest → width u ≡ 1 → Plants (get n₁) (get n₂) (get b₁) (get b₂) b d u × (stands_ready seeds₂ ≡ rest))
     → Halfway n₀ n₂ b₀ b₂ l₀ l₂ seeds₀ seeds₂ b d (i + 1) count
-halfway_next n₀ n₁ n₂ b₀ b₁ b₂ l₀ l₁ l₂ seeds₀ seeds₁ seeds₂ b d i count l e H K O R A F N M T W Q U G P = record {
+halfway_next n₀ n₁ n₂ b₀ b₁ b₂ l₀ l₁ l₂ seeds₀ seeds₁ seeds₂ b d i count l e H K O R X Y A F N M T W Q U G P = record {
   within = omega (arith, l);
   kept = keeps_then (get n₀) (get n₁) (get n₂) (get b₀) (get b₁) (get b₂) b H.kept K;
   own_room = (let o = H.own_room in omega (arith, o, O));
+  nodes_capacity = X ∙ H.nodes_capacity;
+  boards_capacity = Y ∙ H.boards_capacity;
   room = R;
   roomy = A;
   fewer = (let f = H.fewer in omega (arith, f, F));

@@ -1,5 +1,5 @@
 -- Where room is set aside all is as it was.
-use Rattle.std.proofs.Common.{◌≡◌, ℕ, Option, Some, None, IsSome, refl, sym, ap, subst}
+use Rattle.std.proofs.Common.{◌≡◌, Option, Some, None, IsSome, refl, sym, ap, subst}
 use Rattle.std.specs.Prelude.{option_map}
 use Rattle.std.proofs.lemmas.Option.{none-some, same_Some}
 use Rattle.slab.specs.Slab.{get}
@@ -9,9 +9,7 @@ use Rattle.pd_grove.specs.Standing.{BoardSeen, board_seen, depth_of}
 use Rattle.pd_grove.specs.Telling.{inner_in, keys_in}
 use Rattle.pd_grove.specs.Owning.{board_in}
 use Rattle.pd_grove.specs.Forest.{holder_in, IsForest}
-use Rattle.pd_grove.specs.Labelled.{IsLabelled}
 use Rattle.pd_grove.specs.Room.{IsSameButRoom}
-use Rattle.pd_grove.proofs.LabelledLemmas.{labels_longer}
 use Rattle.pd_grove.proofs.OpenLemmas.{forest_alike}
 
 keys_seen : (o o' : Option Board) → option_map board_seen o' ≡ option_map board_seen o → keys_in o' ≡ keys_in o
@@ -51,7 +49,3 @@ room_forest old new S F =
       no_more = λ c h. live_seen (get new.boards c) (get old.boards c) (sym (S.boards c)) h;
     })
     F)
-
-pub room_labels : (old new : Grove) → IsSameButRoom old new → IsLabelled old → IsLabelled new
-room_labels old new S A =
-    labels_longer old.labels new.labels (get old.boards) (get new.boards) S.longer S.labels (λ c. keys_seen (get old.boards c) (get new.boards c) (S.boards c)) A

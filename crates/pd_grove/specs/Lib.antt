@@ -1,3 +1,4 @@
+pub mod Keys
 pub mod Standing
 pub mod Planting
 pub mod States

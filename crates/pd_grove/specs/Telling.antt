@@ -1,10 +1,10 @@
 -- What a grove tells by its keys.
-use Rattle.std.specs.Prelude.{◌≡◌, ◌≢◌, ℕ, List, [], ◌∷◌, Option, Some, None, slice_get, option_map, option_and_then}
+use Rattle.std.specs.Prelude.{◌≡◌, ◌≢◌, ℕ, List, [], ◌∷◌, Option, slice_get, option_map, option_and_then}
+pub use Rattle.pd_grove.specs.Keys.{keys_in}
 use Rattle.slab.specs.Slab.{get}
 use Rattle.pd_object.specs.declared.kinds.Kind.{Kind}
 use Rattle.pd_kind.specs.declared.states.State.{State}
 use Rattle.pd_grove.specs.declared.nodes.Node.{Node}
-use Rattle.pd_grove.specs.declared.boards.Board.{Board}
 use Rattle.pd_grove.specs.declared.grove.Grove.{Grove}
 
 abbrev pub kind_in : Option Node → Option Kind
@@ -15,10 +15,6 @@ inner_in o = option_and_then (λ n. n.inner) o
 
 abbrev pub state_in : Option Node → Option State
 state_in o = option_and_then (λ n. n.state) o
-
-abbrev pub keys_in : Option Board → List ℕ
-keys_in None = []
-keys_in (Some b) = b.nodes.items
 
 -- the canvas in the box of a number of a canvas
 abbrev pub step_in : Grove → ℕ → ℕ → Option ℕ

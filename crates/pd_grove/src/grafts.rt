@@ -1,6 +1,6 @@
 //! A grown box comes into a canvas, with all that lies in it: room is set aside first, and then nothing can fail.
 
-ghost use Rattle.std.specs.Prelude.{◌≡◌, ◌+◌, ◌<◌, ◌≤◌, ◌^◌, ◌++◌, ◌∷◌, [], ℕ, List, length, take, drop, Some, OnOk};
+ghost use Rattle.std.specs.Prelude.{◌≡◌, ◌+◌, ◌<◌, ◌≤◌, ◌^◌, ◌++◌, ◌∷◌, [], List, length, take, drop, Some, OnOk};
 ghost use Rattle.slab.specs.Slab.{get, ContainsKey};
 ghost use Rattle.pd_tree.specs.Trees.{Trees, Stand, width, stands_of};
 ghost use Rattle.pd_grove.specs.Standing.{Stands, depth_of};
@@ -9,7 +9,6 @@ ghost use Rattle.pd_grove.specs.Telling.{keys_in};
 ghost use Rattle.pd_grove.specs.TextOrder.{deep};
 ghost use Rattle.pd_grove.specs.Forest.{IsForest};
 ghost use Rattle.pd_grove.specs.Grafts.{HasPartMore};
-ghost use Rattle.pd_grove.specs.Labelled.{HaveLabels, IsLabelled};
 ghost use Rattle.pd_grove.specs.Room.{HasPlace, IsSameButRoom};
 
 use crate::boards::{depth_at, label_at, put_at};
@@ -45,25 +44,27 @@ impl Grove {
 
     /// Puts a grown box into a live canvas at a number, with what it holds, and gives its key. The boxes from that number on move back by one.
     pub fn put_box(&mut self, canvas: u32, number: u32, seed: Seed, seeds: &mut Seeds) -> u32
+        requires forest { IsForest (get self.old.nodes) (get self.old.boards) self.old.root }
         requires here { ContainsKey self.old.boards canvas }
         requires number { number ≤ length (keys_in (get self.old.boards canvas)) }
         requires deep { depth_of (get self.old.boards canvas) + 1 + length (seeds_in seeds.old) < 2 ^ 32 }
         requires place { HasPlace self.old canvas (length (seeds_in seeds.old) + 1) }
         requires roomy { AreRoomy (seeds_in seeds.old) }
         requires seed { IsRoomy seed }
-        ensures part { (root : ℕ) (t : Trees) (more : List Stand) → one (seed_stand seed) (stands_ready (seeds_in seeds.old)) ≡ stands_of t ++ more → width t ≡ 1 →
-            depth_of (get self.old.boards canvas) + deep t < 257 → IsForest (get self.old.nodes) (get self.old.boards) root →
+        ensures part { (t : Trees) (more : List Stand) → one (seed_stand seed) (stands_ready (seeds_in seeds.old)) ≡ stands_of t ++ more → width t ≡ 1 →
+            depth_of (get self.old.boards canvas) + deep t < 257 →
             HasPartMore (get self.old.nodes) (get self.new.nodes) (get self.old.boards) (get self.new.boards) canvas result
             (take number (keys_in (get self.old.boards canvas))) (drop number (keys_in (get self.old.boards canvas))) }
         ensures stands { (t : Trees) (more : List Stand) → one (seed_stand seed) (stands_ready (seeds_in seeds.old)) ≡ stands_of t ++ more → width t ≡ 1 →
             Stands (get self.new.nodes) (get self.new.boards) canvas (depth_of (get self.old.boards canvas)) (result ∷ []) t × (stands_ready (seeds_in seeds.new) ≡ more) }
         ensures uses { Uses (get self.old.nodes) (get self.new.nodes) (seed ∷ seeds_in seeds.old) (seeds_in seeds.new) }
-        ensures labelled { IsForest (get self.old.nodes) (get self.old.boards) self.old.root → IsLabelled self.old →
-            HaveLabels self.new.nodes.capacity self.new.labels (get self.new.boards) }
+        ensures labels { self.new.nodes.capacity ≤ length self.new.labels }
         ensures key { result ≡ self.old.nodes.vacant_key }
         ensures root { self.new.root ≡ self.old.root }
         ensures roomy { AreRoomy (seeds_in seeds.new) }
         ensures room { HaveRoom self.new.nodes self.new.boards (length (seeds_in seeds.new)) }
+        ensures nodes_capacity { self.new.nodes.capacity ≡ self.old.nodes.capacity }
+        ensures boards_capacity { self.new.boards.capacity ≡ self.old.boards.capacity }
     {
         let depth = depth_at(&self.boards, canvas);
         let Seed { row, state, room } = seed;

@@ -1,18 +1,12 @@
 //! A running tree under keys.
 
-ghost use Rattle.std.specs.Prelude.{◌≡◌, ◌+◌, ◌<◌, ◌≤◌, ◌^◌, ℕ, length, IfOk};
-ghost use Rattle.slab.specs.Slab.{get, HasRoomFor, slab_len};
-ghost use Rattle.pd_tree.specs.Trees.{Trees, width, stands_of, stands_in};
-ghost use Rattle.pd_grove.specs.Standing.{GroveStands, NodesOf, IsEmpty};
-ghost use Rattle.pd_grove.specs.States.{AreSmall, NodesFresh, NodesSmall};
-ghost use Rattle.pd_grove.specs.Owning.{AreOwn};
-ghost use Rattle.pd_grove.specs.TextOrder.{deep};
-ghost use Rattle.pd_grove.specs.Forest.{IsForest};
-ghost use Rattle.pd_grove.specs.Labelled.{IsLabelled};
+ghost use Rattle.std.specs.Prelude.{◌≡◌, ◌<◌, IfOk};
+ghost use Rattle.slab.specs.Slab.{get};
+ghost use Rattle.pd_grove.specs.Keys.{AreLabelled};
 
 use crate::boards::{Board, open_root};
 use crate::nodes::Node;
-use crate::planting::plant_boxes;
+use crate::planting::{plant_boxes, with_room};
 use crate::seeds::Seeds;
 use pd_clock::{Rate, Time};
 use pd_label::Labels;
@@ -20,16 +14,25 @@ use pd_tree::{Row, Sheet};
 use slab::Slab;
 use std::alloc::{AllocError, Global};
 
-/// Boxes and canvases under keys, the labels by which boxes stand in order, and the key of the root canvas.
+/// Boxes and canvases under keys, the labels by which boxes stand in order, and the key of the root canvas. Labels rise along
+/// the boxes of each canvas.
 #[derive(Drop)]
 pub struct Grove {
     pub(crate) nodes: Slab<Node>,
     pub(crate) boards: Slab<Board>,
     pub(crate) labels: Labels,
     pub(crate) root: u32,
+    pub ghost labelled: { AreLabelled labels (get boards) },
 }
 
 impl Grove {
+    ghost use Rattle.pd_tree.specs.Trees.{Trees, width, stands_of, stands_in};
+    ghost use Rattle.pd_grove.specs.Standing.{GroveStands, NodesOf};
+    ghost use Rattle.pd_grove.specs.States.{AreSmall, NodesFresh, NodesSmall};
+    ghost use Rattle.pd_grove.specs.Owning.{AreOwn};
+    ghost use Rattle.pd_grove.specs.TextOrder.{deep};
+    ghost use Rattle.pd_grove.specs.Forest.{IsForest};
+
     /// Plants a grown document: its root's sheet, its boxes in text order, of which `count` are the root's own.
     ///
     /// # Errors
@@ -51,7 +54,6 @@ impl Grove {
         ensures own { IfOk result (λ g. AreOwn (get g.nodes) (get g.boards)) }
         ensures forest { (t : Trees) → stands_in rows.items ≡ stands_of t → width t ≡ count → deep t < 257 →
             IfOk result (λ g. IsForest (get g.nodes) (get g.boards) g.root) }
-        ensures labelled { IfOk result IsLabelled }
     {
         let most = rows.len();
         let mut nodes = with_room(alloc, most)?;
@@ -77,17 +79,4 @@ impl Grove {
             root,
         })
     }
-}
-
-/// An empty slab with room for so many values, whose keys are below 2^32.
-fn with_room<T: Drop>(alloc: Global, most: usize) -> Result<Slab<T>, AllocError>
-    ensures empty { IfOk result (λ s. IsEmpty (get s)) }
-    ensures room { IfOk result (λ s. HasRoomFor s most) }
-    ensures small { IfOk result (λ s. s.capacity ≤ 2 ^ 32) }
-{
-    let slab = Slab::with_capacity(alloc, most)?;
-    if slab.capacity() > 4_294_967_296 {
-        return Err(AllocError);
-    }
-    Ok(slab)
 }

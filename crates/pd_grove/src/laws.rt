@@ -8,7 +8,6 @@ ghost use Rattle.pd_grove.specs.Standing.{GroveStands};
 ghost use Rattle.slab.specs.Slab.{get};
 ghost use Rattle.pd_grove.specs.Telling.{reached};
 ghost use Rattle.pd_grove.specs.Forest.{IsForest};
-ghost use Rattle.pd_grove.specs.Labelled.{IsLabelled};
 ghost use Rattle.pd_grove.specs.Room.{IsSameButRoom};
 ghost use Rattle.pd_grove.specs.OwnPaths.{sub_reached, sub_along};
 ghost use Rattle.pd_grove.specs.Places.{canvas_along, cell_at, cell_seen, CanvasStands, LeadsTo};
@@ -23,8 +22,7 @@ pub fn trees_are_told()
     ensures boxes { (g : Grove) (c : ℕ) (u : Tree) → CanvasStands g c u → (n : ℕ) → cell_seen g c n ≡ cell_at n u.boxes }
 {}
 
-/// Where room is set aside nothing that is told changes: a forest stays a forest, and labels rise along the boxes of each canvas as before.
+/// Where room is set aside nothing that is told changes: a forest stays a forest.
 pub fn room_changes_nothing()
-    ensures forest { (old new : Grove) → IsSameButRoom old new → IsForest (get old.nodes) (get old.boards) old.root → IsForest (get new.nodes) (get new.boards) new.root }
-    ensures labelled { (old new : Grove) → IsSameButRoom old new → IsLabelled old → IsLabelled new }
+    ensures { (old new : Grove) → IsSameButRoom old new → IsForest (get old.nodes) (get old.boards) old.root → IsForest (get new.nodes) (get new.boards) new.root }
 {}

@@ -20,14 +20,15 @@
 //! `retext_box` and `move_box` give a box another text or place (`Alters`). None of them but `reserve` takes memory, and
 //! `reserve` changes nothing else (law `room_changes_nothing`).
 //!
-//! Labels rise along the boxes of each canvas from planting on (`IsLabelled`), so `number_at` finds a box's number by
-//! halving, and `is_before` tells which of two boxes of a canvas comes first. A box that goes changes no label.
+//! Labels rise along the boxes of each canvas of each grove (`AreLabelled`), so `number_at` finds a box's number by
+//! halving, `is_before` tells which of two boxes of a canvas comes first, and `label` ranks them. A box that goes
+//! changes no label.
 //!
 //! Free: want of memory, and which labels boxes get.
 //!
 //! Definitions: `Standing` (a tree stands under keys), `Owning`, `States` (first states), `Ports`, `Places`, `OwnPaths`
 //! and `Telling` (what is told), `TextOrder`, `Planting`, `Lending`, `Forest` and `Grafts` (boxes sound by themselves,
-//! and what changes of one canvas are), `Pruning`, `Room`, `Refits`,
+//! and what changes of one canvas are), `Pruning`, `Room`, `Refits`, `Keys` (the boxes of a canvas and their labels),
 //! `Labelled`.
 #![tactic(auto)]
 

@@ -3,6 +3,7 @@
 ghost use Rattle.std.specs.Prelude.{◌≡◌, ◌≢◌, ◌+◌, ◌<◌, ◌≤◌, ◌^◌, ℕ, Some, None, option_map};
 ghost use Rattle.slab.specs.Slab.{get, ContainsKey, HasRoomFor, slab_len};
 ghost use Rattle.pd_grove.specs.Standing.{with_inner};
+ghost use Rattle.pd_grove.specs.Telling.{inner_in};
 
 use pd_canvas::{Atoms, Element};
 use pd_kind::{Kind, State};
@@ -36,6 +37,13 @@ pub(crate) fn put_node(nodes: &mut Slab<Node>, node: Node) -> u32
     ensures capacity { nodes.new.capacity ≡ nodes.old.capacity }
 {
     nodes.insert_reserved(node) as u32
+}
+
+/// Which canvas a box holds.
+pub(crate) fn inner_at(nodes: &Slab<Node>, node: u32) -> Option<u32>
+    ensures { result ≡ inner_in (get nodes.now node) }
+{
+    nodes.get(node as usize)?.inner
 }
 
 /// Says which canvas a box holds.

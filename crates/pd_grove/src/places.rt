@@ -5,7 +5,7 @@ ghost use Rattle.slab.specs.Slab.{get, ContainsKey};
 ghost use Rattle.pd_grove.specs.Telling.{keys_in};
 ghost use Rattle.pd_grove.specs.Owning.{board_in};
 ghost use Rattle.pd_grove.specs.Forest.{IsForest};
-ghost use Rattle.pd_grove.specs.Labelled.{IsLabelled};
+ghost use Rattle.pd_grove.specs.Labelled.{label_of};
 
 use crate::grove::Grove;
 
@@ -13,7 +13,6 @@ impl Grove {
     /// The number of a live box in its canvas, found by halving.
     pub fn number_at(&self, node: u32) -> usize
         requires forest { IsForest (get self.now.nodes) (get self.now.boards) self.now.root }
-        requires labelled { IsLabelled self.now }
         requires here { ContainsKey self.now.nodes node }
         ensures { (c : ℕ) → board_in (get self.now.nodes node) ≡ Some c → slice_get (keys_in (get self.now.boards c)) result ≡ Some node }
     {
@@ -22,9 +21,16 @@ impl Grove {
         self.labels.place(keys, node)
     }
 
+    /// The label of a box: along the boxes of a canvas labels rise, and a box that comes or goes changes no label of another, unless
+    /// there is none left between those around it.
+    pub fn label(&self, node: u32) -> u64
+        ensures { result ≡ label_of self.now node }
+    {
+        self.labels.label(node)
+    }
+
     /// Whether a box of a canvas comes before another one of the same canvas.
     pub fn is_before(&self, node: u32, other: u32) -> bool
-        requires { IsLabelled self.now }
         ensures { (c i j : ℕ) → slice_get (keys_in (get self.now.boards c)) i ≡ Some node → slice_get (keys_in (get self.now.boards c)) j ≡ Some other →
             (IsTrue result ↔ (i < j)) }
     {

@@ -1,9 +1,9 @@
 //! Planting: boxes in text order get keys.
 
-ghost use Rattle.std.specs.Prelude.{◌≡◌, ◌+◌, ◌-◌, ◌*◌, ◌^◌, ◌≤◌, ◌<◌, ℕ, List, length, ◌++◌, ◌∷◌, ◌≢◌, [], vec_len, vec_capacity, Some, None, IsSome};
+ghost use Rattle.std.specs.Prelude.{◌≡◌, ◌+◌, ◌-◌, ◌*◌, ◌^◌, ◌≤◌, ◌<◌, ℕ, List, length, ◌++◌, ◌∷◌, ◌≢◌, [], vec_len, vec_capacity, Some, None, IsSome, IfOk};
 ghost use Rattle.slab.specs.Slab.{get, ContainsKey, HasRoomFor};
 ghost use Rattle.pd_tree.specs.Trees.{Trees, Stand, width, stands_of};
-ghost use Rattle.pd_grove.specs.Standing.{HasCell, NodesOf, depth_of, board_room};
+ghost use Rattle.pd_grove.specs.Standing.{HasCell, NodesOf, IsEmpty, depth_of, board_room};
 ghost use Rattle.pd_grove.specs.Planting.{seeds_in, SeedsOf, AreRoomy, IsRoomy, stands_ready, seed_stand, HaveRoom, Keeps, Plants, PlantsInside, IsMadeOf, Uses, one};
 ghost use Rattle.pd_object.specs.Ports.{IsSmallKind};
 ghost use Rattle.pd_tree.specs.declared.rows.Sheet.{Sheet};
@@ -22,6 +22,7 @@ use crate::seeds::{Seed, Seeds};
 use pd_label::Labels;
 use pd_tree::{Row, Sheet};
 use slab::Slab;
+use std::alloc::{AllocError, Global};
 
 /// Plants the next so many boxes of a canvas, each with what it holds.
 #[cycle(planting)]
@@ -43,6 +44,8 @@ pub(crate) fn plant_boxes(
     ensures kept { Keeps (get nodes.old) (get nodes.new) (get boards.old) (get boards.new) board }
     ensures own_room { board_room (get boards.old board) ≤ board_room (get boards.new board) + count }
     ensures room { HaveRoom nodes.new boards.new (length (seeds_in seeds.new)) }
+    ensures nodes_capacity { nodes.new.capacity ≡ nodes.old.capacity }
+    ensures boards_capacity { boards.new.capacity ≡ boards.old.capacity }
     ensures roomy { AreRoomy (seeds_in seeds.new) }
     ensures fresh { (rate : Rate) (now : ℕ) → AreFresh rate now (seeds_in seeds.old) → NodesFresh rate now (get nodes.old) →
         AreFresh rate now (seeds_in seeds.new) × NodesFresh rate now (get nodes.new) }
@@ -81,6 +84,8 @@ fn plant_next(
     ensures kept { Keeps (get nodes.old) (get nodes.new) (get boards.old) (get boards.new) board }
     ensures own_room { board_room (get boards.old board) ≤ board_room (get boards.new board) + 1 }
     ensures room { HaveRoom nodes.new boards.new (length (seeds_in seeds.new)) }
+    ensures nodes_capacity { nodes.new.capacity ≡ nodes.old.capacity }
+    ensures boards_capacity { boards.new.capacity ≡ boards.old.capacity }
     ensures roomy { AreRoomy (seeds_in seeds.new) }
     ensures fresh { (rate : Rate) (now : ℕ) → AreFresh rate now (seeds_in seeds.old) → NodesFresh rate now (get nodes.old) →
         AreFresh rate now (seeds_in seeds.new) × NodesFresh rate now (get nodes.new) }
@@ -121,6 +126,8 @@ fn plant_box(
     ensures kept { Keeps (get nodes.old) (get nodes.new) (get boards.old) (get boards.new) board }
     ensures own_room { board_room (get boards.old board) ≤ board_room (get boards.new board) + 1 }
     ensures room { HaveRoom nodes.new boards.new (length (seeds_in seeds.new)) }
+    ensures nodes_capacity { nodes.new.capacity ≡ nodes.old.capacity }
+    ensures boards_capacity { boards.new.capacity ≡ boards.old.capacity }
     ensures roomy { AreRoomy (seeds_in seeds.new) }
     ensures fresh { (rate : Rate) (now : ℕ) → IsFresh rate now seed → AreFresh rate now (seeds_in seeds.old) → NodesFresh rate now (get nodes.old) →
         AreFresh rate now (seeds_in seeds.new) × NodesFresh rate now (get nodes.new) }
@@ -198,6 +205,8 @@ pub(crate) fn plant_inside(
     ensures boards_stay { (k : ℕ) → IsSome (get boards.old k) → get boards.new k ≡ get boards.old k }
     ensures lies { board_in (get nodes.new key) ≡ board_in (get nodes.old key) }
     ensures room { HaveRoom nodes.new boards.new (length (seeds_in seeds.new)) }
+    ensures nodes_capacity { nodes.new.capacity ≡ nodes.old.capacity }
+    ensures boards_capacity { boards.new.capacity ≡ boards.old.capacity }
     ensures roomy { AreRoomy (seeds_in seeds.new) }
     ensures fresh { (rate : Rate) (now : ℕ) → AreFresh rate now (seeds_in seeds.old) → NodesFresh rate now (get nodes.old) →
         AreFresh rate now (seeds_in seeds.new) × NodesFresh rate now (get nodes.new) }
@@ -221,4 +230,17 @@ pub(crate) fn plant_inside(
         set_inner(nodes, key, inner);
         plant_boxes(nodes, boards, labels, seeds, inner, depth, boxes);
     }
+}
+
+/// An empty slab with room for so many values, whose keys are below 2^32.
+pub(crate) fn with_room<T: Drop>(alloc: Global, most: usize) -> Result<Slab<T>, AllocError>
+    ensures empty { IfOk result (λ s. IsEmpty (get s)) }
+    ensures room { IfOk result (λ s. HasRoomFor s most) }
+    ensures small { IfOk result (λ s. s.capacity ≤ 2 ^ 32) }
+{
+    let slab = Slab::with_capacity(alloc, most)?;
+    if slab.capacity() > 4_294_967_296 {
+        return Err(AllocError);
+    }
+    Ok(slab)
 }

@@ -8,12 +8,11 @@ ghost use Rattle.pd_grove.specs.Standing.{board_room};
 ghost use Rattle.pd_grove.specs.Telling.{keys_in};
 ghost use Rattle.pd_grove.specs.Forest.{IsForest};
 ghost use Rattle.pd_grove.specs.Grafts.{LiesInBox, TakesBox};
-ghost use Rattle.pd_grove.specs.Labelled.{IsLabelled};
 ghost use Rattle.pd_grove.specs.Pruning.{GainsNone, LiesInOf, IsInsideOf, IsPart, LiesInFirst, IsPartOfFirst, AreThere, Leave};
 
 use crate::boards::{Board, take_key};
 use crate::grove::Grove;
-use crate::nodes::Node;
+use crate::nodes::{Node, inner_at};
 use slab::Slab;
 
 impl Grove {
@@ -26,7 +25,6 @@ impl Grove {
             TakesBox (get self.old.nodes) (get self.new.nodes) (get self.old.boards) (get self.new.boards) canvas k result (take number keys) (drop (number + 1) keys) }
         ensures root { self.new.root ≡ self.old.root }
         ensures labels { self.new.labels ≡ self.old.labels }
-        ensures labelled { IsLabelled self.old → IsLabelled self.new }
         ensures next { slice_get (keys_in (get self.old.boards canvas)) number ≡ Some self.new.nodes.vacant_key }
         ensures own_room { board_room (get self.new.boards canvas) ≡ board_room (get self.old.boards canvas) + 1 }
         ensures nodes_room { slab_len self.new.nodes + 1 ≤ slab_len self.old.nodes }
@@ -35,7 +33,7 @@ impl Grove {
         ensures boards_capacity { self.new.boards.capacity ≡ self.old.boards.capacity }
     {
         let key = take_key(&mut self.boards, canvas, number);
-        let inner = self.canvas_in(key);
+        let inner = inner_at(&self.nodes, key);
         prune_inside(&mut self.nodes, &mut self.boards, inner);
         self.nodes.remove(key as usize)
     }

@@ -8,7 +8,6 @@ ghost use Rattle.pd_grove.specs.Planting.{seeds_in, seed_stand, stands_ready, on
 ghost use Rattle.pd_grove.specs.Telling.{keys_in};
 ghost use Rattle.pd_grove.specs.TextOrder.{deep};
 ghost use Rattle.pd_grove.specs.Forest.{IsForest};
-ghost use Rattle.pd_grove.specs.Labelled.{HaveLabels, IsLabelled};
 ghost use Rattle.pd_grove.specs.Refits.{at_place, with_text, Alters, Refits};
 
 use crate::grove::Grove;
@@ -37,7 +36,7 @@ impl Grove {
         ensures stands { (k : ℕ) (t : Trees) (more : List Stand) → slice_get (keys_in (get self.old.boards canvas)) number ≡ Some k →
             one (seed_stand seed) (stands_ready (seeds_in seeds.old)) ≡ stands_of t ++ more → width t ≡ 1 →
             Stands (get self.new.nodes) (get self.new.boards) canvas (depth_of (get self.old.boards canvas)) (k ∷ []) t × (stands_ready (seeds_in seeds.new) ≡ more) }
-        ensures labelled { IsLabelled self.old → HaveLabels self.new.nodes.capacity self.new.labels (get self.new.boards) }
+        ensures labels { self.new.nodes.capacity ≤ length self.new.labels }
         ensures root { self.new.root ≡ self.old.root }
         ensures roomy { AreRoomy (seeds_in seeds.new) }
         ensures room { HaveRoom self.new.nodes self.new.boards (length (seeds_in seeds.new)) }

@@ -40,14 +40,16 @@ impl Grove {
 
     /// A number above the keys of all boxes.
     pub fn nodes_end(&self) -> usize
-        ensures { length self.now.nodes.slots ≤ result }
+        ensures slots { length self.now.nodes.slots ≤ result }
+        ensures value { result ≡ self.now.nodes.capacity }
     {
         self.nodes.capacity()
     }
 
     /// A number above the keys of all canvases.
     pub fn boards_end(&self) -> usize
-        ensures { length self.now.boards.slots ≤ result }
+        ensures slots { length self.now.boards.slots ≤ result }
+        ensures value { result ≡ self.now.boards.capacity }
     {
         self.boards.capacity()
     }

@@ -26,8 +26,8 @@ fn label_of(labels: &[u32], node: u32) -> u32
 impl<'a, L: Ledger> SignalGraph<L> for LinkGraph<'a> {
     ghost meaning = { λ g. link_graph g.labels.now g.links.now };
 
-    fn rank(&self, node: u32) -> u32 {
-        label_of(self.labels, node)
+    fn rank(&self, node: u32) -> u64 {
+        u64::from(label_of(self.labels, node))
     }
 
     fn feeder_count(&self, node: u32, steps: &mut Steps<L>) -> u32 {

@@ -52,7 +52,7 @@ pub trait SignalGraph<L: Ledger> {
     ghost meaning: { Self → Graph };
 
     /// The nodes that are ready run in the order of their ranks, the least first.
-    fn rank(&self, node: u32) -> u32
+    fn rank(&self, node: u32) -> u64
         ensures { result ≡ (meaning self.now).rank node };
 
     /// How many wires lead into the node.

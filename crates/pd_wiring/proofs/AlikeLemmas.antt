@@ -2,7 +2,7 @@
 use Rattle.std.proofs.Common.{◌≡◌, ℕ, List, [], ◌∷◌, map, filter, refl, sym, ap, ◌∙◌, subst}
 use Rattle.std.specs.Prelude.{Option, Some, None, option_map, slice_get, is_some, IsSome}
 use Rattle.std.specs.List.{AllByRecursion}
-use Rattle.slab.specs.Slab.{get}
+use Rattle.slab.specs.Slab.{Slab, get}
 use Rattle.pd_order.specs.Graph.{IsOrder}
 use Rattle.pd_order.specs.Listing.{Listing}
 use Rattle.pd_order.proofs.Basics.{by_test}
@@ -137,7 +137,8 @@ module _ (g h : Grove) (nodes : (k : ℕ) → option_map (with_state None) (get 
       subst (λ (xs : List ℕ). IsOrder (graph_of b.nodes.items (signal_wires_among w xs)) xs o.chain o.stuck) (sym (among_alike b.nodes.items)) e
 
   pub orders_alike : (w : Web) (orders : List (Option Listing)) → AreOrdered g w orders → AreOrdered h w orders
-  orders_alike w orders O c = rw boards (order_alike w (get g.boards c) (order_in orders c) (O c))
+  orders_alike w orders O c =
+      subst (λ (b : Option Board). HasOrder h w b (order_in orders c)) (ap (λ (s : Slab Board). get s c) (sym boards)) (order_alike w (get g.boards c) (order_in orders c) (O c))
 
 pub rewires_alike : (p q : Patch) → AreAlike p q → CanRewire p → CanRewire q
 rewires_alike p q A can = record {

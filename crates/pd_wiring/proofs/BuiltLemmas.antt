@@ -46,8 +46,8 @@ pub runs_rewire : (p : Patch) (names : Names) (file : List ℕ) (rate : Rate) �
 runs_rewire p names file rate b = record { own = b.own; ports = b.ports; inside = b.inside; linked = b.linked; orders = b.orders; numbers = b.numbers }
 
 -- the parts of it that a graph of a canvas rests on
-pub wired_parts : (p : Patch) → CanRewire p → AreWired p.grove p.web p.numbers.items p.links
-wired_parts p b = record { own = b.own; ports = b.ports.ports; numbered = b.numbers; inside = b.inside; linked = b.linked }
+pub wired_parts : (p : Patch) → CanRewire p → AreWired p.grove p.web p.links
+wired_parts p b = record { own = b.own; ports = b.ports.ports; inside = b.inside; linked = b.linked }
 
 -- a patch of the same boxes and ports, with wires that stay inside, links and orders, can be rewired as it could
 pub still_rewires : (p q : Patch) → q.grove ≡ p.grove → q.numbers ≡ p.numbers → KeepsPorts p.web q.web → StayInside p.grove q.web → HasLinks q.web q.links → AreOrdered p.grove q.web q.orders.items → CanRewire p → CanRewire q

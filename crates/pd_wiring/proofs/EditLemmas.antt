@@ -23,12 +23,12 @@ use Rattle.pd_wiring.proofs.WebLemmas.{joined_more, joined_inside, HasLaws, cut_
 use Rattle.pd_wiring.proofs.BuiltLemmas.{runs_rewire, wired_parts, still_rewires, rebuilt}
 
 -- the orders of a patch that runs are those of its links
-pub orders_linked : (p : Patch) → CanRewire p → AreOrderedBy p.grove p.numbers.items p.links p.orders.items
-orders_linked p b = ordered_by_links p.grove p.web p.numbers.items p.links (wired_parts p b) p.orders.items b.orders
+pub orders_linked : (p : Patch) → CanRewire p → AreOrderedBy p.grove p.links p.orders.items
+orders_linked p b = ordered_by_links p.grove p.web p.links (wired_parts p b) p.orders.items b.orders
 
 -- another web of the same ports, with its links
-rewired : (p : Patch) (v : Web) (ls : Links) → CanRewire p → KeepsPorts p.web v → StayInside p.grove v → HasLinks v ls → AreWired p.grove v p.numbers.items ls
-rewired p v ls b K inside linked = record { own = b.own; ports = λ side k. K.ports side k ∙ b.ports.ports side k; numbered = b.numbers; inside = inside; linked = linked }
+rewired : (p : Patch) (v : Web) (ls : Links) → CanRewire p → KeepsPorts p.web v → StayInside p.grove v → HasLinks v ls → AreWired p.grove v ls
+rewired p v ls b K inside linked = record { own = b.own; ports = λ side k. K.ports side k ∙ b.ports.ports side k; inside = inside; linked = linked }
 
 -- a sink that a signal wire may feed stands in the signal order
 pub sink_sounds : (p : Patch) (l : Line) → CanRewire p → is_signal_line p.web l ≡ true → is_signal_node (get p.grove.nodes l.sink) ≡ true
@@ -36,18 +36,18 @@ sink_sounds p l b t =
     sounding p.grove p.web Inlets l.sink l.inlet (b.ports.ports Inlets l.sink) (and_parts (signal_in (jack_told p.web Outlets l.source l.outlet)) (signal_in (jack_told p.web Inlets l.sink l.inlet)) t).1
 
 -- orders by links that are those of another web
-orders_told : (p q : Patch) (v : Web) → CanRewire p → KeepsPorts p.web v → StayInside p.grove v → HasLinks v q.links → q.grove ≡ p.grove → q.numbers ≡ p.numbers
-    → AreOrderedBy q.grove q.numbers.items q.links q.orders.items → AreOrdered p.grove v q.orders.items
-orders_told p q v b K inside linked grove numbers o =
-    ordered_by_wires p.grove v p.numbers.items q.links (rewired p v q.links b K inside linked) q.orders.items (rw (grove, numbers) at o)
+orders_told : (p q : Patch) (v : Web) → CanRewire p → KeepsPorts p.web v → StayInside p.grove v → HasLinks v q.links → q.grove ≡ p.grove
+    → AreOrderedBy q.grove q.links q.orders.items → AreOrdered p.grove v q.orders.items
+orders_told p q v b K inside linked grove o =
+    ordered_by_wires p.grove v q.links (rewired p v q.links b K inside linked) q.orders.items (rw grove at o)
 
 -- what an edit of wires asks, where the web, the links and the orders are changed together
 changed : (p q : Patch) (v : Web) (source : ℕ) → CanRewire p → StaysButWire p q source → q.web ≡ v → KeepsPorts p.web v → StayInside p.grove v → HasLinks v q.links
-    → AreOrderedBy q.grove q.numbers.items q.links q.orders.items → CanRewire q
+    → AreOrderedBy q.grove q.links q.orders.items → CanRewire q
 changed p q v source b S web K inside linked o =
     still_rewires p q S.grove S.numbers (subst (λ (x : Web). KeepsPorts p.web x) (sym web) K) (subst (λ (x : Web). StayInside p.grove x) (sym web) inside)
     (subst (λ (x : Web). HasLinks x q.links) (sym web) linked)
-    (subst (λ (x : Web). AreOrdered p.grove x q.orders.items) (sym web) (orders_told p q v b K inside linked S.grove S.numbers o)) b
+    (subst (λ (x : Web). AreOrdered p.grove x q.orders.items) (sym web) (orders_told p q v b K inside linked S.grove o)) b
 
 -- where it is still so, the patch is built as it was
 pub stays_built : (p q : Patch) (v : Web) (source : ℕ) → StaysButWire p q source → q.web ≡ v → KeepsPorts p.web v → (CanRewire p → CanRewire q) → StaysBuilt p q
@@ -63,12 +63,12 @@ module _ (p : Patch) (v : Web) (l : Line) (key fan feed : ℕ) (R : IsRoute p.we
   pub was_signal : is_signal_line v l ≡ is_signal_line p.web l
   was_signal = signal_same p.web v l more
 
-  pub attach_wired : CanRewire p → is_signal_line v l ≡ true → (ls : Links) → HasOneMore p.links ls l.source l.sink → AreWired p.grove v p.numbers.items ls
+  pub attach_wired : CanRewire p → is_signal_line v l ≡ true → (ls : Links) → HasOneMore p.links ls l.source l.sink → AreWired p.grove v ls
   attach_wired b t ls h =
       rewired p v ls b J.kept (joined_inside p.grove p.web v l more share b.inside) (signal_links p.web v l more p.links ls (sym was_signal ∙ t) h b.linked)
 
   pub attach_signal : (q : Patch) → is_signal_line v l ≡ true → StaysButWire p q l.source → q.web ≡ v → HasOneMore p.links q.links l.source l.sink
-      → AreOrderedBy q.grove q.numbers.items q.links q.orders.items → CanRewire p → CanRewire q
+      → AreOrderedBy q.grove q.links q.orders.items → CanRewire p → CanRewire q
   attach_signal q t S web h o b =
       changed p q v l.source b S web J.kept (joined_inside p.grove p.web v l more share b.inside) (signal_links p.web v l more p.links q.links (sym was_signal ∙ t) h b.linked) o
 
@@ -77,7 +77,7 @@ module _ (p : Patch) (v : Web) (l : Line) (key fan feed : ℕ) (R : IsRoute p.we
   attach_control q f S web links orders b =
       changed p q v l.source b S web J.kept (joined_inside p.grove p.web v l more share b.inside)
       (subst (HasLinks v) (sym links) (control_links p.web v l more p.links (sym was_signal ∙ f) b.linked))
-      (rw (S.grove, S.numbers, links, orders) (orders_linked p b))
+      (rw (S.grove, links, orders) (orders_linked p b))
 
 -- Where a wire went.
 
@@ -94,12 +94,12 @@ module _ (p : Patch) (v : Web) (l : Line) (key : ℕ) (L : HasLaws p.web) (A : L
   pub linked_into : CanRewire p → is_signal_line p.web l ≡ true → 0 < tally l.source (feeders_of p.links l.sink)
   linked_into b t = fed_there v p.web l less p.links (sym still_signal ∙ t) b.linked
 
-  pub detach_wired : CanRewire p → is_signal_line p.web l ≡ true → (ls : Links) → HasOneMore ls p.links l.source l.sink → AreWired p.grove v p.numbers.items ls
+  pub detach_wired : CanRewire p → is_signal_line p.web l ≡ true → (ls : Links) → HasOneMore ls p.links l.source l.sink → AreWired p.grove v ls
   detach_wired b t ls h =
       rewired p v ls b C.kept (cut_inside p.grove p.web v key C b.inside) (signal_back v p.web l less ls p.links (sym still_signal ∙ t) h b.linked)
 
   pub detach_signal : (q : Patch) → is_signal_line p.web l ≡ true → StaysButWire p q l.source → q.web ≡ v → HasOneMore q.links p.links l.source l.sink
-      → AreOrderedBy q.grove q.numbers.items q.links q.orders.items → CanRewire p → CanRewire q
+      → AreOrderedBy q.grove q.links q.orders.items → CanRewire p → CanRewire q
   detach_signal q t S web h o b =
       changed p q v l.source b S web C.kept (cut_inside p.grove p.web v key C b.inside) (signal_back v p.web l less q.links p.links (sym still_signal ∙ t) h b.linked) o
 
@@ -108,4 +108,4 @@ module _ (p : Patch) (v : Web) (l : Line) (key : ℕ) (L : HasLaws p.web) (A : L
   detach_control q f S web links orders b =
       changed p q v l.source b S web C.kept (cut_inside p.grove p.web v key C b.inside)
       (subst (HasLinks v) (sym links) (control_back v p.web l less p.links (sym still_signal ∙ f) b.linked))
-      (rw (S.grove, S.numbers, links, orders) (orders_linked p b))
+      (rw (S.grove, links, orders) (orders_linked p b))

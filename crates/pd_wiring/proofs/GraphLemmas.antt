@@ -1,23 +1,24 @@
 -- The graph of a canvas, by the links of the whole patch.
 use Rattle.std.proofs.Common.{arith, ◌≡◌, ℕ, zero, suc, ◌+◌, ◌<◌, ◌≤◌, ◌==◌, ◌^◌, Bool, true, false, cond, List, [], ◌∷◌, length, refl, sym, ap, ◌∙◌, subst}
 use Rattle.std.specs.Prelude.{Option, Some, None, slice_get, ◌↔◌}
-use Rattle.std.proofs.lemmas.Option.{none-some, same_Some, get_or_from_slice_get}
+use Rattle.std.proofs.lemmas.Option.{none-some, same_Some}
 use Rattle.slab.specs.Slab.{get}
 use Rattle.pd_order.specs.Graph.{tally, IsLawful, IsOrder}
 use Rattle.pd_order.specs.Listing.{Listing}
-use Rattle.pd_order.proofs.Basics.{by_test, same_node, same_test, other_node, other_test}
+use Rattle.pd_order.proofs.Basics.{by_test, same_node, same_test, other_node, other_test, ltb', ltb-true', ltb-false'}
 use Rattle.pd_order.proofs.SameLemmas.{same_order}
 use Rattle.pd_chain.specs.Wires.{place_of, sources_into, graph_of}
 use Rattle.pd_links.specs.declared.links.Links.{Links}
-use Rattle.pd_links.specs.Linked.{label_at, feeders_of, followers_of}
+use Rattle.pd_links.specs.Linked.{feeders_of, followers_of}
+use Rattle.pd_label.specs.Labels.{label_of as label_in, Rise}
 use Rattle.pd_grove.specs.declared.boards.Board.{Board}
 use Rattle.pd_grove.specs.declared.grove.Grove.{Grove}
 use Rattle.pd_grove.specs.Owning.{AreOwn, board_in}
+use Rattle.pd_grove.specs.Labelled.{label_of}
 use Rattle.pd_grove.specs.Telling.{keys_in}
 use Rattle.pd_web.specs.declared.web.Web.{Web}
 use Rattle.pd_web.specs.Canvases.{keys_at}
 use Rattle.pd_patch.specs.Listing.{IsThere}
-use Rattle.pd_patch.specs.Numbers.{AreUnder}
 use Rattle.pd_patch.specs.Orders.{is_signal_node, signal_among, signal_wires_among, HasOrder, AreOrdered}
 use Rattle.pd_patch.specs.Telling.{order_in}
 use Rattle.pd_patch.proofs.ListingLemmas.{place_in, counted_at}
@@ -63,10 +64,7 @@ some_inside false xs i l = absurd (omega (arith, l))
 pub some_there : (b : Bool) (xs : List ℕ) (i : ℕ) → i < length (cond b xs []) → i < length xs
 some_there b xs i l = subst (λ (ys : List ℕ). i < length ys) (some_inside b xs i l) l
 
--- Numbers of boxes.
-
-pub number_is : (numbers keys : List ℕ) (i k : ℕ) → AreUnder numbers keys → slice_get keys i ≡ Some k → label_at numbers k ≡ i
-number_is numbers keys i k U at = get_or_from_slice_get numbers k i 0 (U i k at)
+-- Places and labels of boxes.
 
 place_is : (keys : List ℕ) (i k : ℕ) → ((i j k : ℕ) → slice_get keys i ≡ Some k → slice_get keys j ≡ Some k → i ≡ j) → slice_get keys i ≡ Some k → place_of keys k ≡ i
 place_is [] i k once at = absurd (none-some k at)
@@ -82,18 +80,30 @@ place_is (x ∷ keys) (suc i) k once at =
       down : (a b : ℕ) → suc a ≡ suc b → a ≡ b
       down a b e = omega (arith, e)
 
--- a box's number is its place
-number_placed : (g : Grove) (numbers : List ℕ) (c k : ℕ) → AreOwn (get g.nodes) (get g.boards) → AreUnder numbers (keys_at g c) → IsThere (keys_at g c) k → label_at numbers k ≡ place_of (keys_at g c) k
-number_placed g numbers c k O U at = number_is numbers (keys_at g c) at.0 k U at.1 ∙ sym (place_is (keys_at g c) at.0 k (O.once c) at.1)
+-- along keys whose labels rise, a smaller label stands earlier
+label_earlier : (labels keys : List ℕ) (i j x y : ℕ) → Rise labels keys → slice_get keys i ≡ Some x → slice_get keys j ≡ Some y → label_in labels x < label_in labels y → i < j
+label_earlier labels keys i j x y R at bt h = by_test (ltb' i j)
+    (λ t. ltb-true' i j t)
+    (λ f. let l : j ≤ i = ltb-false' i j f in by_test (ltb' j i)
+    (λ t. let m : label_in labels y < label_in labels x = R j i y x (ltb-true' j i t) bt at in absurd (omega (arith, h, m)))
+    (λ u. let m : i ≤ j = ltb-false' j i u in
+    let same : i ≡ j = omega (arith, l, m) in
+    let one : x ≡ y = same_Some x y (sym at ∙ ap (slice_get keys) same ∙ bt) in
+    let e : label_in labels x ≡ label_in labels y = ap (label_in labels) one in absurd (omega (arith, h, e))))
 
-number_once : (g : Grove) (numbers : List ℕ) (c x y : ℕ) → AreUnder numbers (keys_at g c) → IsThere (keys_at g c) x → IsThere (keys_at g c) y → label_at numbers x ≡ label_at numbers y → x ≡ y
-number_once g numbers c x y U p q e =
-    let same : p.0 ≡ q.0 = sym (number_is numbers (keys_at g c) p.0 x U p.1) ∙ e ∙ number_is numbers (keys_at g c) q.0 y U q.1 in
-    same_Some x y (sym p.1 ∙ ap (slice_get (keys_at g c)) same ∙ q.1)
+-- and one label is that of one place
+label_once : (labels keys : List ℕ) (i j x y : ℕ) → Rise labels keys → slice_get keys i ≡ Some x → slice_get keys j ≡ Some y → label_in labels x ≡ label_in labels y → x ≡ y
+label_once labels keys i j x y R at bt e = by_test (ltb' i j)
+    (λ t. let m : label_in labels x < label_in labels y = R i j x y (ltb-true' i j t) at bt in absurd (omega (arith, e, m)))
+    (λ f. let l : j ≤ i = ltb-false' i j f in by_test (ltb' j i)
+    (λ t. let m : label_in labels y < label_in labels x = R j i y x (ltb-true' j i t) bt at in absurd (omega (arith, e, m)))
+    (λ u. let m : i ≤ j = ltb-false' j i u in
+    let same : i ≡ j = omega (arith, l, m) in
+    same_Some x y (sym at ∙ ap (slice_get keys) same ∙ bt)))
 
 -- Wires of a canvas.
 
-module _ (g : Grove) (w : Web) (numbers : List ℕ) (l : Links) (W : AreWired g w numbers l) where
+module _ (g : Grove) (w : Web) (l : Links) (W : AreWired g w l) where
   fed_joined : (u x : ℕ) → 0 < tally u (feeders_of l x) → AreJoined g u x
   fed_joined u x h = let e = W.linked.feeders u x in joined_boxes g w u x W.ports W.inside (omega (arith, h, e))
 
@@ -144,10 +154,11 @@ module _ (g : Grove) (w : Web) (numbers : List ℕ) (l : Links) (W : AreWired g 
   few_in c x = by_test (lies_in g c x) (λ t. rw t (l.few_into x)) (λ f. rw f (omega arith))
 
   -- the graph of a canvas is one that its order may ask
-  pub canvas_lawful : (c : ℕ) → IsLawful (canvas_graph g numbers l c) (signal_boxes g c)
+  pub canvas_lawful : (c : ℕ) → IsLawful (canvas_graph g l c) (signal_boxes g c)
   canvas_lawful c = record {
     once = λ x. signal_once g c x W.own;
-    apart = λ x y p q e. number_once g numbers c x y (W.numbered c) (box_there g c x p) (box_there g c y q) e;
+    apart = λ x y p q e. let a = box_there g c x p in let b = box_there g c y q in
+        label_once g.labels (keys_at g c) a.0 b.0 x y (g.labelled.rise c) a.1 b.1 e;
     joined = λ x u. joined_in c x u;
     sources = λ x u h. (fed_by c x u h).0;
     sinks = λ x u h. (fed_by c x u h).1;
@@ -170,37 +181,41 @@ module _ (g : Grove) (w : Web) (numbers : List ℕ) (l : Links) (W : AreWired g 
         one zero h k = absurd (k refl)
         one (suc n) h k = omega (arith, h)
 
-  ranks_alike : (c x y : ℕ) → 0 < tally x (signal_boxes g c) → 0 < tally y (signal_boxes g c) → (place_of (keys_at g c) x < place_of (keys_at g c) y) ↔ (label_at numbers x < label_at numbers y)
+  ranks_alike : (c x y : ℕ) → 0 < tally x (signal_boxes g c) → 0 < tally y (signal_boxes g c) → (place_of (keys_at g c) x < place_of (keys_at g c) y) ↔ (label_of g x < label_of g y)
   ranks_alike c x y p q =
-      let a = number_placed g numbers c x W.own (W.numbered c) (box_there g c x p) in
-      let b = number_placed g numbers c y W.own (W.numbered c) (box_there g c y q) in
-      (λ h. omega (arith, a, b, h), λ h. omega (arith, a, b, h))
+      let at = box_there g c x p in
+      let bt = box_there g c y q in
+      let a : place_of (keys_at g c) x ≡ at.0 = place_is (keys_at g c) at.0 x (W.own.once c) at.1 in
+      let b : place_of (keys_at g c) y ≡ bt.0 = place_is (keys_at g c) bt.0 y (W.own.once c) bt.1 in (
+        λ h. g.labelled.rise c at.0 bt.0 x y (omega (arith, a, b, h)) at.1 bt.1,
+        λ h. let m : at.0 < bt.0 = label_earlier g.labels (keys_at g c) at.0 bt.0 x y (g.labelled.rise c) at.1 bt.1 h in omega (arith, a, b, m),
+      )
 
   -- the order of a canvas by its wires is the one by its links
-  pub order_by_links : (c : ℕ) (chain stuck : List ℕ) → IsOrder (graph_of (keys_at g c) (signal_wires_among w (signal_boxes g c))) (signal_boxes g c) chain stuck → IsOrder (canvas_graph g numbers l c) (signal_boxes g c) chain stuck
-  order_by_links c chain stuck o = same_order (graph_of (keys_at g c) (signal_wires_among w (signal_boxes g c))) (canvas_graph g numbers l c) (signal_boxes g c) (signal_boxes g c) chain stuck
+  pub order_by_links : (c : ℕ) (chain stuck : List ℕ) → IsOrder (graph_of (keys_at g c) (signal_wires_among w (signal_boxes g c))) (signal_boxes g c) chain stuck → IsOrder (canvas_graph g l c) (signal_boxes g c) chain stuck
+  order_by_links c chain stuck o = same_order (graph_of (keys_at g c) (signal_wires_among w (signal_boxes g c))) (canvas_graph g l c) (signal_boxes g c) (signal_boxes g c) chain stuck
       (record { ranks = λ x y p q. ranks_alike c x y p q; feeders = λ x u p. fed_alike c x u p }) (λ x. refl) o
 
-  pub order_by_wires : (c : ℕ) (chain stuck : List ℕ) → IsOrder (canvas_graph g numbers l c) (signal_boxes g c) chain stuck → IsOrder (graph_of (keys_at g c) (signal_wires_among w (signal_boxes g c))) (signal_boxes g c) chain stuck
-  order_by_wires c chain stuck o = same_order (canvas_graph g numbers l c) (graph_of (keys_at g c) (signal_wires_among w (signal_boxes g c))) (signal_boxes g c) (signal_boxes g c) chain stuck
+  pub order_by_wires : (c : ℕ) (chain stuck : List ℕ) → IsOrder (canvas_graph g l c) (signal_boxes g c) chain stuck → IsOrder (graph_of (keys_at g c) (signal_wires_among w (signal_boxes g c))) (signal_boxes g c) chain stuck
+  order_by_wires c chain stuck o = same_order (canvas_graph g l c) (graph_of (keys_at g c) (signal_wires_among w (signal_boxes g c))) (signal_boxes g c) (signal_boxes g c) chain stuck
       (record { ranks = λ x y p q. let r = ranks_alike c x y p q in (r.1, r.0); feeders = λ x u p. sym (fed_alike c x u p) }) (λ x. refl) o
 
-  chained_by : (c : ℕ) (b : Option Board) (o : Option Listing) → b ≡ get g.boards c → HasOrder g w b o → HasOrderBy (canvas_graph g numbers l c) (signal_boxes g c) b o
+  chained_by : (c : ℕ) (b : Option Board) (o : Option Listing) → b ≡ get g.boards c → HasOrder g w b o → HasOrderBy (canvas_graph g l c) (signal_boxes g c) b o
   chained_by c None o e h = h
   chained_by c (Some b) None e h = h
   chained_by c (Some b) (Some o) e h =
       let keys : b.nodes.items ≡ keys_at g c = ap keys_in e in
       order_by_links c o.chain o.stuck (subst (λ (ks : List ℕ). IsOrder (graph_of ks (signal_wires_among w (signal_among g ks))) (signal_among g ks) o.chain o.stuck) keys h)
 
-  wired_by : (c : ℕ) (b : Option Board) (o : Option Listing) → b ≡ get g.boards c → HasOrderBy (canvas_graph g numbers l c) (signal_boxes g c) b o → HasOrder g w b o
+  wired_by : (c : ℕ) (b : Option Board) (o : Option Listing) → b ≡ get g.boards c → HasOrderBy (canvas_graph g l c) (signal_boxes g c) b o → HasOrder g w b o
   wired_by c None o e h = h
   wired_by c (Some b) None e h = h
   wired_by c (Some b) (Some o) e h =
       let keys : b.nodes.items ≡ keys_at g c = ap keys_in e in
       subst (λ (ks : List ℕ). IsOrder (graph_of ks (signal_wires_among w (signal_among g ks))) (signal_among g ks) o.chain o.stuck) (sym keys) (order_by_wires c o.chain o.stuck h)
 
-  pub ordered_by_links : (orders : List (Option Listing)) → AreOrdered g w orders → AreOrderedBy g numbers l orders
+  pub ordered_by_links : (orders : List (Option Listing)) → AreOrdered g w orders → AreOrderedBy g l orders
   ordered_by_links orders h c = chained_by c (get g.boards c) (order_in orders c) refl (h c)
 
-  pub ordered_by_wires : (orders : List (Option Listing)) → AreOrderedBy g numbers l orders → AreOrdered g w orders
+  pub ordered_by_wires : (orders : List (Option Listing)) → AreOrderedBy g l orders → AreOrdered g w orders
   ordered_by_wires orders h c = wired_by c (get g.boards c) (order_in orders c) refl (h c)

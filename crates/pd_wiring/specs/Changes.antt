@@ -49,10 +49,10 @@ StaysBuilt old new = (names : Names) (file : List ℕ) (rate : Rate) → IsBuilt
 
 -- the signal wires of a canvas of a patch, and the orders of all canvases by them
 abbrev pub graph_in : Patch → ℕ → Graph
-graph_in p c = canvas_graph p.grove p.numbers.items p.links c
+graph_in p c = canvas_graph p.grove p.links c
 
 abbrev pub HasOrders : Patch → Type 0
-HasOrders p = AreOrderedBy p.grove p.numbers.items p.links p.orders.items
+HasOrders p = AreOrderedBy p.grove p.links p.orders.items
 
 -- whether a line leads from an outlet that carries signals to an inlet that does
 abbrev pub is_signal_line : Web → Line → Bool

@@ -1,7 +1,6 @@
 //! The signal wires of one canvas, as the graph that its order asks.
 
 ghost use Rattle.std.specs.Prelude.{◌≡◌};
-ghost use Rattle.pd_links.specs.Linked.{label_at};
 ghost use Rattle.pd_wiring.specs.Graphs.{lies_in, canvas_graph};
 
 use pd_grove::Grove;
@@ -9,23 +8,13 @@ use pd_links::Links;
 use pd_order::{SignalGraph, Steps};
 use std::sync::ledger::Ledger;
 
-/// The boxes of a canvas, each of the rank of its number, and the signal wires between them. Numbers stand under the
-/// keys of boxes. A box of another canvas has no wire here.
+/// The boxes of a canvas, each of the rank of its label, and the signal wires between them. A box of another canvas has
+/// no wire here.
 #[derive(Clone, Copy)]
 pub struct CanvasGraph<'a> {
     pub grove: &'a Grove,
-    pub numbers: &'a [u32],
     pub links: &'a Links,
     pub canvas: u32,
-}
-
-fn number_of(numbers: &[u32], node: u32) -> u32
-    ensures { result ≡ label_at numbers.now node }
-{
-    match numbers.get(node as usize) {
-        Some(number) => *number,
-        None => 0,
-    }
 }
 
 /// Whether a box lies in the canvas.
@@ -39,10 +28,10 @@ fn is_inside(grove: &Grove, canvas: u32, node: u32) -> bool
 }
 
 impl<'a, L: Ledger> SignalGraph<L> for CanvasGraph<'a> {
-    ghost meaning = { λ g. canvas_graph g.grove.now g.numbers.now g.links.now g.canvas };
+    ghost meaning = { λ g. canvas_graph g.grove.now g.links.now g.canvas };
 
-    fn rank(&self, node: u32) -> u32 {
-        number_of(self.numbers, node)
+    fn rank(&self, node: u32) -> u64 {
+        self.grove.label(node)
     }
 
     fn feeder_count(&self, node: u32, steps: &mut Steps<L>) -> u32 {

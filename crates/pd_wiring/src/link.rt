@@ -24,7 +24,7 @@ use std::sync::ledger::Ledger;
 /// A signal wire more, which the web has already.
 pub(crate) fn link<L: Ledger>(patch: &mut Patch, wire: SignalWire, steps: &mut Steps<L>)
     requires room { TakesOne patch.old.links wire.source wire.sink }
-    requires wired { (more : Links) → HasOneMore patch.old.links more wire.source wire.sink → AreWired patch.old.grove patch.old.web patch.old.numbers.items more }
+    requires wired { (more : Links) → HasOneMore patch.old.links more wire.source wire.sink → AreWired patch.old.grove patch.old.web more }
     requires together { ShareCanvas patch.old.grove wire.source wire.sink }
     requires signal { is_signal_node (get patch.old.grove.nodes wire.sink) ≡ true }
     requires orders { HasOrders patch.old }
@@ -42,7 +42,7 @@ pub(crate) fn link<L: Ledger>(patch: &mut Patch, wire: SignalWire, steps: &mut S
 pub(crate) fn unlink<L: Ledger>(patch: &mut Patch, wire: SignalWire, steps: &mut Steps<L>)
     requires from { 0 < tally wire.sink (followers_of patch.old.links wire.source) }
     requires into { 0 < tally wire.source (feeders_of patch.old.links wire.sink) }
-    requires wired { (less : Links) → HasOneMore less patch.old.links wire.source wire.sink → AreWired patch.old.grove patch.old.web patch.old.numbers.items less }
+    requires wired { (less : Links) → HasOneMore less patch.old.links wire.source wire.sink → AreWired patch.old.grove patch.old.web less }
     requires together { ShareCanvas patch.old.grove wire.source wire.sink }
     requires signal { is_signal_node (get patch.old.grove.nodes wire.sink) ≡ true }
     requires orders { HasOrders patch.old }
@@ -58,7 +58,7 @@ pub(crate) fn unlink<L: Ledger>(patch: &mut Patch, wire: SignalWire, steps: &mut
 
 /// Mends the order of the canvas of a wire that came into the links or went out of them.
 fn mend_canvas<L: Ledger>(patch: &mut Patch, wire: SignalWire, change: Change, steps: &mut Steps<L>)
-    requires wired { AreWired patch.old.grove patch.old.web patch.old.numbers.items patch.old.links }
+    requires wired { AreWired patch.old.grove patch.old.web patch.old.links }
     requires wire { change ≡ Came → 0 < tally wire.source (feeders_of patch.old.links wire.sink) }
     requires signal { is_signal_node (get patch.old.grove.nodes wire.sink) ≡ true }
     requires together { ShareCanvas patch.old.grove wire.source wire.sink }
@@ -74,7 +74,6 @@ fn mend_canvas<L: Ledger>(patch: &mut Patch, wire: SignalWire, change: Change, s
     };
     let graph = CanvasGraph {
         grove: &patch.grove,
-        numbers: patch.numbers.as_slice(),
         links: &patch.links,
         canvas,
     };

@@ -1,7 +1,7 @@
-use Rattle.std.proofs.Common.{◌≡◌, ◌≢◌, ℕ, List, [], ◌∷◌, ◌++◌, ◌+◌, ◌<◌, ◌≤◌, length, Some, IsSome, refl, sym, ap, ◌∙◌, subst, arith}
+use Rattle.std.proofs.Common.{◌≡◌, ◌≢◌, List, [], ◌∷◌, ◌++◌, length, Some, IsSome, refl, sym, ap, ◌∙◌, subst, arith}
 use mathlib.Core.Logic.{⊎_elim}
 use Rattle.std.proofs.lemmas.Bool.{cases_eq}
-use Rattle.std.specs.Prelude.{option_map, slice_get}
+use Rattle.std.specs.Prelude.{option_map}
 use Rattle.slab.specs.Slab.{get}
 use Rattle.pd_canvas.specs.Views.{entry_of}
 use Rattle.pd_grove.specs.Standing.{node_seen, with_inner}
@@ -24,7 +24,7 @@ pub plant_boxes-loop-preserved : goal.plant_boxes-loop-preserved
 plant_boxes-loop-preserved t c =
     let p = c.plant_next.ensures in
     halfway_next c.args.nodes.now c.loop.nodes c.plant_next.new.nodes c.args.boards.now c.loop.boards c.plant_next.new.boards c.args.labels.now c.loop.labels c.plant_next.new.labels (seeds_in c.args.seeds.now) (seeds_in c.loop.seeds) (seeds_in c.plant_next.new.seeds)
-    c.args.board c.args.depth c.loop.counter c.args.count (omega arith) c.requires.depth c.loop.invariant p.kept p.own_room p.room p.roomy p.fewer p.fresh p.small p.of_tree p.own p.labelled p.uses p.forest p.plants
+    c.args.board c.args.depth c.loop.counter c.args.count (omega arith) c.requires.depth c.loop.invariant p.kept p.own_room p.room p.nodes_capacity p.boards_capacity p.roomy p.fewer p.fresh p.small p.of_tree p.own p.labelled p.uses p.forest p.plants
 
 pub plant_boxes-returns-clause-plants : goal.plant_boxes-returns-clause-plants
 plant_boxes-returns-clause-plants t c = λ u more h w.

@@ -14,7 +14,7 @@ mend_canvas-requires-clause-wire g c = λ _. wire_there c.args.patch.now.links c
 pub mend_canvas-requires-clause-orders : goal.mend_canvas-requires-clause-orders
 mend_canvas-requires-clause-orders g c =
     let p = c.args.patch.now in
-    all_came p.grove p.numbers.items (c.requires.wired c.add.new.self c.add.ensures.wires).own p.links c.add.new.self c.args.wire p.orders.items c.add.ensures.wires c.requires.orders
+    all_came p.grove (c.requires.wired c.add.new.self c.add.ensures.wires).own p.links c.add.new.self c.args.wire p.orders.items c.add.ensures.wires c.requires.orders
 
 pub returns-clause-links : goal.returns-clause-links
 returns-clause-links g c =

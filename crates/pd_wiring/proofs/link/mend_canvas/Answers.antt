@@ -7,7 +7,7 @@ use Rattle.slab.specs.Slab.{get}
 use Rattle.pd_order.specs.Listing.{Listing}
 use Rattle.pd_grove.specs.Owning.{board_in}
 use Rattle.pd_patch.specs.Telling.{order_in}
-use Rattle.pd_wiring.specs.Graphs.{lies_in, canvas_graph, signal_boxes, graph_before, graph_with, AreWired, IsOrderIn, AreOrderedBy}
+use Rattle.pd_wiring.specs.Graphs.{lies_in, canvas_graph, signal_boxes, graph_before, graph_with, IsOrderIn, AreOrderedBy}
 use Rattle.pd_wiring.specs.Changes.{most_mending}
 use Rattle.pd_wiring.proofs.GraphLemmas.{lies_there, signal_there, canvas_lawful}
 use Rattle.pd_wiring.proofs.MendLemmas.{order_before, each_mended, sink_there}
@@ -18,11 +18,10 @@ mend-requires-clause-ready g c =
     let p = c.args.patch.now in
     let v = c.args.wire in
     let own = c.requires.wired.own in
-    let there = sink_there p.grove p.numbers.items own v.source v.sink c.canvas_of.result c.in-Some.canvas c.requires.together c.canvas_of.ensures c.in-Some.is in
-    let told = subst (λ (ns : List ℕ). AreWired p.grove p.web ns p.links) (sym c.as_slice.ensures.value) c.requires.wired in
+    let there = sink_there p.grove own v.source v.sink c.canvas_of.result c.in-Some.canvas c.requires.together c.canvas_of.ensures c.in-Some.is in
     let lies : lies_in p.grove c.in-Some.canvas v.sink ≡ true = lies_there p.grove c.in-Some.canvas v.sink own there in
     record {
-      lawful = canvas_lawful p.grove p.web c.as_slice.result.now p.links told c.in-Some.canvas;
+      lawful = canvas_lawful p.grove p.web p.links c.requires.wired c.in-Some.canvas;
       wire = λ came. rw lies (c.requires.wire came);
       sink = signal_there p.grove c.in-Some.canvas v.sink there c.requires.signal;
     }
@@ -32,27 +31,25 @@ mend-requires-clause-order g c =
     let p = c.args.patch.now in
     let v = c.args.wire in
     let own = c.requires.wired.own in
-    let there = sink_there p.grove p.numbers.items own v.source v.sink c.canvas_of.result c.in-Some.canvas c.requires.together c.canvas_of.ensures c.in-Some.is in
-    let base = order_before p.grove p.numbers.items own c.args.change p.links v c.in-Some.canvas p.orders.items there c.requires.orders in
-    subst (λ (os : List (Option Listing)). IsOrderIn (graph_before c.args.change (canvas_graph p.grove c.as_slice.result.now p.links c.in-Some.canvas) v) (signal_boxes p.grove c.in-Some.canvas) (order_in os c.in-Some.canvas))
-    (sym c.as_mut_slice.ensures.value)
-    (subst (λ (ns : List ℕ). IsOrderIn (graph_before c.args.change (canvas_graph p.grove ns p.links c.in-Some.canvas) v) (signal_boxes p.grove c.in-Some.canvas) (order_in p.orders.items c.in-Some.canvas))
-    (sym c.as_slice.ensures.value) base)
+    let there = sink_there p.grove own v.source v.sink c.canvas_of.result c.in-Some.canvas c.requires.together c.canvas_of.ensures c.in-Some.is in
+    let base = order_before p.grove own c.args.change p.links v c.in-Some.canvas p.orders.items there c.requires.orders in
+    subst (λ (os : List (Option Listing)). IsOrderIn (graph_before c.args.change (canvas_graph p.grove p.links c.in-Some.canvas) v) (signal_boxes p.grove c.in-Some.canvas) (order_in os c.in-Some.canvas))
+    (sym c.as_mut_slice.ensures.value) base
 
 pub returns-clause-orders : goal.returns-clause-orders
 returns-clause-orders g c =
     let p = c.args.patch.now in
     let v = c.args.wire in
     let own = c.requires.wired.own in
-    let there = sink_there p.grove p.numbers.items own v.source v.sink c.canvas_of.result c.in-Some.canvas c.requires.together c.canvas_of.ensures c.in-Some.is in
+    let there = sink_there p.grove own v.source v.sink c.canvas_of.result c.in-Some.canvas c.requires.together c.canvas_of.ensures c.in-Some.is in
     let F = p.orders in
     let len : length c.mend.new.orders ≡ F.len = (let a = c.mend.auto.orders in let b = c.as_mut_slice.ensures.len in omega arith) in
     let same : (with_items F c.mend.new.orders).items ≡ c.mend.new.orders = with_items_is F c.mend.new.orders len in
-    let mended = subst (λ (ns : List ℕ). IsOrderIn (canvas_graph p.grove ns p.links c.in-Some.canvas) (signal_boxes p.grove c.in-Some.canvas) (order_in c.mend.new.orders c.in-Some.canvas)) c.as_slice.ensures.value c.mend.ensures.order in
+    let mended : IsOrderIn (canvas_graph p.grove p.links c.in-Some.canvas) (signal_boxes p.grove c.in-Some.canvas) (order_in c.mend.new.orders c.in-Some.canvas) = c.mend.ensures.order in
     let others : (d : ℕ) → d ≢ c.in-Some.canvas → order_in c.mend.new.orders d ≡ order_in F.items d = (λ (d : ℕ) (differ : d ≢ c.in-Some.canvas).
     c.mend.ensures.others d differ ∙ ap (λ (os : List (Option Listing)). order_in os d) c.as_mut_slice.ensures.value) in
-    subst (λ (os : List (Option Listing)). AreOrderedBy p.grove p.numbers.items p.links os) (sym same)
-    (each_mended p.grove p.numbers.items own c.args.change p.links v c.in-Some.canvas F.items c.mend.new.orders there c.requires.orders mended others)
+    subst (λ (os : List (Option Listing)). AreOrderedBy p.grove p.links os) (sym same)
+    (each_mended p.grove own c.args.change p.links v c.in-Some.canvas F.items c.mend.new.orders there c.requires.orders mended others)
 
 pub returns-clause-rest : goal.returns-clause-rest
 returns-clause-rest g c =
@@ -84,7 +81,6 @@ returns-clause-looks g c =
     λ k lies.
     let e : c.in-Some.canvas ≡ k = same_Some c.in-Some.canvas k (sym told ∙ lies) in
     let base = c.mend.ensures.looks in
-    let by_numbers = subst (λ (ns : List ℕ). c.mend.new.steps ≤ c.args.steps.now + most_mending (graph_with c.args.change (canvas_graph p.grove ns p.links c.in-Some.canvas) c.args.wire) c.args.wire.sink (order_in c.as_mut_slice.result.now c.in-Some.canvas) (order_in c.mend.new.orders c.in-Some.canvas)) c.as_slice.ensures.value base in
-    let by_old = subst (λ (os : List (Option Listing)). c.mend.new.steps ≤ c.args.steps.now + most_mending (graph_with c.args.change (canvas_graph p.grove p.numbers.items p.links c.in-Some.canvas) c.args.wire) c.args.wire.sink (order_in os c.in-Some.canvas) (order_in c.mend.new.orders c.in-Some.canvas)) c.as_mut_slice.ensures.value by_numbers in
-    let by_new = subst (λ (os : List (Option Listing)). c.mend.new.steps ≤ c.args.steps.now + most_mending (graph_with c.args.change (canvas_graph p.grove p.numbers.items p.links c.in-Some.canvas) c.args.wire) c.args.wire.sink (order_in F.items c.in-Some.canvas) (order_in os c.in-Some.canvas)) (sym same) by_old in
-    subst (λ (n : ℕ). c.mend.new.steps ≤ c.args.steps.now + most_mending (graph_with c.args.change (canvas_graph p.grove p.numbers.items p.links n) c.args.wire) c.args.wire.sink (order_in F.items n) (order_in (with_items F c.mend.new.orders).items n)) e by_new
+    let by_old = subst (λ (os : List (Option Listing)). c.mend.new.steps ≤ c.args.steps.now + most_mending (graph_with c.args.change (canvas_graph p.grove p.links c.in-Some.canvas) c.args.wire) c.args.wire.sink (order_in os c.in-Some.canvas) (order_in c.mend.new.orders c.in-Some.canvas)) c.as_mut_slice.ensures.value base in
+    let by_new = subst (λ (os : List (Option Listing)). c.mend.new.steps ≤ c.args.steps.now + most_mending (graph_with c.args.change (canvas_graph p.grove p.links c.in-Some.canvas) c.args.wire) c.args.wire.sink (order_in F.items c.in-Some.canvas) (order_in os c.in-Some.canvas)) (sym same) by_old in
+    subst (λ (n : ℕ). c.mend.new.steps ≤ c.args.steps.now + most_mending (graph_with c.args.change (canvas_graph p.grove p.links n) c.args.wire) c.args.wire.sink (order_in F.items n) (order_in (with_items F c.mend.new.orders).items n)) e by_new

@@ -15,7 +15,7 @@ mend_canvas-requires-clause-wire g c = λ (e : ◌≡◌ {A = Change} Went Came)
 pub mend_canvas-requires-clause-orders : goal.mend_canvas-requires-clause-orders
 mend_canvas-requires-clause-orders g c =
     let p = c.args.patch.now in
-    all_went p.grove p.numbers.items (c.requires.wired c.cut.new.self c.cut.ensures.wires).own c.cut.new.self p.links c.args.wire p.orders.items c.cut.ensures.wires c.requires.orders
+    all_went p.grove (c.requires.wired c.cut.new.self c.cut.ensures.wires).own c.cut.new.self p.links c.args.wire p.orders.items c.cut.ensures.wires c.requires.orders
 
 pub returns-clause-links : goal.returns-clause-links
 returns-clause-links g c =

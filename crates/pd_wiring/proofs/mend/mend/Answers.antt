@@ -10,13 +10,13 @@ use Rattle.pd_wiring.proofs.mend.mend.Goals as goal
 pub bounds-orders-graph : goal.bounds-orders-graph
 bounds-orders-graph g c =
     let s = c.args.graph.now in
-    let G = canvas_graph s.grove.now s.numbers.now s.links.now s.canvas in
+    let G = canvas_graph s.grove.now s.links.now s.canvas in
     slot_there (graph_before c.args.change G c.args.wire) (signal_boxes s.grove.now s.canvas) c.args.orders.now s.canvas c.requires.order
 
 pub mend_slot-requires-clause-order : goal.mend_slot-requires-clause-order
 mend_slot-requires-clause-order g c =
     let s = c.args.graph.now in
-    let G = canvas_graph s.grove.now s.numbers.now s.links.now s.canvas in
+    let G = canvas_graph s.grove.now s.links.now s.canvas in
     let ns = signal_boxes s.grove.now s.canvas in
     let there = slot_there (graph_before c.args.change G c.args.wire) ns c.args.orders.now s.canvas c.requires.order in
     subst (IsOrderIn (graph_before c.args.change G c.args.wire) ns) (sym (slot_is c.args.orders.now s.canvas c.index-orders-graph.result there)) c.requires.order
@@ -24,7 +24,7 @@ mend_slot-requires-clause-order g c =
 pub returns-clause-order : goal.returns-clause-order
 returns-clause-order g c =
     let s = c.args.graph.now in
-    let G = canvas_graph s.grove.now s.numbers.now s.links.now s.canvas in
+    let G = canvas_graph s.grove.now s.links.now s.canvas in
     let ns = signal_boxes s.grove.now s.canvas in
     let there = slot_there (graph_before c.args.change G c.args.wire) ns c.args.orders.now s.canvas c.requires.order in
     subst (IsOrderIn G ns) (sym (slot_set c.args.orders.now s.canvas c.mend_slot.new.slot there)) c.mend_slot.ensures.order
@@ -35,7 +35,7 @@ returns-clause-others g c = λ k differ. slot_kept c.args.orders.now c.args.grap
 pub returns-clause-looks : goal.returns-clause-looks
 returns-clause-looks g c =
     let s = c.args.graph.now in
-    let G = canvas_graph s.grove.now s.numbers.now s.links.now s.canvas in
+    let G = canvas_graph s.grove.now s.links.now s.canvas in
     let ns = signal_boxes s.grove.now s.canvas in
     let there = slot_there (graph_before c.args.change G c.args.wire) ns c.args.orders.now s.canvas c.requires.order in
     let whole = graph_with c.args.change G c.args.wire in

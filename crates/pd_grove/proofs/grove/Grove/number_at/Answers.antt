@@ -1,4 +1,4 @@
-use Rattle.std.proofs.Common.{◌≡◌, ℕ, List, Some, IsSome, refl, sym, ap, ◌∙◌, subst}
+use Rattle.std.proofs.Common.{◌≡◌, ℕ, List, IsSome, refl, sym, ap, ◌∙◌, subst}
 use Rattle.std.specs.Prelude.{slice_get}
 use Rattle.slab.specs.Slab.{get}
 use Rattle.pd_label.specs.Labels.{Rise}
@@ -19,7 +19,7 @@ place-requires-clause-rise c =
     let g = c.args.self.now in
     let b = c.index.result.now.board in
     let ks : c.as_slice-keys.result.now ≡ keys_in (get g.boards b) = c.as_slice-keys.ensures.value ∙ sym (ap keys_in c.index-2.ensures) in
-    subst (Rise g.labels) (sym ks) (c.requires.labelled.rise b)
+    subst (Rise g.labels) (sym ks) (g.labelled.rise b)
 
 pub place-requires-clause-here : goal.place-requires-clause-here
 place-requires-clause-here c =

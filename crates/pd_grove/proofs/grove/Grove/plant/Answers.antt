@@ -1,4 +1,4 @@
-use Rattle.std.proofs.Common.{◌≡◌, ◌≢◌, ◌≤◌, length, ℕ, List, [], ◌++◌, Some, None, refl, sym, ap, ◌∙◌, arith}
+use Rattle.std.proofs.Common.{◌≡◌, ◌≢◌, ℕ, List, [], ◌++◌, Some, None, refl, sym, ap, ◌∙◌, arith}
 use Rattle.std.specs.Prelude.{option_map}
 use mathlib.Core.Logic.{⊎_elim}
 use Rattle.std.proofs.lemmas.Bool.{cases_eq}
@@ -68,8 +68,8 @@ returns-clause-forest c = λ t h w low.
     c.plant_boxes.ensures.forest r.result t [] (c.in_ok-seeds.ensures.ready ∙ h ∙ sym (append-nil (stands_of t))) w (omega (arith, low))
     (forest_bare (get c.in_ok-nodes.nodes) (get r.new.boards) r.result _ c.in_ok-nodes.ensures.empty r.ensures.opened refl refl c.in_ok-room.ensures.items (λ k d. r.ensures.others k d ∙ c.in_ok-boards.ensures.empty k))
 
-pub returns-clause-labelled : goal.returns-clause-labelled
-returns-clause-labelled c =
+pub invariant_of-result : goal.invariant_of-result
+invariant_of-result c =
     let nodes = get c.in_ok-nodes.nodes in
     let b₀ = get c.in_ok-boards.boards in
     let r = c.open_root-root in
@@ -80,6 +80,8 @@ returns-clause-labelled c =
     (λ (d : k ≢ r.result). ap keys_in (r.ensures.others k d ∙ c.in_ok-boards.ensures.empty k)) (cases_eq k r.result)) in
     let reach = c.in_ok-reach.ensures.reach in
     let all = c.capacity.ensures.value in
-    (c.plant_boxes.ensures.labelled
-    (own_open nodes b₀ b₁ r.result none r.ensures.others (own_bare nodes b₀ (λ k. ap keys_in (c.in_ok-boards.ensures.empty k))))
-    (record { long = omega (arith, reach, all); are = labels_bare _ b₁ bare })).are
+    record {
+      labelled = (c.plant_boxes.ensures.labelled
+          (own_open nodes b₀ b₁ r.result none r.ensures.others (own_bare nodes b₀ (λ k. ap keys_in (c.in_ok-boards.ensures.empty k))))
+          (record { long = omega (arith, reach, all); are = labels_bare _ b₁ bare })).are;
+    }

@@ -1,7 +1,7 @@
-use Rattle.std.proofs.Common.{◌≡◌, ◌≢◌, ℕ, List, [], ◌∷◌, ◌++◌, take, drop, length, Some, refl, sym, ap, ◌∙◌, subst, arith}
+use Rattle.std.proofs.Common.{◌≡◌, ◌≢◌, [], ◌∷◌, ◌++◌, take, drop, refl, sym, ap, subst, arith}
 use mathlib.Core.Logic.{⊎_elim}
 use Rattle.std.proofs.lemmas.Bool.{cases_eq}
-use Rattle.std.specs.Prelude.{option_map, ◌<◌, ◌≤◌, ◌+◌}
+use Rattle.std.specs.Prelude.{option_map, ◌<◌, ◌+◌}
 use Rattle.slab.specs.Slab.{get}
 use Rattle.pd_canvas.specs.Views.{entry_of}
 use Rattle.pd_grove.specs.Standing.{node_seen, Stands}
@@ -18,8 +18,10 @@ use Rattle.pd_grove.proofs.LabelledLemmas.{labels_put, place_within, first_lengt
 use Rattle.pd_grove.proofs.grove.Grove.put_box.Goals as goal
 
 pub returns-clause-part : goal.returns-clause-part
-returns-clause-part c = λ root u more h w low F.
+returns-clause-part c = λ u more h w low.
     let g = c.args.self.now in
+    let root = g.root in
+    let F = c.requires.forest in
     let row = c.args.seed.row in
     let k = c.put_node-key.result in
     let b = c.args.canvas in
@@ -82,9 +84,10 @@ label_at-requires c =
     let k = c.put_node-key.result in
     place_within (keys_in (b₁ b)) ks k i c.requires.number (keys_has b₀ b₁ b (take i ks ++ drop i ks) (take i ks ++ k ∷ drop i ks) c.put_at.ensures.keys)
 
-pub returns-clause-labelled : goal.returns-clause-labelled
-returns-clause-labelled c = λ F A.
+pub invariant_of-self : goal.invariant_of-self
+invariant_of-self c =
     let g = c.args.self.now in
+    let F = c.requires.forest in
     let n₀ = get g.nodes in
     let n₁ = get c.put_node-key.new.nodes in
     let b₀ = get g.boards in
@@ -108,7 +111,41 @@ returns-clause-labelled c = λ F A.
     let below = e.below in
     let cap = e.capacity in
     let same = P.long in
-    c.plant_inside.ensures.labelled O (record {
+    record {
+      labelled = (c.plant_inside.ensures.labelled O (record {
+        long = omega (arith, reach, cap, same);
+        are = labels_put g.labels c.label_at.new.labels n₁ b₀ b₁ b k i (take i ks) (drop i ks) M.keys O (omega (arith, reach, below, cap)) (first_length ks i c.requires.number) P g.labelled;
+      })).are;
+    }
+
+pub returns-clause-labels : goal.returns-clause-labels
+returns-clause-labels c =
+    let g = c.args.self.now in
+    let F = c.requires.forest in
+    let n₀ = get g.nodes in
+    let n₁ = get c.put_node-key.new.nodes in
+    let b₀ = get g.boards in
+    let b₁ = get c.put_at.new.boards in
+    let k = c.put_node-key.result in
+    let b = c.args.canvas in
+    let i = c.args.number in
+    let ks = keys_in (b₀ b) in
+    let e = c.put_node-key.ensures in
+    let M : HasBoxMore n₀ n₁ b₀ b₁ b k _ (take i ks) (drop i ks) = record {
+      vacant = e.vacant;
+      is = e.is;
+      lies = refl;
+      bare = refl;
+      others = e.others;
+      keys = c.put_at.ensures.keys;
+    } in
+    let O = (forest_more n₀ n₁ b₀ b₁ g.root b k _ (take i ks) (drop i ks) M F).own in
+    let P = c.label_at.ensures in
+    let reach = c.requires.place.labels_reach in
+    let below = e.below in
+    let cap = e.capacity in
+    let same = P.long in
+    (c.plant_inside.ensures.labelled O (record {
       long = omega (arith, reach, cap, same);
-      are = labels_put g.labels c.label_at.new.labels n₁ b₀ b₁ b k i (take i ks) (drop i ks) M.keys O (omega (arith, reach, below, cap)) (first_length ks i c.requires.number) P A;
-    })
+      are = labels_put g.labels c.label_at.new.labels n₁ b₀ b₁ b k i (take i ks) (drop i ks) M.keys O (omega (arith, reach, below, cap)) (first_length ks i c.requires.number) P g.labelled;
+    })).long

@@ -1,9 +1,7 @@
-use Rattle.std.proofs.Common.{◌≡◌, ℕ, ◌+◌, ◌<◌, ◌≤◌, List, [], ◌∷◌, length, take, drop, sym, ap, ◌∙◌, subst, arith}
-use Rattle.std.specs.Prelude.{◌^◌}
-use Rattle.std.proofs.lemmas.Option.{same_Some, slice_get_within}
+use Rattle.std.proofs.Common.{ℕ, ◌+◌, ◌<◌, List, [], ◌∷◌, length, take, drop, sym, ap, ◌∙◌, subst, arith}
+use Rattle.std.proofs.lemmas.Option.{same_Some}
 use Rattle.slab.specs.Slab.{get}
 use Rattle.pd_grove.specs.Standing.{Stands, depth_of}
-use Rattle.pd_grove.specs.Planting.{seeds_in, stands_ready}
 use Rattle.pd_grove.specs.Telling.{keys_in}
 use Rattle.pd_grove.specs.TextOrder.{deep}
 use Rattle.pd_grove.specs.Forest.{IsForest}
@@ -34,6 +32,8 @@ put_box-requires c =
     let reach = c.requires.labels in
     let same = ap (λ (xs : List ℕ). length xs) t.labels in
     record {
+      forest = subst (IsForest (get h.nodes) (get h.boards)) (sym t.root)
+          (forest_pruned (get g.nodes) (get h.nodes) (get g.boards) (get h.boards) g.root c.args.canvas h.nodes.vacant_key c.take_box-taken.result (take i ks) (drop (i + 1) ks) T c.requires.forest);
       here = left_lives (get g.nodes) (get h.nodes) (get g.boards) (get h.boards) c.args.canvas h.nodes.vacant_key c.take_box-taken.result (take i ks) (drop (i + 1) ks) T;
       number = within_left (keys_in (get h.boards c.args.canvas)) ks i c.requires.here
           (left_keys (get g.nodes) (get h.nodes) (get g.boards) (get h.boards) c.args.canvas h.nodes.vacant_key c.take_box-taken.result (take i ks) (drop (i + 1) ks) T);
@@ -58,7 +58,6 @@ returns-clause-refits c = λ k tree more at ready wide low.
     let ks = keys_in (get g.boards b) in
     let T = t.takes k at in
     let e = left_depth (get g.nodes) (get h.nodes) (get g.boards) (get h.boards) b k n (take i ks) (drop (i + 1) ks) T in
-    let F = forest_pruned (get g.nodes) (get h.nodes) (get g.boards) (get h.boards) g.root b k n (take i ks) (drop (i + 1) ks) T c.requires.forest in
     record {
       nodes_left = get h.nodes;
       boards_left = get h.boards;
@@ -66,7 +65,7 @@ returns-clause-refits c = λ k tree more at ready wide low.
       put = put_again (get h.nodes) (get c.put_box.new.self.nodes) (get h.boards) (get c.put_box.new.self.boards) b k c.put_box.result i ks c.requires.here
           (left_keys (get g.nodes) (get h.nodes) (get g.boards) (get h.boards) b k n (take i ks) (drop (i + 1) ks) T)
           (c.put_box.ensures.key ∙ same_Some h.nodes.vacant_key k (sym t.next ∙ at))
-          (c.put_box.ensures.part g.root tree more ready wide (subst (λ d. d + deep tree < 257) (sym e) low) F);
+          (c.put_box.ensures.part tree more ready wide (subst (λ d. d + deep tree < 257) (sym e) low));
       uses = c.put_box.ensures.uses;
     }
 
@@ -88,15 +87,3 @@ returns-clause-stands c = λ k tree more at ready wide.
           (subst (λ x. Stands n₂ b₂ b (depth_of (get h.boards b)) (x ∷ []) tree) (c.put_box.ensures.key ∙ same_Some h.nodes.vacant_key k (sym t.next ∙ at)) P.0),
       P.1,
     )
-
-pub returns-clause-labelled : goal.returns-clause-labelled
-returns-clause-labelled c = λ A.
-    let g = c.args.self.now in
-    let h = c.take_box-taken.new.self in
-    let t = c.take_box-taken.ensures in
-    let i = c.args.number in
-    let b = c.args.canvas in
-    let ks = keys_in (get g.boards b) in
-    let k = h.nodes.vacant_key in
-    let F = forest_pruned (get g.nodes) (get h.nodes) (get g.boards) (get h.boards) g.root b k c.take_box-taken.result (take i ks) (drop (i + 1) ks) (t.takes k t.next) c.requires.forest in
-    c.put_box.ensures.labelled (subst (IsForest (get h.nodes) (get h.boards)) (sym t.root) F) (t.labelled A)

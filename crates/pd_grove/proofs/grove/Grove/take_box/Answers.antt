@@ -17,8 +17,8 @@ remove-requires c =
     let F = c.requires.forest in
     let at = c.take_key-key.ensures.key in
     box_lives (get g.nodes) (get g.boards) g.root c.args.canvas n k F at (get c.prune_inside.new.nodes k)
-    (box_spared (get g.nodes) (get c.prune_inside.new.nodes) (get g.boards) (get c.take_key-key.new.boards) (get c.prune_inside.new.boards) g.root c.args.canvas n k (take n ks) (drop (n + 1) ks) c.canvas_in-inner.result
-    F at (sym c.canvas_in-inner.ensures) c.take_key-key.ensures.keys (λ H. c.prune_inside.ensures.leave (get g.nodes) (get g.boards) g.root F H))
+    (box_spared (get g.nodes) (get c.prune_inside.new.nodes) (get g.boards) (get c.take_key-key.new.boards) (get c.prune_inside.new.boards) g.root c.args.canvas n k (take n ks) (drop (n + 1) ks) c.inner_at-inner.result
+    F at (sym c.inner_at-inner.ensures) c.take_key-key.ensures.keys (λ H. c.prune_inside.ensures.leave (get g.nodes) (get g.boards) g.root F H))
 
 pub returns-clause-takes : goal.returns-clause-takes
 returns-clause-takes c = λ j is.
@@ -31,8 +31,8 @@ returns-clause-takes c = λ j is.
     let n₂ = get c.remove.new.self in
     let b₂ = get c.prune_inside.new.boards in
     subst (λ i. TakesBox (get g.nodes) n₂ (get g.boards) b₂ c.args.canvas i c.remove.result (take n ks) (drop (n + 1) ks)) (same_Some k j (sym at ∙ is))
-    (box_taken (get g.nodes) (get c.prune_inside.new.nodes) n₂ (get g.boards) (get c.take_key-key.new.boards) b₂ g.root c.args.canvas n k c.remove.result (take n ks) (drop (n + 1) ks) c.canvas_in-inner.result
-    F at (sym c.canvas_in-inner.ensures) c.take_key-key.ensures.keys (λ H. c.prune_inside.ensures.leave (get g.nodes) (get g.boards) g.root F H)
+    (box_taken (get g.nodes) (get c.prune_inside.new.nodes) n₂ (get g.boards) (get c.take_key-key.new.boards) b₂ g.root c.args.canvas n k c.remove.result (take n ks) (drop (n + 1) ks) c.inner_at-inner.result
+    F at (sym c.inner_at-inner.ensures) c.take_key-key.ensures.keys (λ H. c.prune_inside.ensures.leave (get g.nodes) (get g.boards) g.root F H)
     c.remove.ensures.value c.remove.ensures.updates.changed c.remove.ensures.updates.others c.prune_inside.ensures.no_box_comes c.prune_inside.ensures.no_canvas_comes)
 
 pub returns-clause-next : goal.returns-clause-next
@@ -45,12 +45,12 @@ returns-clause-own_room c =
     let n = c.args.number in
     let ks = keys_in (get g.boards c.args.canvas) in
     let F = c.requires.forest in
-    ap board_room (canvas_spared (get g.nodes) (get c.prune_inside.new.nodes) (get g.boards) (get c.take_key-key.new.boards) (get c.prune_inside.new.boards) g.root c.args.canvas n k (take n ks) (drop (n + 1) ks) c.canvas_in-inner.result
-    F c.take_key-key.ensures.key (sym c.canvas_in-inner.ensures) c.take_key-key.ensures.keys (λ H. c.prune_inside.ensures.leave (get g.nodes) (get g.boards) g.root F H))
+    ap board_room (canvas_spared (get g.nodes) (get c.prune_inside.new.nodes) (get g.boards) (get c.take_key-key.new.boards) (get c.prune_inside.new.boards) g.root c.args.canvas n k (take n ks) (drop (n + 1) ks) c.inner_at-inner.result
+    F c.take_key-key.ensures.key (sym c.inner_at-inner.ensures) c.take_key-key.ensures.keys (λ H. c.prune_inside.ensures.leave (get g.nodes) (get g.boards) g.root F H))
     ∙ c.take_key-key.ensures.room
 
-pub returns-clause-labelled : goal.returns-clause-labelled
-returns-clause-labelled c = λ A.
+pub invariant_of-self : goal.invariant_of-self
+invariant_of-self c =
     let g = c.args.self.now in
     let k = c.take_key-key.result in
     let n = c.args.number in
@@ -59,7 +59,9 @@ returns-clause-labelled c = λ A.
     let at = c.take_key-key.ensures.key in
     let n₂ = get c.remove.new.self in
     let b₂ = get c.prune_inside.new.boards in
-    labels_less g.labels (get g.nodes) n₂ (get g.boards) b₂ c.args.canvas k c.remove.result (take n ks) (drop (n + 1) ks)
-    (box_taken (get g.nodes) (get c.prune_inside.new.nodes) n₂ (get g.boards) (get c.take_key-key.new.boards) b₂ g.root c.args.canvas n k c.remove.result (take n ks) (drop (n + 1) ks) c.canvas_in-inner.result
-    F at (sym c.canvas_in-inner.ensures) c.take_key-key.ensures.keys (λ H. c.prune_inside.ensures.leave (get g.nodes) (get g.boards) g.root F H)
-    c.remove.ensures.value c.remove.ensures.updates.changed c.remove.ensures.updates.others c.prune_inside.ensures.no_box_comes c.prune_inside.ensures.no_canvas_comes) A
+    record {
+      labelled = labels_less g.labels (get g.nodes) n₂ (get g.boards) b₂ c.args.canvas k c.remove.result (take n ks) (drop (n + 1) ks)
+          (box_taken (get g.nodes) (get c.prune_inside.new.nodes) n₂ (get g.boards) (get c.take_key-key.new.boards) b₂ g.root c.args.canvas n k c.remove.result (take n ks) (drop (n + 1) ks) c.inner_at-inner.result
+          F at (sym c.inner_at-inner.ensures) c.take_key-key.ensures.keys (λ H. c.prune_inside.ensures.leave (get g.nodes) (get g.boards) g.root F H)
+          c.remove.ensures.value c.remove.ensures.updates.changed c.remove.ensures.updates.others c.prune_inside.ensures.no_box_comes c.prune_inside.ensures.no_canvas_comes) g.labelled;
+    }
