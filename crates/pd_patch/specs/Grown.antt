@@ -22,6 +22,7 @@ use Rattle.pd_web.specs.Jacks.{jacks_at, made_in}
 use Rattle.pd_web.specs.Sockets.{made_at}
 use Rattle.pd_web.specs.Lines.{all_lines, fed_from, feeding}
 use Rattle.pd_web.specs.Hops.{ports_told, fan_hops, feed_hops, places_of, port_told}
+use Rattle.pd_web.specs.Changes.{Meet}
 use Rattle.pd_web.specs.Homes.{IsPortOf}
 use Rattle.pd_web.specs.Canvases.{keys_at}
 use Rattle.pd_patch.specs.declared.patch.Patch.{Patch}
@@ -35,7 +36,8 @@ use Rattle.pd_patch.specs.Sounds.{sound_of}
 use Rattle.pd_patch.specs.Values.{AreSilent, HasNoOthers, blocks_told}
 use Rattle.pd_patch.specs.Wired.{IsWired}
 
--- Each box has its ports, and the wires are those that fit: of each outlet and to each inlet, in the order of their canvas.
+-- Each box has its ports, and the wires are those that fit: of each outlet and to each inlet, in the order of their canvas. Each wire stands at both
+-- of its ports.
 pub record AreLaid (g : Grove) (w : Web) : Type 0 where
   pub ports : (side : Side) (k : ℕ) → ports_told w side k ≡ jacks_at side g k
   pub made : (k : ℕ) → made_at w.sockets.items k ≡ made_in (get g.nodes k)
@@ -44,6 +46,7 @@ pub record AreLaid (g : Grove) (w : Web) : Type 0 where
   pub homes : (j k i : ℕ) → port_told w j ≡ Some (k, i) → IsPortOf g j k i
   pub homes_found : (j k i : ℕ) → IsPortOf g j k i → IsSome (port_told w j)
   pub few : length (all_lines g) ≤ 65536
+  pub meet : Meet w
 
 -- What a patch has whose tree was just planted: boxes that lie in one canvas each, with keys below 2^32; its wires, each once among those of its
 -- inlet; under each name its owners, in text order; its signal wires as links; the signal order of each canvas; each box's number; no clock, and room for one of each box; and of each box the first state and,

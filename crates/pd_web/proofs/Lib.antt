@@ -12,3 +12,4 @@ pub mod FanLemmas
 pub mod HomeLemmas
 pub mod NumberLemmas
 pub mod TreeFits
+pub mod MeetLemmas

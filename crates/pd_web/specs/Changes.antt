@@ -1,5 +1,5 @@
 -- One wire more or less.
-use Rattle.std.specs.Prelude.{◌≡◌, ◌≢◌, ◌≤◌, ◌+◌, ℕ, not, ◌==◌, List, filter, length, Option, Some, None, option_map}
+use Rattle.std.specs.Prelude.{◌≡◌, ◌≢◌, ◌≤◌, ◌+◌, ℕ, not, ◌==◌, List, filter, length, slice_get, Option, Some, None, option_map}
 use Rattle.std.specs.List.{insert}
 use Rattle.pd_wire.specs.Book.{wire_at, live_wires}
 use Rattle.pd_grove.specs.declared.ports.Side.{Side}
@@ -73,3 +73,12 @@ pub record CutsWire (w w' : Web) (key : ℕ) : Type 0 where
   pub feeds : (node inlet : ℕ) → feed_hops w' node inlet ≡ without_hop key (feed_hops w node inlet)
   pub kept : KeepsPorts w w'
   pub room : (k p n : ℕ) → HasRoom w k p n → HasRoom w' k p (n + 1)
+
+-- the list has this at some place
+abbrev pub IsListed : {X : Type 0} → List X → X → Type 0
+IsListed xs x = (i : ℕ) × (slice_get xs i ≡ Some x)
+
+-- each wire in a fan-out is among the feeds of the inlet to which it leads, and each feed is in the fan-out of the outlet from which it comes
+pub record Meet (w : Web) : Type 0 where
+  pub fed : (node outlet i : ℕ) (h : Hop) → slice_get (fan_hops w node outlet) i ≡ Some h → IsListed (feed_hops w h.node h.port) (hop_at h.key node outlet)
+  pub fanned : (node inlet i : ℕ) (h : Hop) → slice_get (feed_hops w node inlet) i ≡ Some h → IsListed (fan_hops w h.node h.port) (hop_at h.key node inlet)

@@ -7,6 +7,7 @@ ghost use Rattle.pd_web.specs.Jacks.{KindsSmall, jacks_at, made_in};
 ghost use Rattle.pd_web.specs.Sockets.{made_at};
 ghost use Rattle.pd_web.specs.Lines.{all_lines, fed_from, feeding};
 ghost use Rattle.pd_web.specs.Hops.{ports_told, fan_hops, feed_hops, places_of, port_told};
+ghost use Rattle.pd_web.specs.Changes.{Meet};
 ghost use Rattle.pd_web.specs.Homes.{IsPortOf};
 ghost use Rattle.pd_web.specs.declared.lay.Unlaid.TheVariants.{TooManyWires};
 
@@ -52,6 +53,7 @@ impl Web {
         ensures made { IfOk result (λ w. (k : ℕ) → made_at w.sockets.items k ≡ made_in (get grove.now.nodes k)) }
         ensures fans { IfOk result (λ w. (k outlet : ℕ) → places_of (fan_hops w k outlet) ≡ fed_from k outlet (all_lines grove.now)) }
         ensures feeds { IfOk result (λ w. (k inlet : ℕ) → places_of (feed_hops w k inlet) ≡ feeding k inlet (all_lines grove.now)) }
+        ensures meet { IfOk result (λ w. Meet w) }
         ensures homes { IfOk result (λ w. (j k i : ℕ) → port_told w j ≡ Some (k, i) → IsPortOf grove.now j k i) }
         ensures homes_found { IfOk result (λ w. (j k i : ℕ) → IsPortOf grove.now j k i → IsSome (port_told w j)) }
         ensures few { OnOk result (length (all_lines grove.now) ≤ 65536) }
@@ -69,6 +71,7 @@ impl Web {
             grove,
             MOST_WIRES,
         )?;
+        book.laws();
         Ok(Web {
             sockets,
             spots,

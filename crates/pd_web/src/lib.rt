@@ -4,7 +4,7 @@
 //! and the box that each port box stands for is told. A port gets an end in pd_wire's book with its first wire, so
 //! that of the many ports that a box may have those without wires take little room. The hops from an outlet are, in
 //! order, the wires of the canvases that fit, by the keys of the boxes and the numbers of the ports, and those to
-//! an inlet likewise; there are at most 65,536, and `TooManyWires` comes only where more fit. `fan_first`,
+//! an inlet likewise, each wire at both; there are at most 65,536, and `TooManyWires` comes only where more fit. `fan_first`,
 //! `fan_next`, `feed_first` and `feed_next` walk these lists without a search.
 //!
 //! `reserve` sets room aside, and leaves every port and wire as it was whatever it answers. `join` and `rejoin` then

@@ -22,11 +22,11 @@ loop-key-preserved c =
 pub returns-clause-told : goal.returns-clause-told
 returns-clause-told c =
     let same = c.in_ok-end.ensures.same in
-    let above = c.nodes_end.ensures in
+    let above = c.nodes_end.ensures.slots in
     told_all c.loop-key.sockets.items c.args.grove.now c.loop-key.key c.in_ok-end.end c.loop-key.invariant.far c.loop-key-test.false (omega (arith, same, above)) c.loop-key.invariant.told
 
 pub returns-clause-made : goal.returns-clause-made
 returns-clause-made c =
     let same = c.in_ok-end.ensures.same in
-    let above = c.nodes_end.ensures in
+    let above = c.nodes_end.ensures.slots in
     made_all c.loop-key.sockets.items c.args.grove.now c.loop-key.key c.in_ok-end.end c.loop-key.invariant.far c.loop-key-test.false (omega (arith, same, above)) c.loop-key.invariant.made

@@ -29,7 +29,7 @@ pub returns-in_err-lay_board-clause-many : goal.returns-in_err-lay_board-clause-
 returns-in_err-lay_board-clause-many c =
     let p = err_from_is_err_and c.from_residual-in_err-lay_board.result c.from_residual-in_err-lay_board.ensures.1 in
     let same = c.in_ok-end.ensures.same in
-    let above = c.boards_end.ensures in
+    let above = c.boards_end.ensures.slots in
     let all = ap length (below_end c.args.grove.now c.in_ok-end.end (omega (arith, same, above))) in
     let f = below_fewer c.args.grove.now c.in_ok-end.end c.loop-key.key c.loop-key-test.true in
     let left = c.loop-key.invariant.left in
@@ -38,7 +38,7 @@ returns-in_err-lay_board-clause-many c =
 pub returns-clause-laid : goal.returns-clause-laid
 returns-clause-laid c = λ h.
     let same = c.in_ok-end.ensures.same in
-    let above = c.boards_end.ensures in
+    let above = c.boards_end.ensures.slots in
     let far = c.loop-key-test.false in
     let P : List Line → Type 0 = λ xs. IsLaid c.loop-key.sockets c.loop-key.book xs in
     subst P (below_end c.args.grove.now c.loop-key.key (omega (arith, same, above, far))) (c.loop-key.invariant.laid h)
@@ -46,7 +46,7 @@ returns-clause-laid c = λ h.
 pub returns-clause-few : goal.returns-clause-few
 returns-clause-few c =
     let same = c.in_ok-end.ensures.same in
-    let above = c.boards_end.ensures in
+    let above = c.boards_end.ensures.slots in
     let far = c.loop-key-test.false in
     let all = ap length (below_end c.args.grove.now c.loop-key.key (omega (arith, same, above, far))) in
     let left = c.loop-key.invariant.left in

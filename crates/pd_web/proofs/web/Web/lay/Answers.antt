@@ -12,13 +12,14 @@ use Rattle.pd_web.specs.Spares.{AreFree}
 use Rattle.pd_web.specs.Sockets.{AreFew, AreTied, IsBare, ports_at, end_under, made_at, jacks_of}
 use Rattle.pd_web.specs.Wiring.{source_at, sink_at}
 use Rattle.pd_web.specs.Jacks.{jacks_at, made_in}
-use Rattle.pd_web.specs.Lines.{all_lines, laid_at, seen_at, fed_from, feeding}
+use Rattle.pd_web.specs.Lines.{all_lines, laid_at, seen_at, fed_from, feeding, IsLaid}
 use Rattle.pd_web.specs.Homes.{AreNear, AreTrue, AreKnown}
 use Rattle.pd_web.specs.Hops.{hop_by, fan_under, feeds_under, places_of}
 use Rattle.pd_web.proofs.SocketLemmas.{jacks_laid, tied_laid, none_bare, few_kept}
 use Rattle.pd_web.proofs.LineLemmas.{seen_laid}
 use Rattle.pd_web.proofs.FanLemmas.{fans_are, feeds_are, none_laid}
 use Rattle.pd_web.proofs.ChangeLemmas.{none_free}
+use Rattle.pd_web.proofs.MeetLemmas.{laid_meet}
 use Rattle.pd_web.proofs.HomeLemmas.{all_near, homes_told, homes_found}
 use Rattle.pd_web.proofs.web.Web.lay.Goals as goal
 
@@ -103,6 +104,17 @@ returns-clause-feeds c =
     let laid = c.in_ok-lay_wires.ensures.laid (none_laid _ _ (subst Q (sym c.in_ok-book.ensures.empty) none_bare)) in
     let P : List Sockets → Type 0 = λ all. (k i : ℕ) → places_of (map (λ key. hop_by key (slice_get spots (source_at book key))) (feeds_under book (end_under all Inlets k i))) ≡ feeding k i lines in
     subst P (sym at) (λ k i. feeds_are new spots book lines k i c.in_ok-lay_wires.ensures.tied.placed laid)
+
+pub returns-clause-meet : goal.returns-clause-meet
+returns-clause-meet c =
+    let new = c.lay_wires.new.sockets in
+    let book = c.lay_wires.new.book in
+    let lines = all_lines c.args.grove.now in
+    let at = whole c.in_ok-sockets.sockets c.as_mut_slice.result.now new c.as_mut_slice.ensures.value c.lay_wires.auto.sockets in
+    let Q : Book → Type 0 = λ b. IsBare b in
+    let laid = c.in_ok-lay_wires.ensures.laid (none_laid _ _ (subst Q (sym c.in_ok-book.ensures.empty) none_bare)) in
+    let P : List Sockets → Type 0 = λ all. IsLaid all book lines in
+    laid_meet _ lines c.laws.ensures (subst P (sym at) laid)
 
 pub returns-clause-homes : goal.returns-clause-homes
 returns-clause-homes c =
