@@ -1,9 +1,13 @@
 //! Which name a box owns.
 
-ghost use Rattle.std.specs.Prelude.{◌≡◌};
+ghost use Rattle.std.specs.Prelude.{◌≡◌, ◌&&◌, Bool, None, if◌then◌else◌};
+ghost use Rattle.pd_canvas.specs.Views.{shape_of};
+ghost use Rattle.pd_name.specs.declared.Class.TheVariants.{Receiver};
+ghost use Rattle.pd_tree.specs.Trees.{Cell, stand_of};
+ghost use Rattle.pd_grove.specs.TextOrder.{is_sub};
 ghost use Rattle.pd_naming.specs.Naming.{name_at as name_at_place};
 ghost use Rattle.pd_grove.specs.Standing.{node_seen};
-ghost use Rattle.pd_bind.specs.Naming.{owned, unless_dash as unless_dash_of, receive_name as receive_name_of, glue_owned, signal_owned, panel_owned, first_symbol as first_symbol_of, symbol_after_pd as symbol_after_pd_of, subpatch_symbol as subpatch_symbol_of, canvas_owned, owned_by};
+ghost use Rattle.pd_bind.specs.Naming.{owned, unless_dash as unless_dash_of, receive_name as receive_name_of, glue_owned, signal_owned, panel_owned, first_symbol as first_symbol_of, symbol_after_pd as symbol_after_pd_of, subpatch_symbol as subpatch_symbol_of, owned_by_kind, owned_by};
 
 use crate::receivers::{named_canvas_receiver, spelling};
 use pd_atom::{Atom, Sym, Symbols};
@@ -11,6 +15,7 @@ use pd_canvas::Form;
 use pd_grove::Node;
 use pd_kind::{Glue, Kind, Panel, Signal, argument_name_at};
 use pd_name::Class;
+use pd_tree::Row;
 
 /// The place of the receive name among the arguments of a number or symbol box.
 const RECEIVE_NAME: usize = 5;
@@ -21,13 +26,39 @@ pub fn name_of(node: &Node, is_top: bool, symbols: &mut Symbols) -> Option<(Clas
     ensures value { result ≡ owned_by symbols.old is_top (node_seen node.now).cell }
     ensures table { symbols.new ≡ symbols.old }
 {
-    match &node.kind {
+    let hears = is_own_canvas(&node.element.form, is_top);
+    name_by(&node.kind, node.text.as_slice(), hears, symbols)
+}
+
+/// The name that a grown box will own, which has no key yet.
+pub fn name_of_row(row: &Row, is_top: bool, symbols: &mut Symbols) -> Option<(Class, Sym)>
+    ensures value { result ≡ owned_by symbols.old is_top (stand_of row.now).cell }
+    ensures table { symbols.new ≡ symbols.old }
+{
+    let hears = is_own_canvas(&row.element.form, is_top);
+    name_by(&row.kind, row.text.as_slice(), hears, symbols)
+}
+
+/// The name that a box of a kind owns; that of a canvas by its text, where it is one that hears.
+fn name_by(kind: &Kind, text: &[Atom], hears: bool, symbols: &mut Symbols) -> Option<(Class, Sym)>
+    ensures value { (top : Bool) (c : Cell) → hears ≡ (top && is_sub c.head.form) → text.now ≡ c.text →
+        result ≡ owned_by_kind symbols.old top c kind.now }
+    ensures table { symbols.new ≡ symbols.old }
+{
+    match kind {
         Kind::Glue(glue) => glue_name(glue, symbols),
         Kind::Signal(signal) => signal_name(signal),
         Kind::Panel(panel) => panel_name(panel),
-        Kind::Canvas => canvas_name(node, is_top, symbols),
+        Kind::Canvas => canvas_name(text, hears, symbols),
         _ => None,
     }
+}
+
+/// Whether a canvas hears: one of a subpatch of the patch's own document does.
+fn is_own_canvas(form: &Form, is_top: bool) -> bool
+    ensures { result ≡ (is_top && is_sub (shape_of form.now)) }
+{
+    is_top && matches!(form, Form::Sub(_))
 }
 
 /// A name in a class.
@@ -149,15 +180,12 @@ fn subpatch_symbol(text: &[Atom], symbols: &mut Symbols) -> Option<Sym>
     }
 }
 
-fn canvas_name(node: &Node, is_top: bool, symbols: &mut Symbols) -> Option<(Class, Sym)>
-    ensures value { result ≡ canvas_owned symbols.old is_top (node_seen node.now).cell }
+fn canvas_name(text: &[Atom], hears: bool, symbols: &mut Symbols) -> Option<(Class, Sym)>
+    ensures value { result ≡ (if hears then owned Receiver (subpatch_symbol_of symbols.old text.now) else None) }
     ensures table { symbols.new ≡ symbols.old }
 {
-    if is_top && matches!(node.element.form, Form::Sub(_)) {
-        in_class(
-            Class::Receiver,
-            subpatch_symbol(node.text.as_slice(), symbols),
-        )
+    if hears {
+        in_class(Class::Receiver, subpatch_symbol(text, symbols))
     } else {
         None
     }

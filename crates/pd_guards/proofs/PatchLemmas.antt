@@ -86,7 +86,8 @@ cell_born names (Holder c s inner rest) x h y =
       | inr w ↦ elim w [ inl z ↦ cell_born names inner x h.1 z | inr z ↦ cell_born names rest x h.2 z ]
     ]
 
-cell_size : (rate : Rate) (t : Trees) (x : Cell) → HasCell t x → size_of x.kind rate ≤ sound_of rate t
+-- a box of a tree counts no more values than the tree
+pub cell_size : (rate : Rate) (t : Trees) (x : Cell) → HasCell t x → size_of x.kind rate ≤ sound_of rate t
 cell_size rate Done x y = absurd y
 cell_size rate (Leaf c rest) x y =
     elim y [

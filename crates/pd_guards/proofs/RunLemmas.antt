@@ -1,5 +1,5 @@
 -- Messages leave the values of signals that boxes keep in their range, and so does a whole delivery.
-use Rattle.std.proofs.Common.{ℕ, ℤ, true, List, [], Option, refl, sym, subst}
+use Rattle.std.proofs.Common.{ℕ, ℤ, true, List, [], Option, sym, subst}
 use Rattle.pd_atom.specs.Names.{Names}
 use Rattle.pd_atom.specs.declared.Atom.{Atom}
 use Rattle.pd_object.specs.declared.kinds.Kind.{Kind}
@@ -23,7 +23,7 @@ use Rattle.pd_guards.specs.Worlds.{IsInOrder, IsTask, IsStart}
 use Rattle.pd_guards.specs.Sounds.{HasValues, HaveValues, IsSounding, sound_with}
 use Rattle.pd_guards.proofs.HeldLemmas.{in_order, order_said, value_kept}
 use Rattle.pd_guards.proofs.WalkLemmas.{name_in, asked_in, done_in, IsTaskAt, stays_in, others_in, follow_in, Delivers, outcome_ends}
-use Rattle.pd_guards.proofs.SameTurns.{Agree}
+use Rattle.pd_guards.proofs.SameTurns.{Agree, agree_self}
 
 pub kind_sounds : (names : Names) (k : Kind) (s : State) (inlet selector : ℕ) (atoms : List Atom) (now : ℕ) (table : Option (List ℤ)) → IsMessage names selector atoms → HasValues s
     → HasValues (heard_kind names k s inlet selector atoms now table).state
@@ -65,16 +65,9 @@ module _ (net : Net) (now : ℕ) where
   after_sounds kept (Nobody name) h m = h.values
 
   steady : Agree (rules net now) (rules net now) IsSteady (IsTaskAt net now)
-  steady = record {
-    kept = λ kept t h m. refl;
-    said = λ kept t h m. refl;
-    caused = λ kept t h m. refl;
-    costs = λ t. refl;
-    cut = refl;
-    stays = λ kept t h m. record { order = stays_in net now kept t h.order m; values = after_sounds kept t h m };
-    others = λ kept t h m. others_in net now kept t h.order m;
-    follow = λ kept t h m. follow_in net now kept t h.order m;
-  }
+  steady =
+      agree_self (rules net now) IsSteady (IsTaskAt net now) (λ kept t h m. record { order = stays_in net now kept t h.order m; values = after_sounds kept t h m })
+      (λ kept t h m. others_in net now kept t h.order m) (λ kept t h m. follow_in net now kept t h.order m)
 
   delivers : Delivers net now (rules net now) IsSteady (IsTaskAt net now)
   delivers = record {

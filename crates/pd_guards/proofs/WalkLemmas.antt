@@ -47,7 +47,7 @@ use Rattle.pd_guards.proofs.FactLemmas.{either, all-append, all-both, all-flat, 
 use Rattle.pd_guards.proofs.MoreLemmas.{longer, first_more, name_more, message_more, kind_more}
 use Rattle.pd_guards.proofs.GuardLemmas.{true_and, few_true, near_true, name_true, atoms_true, known_true}
 use Rattle.pd_guards.proofs.HearLemmas.{set_in, at_same, at_in, resumed_reply, clock_said, load_said}
-use Rattle.pd_guards.proofs.SameTurns.{Agree, Same, all_same}
+use Rattle.pd_guards.proofs.SameTurns.{Agree, agree_self, Same, all_same}
 use Rattle.pd_guards.proofs.NearLemmas.{name_near, asked_near, caused_near}
 
 -- what a box asks for
@@ -287,16 +287,7 @@ module _ (net : Net) (now : ℕ) where
 
   -- the rules themselves, and the free ones where tasks ask near canvases
   pub agreed : Agree (rules net now) (rules net now) (IsInOrder net now) IsTaskAt
-  agreed = record {
-    kept = λ kept t h m. refl;
-    said = λ kept t h m. refl;
-    caused = λ kept t h m. refl;
-    costs = λ t. refl;
-    cut = refl;
-    stays = stays_in;
-    others = others_in;
-    follow = follow_in;
-  }
+  agreed = agree_self (rules net now) (IsInOrder net now) IsTaskAt stays_in others_in follow_in
 
   abbrev IsNearTaskAt : Kept → Task → Type 0
   IsNearTaskAt kept t = IsTask kept.names t × AsksNear net t

@@ -29,7 +29,7 @@ use Rattle.pd_walk.specs.Outcome.{world, ran, after_deed, told_by, all_loaded, n
 use Rattle.pd_keeping_law.specs.Changes.{Sayings, anything, Becomes, Passes, absent, AllBecome}
 use Rattle.pd_keeping_law.specs.Changes as change
 use Rattle.pd_keeping_law.proofs.FactLemmas.{either}
-use Rattle.pd_keeping_law.proofs.SameTurns.{Agree, all_same}
+use Rattle.pd_keeping_law.proofs.SameTurns.{Agree, agree_self, all_same}
 use Rattle.pd_keeping_law.proofs.ChangeLemmas.{IsSaid, any_said, becoming, all_still, onward, set_passes, box_passes}
 use Rattle.pd_keeping_law.proofs.RowLemmas.{plain_becomes, list_becomes, message_becomes, arith_becomes, panel_becomes, resumed_becomes}
 use Rattle.pd_keeping_law.proofs.HeldLemmas.{row_becomes, line_becomes}
@@ -156,16 +156,7 @@ module _ (net : Net) (now : ℕ) (Holds : Kept → Type 0) (left : IsLeftByAll n
   any_tasks kept (t ∷ ts) = (tt, any_tasks kept ts)
 
   agree : Agree (rules net now) (rules net now) Holds AnyTask
-  agree = record {
-    kept = λ kept t h m. refl;
-    said = λ kept t h m. refl;
-    caused = λ kept t h m. refl;
-    costs = λ t. refl;
-    cut = refl;
-    stays = λ kept t h m. left.tasks kept t h;
-    others = λ kept t h m u j. tt;
-    follow = λ kept t h m. any_tasks (kept_after net now kept t) ((rules net now).caused kept t);
-  }
+  agree = agree_self (rules net now) Holds AnyTask (λ kept t h m. left.tasks kept t h) (λ kept t h m u j. tt) (λ kept t h m. any_tasks (kept_after net now kept t) ((rules net now).caused kept t))
 
   ran_keeps : (w : World Kept) (ts : List Task) → Holds w.kept → Holds (ran net now w ts).kept
   ran_keeps w ts h = (all_same (rules net now) (rules net now) Holds AnyTask agree w ts h (any_tasks w.kept ts)).after.kept

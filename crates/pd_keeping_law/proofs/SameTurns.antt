@@ -15,6 +15,12 @@ pub record Agree {K T : Type 0} (r q : Rules K T) (I : K → Type 0) (J : K → 
   pub others : (k : K) (t : T) → I k → J k t → (u : T) → J k u → J (r.kept_after k t) u
   pub follow : (k : K) (t : T) → I k → J k t → AllByRecursion (J (r.kept_after k t)) (r.caused k t)
 
+-- a way agrees with itself
+pub agree_self : {K T : Type 0} (r : Rules K T) (I : K → Type 0) (J : K → T → Type 0) → ((k : K) (t : T) → I k → J k t → I (r.kept_after k t))
+    → ((k : K) (t : T) → I k → J k t → (u : T) → J k u → J (r.kept_after k t) u) → ((k : K) (t : T) → I k → J k t → AllByRecursion (J (r.kept_after k t)) (r.caused k t)) → Agree r r I J
+agree_self r I J stays others follow =
+    record { kept = λ k t h j. refl; said = λ k t h j. refl; caused = λ k t h j. refl; costs = λ t. refl; cut = refl; stays = stays; others = others; follow = follow }
+
 -- a world after another: it is in order, and so is each task that was
 pub record After {K T : Type 0} (I : K → Type 0) (J : K → T → Type 0) (w v : World K) : Type 0 where
   pub kept : I v.kept

@@ -106,7 +106,8 @@ pub data Becomes (Said : Sayings) : State → State → Type 0 where
       → Becomes Said (state.Vline ramps) (state.Vline (with_ramp_last ramps kept (record { start = start; end = end; target = signal_of z })))
   vline_stop : {ramps : Ramps} (kept now : ℕ) → Becomes Said (state.Vline ramps) (state.Vline (with_ramp_last ramps kept (stop_ramp now (present ramps now))))
 
--- What a box may keep after its turns in blocks: the same, or of the same object with other values. What it holds and stores of messages stays.
+-- What a box may keep after its turns in blocks: the same, or of the same object with other values. The numbers that inlets hold and store stay,
+-- but for a `line~` and a `vline~`, of which all but the object may change.
 pub data RunsOn : State → State → Type 0 where
   silent : {s : State} → RunsOn s s
   later : {s t u : State} → RunsOn s t → RunsOn t u → RunsOn s u

@@ -2,9 +2,10 @@
 //!
 //! What a box keeps after a message is the same or of the same object with other values, and a signal object holds and
 //! stores only numbers that the message says. So it is when a box hears a message, is resumed or has a value of its
-//! table written, and over a whole delivery, whatever begins it (`messages_change_boxes`). A block leaves what boxes
-//! hold and store, and changes only what their rows make of it (`blocks_change_boxes`). So a fact of what is kept lasts
-//! where each of these changes leaves it: a law above names the fact, and looks at each change.
+//! table written, and over a whole delivery, whatever begins it (`messages_change_boxes`). A block changes only signal
+//! objects, and leaves the numbers that their inlets hold and store, but for `line~` and `vline~`
+//! (`blocks_change_boxes`). So a fact of what is kept lasts where each of these changes leaves it: a law above names
+//! the fact, and looks at each change.
 //!
 //! Definitions: `Changes`.
 #![tactic(auto)]

@@ -37,7 +37,7 @@ module _ (net : Net) (start : ℕ) where
     pub box_alike : (inside : Played → ℕ → Played) → ((p : Played) (c : ℕ) → Alike p → Alike (inside p c)) → (p : Played) (node : ℕ) (o : Option ℕ) → Alike p → Alike (ran_box net start inside p node o)
     box_alike inside k p node o a = box_keeps net start AlikeSound plain_alike silenced_alike inside k p node o a
 
-    pub silent_alike : (s : Sound) (ns : List ℕ) → AlikeSound s → AlikeSound (each silenced s ns)
+    pub silent_alike : (s : Sound) (ns : List ℕ) → AreAlike base s.states → AreAlike base (each silenced s ns).states
     silent_alike s ns a = silent_keeps net start AlikeSound plain_alike silenced_alike s ns a
 
     pub canvas_alike : (levels : ℕ) (p : Played) (canvas : ℕ) → Alike p → Alike (ran_canvas net start levels p canvas)

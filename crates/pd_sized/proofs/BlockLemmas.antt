@@ -389,10 +389,10 @@ turns_in start =
 abbrev pub SoundIn : Sound → Type 0
 SoundIn s = kept.SoundIn HasSizes IsBlock s
 
-pub record PlayedIn (p : Played) : Type 0 where
-  pub is : SoundIn p.sound
-
 module _ (net : Net) (start : ℕ) where
+  pub record PlayedIn (p : Played) : Type 0 where
+    pub is : SoundIn p.sound
+
   plain_in : (p : Played) (node : ℕ) → SoundIn p.sound → SoundIn (ran_plain net start p node).sound
   plain_in = kept.plain_in net start HasSizes IsBlock AnyTable (turns_in start)
 

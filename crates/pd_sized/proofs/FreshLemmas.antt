@@ -1,15 +1,15 @@
 -- A patch that was just made has its sizes, and each block of an outlet has 64 values.
-use Rattle.std.proofs.Common.{◌≡◌, ◌≤◌, ◌^◌, ℕ, ℤ, List, inl, inr, replicate, slice_get, Option, Some, None, IfSome, IsSome, option_and_then, refl, sym, ap, subst, arith}
+use Rattle.std.proofs.Common.{◌≡◌, ◌≤◌, ◌^◌, ℕ, ℤ, List, replicate, slice_get, Option, Some, None, IfSome, IsSome, option_and_then, refl, sym, subst, arith}
 use Rattle.std.specs.List.{AllByRecursion}
 use Rattle.slab.specs.Slab.{get}
 use Rattle.pd_clock.specs.declared.times.Rate.{Rate}
 use Rattle.pd_atom.specs.Names.{Names}
 use Rattle.pd_kind.specs.States.{silent_block, size_of}
-use Rattle.pd_tree.specs.Trees.{Cell, Trees, Done, Leaf, Holder, Tree}
+use Rattle.pd_tree.specs.Trees.{Tree}
 use Rattle.pd_growth.specs.Steps.{Step}
 use Rattle.pd_grove.specs.declared.nodes.Node.{Node}
 use Rattle.pd_grove.specs.declared.ports.Side.TheVariants.{Outlets}
-use Rattle.pd_grove.specs.Standing.{node_seen, HasCell}
+use Rattle.pd_grove.specs.Standing.{node_seen}
 use Rattle.pd_grove.specs.States.{NodesFresh}
 use Rattle.pd_web.specs.Hops.{ports_told}
 use Rattle.pd_patch.specs.declared.patch.Patch.{Patch}
@@ -18,6 +18,7 @@ use Rattle.pd_patch.specs.Sounds.{sound_of as tree_sound}
 use Rattle.pd_patch.specs.Values.{AreSilent, HasNoOthers, block_count, blocks_told}
 use Rattle.pd_block.specs.Nets.{sound_of}
 use Rattle.pd_guards.proofs.FactLemmas.{all-from}
+use Rattle.pd_guards.proofs.PatchLemmas.{cell_size}
 use Rattle.pd_guards.proofs.SignalLemmas.{all-same}
 use Rattle.pd_sized.specs.Sizes.{HasSmallBoxes, IsBlock, IsWhole}
 use Rattle.pd_sized.proofs.StartLemmas.{silent_count, grown_sized}
@@ -38,23 +39,6 @@ blocks_whole p silent no_others =
 
 patch_whole : (p : Patch) (rate : Rate) (now : ℕ) → NodesFresh rate now (get p.grove.nodes) → HasSmallBoxes p rate → AreSilent p.grove p.web (blocks_told p) → HasNoOthers p.grove (blocks_told p) → IsWhole (sound_of p)
 patch_whole p rate now fresh small silent no_others = record { states = grown_sized p rate now fresh small; blocks = blocks_whole p silent no_others }
-
--- a box of a tree counts no more values than the tree
-cell_size : (rate : Rate) (t : Trees) (x : Cell) → HasCell t x → size_of x.kind rate ≤ tree_sound rate t
-cell_size rate Done x y = absurd y
-cell_size rate (Leaf c rest) x y =
-    elim y [
-      | inl e ↦ (let same : size_of c.kind rate ≡ size_of x.kind rate = ap (λ (z : Cell). size_of z.kind rate) e in omega arith)
-      | inr z ↦ (let l : size_of x.kind rate ≤ tree_sound rate rest = cell_size rate rest x z in omega arith)
-    ]
-cell_size rate (Holder c s inner rest) x y =
-    elim y [
-      | inl e ↦ (let same : size_of c.kind rate ≡ size_of x.kind rate = ap (λ (z : Cell). size_of z.kind rate) e in omega arith)
-      | inr w ↦ elim w [
-        | inl z ↦ (let l : size_of x.kind rate ≤ tree_sound rate inner = cell_size rate inner x z in omega arith)
-        | inr z ↦ (let l : size_of x.kind rate ≤ tree_sound rate rest = cell_size rate rest x z in omega arith)
-      ]
-    ]
 
 below : (a b : ℕ) → a ≤ b → b ≤ 16777216 → a ≤ 2 ^ 32
 below a b l m = omega arith

@@ -335,7 +335,7 @@ module _ (net : Net) (start : ℕ) (all : (node inlet : ℕ) → wires_to net.we
 
     box_lasts : (levels : ℕ) (p : Played) (node : ℕ) → Lasts p → Lasts (ran_one net start (ran_canvas net start levels) p node)
     box_lasts levels p node l =
-        let is : PlayedIn (ran_one net start (ran_canvas net start levels) p node) =
+        let is : PlayedIn net start (ran_one net start (ran_canvas net start levels) p node) =
         box_in net start (ran_canvas net start levels) (canvas_in net start levels) p node (inner_at net node) (record { is = l.is }) in
         record {
           is = is.is;
