@@ -17,7 +17,7 @@ use Rattle.pd_web.specs.declared.sockets.Spot.{Spot}
 use Rattle.pd_web.specs.declared.web.Hop.{Hop}
 use Rattle.pd_web.specs.declared.web.Web.{Web}
 use Rattle.pd_web.specs.Canvases.{keys_at, source_place, fan_into}
-use Rattle.pd_web.specs.Changes.{hop_at}
+use Rattle.pd_web.specs.Changes.{hop_at, Meet}
 use Rattle.pd_web.specs.Hops.{boxes_told, hop_by, hop_to, hop_from, fan_hops, fan_keys, feed_hops, feed_keys, places_of}
 use Rattle.pd_web.specs.Wiring.{source_at, sink_at}
 use Rattle.pd_seek.specs.Places.{label_at, IsNoLater, AreInOrder}
@@ -37,7 +37,7 @@ use Rattle.pd_saved_law.specs.Fitting.{HaveSameWires}
 use Rattle.pd_saved_law.proofs.CanvasLemmas.{canvas_now, leads_now}
 use Rattle.pd_saved_law.proofs.WireLemmas.{wired_saved, reopened}
 use Rattle.pd_alike_law.specs.Alike.{HasOpened, now_of}
-use Rattle.pd_alike_law.specs.Feeds.{FedOnce, Meet, FeedsInOrder, feed_wire, feed_wires, HaveSameFeeds}
+use Rattle.pd_alike_law.specs.Feeds.{FedOnce, FeedsInOrder, feed_wire, feed_wires, HaveSameFeeds}
 use Rattle.pd_alike_law.proofs.MatchLemmas.{by_option, all_of}
 
 -- ---- tests of numbers

@@ -2,6 +2,7 @@ pub mod MatchLemmas
 pub mod SoundLemmas
 pub mod OrderLemmas
 pub mod OwnerLemmas
+pub mod OwnedLemmas
 pub mod MeetLemmas
 pub mod FeedLemmas
 pub mod NameLemmas

@@ -5,17 +5,19 @@ use Rattle.std.specs.List.{insert}
 use Rattle.std.proofs.lemmas.Bool.{cases_eq}
 use Rattle.std.proofs.lemmas.Option.{none-some, same_Some}
 use Rattle.pd_canvas.specs.declared.edits.Edit.{Edit}
+use Rattle.pd_grove.specs.declared.grove.Grove.{Grove}
 use Rattle.pd_web.specs.declared.lines.Line.{Line}
 use Rattle.pd_web.specs.declared.web.Hop.{Hop}
 use Rattle.pd_web.specs.declared.web.Web.{Web}
 use Rattle.pd_web.specs.Canvases.{keys_at}
-use Rattle.pd_web.specs.Changes.{hop_at, Joins, CutsWire}
+use Rattle.pd_web.specs.Changes.{hop_at, IsSame, Joins, CutsWire, IsListed, Meet}
 use Rattle.pd_web.specs.Hops.{fan_hops, feed_hops}
 use Rattle.pd_seek.specs.Places.{AreInOrder}
 use Rattle.pd_patch.specs.declared.patch.Patch.{Patch}
+use Rattle.pd_wiring.specs.Changes.{SameButRoom}
 use Rattle.pd_wiring.specs.Plans.{Plan, Attaches, Detaches, Attached, IsCarriedOut, IsRewired}
 use Rattle.pd_wiring.proofs.FeedLemmas.{feeds_ordered, feeds_left}
-use Rattle.pd_alike_law.specs.Feeds.{IsListed, Meet, FeedsInOrder}
+use Rattle.pd_alike_law.specs.Feeds.{FeedsInOrder}
 
 -- ---- lists
 
@@ -186,3 +188,24 @@ plan_order p q (Detaches d key l) c a f = record {
 
 pub edits_order : (p q : Patch) (path : List ℕ) (e : Edit) (canvas c : ℕ) → IsRewired p q path e canvas → FeedsInOrder p c → FeedsInOrder q c
 edits_order p q path e canvas c x f = plan_order p q x.plan c x.done f
+
+-- ---- more room alone
+
+same_meet : (w w' : Web) → IsSame w w' → Meet w → Meet w'
+same_meet w w' s m = record {
+  fed = λ node outlet i h e.
+      subst (λ (hs : List Hop). IsListed hs (hop_at h.key node outlet)) (sym (s.feeds h.node h.port))
+      (m.fed node outlet i h (ap (λ (hs : List Hop). slice_get hs i) (sym (s.fans node outlet)) ∙ e));
+  fanned = λ node inlet i h e.
+      subst (λ (hs : List Hop). IsListed hs (hop_at h.key node inlet)) (sym (s.fans h.node h.port))
+      (m.fanned node inlet i h (ap (λ (hs : List Hop). slice_get hs i) (sym (s.feeds node inlet)) ∙ e));
+}
+
+pub room_meet : (p q : Patch) → SameButRoom p q → Meet p.web → Meet q.web
+room_meet p q s m = same_meet p.web q.web s.web m
+
+pub room_order : (p q : Patch) (c : ℕ) → SameButRoom p q → FeedsInOrder p c → FeedsInOrder q c
+room_order p q c s f = record {
+  all = λ i k inlet e. subst (λ (x : _). AreInOrder x.items (feed_hops q.web k inlet)) (sym s.numbers)
+      (subst (AreInOrder p.numbers.items) (sym (s.web.feeds k inlet)) (f.all i k inlet (ap (λ (g : Grove). slice_get (keys_at g c) i) (sym s.grove) ∙ e)));
+}

@@ -1,20 +1,23 @@
--- Wires that stand once: through edits of wires.
-use Rattle.std.proofs.Common.{◌≡◌, ◌≢◌, ℕ, zero, suc, ◌==◌, Bool, true, false, cond, not, List, [], ◌∷◌, filter, slice_get, Option, Some, None, refl, sym, ap, ◌∙◌, subst, inl, inr, arith}
+-- Wires that stand once: among feeds as in fan-outs, and through edits of wires.
+use Rattle.std.proofs.Common.{◌≡◌, ◌≢◌, ◌≤◌, ◌+◌, ℕ, zero, suc, ◌==◌, Bool, true, false, cond, not, List, [], ◌∷◌, filter, slice_get, Option, Some, None, refl, sym, ap, ◌∙◌, subst, inl, inr, arith}
 use Rattle.std.specs.Prelude.{option_map, ◌⊎◌}
 use Rattle.std.specs.List.{insert}
 use Rattle.std.proofs.lemmas.Option.{none-some, same_Some, slice_get-map}
 use Rattle.pd_canvas.specs.declared.edits.Edit.{Edit}
+use Rattle.pd_order.specs.Graph.{tally}
 use Rattle.pd_order.proofs.Basics.{same_test}
 use Rattle.pd_web.specs.declared.lines.Line.{Line}
 use Rattle.pd_web.specs.declared.web.Hop.{Hop}
 use Rattle.pd_web.specs.declared.web.Web.{Web}
-use Rattle.pd_web.specs.Changes.{hop_at, line_by, line_told, without_hop, Joins, CutsWire}
+use Rattle.pd_web.specs.Changes.{hop_at, line_by, line_told, without_hop, Joins, CutsWire, IsListed, Meet}
 use Rattle.pd_web.specs.Hops.{fan_hops, fan_keys, feed_hops, feed_keys}
 use Rattle.pd_patch.specs.declared.patch.Patch.{Patch}
+use Rattle.pd_patch.specs.Fed.{AreFed}
 use Rattle.pd_patch.specs.Numbers.{AreApart}
+use Rattle.pd_patch.proofs.ListingLemmas.{counted_at}
 use Rattle.pd_wiring.specs.Plans.{Plan, Attaches, Detaches, IsCarriedOut, IsRewired}
 use Rattle.pd_reload_law.specs.Wires.{StandOnce}
-use Rattle.pd_alike_law.specs.Feeds.{IsListed, FedOnce}
+use Rattle.pd_alike_law.specs.Feeds.{FedOnce}
 use Rattle.pd_alike_law.proofs.FeedLemmas.{keys_of, fan_keys_of, feed_keys_of}
 use Rattle.pd_alike_law.proofs.MeetLemmas.{inserted_from, passed, same_port, spared}
 
@@ -55,6 +58,20 @@ apart_filter p (x ∷ xs) a = step (p x) (apart_filter p xs (apart_rest x xs a))
     step : (b : Bool) → AreApart (filter p xs) → ((i : ℕ) → slice_get (filter p xs) i ≡ Some x → ⊥) → AreApart (cond b (x ∷ filter p xs) (filter p xs))
     step true h n = apart_cons x (filter p xs) h n
     step false h n = h
+
+rest_once : (y : ℕ) (ys : List ℕ) (x : ℕ) → tally x (y ∷ ys) ≤ 1 → tally x ys ≤ 1
+rest_once y ys x h = omega (arith, h)
+
+first_once : (y : ℕ) (ys : List ℕ) → tally y (y ∷ ys) ≤ 1 → (i : ℕ) → slice_get ys i ≡ Some y → ⊥
+first_once y ys h i e =
+    let more = counted_at y ys i e in
+    let two : cond true 1 0 + tally y ys ≤ 1 = rw (same_test y) at h in
+    omega (arith, more, two)
+
+-- what is in a list once at most stands there apart
+apart_tally : (xs : List ℕ) → ((x : ℕ) → tally x xs ≤ 1) → AreApart xs
+apart_tally [] h = λ i j k e f. absurd (none-some k e)
+apart_tally (y ∷ ys) h = apart_cons y ys (apart_tally ys (λ x. rest_once y ys x (h x))) (first_once y ys (h y))
 
 keys_inserted : (hops : List Hop) (p : ℕ) (x : Hop) → keys_of (insert hops p x) ≡ insert (keys_of hops) p x.key
 keys_inserted hops zero x = refl
@@ -147,6 +164,12 @@ feeds_apart w s a b = subst AreApart (sym (feed_keys_of w (feed_keys w a b))) (s
 
 feeds_once : (w : Web) → Told (line_told w) (feed_hops w) feed_line → Apart (feed_hops w) → FedOnce w
 feeds_once w t p = record { lines = t; once = λ a b. subst AreApart (feed_keys_of w (feed_keys w a b)) (p a b) }
+
+-- where each wire stands once in its fan-out and at both of its ports, and none twice among feeds, each stands once among feeds too
+pub once_fed : (w : Web) → StandOnce w → Meet w → AreFed w → FedOnce w
+once_fed w s m f = feeds_once w
+    (λ node inlet i h e. let l = m.fanned node inlet i h e in s.lines h.node h.port l.0 (hop_at h.key node inlet) l.1)
+    (λ node inlet. apart_tally (keys_of (feed_hops w node inlet)) (f.once node inlet))
 
 joins_once : (w w' : Web) (key : ℕ) (l : Line) (fan_place feed_place : ℕ) → Joins w w' key l fan_place feed_place → StandOnce w → StandOnce w'
 joins_once w w' key l fan_place feed_place j s =

@@ -92,10 +92,9 @@ chain_of p c u r C = has_chain p.grove p.web (get p.grove.boards c) _ (order_in 
 -- a canvas has one order
 one_chain : (p : Patch) (c : ℕ) (C S D U : List ℕ) → CanRewire p → IsOrderOf p c C S → IsOrderOf p c D U → (C ≡ D) × (S ≡ U)
 one_chain p c C S D U r a b =
-    let n = p.numbers.items in
     let W = wired_parts p r in
-    one_order (canvas_graph p.grove n p.links c) (signal_boxes p.grove c) (canvas_lawful p.grove p.web n p.links W c) C S D U
-    (order_by_links p.grove p.web n p.links W c C S a) (order_by_links p.grove p.web n p.links W c D U b)
+    one_order (canvas_graph p.grove p.links c) (signal_boxes p.grove c) (canvas_lawful p.grove p.web p.links W c) C S D U
+    (order_by_links p.grove p.web p.links W c C S a) (order_by_links p.grove p.web p.links W c D U b)
 
 listed_there : (p : Patch) (c : ℕ) (chain stuck : List ℕ) → IsOrderOf p c chain stuck → (x : ℕ) → 0 < tally x chain → 0 < tally x (signal_among p.grove (keys_at p.grove c))
 listed_there p c chain stuck o x l = let r = o.rest x in omega (arith, r, l)

@@ -8,6 +8,7 @@ use Rattle.pd_atom.specs.Names.{Names}
 use Rattle.pd_clock.specs.declared.times.Rate.{Rate}
 use Rattle.pd_name.specs.declared.Class.{Class}
 use Rattle.pd_name.specs.declared.Class.TheVariants.{Receiver}
+use Rattle.pd_name.specs.Rows.{owners_of}
 use Rattle.pd_tree.specs.declared.rows.Sheet.{Sheet}
 use Rattle.pd_tree.specs.Trees.{Cell, Trees, Tree}
 use Rattle.pd_grove.specs.declared.nodes.Node.{Node}
@@ -104,9 +105,10 @@ flags_alike names more class name (p ∷ ps) a =
     ap (λ o. is_owned class name o ∷ map (owns more class name) ps) a.0
     ∙ ap (λ (l : List Bool). owns names class name p ∷ l) (flags_alike names more class name ps a.1)
 
-pub opened_owners : (p q : Patch) (t : Tree) (names more : Names) (file : List ℕ) (rate rate2 : Rate) (class : Class) (name : ℕ) → HasOpened p t q
-    → IsBuilt p names file rate → IsBuilt q more file rate2 → OwnAlike names more file t.boxes → HaveSameOwners p q class name
-opened_owners p q t names more file rate rate2 class name o b a same =
+pub owners_opened : (p q : Patch) (t : Tree) (names more : Names) (file : List ℕ) (class : Class) (name : ℕ) → HasOpened p t q
+    → owners_of p.names class name ≡ owners_in names file p.grove class name → owners_of q.names class name ≡ owners_in more file q.grove class name
+    → OwnAlike names more file t.boxes → HaveSameOwners p q class name
+owners_opened p q t names more file class name o b a same =
     let nodes = get p.grove.nodes in
     let boards = get p.grove.boards in
     let now = now_of p t in
@@ -120,8 +122,13 @@ opened_owners p q t names more file rate rate2 class name o b a same =
     let first : is_owned class name (owned Receiver (canvas_symbol more file)) ≡ root = ap (λ x. is_owned class name (owned Receiver x)) same.root in
     record {
       places = trues (root ∷ flags);
-      before = ap (map (λ k. Some k)) (b.owners class name) ∙ owned_places names file p.grove t.sheet t.boxes class name o.stands o.shallow;
-      opened = ap (map (λ k. Some k)) (a.owners class name) ∙ owned_places more file q.grove now.sheet now.boxes class name o.again low
+      before = ap (map (λ k. Some k)) b ∙ owned_places names file p.grove t.sheet t.boxes class name o.stands o.shallow;
+      opened = ap (map (λ k. Some k)) a ∙ owned_places more file q.grove now.sheet now.boxes class name o.again low
           ∙ ap (λ x. map (owner_at q.grove) (trues (x ∷ map (owns more class name) (placed_in_order true now.boxes)))) first
           ∙ ap (λ l. map (owner_at q.grove) (trues (root ∷ l))) told;
     }
+
+pub opened_owners : (p q : Patch) (t : Tree) (names more : Names) (file : List ℕ) (rate rate2 : Rate) (class : Class) (name : ℕ) → HasOpened p t q
+    → IsBuilt p names file rate → IsBuilt q more file rate2 → OwnAlike names more file t.boxes → HaveSameOwners p q class name
+opened_owners p q t names more file rate rate2 class name o b a same =
+    owners_opened p q t names more file class name o (b.owners class name) (a.owners class name) same

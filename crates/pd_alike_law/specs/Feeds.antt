@@ -5,27 +5,16 @@ use Rattle.pd_web.specs.declared.web.Hop.{Hop}
 use Rattle.pd_web.specs.declared.web.Web.{Web}
 use Rattle.pd_web.specs.Canvases.{keys_at}
 use Rattle.pd_web.specs.Changes.{hop_at, line_by, line_told}
-use Rattle.pd_web.specs.Hops.{fan_hops, feed_hops, feed_keys}
+use Rattle.pd_web.specs.Hops.{feed_hops, feed_keys}
 use Rattle.pd_present.specs.Presents.{number_in}
 use Rattle.pd_seek.specs.Places.{AreInOrder}
 use Rattle.pd_patch.specs.declared.patch.Patch.{Patch}
-
--- the list has this at some place
-abbrev pub IsListed : {X : Type 0} → List X → X → Type 0
-IsListed xs x = (i : ℕ) × (slice_get xs i ≡ Some x)
 
 -- each wire stands once among the feeds of an inlet, the one to which it leads
 pub record FedOnce (w : Web) : Type 0 where
   pub lines : (node inlet i : ℕ) (h : Hop) → slice_get (feed_hops w node inlet) i ≡ Some h
       → line_told w h.key ≡ Some (line_by h (hop_at h.key node inlet))
   pub once : (node inlet i j k : ℕ) → slice_get (feed_keys w node inlet) i ≡ Some k → slice_get (feed_keys w node inlet) j ≡ Some k → i ≡ j
-
--- each wire in a fan-out is among the feeds of the inlet to which it leads, and each feed is in the fan-out of the outlet from which it comes
-pub record Meet (w : Web) : Type 0 where
-  pub fed : (node outlet i : ℕ) (h : Hop) → slice_get (fan_hops w node outlet) i ≡ Some h
-      → IsListed (feed_hops w h.node h.port) (hop_at h.key node outlet)
-  pub fanned : (node inlet i : ℕ) (h : Hop) → slice_get (feed_hops w node inlet) i ≡ Some h
-      → IsListed (fan_hops w h.node h.port) (hop_at h.key node inlet)
 
 -- the feeds of each inlet in a canvas are in the order of the numbers of their boxes, and of the outlets of a box
 pub record FeedsInOrder (p : Patch) (c : ℕ) : Type 0 where

@@ -18,6 +18,7 @@ ghost use Rattle.pd_name.specs.declared.Class.{Class};
 ghost use Rattle.pd_tree.specs.Trees.{Tree};
 ghost use Rattle.pd_grove.specs.OwnPaths.{sub_reached};
 ghost use Rattle.pd_grove.specs.Telling.{reached};
+ghost use Rattle.pd_web.specs.Changes.{Meet};
 ghost use Rattle.pd_patch.specs.declared.patch.Patch.{Patch};
 ghost use Rattle.pd_patch.specs.Built.{IsBuilt};
 ghost use Rattle.pd_patch.specs.Document.{present_document};
@@ -27,7 +28,7 @@ ghost use Rattle.pd_reload_law.specs.Reloading.{RunsAs};
 ghost use Rattle.pd_reload_law.specs.Wires.{StandOnce};
 ghost use Rattle.pd_saved_law.specs.Fitting.{WiresFit};
 ghost use Rattle.pd_alike_law.specs.Alike.{HasOpened, HaveSameOrder, OwnAlike, HaveSameOwners};
-ghost use Rattle.pd_alike_law.specs.Feeds.{FedOnce, Meet, FeedsInOrder, HaveSameFeeds};
+ghost use Rattle.pd_alike_law.specs.Feeds.{FedOnce, FeedsInOrder, HaveSameFeeds};
 
 /// In each canvas of the document the boxes of the same numbers run in the same order.
 pub fn opened_patches_run_in_order()
@@ -54,9 +55,11 @@ pub fn opened_patches_are_fed_alike()
         FeedsInOrder p c → sub_reached p.grove (Some p.grove.root) path ≡ Some c → reached q.grove (Some q.grove.root) path ≡ Some d → HaveSameFeeds p c q d }
 {}
 
-/// In a patch that has just grown from a proper document the feeds of each canvas of the document are in order.
+/// In a patch that has just grown each wire stands at both of its ports. Where it grew from a proper document, the feeds of each canvas of the
+/// document are in order.
 pub fn feeds_begin_in_order()
-    ensures { (files : List (ℕ × Answer)) (name : List ℕ) (d : Page) (before names : Names) (n : ℕ) (rate : Rate) (p : Patch) (path : List ℕ)
+    ensures meet { (p : Patch) (names : Names) (file : List ℕ) (rate : Rate) → IsFresh p names file rate → Meet p.web }
+    ensures order { (files : List (ℕ × Answer)) (name : List ℕ) (d : Page) (before names : Names) (n : ℕ) (rate : Rate) (p : Patch) (path : List ℕ)
         (c : ℕ) → IsProper before d → IsTree p names rate (grown (answer_in files) name d (beginning before n)) → IsFresh p names name rate →
         sub_reached p.grove (Some p.grove.root) path ≡ Some c → FeedsInOrder p c }
 {}

@@ -8,12 +8,11 @@
 //! patches is `HasOpened`, which the text that is saved gives, and with it the owners (`saved_patches_open_alike`): what grows
 //! owns the same names in each table that goes on (`what_grows_owns_alike`).
 //!
-//! Feeds are in the order of numbers and outlets in a patch that has just grown (`feeds_begin_in_order`), and edits of wires
-//! leave them so, and each wire at both of its ports (`edits_keep_feeds`); messages change neither.
+//! In a patch that has just grown feeds are in the order of numbers and outlets, and each wire stands at both of its ports
+//! (`feeds_begin_in_order`). Edits of wires leave both so (`edits_keep_feeds`); messages change neither.
 //!
-//! Asked besides for feeds: what is true of each web as code has it (`StandOnce`, `FedOnce`: `feeds_stand_once`), and that at
-//! first each wire stands at both of its ports (`Meet`). Left: that in each run all of that holds; the canvases of
-//! abstractions, whose wires no edit changes.
+//! Asked besides for feeds: what is true of each web as code has it (`StandOnce`, `FedOnce`: `feeds_stand_once`). In each run all
+//! of that holds (`pd_again_law`). Left: the canvases of abstractions, whose wires no edit changes.
 //!
 //! Definitions: `Alike` (what opened, orders and owners), `Feeds`.
 #![tactic(auto)]

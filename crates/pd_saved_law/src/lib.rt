@@ -9,8 +9,8 @@
 //!
 //! Asked of the patch that is saved: that a tree stands in it and that what its boxes keep is theirs (`RunsAs`), which holds
 //! at first and outlasts edits of wires (`patches_run_on`), and that its document is proper. Both hold in each run
-//! (`pd_proper_law`, `pd_again_law`). Left: the order of the wires to an inlet, the owners of names and the signal orders
-//! of what opens again, beside those of the patch that was saved.
+//! (`pd_proper_law`, `pd_again_law`). That the wires to each inlet, the owners of names and the signal orders of what opens
+//! again are those of the patch that was saved stands in `pd_alike_law`.
 //!
 //! Definitions: `Fitting`; all others are those of `pd_reload_law` and of the crates below.
 #![tactic(auto)]

@@ -1,0 +1,4 @@
+pub mod WayLemmas
+pub mod SameLemmas
+pub mod HoldLemmas
+pub mod FirstLemmas

@@ -1,0 +1,5 @@
+pub mod LengthLemmas
+pub mod OnceLemmas
+pub mod CountLemmas
+pub mod FewLemmas
+pub mod SoundLemmas
