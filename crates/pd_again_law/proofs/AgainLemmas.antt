@@ -1,7 +1,6 @@
 -- A patch that was saved opens again.
-use Rattle.std.proofs.Common.{◌≡◌, ◌≤◌, ◌+◌, ◌^◌, inr, ℕ, true, List, [], ◌∷◌, ◌++◌, length, slice_get, Option, Some, None, Ok, IfSome, refl, sym, ap, ◌∙◌, subst, arith}
+use Rattle.std.proofs.Common.{◌≡◌, ◌≤◌, ◌+◌, inr, ℕ, true, List, [], ◌∷◌, ◌++◌, length, slice_get, Option, Some, None, Ok, IfSome, refl, sym, ap, ◌∙◌, subst, arith}
 use Rattle.std.specs.Prelude.{option_map, option_and_then}
-use Rattle.std.specs.List.{AllByRecursion}
 use Rattle.std.specs.Option.{option_map_or}
 use Rattle.slab.specs.Slab.{Slab, get}
 use Rattle.pd_io.specs.declared.files.FileRow.{FileRow}
@@ -10,6 +9,8 @@ use Rattle.pd_atom.proofs.NameLemmas.{six_names}
 use Rattle.pd_canvas.specs.Pages.{Page}
 use Rattle.pd_canvas.specs.Proper.{IsProper, AreBoxes, count_wires}
 use Rattle.pd_clock.specs.declared.times.Rate.{Rate}
+use Rattle.pd_name.specs.declared.Class.{Class}
+use Rattle.pd_name.specs.Rows.{Row, owners_of}
 use Rattle.pd_doc.specs.Reading.{document_of}
 use Rattle.pd_doc.specs.Writing.{text_of}
 use Rattle.pd_doc.proofs.GrowLaws.{proper_grows}
@@ -21,7 +22,7 @@ use Rattle.pd_object.specs.declared.kinds.Glue.TheVariants as glue
 use Rattle.pd_kind.specs.declared.states.State.{State}
 use Rattle.pd_kind.specs.Fit.{blank}
 use Rattle.pd_library.specs.Files.{answer_in}
-use Rattle.pd_tree.specs.Trees.{Trees, Done, Leaf, Holder, Tree, weight, document_boxes, document_in}
+use Rattle.pd_tree.specs.Trees.{Trees, Done, Leaf, Holder, Tree, weight, document_in}
 use Rattle.pd_growth.specs.Steps.{beginning, gives}
 use Rattle.pd_growth.specs.Growth.{grown}
 use Rattle.pd_grove.specs.declared.boards.Board.{Board}
@@ -29,17 +30,20 @@ use Rattle.pd_grove.specs.declared.grove.Grove.{Grove}
 use Rattle.pd_grove.specs.declared.nodes.Node.{Node}
 use Rattle.pd_grove.specs.OwnPaths.{sub_in, sub_step_in, sub_reached}
 use Rattle.pd_grove.specs.States.{NodesSmall}
-use Rattle.pd_grove.specs.Telling.{kind_in, inner_in, keys_in, with_state, reached}
+use Rattle.pd_grove.specs.Standing.{GroveStands}
+use Rattle.pd_grove.specs.Telling.{kind_in, inner_in, keys_in, with_state}
 use Rattle.pd_grove.specs.TextOrder.{deep, keys_inside}
-use Rattle.pd_web.specs.Canvases.{keys_at}
+use Rattle.pd_bind.specs.Owning.{owners_in}
 use Rattle.pd_web.specs.declared.web.Web.{Web}
 use Rattle.pd_present.specs.Presents.{present_page}
 use Rattle.pd_patch.specs.declared.patch.Patch.{Patch}
 use Rattle.pd_patch.specs.Document.{present_document}
 use Rattle.pd_patch.specs.Grown.{IsTree, IsFresh}
+use Rattle.pd_patch.specs.Sounds.{sound_of}
+use Rattle.pd_patch.specs.Wired.{IsWired}
 use Rattle.pd_patch.proofs.BuiltLemmas.{is_built}
-use Rattle.pd_wiring.specs.Changes.{CanRewire}
-use Rattle.pd_hearing.specs.Worlds.{net_of, states_of, kept_of, Net}
+use Rattle.pd_wiring.proofs.BuiltLemmas.{runs_rewire}
+use Rattle.pd_hearing.specs.Worlds.{net_of, states_of, Net}
 use Rattle.pd_block.specs.Nets as block
 use Rattle.pd_block.specs.Nets.{kind_at}
 use Rattle.pd_regrowth_law.specs.Regrowth.{stock}
@@ -52,9 +56,17 @@ use Rattle.pd_reload_law.proofs.StayLemmas.{grove_stays}
 use Rattle.pd_saved_law.specs.Fitting.{WiresFit}
 use Rattle.pd_saved_law.proofs.FitLemmas.{fresh_fit}
 use Rattle.pd_saved_law.proofs.OpenLemmas.{has_grown, grows_again, opens_again}
-use Rattle.pd_saved_law.proofs.WireLemmas.{reopened}
+use Rattle.pd_alike_law.specs.Alike.{HasOpened, now_of}
+use Rattle.pd_alike_law.proofs.OpenLemmas.{owners_alike}
+use Rattle.pd_alike_law.proofs.OwnedLemmas.{owners_same}
+use Rattle.pd_inside_law.proofs.FirstLemmas.{first_holds}
+use Rattle.pd_inside_law.proofs.SameLemmas.{same_everywhere}
+use Rattle.pd_inside_law.proofs.WayLemmas.{same_paths}
+use Rattle.pd_limits_law.proofs.CountLemmas.{few_fit}
+use Rattle.pd_limits_law.proofs.FewLemmas.{first_few}
+use Rattle.pd_limits_law.proofs.SoundLemmas.{same_sound, memory_alone}
 use Rattle.pd_guards.specs.Order.{IsKind}
-use Rattle.pd_guards.specs.Worlds.{AreKept, AreKinds}
+use Rattle.pd_guards.specs.Worlds.{AreKept}
 use Rattle.pd_guards.proofs.FactLemmas.{some-weaker}
 use Rattle.pd_guards.proofs.MoreLemmas.{longer}
 use Rattle.pd_guards.proofs.NameLemmas.{same_table}
@@ -63,20 +75,20 @@ use Rattle.pd_sized.specs.Kinds.{kinds_of, blank_of, KeepsOfKind}
 use Rattle.pd_contents_law.specs.Contents.{HasContents, HaveContents, count_of, counts_of, IsGlueSettled, IsKindSettled, AreKindsSettled}
 use Rattle.pd_contents_law.proofs.SettledLemmas.{onward, settled_more}
 use Rattle.pd_contents_law.proofs.MadeLemmas.{grown_contents}
-use Rattle.pd_proper_law.specs.Saves.{IsOwnBox, is_written, form_of, IsWritten, AllSaveWell}
+use Rattle.pd_proper_law.specs.Saves.{is_written, form_of, IsWritten, AllSaveWell}
 use Rattle.pd_proper_law.proofs.DocumentCounts.{doc_keys, own_keys, all_keys, document_count, dist_keys}
 use Rattle.pd_proper_law.proofs.LawLemmas.{tree_proper}
 use Rattle.pd_proper_law.proofs.OwnLemmas.{written_settled}
 use Rattle.pd_proper_law.proofs.SavableLemmas.{kinds_savable, contents_save}
 use Rattle.pd_stage.specs.Choices.{Wanted, Edits, Saves, Undoes, Redoes, Made, Choice, Refuses, Lacks, Makes}
-use Rattle.pd_stage.specs.Lawful.{StandsAt, IsSaved}
+use Rattle.pd_stage.specs.Lawful.{IsSaved}
 use Rattle.pd_stage.specs.Stages.{Stage, Taken}
-use Rattle.pd_stage.specs.Times.{with_wires, IsStageOf, block_net, sound_at}
 use Rattle.pd_engine.specs.Opening.{Grows, first_stage}
 use Rattle.pd_steady.specs.Steady.{IsSteady}
-use Rattle.pd_again_law.specs.Again.{IsSamePatch, OpensAgain, SavedOpensAgain, IsAgain, AreAgain}
+use Rattle.pd_again_law.specs.Again.{IsSamePatch, OpensAgain, SavedOpensAgain, AreAgain}
 use Rattle.pd_again_law.proofs.FoundLemmas.{IsGood, AreFound, fit_of, net_fits}
 use Rattle.pd_again_law.proofs.FewLemmas.{Few, unnumbered, few_now, few_first}
+use Rattle.pd_again_law.proofs.HeldLemmas.{IsHeld, held_of, held_in}
 
 -- ---- groves that differ in what boxes keep
 
@@ -155,13 +167,16 @@ module _ (g g2 : Grove) (h : HasBoxes g g2) where
   same_reached (n ∷ path) here =
       ap (λ (x : Option ℕ). sub_reached g2 x path) (same_next n here) ∙ same_reached path (option_and_then (λ c. sub_step_in g c n) here)
 
+  same_leads : (path : List ℕ) (c : ℕ) → sub_reached g2 (Some g2.root) path ≡ Some c → sub_reached g (Some g.root) path ≡ Some c
+  same_leads path c at = ap (λ (r : ℕ). sub_reached g (Some r) path) (sym h.root) ∙ sym (same_reached path (Some g2.root)) ∙ at
+
   same_written : (k : ℕ) → IsWritten g2 k → IsWritten g k
   same_written k w = record {
     own = record {
       path = w.own.path;
       canvas = w.own.canvas;
       place = w.own.place;
-      leads = ap (λ (r : ℕ). sub_reached g (Some r) w.own.path) (sym h.root) ∙ sym (same_reached w.own.path (Some g2.root)) ∙ w.own.leads;
+      leads = same_leads w.own.path w.own.canvas w.own.leads;
       at = ap (λ (b : Slab Board). slice_get (keys_in (get b w.own.canvas)) w.own.place) (sym h.boards) ∙ w.own.at;
     };
     form = written_bare (get g.nodes k) (subst (λ (o : Option Node). IfSome o (λ n. is_written (form_of n) ≡ true)) (h.nodes k) (bare_written (get g2.nodes k) w.form));
@@ -194,7 +209,7 @@ abbrev pub ReadsBack : Type 0
 ReadsBack = (names : Names) (p : Page) → IsTable names → IsProper names p → document_of names (text_of names p) ≡ Ok (p, names)
 
 module _ (holds : Option (List FileRow)) (name : List ℕ) (rate : Rate) (d : Page) (names : Names) (first : Patch) (table : Names) (grows : Grows holds name rate d names first table) where
-  abbrev t : Tree
+  abbrev pub t : Tree
   t = grows.tree.tree
 
   -- the boxes of the document
@@ -211,6 +226,9 @@ module _ (holds : Option (List FileRow)) (name : List ℕ) (rate : Rate) (d : Pa
   on =
       subst (λ (n : Names). Extends before n) (sym grows.tree.given.table)
       (patch_takes (answer_in grows.files.files) name d (beginning before 1001) grows.tree.given.after t grows.tree.given.step).names
+
+  pub shallow : deep t.boxes ≤ 256
+  shallow = no_deeper (deep t.boxes) grows.tree.shallow
 
   made : AreMade t.boxes
   made = patch_made (answer_in grows.files.files) name d (beginning before 1001) grows.tree.given.after t grows.tree.given.step
@@ -234,7 +252,7 @@ module _ (holds : Option (List FileRow)) (name : List ℕ) (rate : Rate) (d : Pa
       some-weaker (IsKindSettled before) (IsKindSettled table) (kind_more before table on) (kinds_of first k)
       (written_settled before first.grove t grows.table grows.tree.stands made (subst (λ (x : Page). AreBoxes before x.boxes) (sym document) grows.proper.sound.1) k w)
 
-  pub first_good : (most : ℕ) (ahead : List Choice) → IsSteady most (first_stage name first table ahead) → IsGood first table keys most (first_stage name first table ahead)
+  pub first_good : (most : ℕ) (ahead : List Choice) → IsSteady most (first_stage name first table ahead) → IsGood first table keys t shallow most (first_stage name first table ahead)
   first_good most ahead steady =
       let b = is_built first table name rate grows.fresh in
       record {
@@ -253,12 +271,17 @@ module _ (holds : Option (List FileRow)) (name : List ℕ) (rate : Rate) (d : Pa
           inr (subst (λ (n : ℕ). n ≤ 65536)
               (document_count first.grove t grows.tree.stands first.web first.numbers.items ∙ unnumbered first.web first.numbers.items keys)
               (few_first before first t grows.fresh.wires grows.fresh.own grows.fresh.numbers grows.tree.stands (subst (IsProper before) (sym document) grows.proper))),
+          held_in t shallow first (net_of first) refl (record {
+            stands = grows.tree.stands;
+            holds = first_holds grows.files.files name d before table 1001 rate first grows.proper grows.tree grows.fresh;
+            few = first_few first table name rate (grown (answer_in grows.files.files) name d (beginning before 1001)) grows.tree grows.fresh;
+          }),
         );
       }
 
   -- ---- a save
 
-  module _ (tells : Tells) (reads : ReadsBack) (most : ℕ) (s : Stage) (m : Made) (good : IsGood first table keys most s) (saved : IsSaved s m) where
+  module _ (tells : Tells) (reads : ReadsBack) (most : ℕ) (s : Stage) (m : Made) (good : IsGood first table keys t shallow most s) (saved : IsSaved s m) where
     abbrev p : Patch
     p = saved.patch
 
@@ -280,7 +303,7 @@ module _ (holds : Option (List FileRow)) (name : List ℕ) (rate : Rate) (d : Pa
     runs : RunsAs p.grove t
     runs = record {
       stands = grove_stays first.grove p.grove t.sheet t.boxes boxes.nodes boxes.boards boxes.root grows.tree.stands;
-      shallow = no_deeper (deep t.boxes) grows.tree.shallow;
+      shallow = shallow;
       savable = kinds_savable p keeps;
     }
 
@@ -323,16 +346,50 @@ module _ (holds : Option (List FileRow)) (name : List ℕ) (rate : Rate) (d : Pa
         subst (IsProper s.names) same
         (tree_proper s.names p t proper_then runs made few small saves saved.stands.rewires fits_now few_wires)
 
+    -- what is asked of a patch that opened
+    has_opened : (q : Patch) (names2 : Names) → IsFresh q names2 name rate → GroveStands q.grove (now_of p t).sheet (now_of p t).boxes → IsWired q.grove q.web (now_of p t)
+        → HasOpened p t q
+    has_opened q names2 fresh stands wired = record {
+      runs = saved.stands.rewires;
+      fit = fits_now;
+      stands = runs.stands;
+      shallow = runs.shallow;
+      made = made;
+      opened = runs_rewire q names2 name rate (is_built q names2 name rate fresh);
+      again = stands;
+      wired = wired;
+    }
+
+    -- each name has the owners that it had at first
+    own : (class : Class) (symbol : ℕ) → owners_of p.names class symbol ≡ owners_in table name p.grove class symbol
+    own class symbol =
+        let same : p.names ≡ first.names = sym (ap (λ (n : Net). n.owners) saved.stands.net) ∙ ap (λ (n : block.Net). n.owners) good.at.net in
+        ap (λ (rows : List Row). owners_of rows class symbol) same ∙ grows.fresh.owners class symbol
+        ∙ sym (owners_same table name first.grove p.grove class symbol boxes.nodes boxes.boards boxes.root)
+
+    held : IsHeld t shallow p
+    held = held_of t shallow p s.net saved.stands.net good.fit.2
+
     same_patch : (q : Patch) (names2 : Names) → IsTree q names2 rate (grown (answer_in grows.files.files) name (present_document p) (beginning s.names 1001)) → IsFresh q names2 name rate
         → IsSamePatch p (tree_now p.grove p.web p.numbers.items t) s.names q names2
     same_patch q names2 tree fresh =
         let o = opens_again grows.files.files grows.files.files name d (present_document p) before table s.names s.names names2 1001 rate first p q grows.proper grows.found grows.tree
         (λ x a e. e) runs good.names refl refl tree in
+        let h : HasOpened p t q = has_opened q names2 fresh o.0 o.1 in
         record {
           tree = o.0;
           table = o.2;
-          canvases = λ path c e at there. reopened p q t path c e saved.stands.rewires fits_now fresh.numbers runs.stands made o.1 at there;
+          owners = λ class symbol. owners_alike grows.files.files name d before table s.names names2 1001 rate first p q class symbol grows.proper grows.found grows.tree good.names o.2 h
+              (own class symbol) fresh;
+          canvases = λ path. same_paths p q t path h;
+          alike = λ path c e at there. same_everywhere p q t path c e h saved.once held.holds at there;
         }
+
+    again : grown (answer_in grows.files.files) name (present_document p) (beginning s.names 1001) ≡ gives (now_of p t) (stock s.names grows.tree.given.after.zeros grows.tree.given.after.room)
+    again = grows_again grows.files.files grows.files.files name d before table s.names 1001 rate first p grows.proper grows.found grows.tree (λ x a e. e) runs good.names
+
+    as_few : (a b c : ℕ) → a ≡ b → b ≤ c → a ≤ c
+    as_few a b c e l = omega (arith, e, l)
 
     pub saved_again : OpensAgain grows.files.files name rate t p s.names (text_of s.names (present_document p))
     saved_again = record {
@@ -340,13 +397,16 @@ module _ (holds : Option (List FileRow)) (name : List ℕ) (rate : Rate) (d : Pa
       reads = reads s.names (present_document p) saved.table proper;
       is_now = refl;
       rest = stock s.names grows.tree.given.after.zeros grows.tree.given.after.room;
-      tree = grows_again grows.files.files grows.files.files name d before table s.names 1001 rate first p grows.proper grows.found grows.tree (λ x a e. e) runs good.names;
+      tree = again;
       grows = same_patch;
+      refused = λ why cause. memory_alone rate (grown (answer_in grows.files.files) name (present_document p) (beginning s.names 1001)) (now_of p t)
+          (stock s.names grows.tree.given.after.zeros grows.tree.given.after.room) why again (few_fit p t runs saved.stands.rewires saved.once held.holds.inside held.few)
+          (as_few (sound_of rate (now_of p t).boxes) (sound_of rate t.boxes) 16777216 (same_sound p t s.names rate runs made saves) grows.tree.few_values) cause;
     }
 
   -- ---- edits that found good stages
 
-  one_again : Tells → ReadsBack → (most : ℕ) (wanted : Wanted) (taken : Taken) (c : Choice) → IsGood first table keys most taken.found → SavedOpensAgain grows.files.files name rate t wanted taken c
+  one_again : Tells → ReadsBack → (most : ℕ) (wanted : Wanted) (taken : Taken) (c : Choice) → IsGood first table keys t shallow most taken.found → SavedOpensAgain grows.files.files name rate t wanted taken c
   one_again tells reads most (Edits place path e) taken c good = tt
   one_again tells reads most (Saves (Some place)) taken c good = tt
   one_again tells reads most (Saves None) taken (Refuses why) good = tt
@@ -355,6 +415,6 @@ module _ (holds : Option (List FileRow)) (name : List ℕ) (rate : Rate) (d : Pa
   one_again tells reads most Undoes taken c good = tt
   one_again tells reads most Redoes taken c good = tt
 
-  pub all_again : Tells → ReadsBack → (most : ℕ) (edits : List Taken) → AreFound first table keys most edits → AreAgain grows.files.files name rate t edits
+  pub all_again : Tells → ReadsBack → (most : ℕ) (edits : List Taken) → AreFound first table keys t shallow most edits → AreAgain grows.files.files name rate t edits
   all_again tells reads most [] h = tt
   all_again tells reads most (x ∷ edits) h = (one_again tells reads most x.wanted x x.choice h.0, all_again tells reads most edits h.1)

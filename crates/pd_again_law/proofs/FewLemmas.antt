@@ -1,5 +1,5 @@
 -- The document of a patch has no more wires in a run than a document may have.
-use Rattle.std.proofs.Common.{◌≡◌, ◌≢◌, ◌≤◌, ◌<◌, ◌+◌, ◌==◌, ◌⊎◌, inl, inr, ℕ, suc, Bool, true, false, cond, is_some, List, [], ◌∷◌, ◌++◌, length, map, filter, slice_get, slice_index_or, Option, Some, None, Result, refl, sym, ap, ◌∙◌, subst, arith, length-append}
+use Rattle.std.proofs.Common.{◌≡◌, ◌≤◌, ◌<◌, ◌+◌, ◌==◌, ◌⊎◌, inl, inr, ℕ, Bool, true, false, cond, is_some, List, [], ◌∷◌, ◌++◌, length, map, filter, slice_index_or, Option, Some, None, Result, refl, sym, ap, ◌∙◌, subst, arith, length-append}
 use Rattle.std.specs.Prelude.{option_map, not}
 use Rattle.std.specs.List.{flat_map, range_with_len}
 use Rattle.std.proofs.lemmas.List.{length-map}
@@ -19,7 +19,7 @@ use Rattle.pd_grove.specs.declared.grove.Grove.{Grove}
 use Rattle.pd_grove.specs.declared.ports.Side.TheVariants.{Outlets}
 use Rattle.pd_grove.specs.Owning.{AreOwn}
 use Rattle.pd_grove.specs.Standing.{BoardSeen, board_seen, Stands, GroveStands}
-use Rattle.pd_grove.specs.Telling.{inner_in, keys_in}
+use Rattle.pd_grove.specs.Telling.{inner_in}
 use Rattle.pd_grove.specs.TextOrder.{keys_inside}
 use Rattle.pd_grove.proofs.PlaceLemmas.{seen_keys}
 use Rattle.pd_web.specs.declared.jacks.Jack.{Jack}
@@ -28,7 +28,7 @@ use Rattle.pd_web.specs.declared.web.Hop.{Hop}
 use Rattle.pd_web.specs.declared.web.Web.{Web}
 use Rattle.pd_web.specs.Canvases.{keys_at, sink_place}
 use Rattle.pd_web.specs.Changes.{line_told, wires_told, KeepsPorts, IsSame, CutsWire}
-use Rattle.pd_web.specs.Hops.{boxes_told, fan_keys, fan_hops, ports_told, places_of}
+use Rattle.pd_web.specs.Hops.{boxes_told, fan_keys, fan_hops, ports_told}
 use Rattle.pd_web.specs.Lines.{boxes_in, wires_in}
 use Rattle.pd_web.proofs.CountLemmas.{holds, held_alike, joined_is_one_more, cut_is_one_less, same_are_as_many}
 use Rattle.pd_web.proofs.NumberLemmas.{fed_by_number}
@@ -38,9 +38,9 @@ use Rattle.pd_patch.specs.Grown.{AreLaid}
 use Rattle.pd_patch.specs.Numbers.{AreUnder}
 use Rattle.pd_patch.proofs.WiredLemmas.{own_canvas}
 use Rattle.pd_wiring.specs.declared.refusals.EditRefusal.{EditRefusal}
-use Rattle.pd_wiring.specs.Plans.{Plan, Attaches, Detaches, planned, IsCarriedOut, IsRewired}
+use Rattle.pd_wiring.specs.Plans.{Plan, Attaches, Detaches, IsCarriedOut, IsRewired}
 use Rattle.pd_regrowth_law.specs.Rewiring.{with_wires}
-use Rattle.pd_reload_law.specs.Saving.{holder_now, boxes_now, tree_now}
+use Rattle.pd_reload_law.specs.Saving.{boxes_now, tree_now}
 use Rattle.pd_reload_law.specs.Wires.{StandOnce}
 use Rattle.pd_reload_law.proofs.LaidLemmas.{fitting_saved}
 use Rattle.pd_saved_law.proofs.FitLemmas.{boxes_seen, same_or}

@@ -1,5 +1,5 @@
--- At each stage of a run the contents of boxes are settled, names go on, and wires fit.
-use Rattle.std.proofs.Common.{◌≡◌, ◌<◌, ◌≤◌, ◌+◌, ◌-◌, ◌^◌, ◌⊎◌, inl, inr, ℕ, zero, suc, Bool, true, false, max, nat_lt, nat_le, if◌then◌else◌, List, [], ◌∷◌, ◌++◌, length, Option, Some, None, IfSome, refl, sym, ap, ◌∙◌, subst, arith}
+-- At each stage of a run the contents of boxes are settled, names go on, and wires fit and hold.
+use Rattle.std.proofs.Common.{◌≡◌, ◌<◌, ◌≤◌, ◌+◌, ◌-◌, ◌^◌, inl, inr, ℕ, zero, suc, Bool, true, false, nat_lt, nat_le, if◌then◌else◌, List, [], ◌∷◌, ◌++◌, length, Option, Some, None, IfSome, refl, sym, ap, subst, arith}
 use Rattle.std.specs.List.{AllByRecursion}
 use Rattle.std.proofs.lemmas.Bool.{leb-true, ltb-true}
 use Rattle.slab.specs.Slab.{get}
@@ -10,17 +10,16 @@ use Rattle.pd_kind.specs.Forming.{cut_atoms}
 use Rattle.pd_script.specs.declared.commands.Command.{Command}
 use Rattle.pd_script.specs.declared.commands.Command.TheVariants as command
 use Rattle.pd_tree.specs.Ports.{fits}
+use Rattle.pd_tree.specs.Trees.{Tree}
 use Rattle.pd_turns.specs.Turns.{World}
 use Rattle.pd_grove.specs.Telling.{keys_in}
-use Rattle.pd_grove.specs.TextOrder.{keys_in_order}
+use Rattle.pd_grove.specs.TextOrder.{deep, keys_in_order}
 use Rattle.pd_web.specs.Hops.{boxes_told}
 use Rattle.pd_present.specs.Presents.{wires_among}
 use Rattle.pd_patch.specs.declared.patch.Patch.{Patch}
 use Rattle.pd_patch.specs.Report.{loads_among}
-use Rattle.pd_wiring.specs.Changes.{CanRewire}
 use Rattle.pd_hearing.specs.Worlds.{Net, Kept, net_of}
 use Rattle.pd_block.specs.Nets as block
-use Rattle.pd_walk.specs.Outcome.{outcome}
 use Rattle.pd_guards.proofs.FactLemmas.{all-append}
 use Rattle.pd_guards.proofs.MoreLemmas.{longer}
 use Rattle.pd_sized.specs.Kinds.{kinds_of}
@@ -35,7 +34,7 @@ use Rattle.pd_stage.specs.Choices.{Wanted, Edits, Saves, Undoes, Redoes, Made, C
 use Rattle.pd_stage.specs.Lawful.{IsMade, IsShort, MayCome, AreLawful}
 use Rattle.pd_stage.specs.Stages.{Stage, Taken, Passage, with_names, with_ahead, still, followed_by}
 use Rattle.pd_stage.specs.Events.{Beginning, Message, Firing, Loading, stage_by, edit_by, edit_taken, edit_asked, edits_taken, begun, delivered, with_kept, event}
-use Rattle.pd_stage.specs.Times.{IsStageOf, with_wires, block_units, most_fired, first_clock, next_clock, taken_off, with_taken, with_fired, fires, fires_or_not, fires_below, clocks_fire, block_net, sound_at, block_sounds, block_runs, blocks_run, with_time, time_is, comes_to, advanced, finished}
+use Rattle.pd_stage.specs.Times.{IsStageOf, block_units, most_fired, first_clock, next_clock, taken_off, with_taken, with_fired, fires, fires_or_not, fires_below, clocks_fire, block_net, sound_at, block_sounds, block_runs, blocks_run, time_is, comes_to, advanced, finished}
 use Rattle.pd_stage.proofs.EditLemmas.{AsksAlike, ButWires, taken_rewires, taken_stands}
 use Rattle.pd_engine.specs.Messages.{message_in}
 use Rattle.pd_engine.specs.Commands.{commanded}
@@ -50,6 +49,7 @@ use Rattle.pd_steady.proofs.OwnLemmas.{commanded_own, advanced_own, finished_own
 use Rattle.pd_steady.proofs.RunLemmas.{named_steady}
 use Rattle.pd_steady.proofs.TreeLemmas.{tree_on, taken_tree}
 use Rattle.pd_again_law.proofs.FewLemmas.{Few, few_edit, few_same}
+use Rattle.pd_again_law.proofs.HeldLemmas.{NetHeld, held_of, held_in, held_edit, held_room}
 use Rattle.pd_steady.proofs.TimeLemmas.{below_limit, fires_end, within, below, same_end, ends_soon, steady_longer, fired_steady, timed_steady, sounds_steady}
 
 -- ---- wires that fit, by what messages leave as it is
@@ -63,10 +63,10 @@ fit_of q n e h = record { all = subst AllFit e h }
 pub net_fits : (q : Patch) (n : Net) → n ≡ net_of q → WiresFit q → AllFit n
 net_fits q n e f = subst AllFit (sym e) f.all
 
-module _ (ks : List ℕ) where
-  -- they fit, and those that leave these boxes are few
+module _ (ks : List ℕ) (t : Tree) (low : deep t.boxes ≤ 256) where
+  -- they fit, those that leave these boxes are few, and they hold
   abbrev pub NetFits : Net → Type 0
-  NetFits n = AllFit n × Few n.web ks
+  NetFits n = AllFit n × Few n.web ks × NetHeld t low n
 
   few_of : (q : Patch) (n : Net) → n ≡ net_of q → Few n.web ks → Few q.web ks
   few_of q n e h = subst (λ (x : Net). Few x.web ks) e h
@@ -78,12 +78,14 @@ module _ (ks : List ℕ) where
   made_fit s path e m h f = (
     net_fits h.new m.net h.net (edits_fit h.old h.new path e h.canvas h.stands.rewires (fit_of h.old s.net h.stands.net f.0) h.rewired),
     few_in h.new m.net h.net (few_edit h.old h.new path e h.canvas ks h.rewired (few_of h.old s.net h.stands.net f.1)),
+    held_in t low h.new m.net h.net (held_edit t low h.old h.new path e h.canvas h.stands.rewires h.rewired (held_of t low h.old s.net h.stands.net f.2)),
   )
 
   short_fit : (s : Stage) (path : List ℕ) (e : Edit) (net : Net) → IsShort s path e net → NetFits s.net → NetFits net
   short_fit s path e net h f = (
     net_fits h.new net h.net_is (room_fits h.old h.new h.same (fit_of h.old s.net h.stands.net f.0)),
     few_in h.new net h.net_is (few_same h.old.web h.new.web ks h.same.web (few_of h.old s.net h.stands.net f.1)),
+    held_in t low h.new net h.net_is (held_room t low h.old h.new h.same (held_of t low h.old s.net h.stands.net f.2)),
   )
 
   edit_fit : (s : Stage) (ahead : List Choice) (path : List ℕ) (e : Edit) (c : Choice) → MayCome (Edits None path e) (with_ahead s []) c → NetFits s.net → NetFits (stage_by (with_ahead s ahead) c).net
@@ -116,17 +118,17 @@ module _ (ks : List ℕ) where
 enough : (a b : ℕ) → 6 ≤ a → a ≤ b → 6 ≤ b
 enough a b h k = omega (arith, h, k)
 
-module _ (p : Patch) (table : Names) (ks : List ℕ) where
+module _ (p : Patch) (table : Names) (ks : List ℕ) (t : Tree) (low : deep t.boxes ≤ 256) where
   abbrev Contents : Names → Stage → Type 0
   Contents names s = HaveContents (IsWritten p.grove) (counts_of (kinds_of p)) names s.states
 
-  -- it is steady, and a stage of the patch; the names go on from where it opened; what is written of boxes is settled, and wires fit
+  -- it is steady, and a stage of the patch; the names go on from where it opened; what is written of boxes is settled, and wires fit and hold
   pub record IsGood (most : ℕ) (s : Stage) : Type 0 where
     pub steady : IsSteady most s
     pub at : IsStageOf p s
     pub names : Extends table s.names
     pub contents : Contents s.names s
-    pub fit : NetFits ks s.net
+    pub fit : NetFits ks t low s.net
 
   -- an edit found such a stage
   abbrev pub AreFound : ℕ → List Taken → Type 0
@@ -176,7 +178,7 @@ module _ (p : Patch) (table : Names) (ks : List ℕ) where
           at = taken_stands asks p wanted s l h.at;
           names = subst (λ (x : Stage). Extends table x.names) (sym e.is) h.names;
           contents = subst (λ (x : Stage). Contents x.names x) (sym e.is) h.contents;
-          fit = taken_fit ks wanted s l h.fit;
+          fit = taken_fit ks t low wanted s l h.fit;
         }
 
     refused_good : (wanted : Wanted) (s : Stage) (c : Choice) → IsRefusal c → IsGood most s → IsGood most (edit_by wanted s c).stage

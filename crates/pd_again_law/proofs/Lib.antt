@@ -1,3 +1,4 @@
 pub mod FewLemmas
+pub mod HeldLemmas
 pub mod FoundLemmas
 pub mod AgainLemmas

@@ -1,9 +1,10 @@
 -- What the text of a patch that was saved opens as.
-use Rattle.std.specs.Prelude.{◌≡◌, ◌≤◌, ℕ, List, Option, Some, None, Ok}
+use Rattle.std.specs.Prelude.{◌≡◌, ℕ, List, Some, None, Ok, is_some}
 use Rattle.std.specs.List.{AllByRecursion}
 use Rattle.pd_atom.specs.Names.{Names}
 use Rattle.pd_canvas.specs.Pages.{Page}
 use Rattle.pd_clock.specs.declared.times.Rate.{Rate}
+use Rattle.pd_name.specs.declared.Class.{Class}
 use Rattle.pd_doc.specs.Reading.{document_of}
 use Rattle.pd_doc.specs.Writing.{text_of}
 use Rattle.pd_library.specs.Files.{answer_in}
@@ -11,27 +12,32 @@ use Rattle.pd_library.specs.declared.answers.Answer.{Answer}
 use Rattle.pd_tree.specs.Trees.{Tree}
 use Rattle.pd_growth.specs.Steps.{Stock, beginning, gives}
 use Rattle.pd_growth.specs.Growth.{grown}
-use Rattle.pd_grove.specs.OwnPaths.{sub_reached}
 use Rattle.pd_grove.specs.Standing.{GroveStands}
 use Rattle.pd_grove.specs.Telling.{reached}
 use Rattle.pd_patch.specs.declared.patch.Patch.{Patch}
 use Rattle.pd_patch.specs.Document.{present_document}
-use Rattle.pd_patch.specs.Grown.{IsTree, IsFresh}
+use Rattle.pd_patch.specs.Grown.{IsTree, IsFresh, HasCause}
+use Rattle.pd_patch.specs.declared.refusal.GrowRefusal.{GrowRefusal}
+use Rattle.pd_patch.specs.declared.refusal.GrowRefusal.TheVariants.{NoMemory}
 use Rattle.pd_reload_law.specs.Saving.{tree_now}
-use Rattle.pd_saved_law.specs.Fitting.{HaveSameWires}
-use Rattle.pd_stage.specs.Choices.{Wanted, Edits, Saves, Undoes, Redoes, Made, Choice, Refuses, Lacks, Makes}
+use Rattle.pd_alike_law.specs.Alike.{HaveSameOwners}
+use Rattle.pd_inside_law.specs.Inside.{IsSameCanvas}
+use Rattle.pd_stage.specs.Choices.{Wanted, Saves, Choice, Makes}
 use Rattle.pd_stage.specs.Stages.{Taken}
 use Rattle.pd_stage.specs.Lawful.{IsSaved}
 
--- The second patch stands as the first one does: as this tree, with no name more; and where a path leads to a canvas of the first one's document,
--- the second has there the same ports, and the same wires, at each outlet in the same order.
+-- The second patch stands as the first one does: as this tree, with no name more, and each name has the same owners, by their places in text order.
+-- A path leads to a canvas in both or in neither, in abstractions too, and the second has there the same ports; the same wires, at each outlet and
+-- at each inlet in the same order; and boxes of the same numbers that run, in the same order, or are stuck.
 pub record IsSamePatch (p : Patch) (now : Tree) (names : Names) (q : Patch) (names' : Names) : Type 0 where
   pub tree : GroveStands q.grove now.sheet now.boxes
   pub table : names' ≡ names
-  pub canvases : (path : List ℕ) (c d : ℕ) → sub_reached p.grove (Some p.grove.root) path ≡ Some c → reached q.grove (Some q.grove.root) path ≡ Some d → HaveSameWires p c q d
+  pub owners : (class : Class) (name : ℕ) → HaveSameOwners p q class name
+  pub canvases : (path : List ℕ) → is_some (reached q.grove (Some q.grove.root) path) ≡ is_some (reached p.grove (Some p.grove.root) path)
+  pub alike : (path : List ℕ) (c d : ℕ) → reached p.grove (Some p.grove.root) path ≡ Some c → reached q.grove (Some q.grove.root) path ≡ Some d → IsSameCanvas p c q d
 
 -- The text of a patch reads back as its document with no name more, and from this, with the files from which the patch grew and the same `$0`
--- numbers, the tree grows that the patch is by now: each patch that stands as what grows is the same patch.
+-- numbers, the tree grows that the patch is by now: each patch that stands as what grows is the same patch. It is refused for want of memory alone.
 pub record OpensAgain (files : List (ℕ × Answer)) (name : List ℕ) (rate : Rate) (t : Tree) (p : Patch) (names : Names) (text : List ℕ) : Type 0 where
   pub page : Page
   pub reads : document_of names text ≡ Ok (page, names)
@@ -40,6 +46,7 @@ pub record OpensAgain (files : List (ℕ × Answer)) (name : List ℕ) (rate : R
   pub tree : grown (answer_in files) name page (beginning names 1001) ≡ gives (tree_now p.grove p.web p.numbers.items t) rest
   pub grows : (q : Patch) (names' : Names) → IsTree q names' rate (grown (answer_in files) name page (beginning names 1001)) → IsFresh q names' name rate
       → IsSamePatch p (tree_now p.grove p.web p.numbers.items t) names q names'
+  pub refused : (why : GrowRefusal) → HasCause why (grown (answer_in files) name page (beginning names 1001)) rate → why ≡ NoMemory
 
 -- a save that was made put a text that opens again as the patch that was saved
 abbrev pub SavedOpensAgain : List (ℕ × Answer) → List ℕ → Rate → Tree → Wanted → Taken → Choice → Type 0

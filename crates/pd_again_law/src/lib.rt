@@ -3,11 +3,10 @@
 //! In a run in which each edit is lawful, from where a patch opens through any commands, names and times to its end, each save of it puts a text
 //! that reads back as the patch's document with no name more. From this, with the same files and the same `$0` numbers, the tree grows that the
 //! patch is by then: message boxes with their texts, saved arrays with their values, toggles with theirs, and the wires that there are. Each
-//! patch that stands as that tree has, canvas by canvas of the document, the ports and the fan-outs of the patch that was saved
-//! (`saves_open_again`).
-//!
-//! Left: the feeds, the owners of names and the signal orders of what opens again, and that what grows is within the limits of a patch, where
-//! wires of abstractions are counted too.
+//! patch that stands as that tree is as the patch that was saved (`saves_open_again`). Each name has the same owners, in the same order. A path
+//! leads to a canvas in both or in neither, and canvas by canvas, those inside abstractions too, by the numbers of boxes, the ports are the same,
+//! and the wires at each outlet and at each inlet, in their order; the same boxes run, in the same order, and the same are stuck. What grows is
+//! within the limits of a patch: it is refused for want of memory alone.
 //!
 //! Definitions: `Again`.
 #![tactic(auto)]

@@ -21,7 +21,7 @@ use Rattle.pd_steady.specs.Steps.{steps_by}
 use Rattle.pd_steady.proofs.FairLemmas.{AreFair, fair_first, fair_second}
 use Rattle.pd_again_law.specs.Again.{AreAgain}
 use Rattle.pd_again_law.proofs.FoundLemmas.{IsGood, AreFound, EndsWell, one_block, opened_leads, steps_lead, last_found, both_found}
-use Rattle.pd_again_law.proofs.AgainLemmas.{Tells, ReadsBack, keys, six, first_good, all_again}
+use Rattle.pd_again_law.proofs.AgainLemmas.{Tells, ReadsBack, keys, six, shallow, first_good, all_again}
 use Rattle.pd_play.specs.Runs.{Run, Point, Ending, run_of}
 use Rattle.pd_play.specs.Playing.{Plays}
 use Rattle.pd_play.specs.Patches.{start, with_line}
@@ -46,8 +46,8 @@ module _ (laws : Laws) (again : AgainLaws) (holds : Option (List FileRow)) (name
   abbrev enough : 6 ≤ length table
   enough = six holds name rate d names p table grows
 
-  ended_found : (status : Status) (r : Stage) → IsGood p table ks most_units r → AreFair (ended_by own_ways status r).edits → AreFound p table ks (most_units + block_units) (ended_by own_ways status r).edits
-  ended_found Done r h l = last_found p table ks laws.guards again.asks enough most_units block_more r h l
+  ended_found : (status : Status) (r : Stage) → IsGood p table ks grows.tree.tree (shallow holds name rate d names p table grows) most_units r → AreFair (ended_by own_ways status r).edits → AreFound p table ks grows.tree.tree (shallow holds name rate d names p table grows) (most_units + block_units) (ended_by own_ways status r).edits
+  ended_found Done r h l = last_found p table ks grows.tree.tree (shallow holds name rate d names p table grows) laws.guards again.asks enough most_units block_more r h l
   ended_found status r h l = tt
 
   -- from where the patch opens the run of a script
@@ -59,21 +59,21 @@ module _ (laws : Laws) (again : AgainLaws) (holds : Option (List FileRow)) (name
       let q : Point = start o.stage (samples rate) in
       let run : Run = run_of ending text q in
       let later : AreFair run.passage.edits = fair_second o.edits run.passage.edits w in
-      let begins : EndsWell p table ks most_units o =
-      opened_leads p table ks laws.guards again.asks enough most_units in_range name ahead
+      let begins : EndsWell p table ks grows.tree.tree (shallow holds name rate d names p table grows) most_units o =
+      opened_leads p table ks grows.tree.tree (shallow holds name rate d names p table grows) laws.guards again.asks enough most_units in_range name ahead
       (first_good holds name rate d names p table grows most_units ahead (again.first holds name rate d names table p most_units ahead grows)) (fair_first o.edits run.passage.edits w) in
       let k : IsStepped most_units o.stage run = run_stepped laws ending text q steady later in
       let mid : Passage = steps_by own_ways k.steps o.stage in
       let last : Passage = ended_by own_ways run.status mid.stage in
       let both : AreFair (mid.edits ++ last.edits) = subst (λ (x : Passage). AreFair x.edits) k.same later in
-      let goes : EndsWell p table ks most_units mid =
-      steps_lead p table ks laws.guards again.asks enough most_units in_range k.steps o.stage k.are begins.stage (fair_first mid.edits last.edits both) in
-      let more : most_units ≤ most_units + block_units = one_block p table ks most_units in
-      let rest : AreFound p table ks (most_units + block_units) (mid.edits ++ last.edits) =
-      both_found p table ks most_units (most_units + block_units) more mid.edits last.edits goes.found (ended_found run.status mid.stage goes.stage (fair_second mid.edits last.edits both)) in
+      let goes : EndsWell p table ks grows.tree.tree (shallow holds name rate d names p table grows) most_units mid =
+      steps_lead p table ks grows.tree.tree (shallow holds name rate d names p table grows) laws.guards again.asks enough most_units in_range k.steps o.stage k.are begins.stage (fair_first mid.edits last.edits both) in
+      let more : most_units ≤ most_units + block_units = one_block p table ks grows.tree.tree (shallow holds name rate d names p table grows) most_units in
+      let rest : AreFound p table ks grows.tree.tree (shallow holds name rate d names p table grows) (most_units + block_units) (mid.edits ++ last.edits) =
+      both_found p table ks grows.tree.tree (shallow holds name rate d names p table grows) most_units (most_units + block_units) more mid.edits last.edits goes.found (ended_found run.status mid.stage goes.stage (fair_second mid.edits last.edits both)) in
       all_again holds name rate d names p table grows again.tells again.reads (most_units + block_units) (o.edits ++ run.passage.edits)
-      (both_found p table ks most_units (most_units + block_units) more o.edits run.passage.edits begins.found
-      (subst (λ (x : Passage). AreFound p table ks (most_units + block_units) x.edits) (sym k.same) rest))
+      (both_found p table ks grows.tree.tree (shallow holds name rate d names p table grows) most_units (most_units + block_units) more o.edits run.passage.edits begins.found
+      (subst (λ (x : Passage). AreFound p table ks grows.tree.tree (shallow holds name rate d names p table grows) (most_units + block_units) x.edits) (sym k.same) rest))
 
 -- ---- the edits of a run that are told
 
