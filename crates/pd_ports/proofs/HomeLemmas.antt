@@ -116,15 +116,15 @@ but_told key (Some s) = by_test (s.node == key)
     by_test false = refl
 
 -- nothing is known any more of the ports of a box that lost them
-pub ports_forgotten : (all : List Sockets) (key : ℕ) (own : Sockets) (homes homes' : List (Option Spot)) → slice_get all key ≡ Some own → Forgets homes homes' key (IsInnerOf own)
-    → ((j i : ℕ) → option_map place_of (home_at homes j) ≡ Some (key, i) → (side : Side) × (inner_in (slice_get (jacks_of (ports_at all side key)) i) ≡ Some j))
+pub forgotten_by : (key : ℕ) (jacks : Side → List Jack) (own : Sockets) (homes homes' : List (Option Spot)) → ((side : Side) → jacks_of (side_ports side own) ≡ jacks side) → Forgets homes homes' key (IsInnerOf own)
+    → ((j i : ℕ) → option_map place_of (home_at homes j) ≡ Some (key, i) → (side : Side) × (inner_in (slice_get (jacks side) i) ≡ Some j))
     → (j : ℕ) → option_map place_of (home_at homes' j) ≡ but_of key (option_map place_of (home_at homes j))
-ports_forgotten all key own homes homes' was forgets true' j = ap (option_map place_of) (went (forgets.told j)) ∙ but_told key (home_at homes j)
+forgotten_by key jacks own homes homes' told forgets true' j = ap (option_map place_of) (went (forgets.told j)) ∙ but_told key (home_at homes j)
   where
     is_inner : (s : Spot) → home_at homes j ≡ Some s → s.node ≡ key → IsInnerOf own j
     is_inner s e at =
         let t = true' j s.port (ap (option_map place_of) e ∙ ap (λ (n : ℕ). Some (n, s.port)) at) in
-        (t.0, (s.port, sym (inner_jacks (side_ports t.0 own) s.port) ∙ ap (λ (o : Option Sockets). inner_in (slice_get (jacks_of (ports_in t.0 o)) s.port)) (sym was) ∙ t.1))
+        (t.0, (s.port, sym (inner_jacks (side_ports t.0 own) s.port) ∙ ap (λ (js : List Jack). inner_in (slice_get js s.port)) (told t.0) ∙ t.1))
 
     by_home : (o : Option Spot) → home_at homes j ≡ o → home_at homes' j ≡ home_at homes j → home_at homes' j ≡ less key (home_at homes j)
     by_home None e same = same ∙ e ∙ sym (ap (less key) e)
@@ -136,6 +136,12 @@ ports_forgotten all key own homes homes' was forgets true' j = ap (option_map pl
     went : (home_at homes' j ≡ home_at homes j) ⊎ (home_at homes' j ≡ less key (home_at homes j)) → home_at homes' j ≡ less key (home_at homes j)
     went (inl same) = by_home (home_at homes j) refl same
     went (inr gone) = gone
+
+pub ports_forgotten : (all : List Sockets) (key : ℕ) (own : Sockets) (homes homes' : List (Option Spot)) → slice_get all key ≡ Some own → Forgets homes homes' key (IsInnerOf own)
+    → ((j i : ℕ) → option_map place_of (home_at homes j) ≡ Some (key, i) → (side : Side) × (inner_in (slice_get (jacks_of (ports_at all side key)) i) ≡ Some j))
+    → (j : ℕ) → option_map place_of (home_at homes' j) ≡ but_of key (option_map place_of (home_at homes j))
+ports_forgotten all key own homes homes' was forgets true' j =
+    forgotten_by key (λ side. jacks_of (ports_at all side key)) own homes homes' (λ side. ap (λ (o : Option Sockets). jacks_of (ports_in side o)) (sym was)) forgets true' j
 
 -- Which ports the boxes of a side are, one port after the other.
 

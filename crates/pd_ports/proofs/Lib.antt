@@ -5,9 +5,14 @@ mod BoxLemmas
 mod EndLemmas
 mod HomeLemmas
 mod CloseLemmas
-mod TakeLemmas
+pub mod TakeLemmas
 mod MoveLemmas
 mod ListedLemmas
 mod SpotLemmas
 mod SetLemmas
 mod MeetLemmas
+pub mod OnceLemmas
+mod KnownLemmas
+mod FollowLemmas
+mod RefitLemmas
+mod OrderLemmas

@@ -12,10 +12,10 @@ use Rattle.pd_web.specs.declared.web.Hop.{Hop}
 use Rattle.pd_web.specs.Sockets.{end_under}
 use Rattle.pd_web.specs.Wiring.{source_at, sink_at}
 use Rattle.pd_web.specs.Hops.{hop_by, fan_under, feeds_under}
-use Rattle.pd_web.specs.Changes.{hop_at, line_by}
+use Rattle.pd_web.specs.Changes.{hop_at, line_by, IsListed}
 use Rattle.pd_web.proofs.HopLemmas.{key_listed}
 use Rattle.pd_web.proofs.ChangeLemmas.{to_hop, from_hop, line_in, fan_in, feeds_in}
-use Rattle.pd_ports.specs.Moves.{under, box_of, port_of, IsListed}
+use Rattle.pd_ports.specs.Moves.{under, box_of, port_of}
 use Rattle.pd_ports.proofs.MoveLemmas.{wire_of}
 
 -- the wire of a key stands among those at its port on a side

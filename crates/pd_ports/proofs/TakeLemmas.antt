@@ -84,7 +84,7 @@ nothing_in : (m j : ℕ) → inner_in (slice_get [] m) ≡ Some j → ⊥
 nothing_in zero j h = none-some j h
 nothing_in (suc m) j h = none-some j h
 
-sought : (new : List Jack) (j : ℕ) → ((m : ℕ) × (inner_in (slice_get new m) ≡ Some j)) ⊎ ((m : ℕ) → inner_in (slice_get new m) ≡ Some j → ⊥)
+pub sought : (new : List Jack) (j : ℕ) → ((m : ℕ) × (inner_in (slice_get new m) ≡ Some j)) ⊎ ((m : ℕ) → inner_in (slice_get new m) ≡ Some j → ⊥)
 sought [] j = inr (λ m h. nothing_in m j h)
 sought (k ∷ new) j = by_head (is_box k.inner (Some j)) refl (sought new j)
   where

@@ -3,3 +3,6 @@ pub mod Boxes
 pub mod Ends
 pub mod Homes
 pub mod Moves
+pub mod Known
+pub mod Refits
+pub mod Orders

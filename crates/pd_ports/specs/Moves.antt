@@ -6,14 +6,13 @@ use Rattle.pd_grove.specs.declared.ports.Side.TheVariants.{Inlets, Outlets}
 use Rattle.pd_web.specs.declared.jacks.Jack.{Jack}
 use Rattle.pd_web.specs.declared.sockets.Port.{Port}
 use Rattle.pd_web.specs.declared.sockets.Spot.{Spot}
-use Rattle.pd_web.specs.declared.web.Hop.{Hop}
 use Rattle.pd_web.specs.declared.web.Web.{Web}
 use Rattle.pd_web.specs.declared.sockets.Sockets.{Sockets}
 use Rattle.pd_web.specs.Sockets.{made_at, side_ports, ports_at, end_under}
 use Rattle.pd_web.specs.declared.lines.Line.{Line}
 use Rattle.pd_web.specs.Homes.{inner_in}
-use Rattle.pd_web.specs.Hops.{ports_told, jack_told, port_told, fan_under, feeds_under, fan_hops, feed_hops}
-use Rattle.pd_web.specs.Changes.{hop_at, line_told}
+use Rattle.pd_web.specs.Hops.{ports_told, jack_told, port_told, fan_under, feeds_under}
+use Rattle.pd_web.specs.Changes.{IsListed, line_told}
 use Rattle.pd_ports.specs.Boxes.{but_of}
 use Rattle.pd_ports.specs.Ends.{IsAmong, end_in}
 
@@ -48,18 +47,9 @@ abbrev pub with_port : Side → ℕ → Line → Line
 with_port Inlets m l = record { source = l.source; outlet = l.outlet; sink = l.sink; inlet = m }
 with_port Outlets m l = record { source = l.source; outlet = m; sink = l.sink; inlet = l.inlet }
 
--- the list has this at some place
-abbrev pub IsListed : {X : Type 0} → List X → X → Type 0
-IsListed xs x = (i : ℕ) × (slice_get xs i ≡ Some x)
-
 -- the wire of this key stands among those at its port on this side
 abbrev pub StandsOn : Web → Side → ℕ → Line → Type 0
 StandsOn w side k l = IsListed (keys_at w side (box_of side l) (port_of side l)) k
-
--- each wire in a fan-out is among the feeds of the inlet to which it leads, and each feed is in the fan-out of the outlet from which it comes
-pub record Meet (w : Web) : Type 0 where
-  pub fed : (node outlet i : ℕ) (h : Hop) → slice_get (fan_hops w node outlet) i ≡ Some h → IsListed (feed_hops w h.node h.port) (hop_at h.key node outlet)
-  pub fanned : (node inlet i : ℕ) (h : Hop) → slice_get (feed_hops w node inlet) i ≡ Some h → IsListed (fan_hops w h.node h.port) (hop_at h.key node inlet)
 
 -- the ports on a side of a box are these. The wires of a port go with its box to that box's new place, in their order and under their keys;
 -- every other port and wire stays

@@ -27,6 +27,7 @@ pub(crate) fn filled(room: PortRoom, grove: &Grove, key: u32) -> Sockets
         mut inlets,
         mut outlets,
         mut spots,
+        ..
     } = room;
     fill_ports(&mut inlets, &mut spots, grove, Side::Inlets, key);
     fill_ports(&mut outlets, &mut spots, grove, Side::Outlets, key);

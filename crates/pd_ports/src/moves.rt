@@ -4,8 +4,8 @@ ghost use Rattle.std.specs.Prelude.{◌≡◌, ◌+◌, ◌<◌, ◌≤◌, ◌^
 ghost use Rattle.pd_web.specs.Sockets.{ports_at};
 ghost use Rattle.pd_web.specs.Homes.{inner_in};
 ghost use Rattle.pd_web.specs.Hops.{ports_told};
-ghost use Rattle.pd_web.specs.Changes.{HasRoom, KeepsRoom};
-ghost use Rattle.pd_ports.specs.Moves.{AreOnce, FollowsPorts, Goes, KnowsSide, Meet, keys_at};
+ghost use Rattle.pd_web.specs.Changes.{HasRoom, KeepsRoom, Meet};
+ghost use Rattle.pd_ports.specs.Moves.{AreOnce, FollowsPorts, Goes, KnowsSide, keys_at};
 
 use crate::ends::drop_left;
 use crate::homes::{forget_side, know_side};

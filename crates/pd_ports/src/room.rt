@@ -5,18 +5,19 @@ ghost use Rattle.pd_web.specs.Changes.{IsSame, KeepsRoom, HasRoom};
 ghost use Rattle.pd_ports.specs.Room.{HasLists};
 
 use pd_grove::PortSpot;
-use pd_web::{Port, Web};
+use pd_web::{Jack, Port, Web};
 use std::alloc::{AllocError, Global};
 
-/// Room for the ports of one box that comes.
+/// Room for the ports of one box.
 #[derive(Debug, Drop)]
 pub struct PortRoom {
     pub(crate) inlets: Vec<Port>,
     pub(crate) outlets: Vec<Port>,
+    pub(crate) jacks: Vec<Jack>,
     pub(crate) spots: Vec<PortSpot>,
 }
 
-/// Sets room aside for boxes with keys below `keys`, and for so many ports of one box that comes.
+/// Sets room aside for boxes with keys below `keys`, and for so many ports of one box.
 ///
 /// # Errors
 ///
@@ -40,10 +41,11 @@ pub fn reserve_ports(
 fn room_for(alloc: Global, inlets: u32, outlets: u32) -> Result<PortRoom, AllocError>
     ensures { IfOk result (λ room. HasLists room inlets outlets) }
 {
-    let spots = inlets.max(outlets) as usize;
+    let most = inlets.max(outlets) as usize;
     Ok(PortRoom {
         inlets: Vec::with_capacity(alloc, inlets as usize)?,
         outlets: Vec::with_capacity(alloc, outlets as usize)?,
-        spots: Vec::with_capacity(alloc, spots)?,
+        jacks: Vec::with_capacity(alloc, most)?,
+        spots: Vec::with_capacity(alloc, most)?,
     })
 }

@@ -18,32 +18,36 @@ pub(crate) fn take_ports(old: &[Port], jacks: &[Jack], room: Vec<Port>) -> Vec<P
 {
     let mut list = room;
     for (i, jack) in jacks.iter().enumerate() {
-        let port = moved(old, *jack, i);
+        let port = moved(old, *jack, i + 1);
         list.push_reserved(port);
     }
     list
 }
 
-fn moved(old: &[Port], jack: Jack, near: usize) -> Port
+fn moved(old: &[Port], jack: Jack, behind: usize) -> Port
     requires { AreOnce (jacks_of old.now) }
     ensures { result ≡ moved_port old.now jack }
 {
     Port {
-        end: end_for(old, jack.inner, near),
+        end: end_for(old, jack.inner, behind),
         jack,
     }
 }
 
-/// The end of the port that is a box. It is sought near a place first.
-fn end_for(old: &[Port], inner: Option<u32>, near: usize) -> Option<u32>
+/// The end of the port that is a box. It is sought first around the place before `behind`, where it stands if at most one port came or
+/// went.
+fn end_for(old: &[Port], inner: Option<u32>, behind: usize) -> Option<u32>
     requires { AreOnce (jacks_of old.now) }
     ensures { result ≡ end_of old.now inner }
 {
-    if is_box_at(old, near, inner) {
-        return end_at(old, near);
+    if is_box_at(old, behind, inner) {
+        return end_at(old, behind);
     }
-    if near > 0 && is_box_at(old, near - 1, inner) {
-        return end_at(old, near - 1);
+    if behind > 0 && is_box_at(old, behind - 1, inner) {
+        return end_at(old, behind - 1);
+    }
+    if behind > 1 && is_box_at(old, behind - 2, inner) {
+        return end_at(old, behind - 2);
     }
     sought_end(old, inner)
 }

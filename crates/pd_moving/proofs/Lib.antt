@@ -1,0 +1,7 @@
+mod ListLemmas
+mod MeetLemmas
+mod PlaceLemmas
+mod LiftLemmas
+mod LayLemmas
+mod OrderLemmas
+mod MoveLemmas
