@@ -1,0 +1,10 @@
+pub mod ListLemmas
+pub mod PathLemmas
+pub mod WireLemmas
+pub mod PageLemmas
+pub mod StandLemmas
+pub mod TreeLemmas
+pub mod NewLemmas
+pub mod WithinLemmas
+pub mod AgainLemmas
+pub mod GrownLemmas
