@@ -1,0 +1,6 @@
+pub mod Boxes
+pub mod Coming
+pub mod Counts
+pub mod Growing
+pub mod Adding
+pub mod Single
