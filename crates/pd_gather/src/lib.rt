@@ -8,7 +8,8 @@
 //! It is one walk over the boxes of the document's root: a box that lacks a file grows anew once the file is known,
 //! and no box before it does. So time goes with the files and boxes, but for many files that one box of the root
 //! lacks: that is measured, and promised by no clause. `Library::gather_box` does the same for one box at its site
-//! and gives its rows; a refusal leaves files, names and supply as they were. Free: want of memory.
+//! and gives its rows; a refusal leaves files, names and supply as they were. `Library::forget` forgets what was learned last.
+//! Free: want of memory.
 //!
 //! Definitions: `Gather` (what is asked for and what is known after it), `Boxes` (the same for one box), `Fetching`,
 //! `Steps`, `Refusals`.

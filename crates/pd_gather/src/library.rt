@@ -160,8 +160,9 @@ impl Library {
         }
     }
 
-    /// Forgets all files and names but the first ones.
-    fn forget(&mut self, files: usize, names: u32, symbols: &mut Symbols)
+    /// Forgets all files and names but the first ones, as where a box that was gathered can't be put in after all. The files that stay
+    /// must name none of the names that go.
+    pub fn forget(&mut self, files: usize, names: u32, symbols: &mut Symbols)
         requires { 6 ≤ names }
         ensures files { self.new ≡ take files self.old }
         ensures names { symbols.new ≡ take names symbols.old }

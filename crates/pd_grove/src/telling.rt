@@ -46,6 +46,13 @@ impl Grove {
         self.nodes.capacity()
     }
 
+    /// The key that the next box gets.
+    pub fn next_key(&self) -> usize
+        ensures { result ≡ self.now.nodes.vacant_key }
+    {
+        self.nodes.vacant_key()
+    }
+
     /// A number above the keys of all canvases.
     pub fn boards_end(&self) -> usize
         ensures slots { length self.now.boards.slots ≤ result }
