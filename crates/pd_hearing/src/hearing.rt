@@ -6,7 +6,7 @@ ghost use Rattle.std.specs.Option.{option_copied};
 ghost use Rattle.slab.specs.Slab.{get};
 ghost use Rattle.pd_atom.specs.Atoms.{IsOf};
 ghost use Rattle.pd_vline.specs.Rows.{IsOpen};
-ghost use Rattle.pd_atom.specs.Names.{Names};
+ghost use Rattle.pd_atom.specs.Names.{Names, Extends};
 ghost use Rattle.pd_kind.specs.Said.{said_by};
 ghost use Rattle.pd_grove.specs.Telling.{kind_in, state_in};
 ghost use Rattle.pd_patch.specs.Walking.{RestStays};
@@ -38,6 +38,7 @@ pub fn hear_at(
     out: &mut Sends,
 )
     ensures reply { record { states = states_of patch.new; names = symbols.new; said = said_by out.new } ≡ reply_at (net_of patch.old) now (states_of patch.old) symbols.old node inlet selector atoms.now }
+    ensures extends { Extends symbols.old symbols.new }
     ensures net { net_of patch.new ≡ net_of patch.old }
     ensures clocks { patch.new.timers ≡ patch.old.timers }
 {
@@ -71,6 +72,7 @@ fn hear_alone(
 )
     requires { table_named (kind_in (get patch.old.grove.nodes node)) ≡ None }
     ensures reply { record { states = states_of patch.new; names = symbols.new; said = said_by out.new } ≡ reply_at (net_of patch.old) now (states_of patch.old) symbols.old node inlet selector atoms.now }
+    ensures extends { Extends symbols.old symbols.new }
     ensures net { net_of patch.new ≡ net_of patch.old }
     ensures clocks { patch.new.timers ≡ patch.old.timers }
 {
@@ -90,7 +92,8 @@ fn hear_box(
     symbols: &mut Symbols,
     out: &mut Sends,
 )
-    ensures { record { node = found.new; names = symbols.new; said = said_by out.new } ≡ box_heard symbols.old found.old inlet selector atoms.now now }
+    ensures heard { record { node = found.new; names = symbols.new; said = said_by out.new } ≡ box_heard symbols.old found.old inlet selector atoms.now now }
+    ensures extends { Extends symbols.old symbols.new }
 {
     let around = Around { now, table: None };
     match &mut found.state {
@@ -120,6 +123,7 @@ fn hear_beside(
     out: &mut Sends,
 )
     ensures reply { record { states = states_of patch.new; names = symbols.new; said = said_by out.new } ≡ reply_at (net_of patch.old) now (states_of patch.old) symbols.old node inlet selector atoms.now }
+    ensures extends { Extends symbols.old symbols.new }
     ensures net { net_of patch.new ≡ net_of patch.old }
     ensures clocks { patch.new.timers ≡ patch.old.timers }
 {
@@ -145,7 +149,8 @@ fn hear_with(
     symbols: &mut Symbols,
     out: &mut Sends,
 )
-    ensures { record { state = state.new; names = symbols.new; said = said_by out.new } ≡ heard_in symbols.old (kind_in (get patch.now.grove.nodes node)) state.old inlet selector atoms.now now (table_by patch.now (table_named (kind_in (get patch.now.grove.nodes node)))) }
+    ensures heard { record { state = state.new; names = symbols.new; said = said_by out.new } ≡ heard_in symbols.old (kind_in (get patch.now.grove.nodes node)) state.old inlet selector atoms.now now (table_by patch.now (table_named (kind_in (get patch.now.grove.nodes node)))) }
+    ensures extends { Extends symbols.old symbols.new }
 {
     let Some(found) = patch.node(node) else {
         out.say_nothing();
@@ -215,7 +220,8 @@ fn hear_kind(
     symbols: &mut Symbols,
     out: &mut Sends,
 )
-    ensures { record { state = state.new; names = symbols.new; said = said_by out.new } ≡ heard_kind symbols.old kind.now state.old inlet selector atoms.now around.entry.now.now (option_copied around.entry.now.table) }
+    ensures heard { record { state = state.new; names = symbols.new; said = said_by out.new } ≡ heard_kind symbols.old kind.now state.old inlet selector atoms.now around.entry.now.now (option_copied around.entry.now.table) }
+    ensures extends { Extends symbols.old symbols.new }
 {
     if !is_message(symbols, selector, atoms) {
         out.say_nothing();
@@ -257,7 +263,8 @@ fn hear_vline(
     out: &mut Sends,
 )
     requires { selector < length symbols.old }
-    ensures { record { state = state.new; names = symbols.new; said = said_by out.new } ≡ heard_line symbols.old kind.now state.old inlet selector atoms.now around.entry.now.now }
+    ensures heard { record { state = state.new; names = symbols.new; said = said_by out.new } ≡ heard_line symbols.old kind.now state.old inlet selector atoms.now around.entry.now.now }
+    ensures extends { Extends symbols.old symbols.new }
 {
     let now = around.now;
     if now.units() > 1 << 101 || !is_open(state, now) {
@@ -281,7 +288,8 @@ fn hear_other(
     requires name { selector < length symbols.old }
     requires atoms { All (IsOf symbols.old) atoms.now }
     requires few { length atoms.now ≤ 1024 }
-    ensures { record { state = state.new; names = symbols.new; said = said_by out.new } ≡ heard_other symbols.old kind.now state.old inlet selector atoms.now around.entry.now.now (option_copied around.entry.now.table) }
+    ensures heard { record { state = state.new; names = symbols.new; said = said_by out.new } ≡ heard_other symbols.old kind.now state.old inlet selector atoms.now around.entry.now.now (option_copied around.entry.now.table) }
+    ensures extends { Extends symbols.old symbols.new }
 {
     if !is_table(around.table) || !is_small(kind, state, symbols) {
         out.say_nothing();

@@ -2,6 +2,7 @@
 
 ghost use Rattle.std.specs.Prelude.{◌≡◌, ◌≤◌, ◌+◌, ◌*◌, ◌++◌, ◌||◌, [], ℕ, Bool, true, false, List, length, map, Some, OnOk, OnErr, if◌then◌else◌};
 ghost use Rattle.pd_say.specs.Gathering.{Says, Fails, HasCause};
+ghost use Rattle.pd_atom.specs.Names.{Extends};
 ghost use Rattle.pd_atom.specs.Atoms.{IsOf};
 ghost use Rattle.pd_queue.specs.Queue.{Waiting};
 ghost use Rattle.std.specs.List.{flat_map};
@@ -51,6 +52,7 @@ pub(crate) fn perform<L: Sink>(
     ensures kept { OnOk result (kept_of patch.new symbols.new queue.new ≡ kept_after (net_of patch.old) now (kept_of patch.old symbols.old queue.old) (told stack.old.atoms task.now)) }
     ensures net { net_of patch.new ≡ net_of patch.old }
     ensures states { StatesStay (states_of patch.old) (states_of patch.new) }
+    ensures extends { Extends symbols.old symbols.new }
     ensures ok { OnOk result (Says (L.taken lines.old) held.old.items (L.taken lines.new) held.new.items (said_at (net_of patch.old) now (kept_of patch.old symbols.old queue.old) (told stack.old.atoms task.now))) }
     ensures err { OnErr result (Fails (L.taken lines.old) held.old.items (L.taken lines.new) (said_at (net_of patch.old) now (kept_of patch.old symbols.old queue.old) (told stack.old.atoms task.now))) }
     ensures left { (tasks : List Doing) → LeftOn (net_of patch.old) stack.old tasks → OnOk result (
@@ -101,6 +103,7 @@ fn deliver_at<L: Sink>(
         (reply_at (net_of patch.old) now (states_of patch.old) symbols.old node inlet task.now.selector (slice_range stack.old.atoms task.now.first task.now.after))) }
     ensures net { net_of patch.new ≡ net_of patch.old }
     ensures states { StatesStay (states_of patch.old) (states_of patch.new) }
+    ensures extends { Extends symbols.old symbols.new }
     ensures ok { OnOk result (Says (L.taken lines.old) held.old.items (L.taken lines.new) held.new.items
         (said_by_box (net_of patch.old) task.now.depth node task.now.selector (slice_range stack.old.atoms task.now.first task.now.after)
         (reply_at (net_of patch.old) now (states_of patch.old) symbols.old node inlet task.now.selector (slice_range stack.old.atoms task.now.first task.now.after)))) }

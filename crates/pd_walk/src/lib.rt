@@ -4,7 +4,8 @@
 //! the boxes keep, the clocks, the table of names, the edits that canvases were asked for, what is left of the
 //! budget, whether the event was cut off, and the bytes of the lines (`ok`). Where the sink fails, the bytes that
 //! it took are a first part of the recursion's (`err`), and its count of faults rose (`cause`). Boxes, canvases,
-//! wires, owners of names, orders, numbers and the blocks of outlets stay (`net`).
+//! wires, owners of names, orders, numbers and the blocks of outlets stay (`net`), and the table of names only gets
+//! names more (`extends`), both after a sink that failed too.
 //!
 //! The recursion is that of `pd_turns` with the rules of this crate: a task is a message that comes to an inlet of
 //! a box or to a canvas, that a box is resumed, or that a line says that nobody hears, which alone costs nothing.

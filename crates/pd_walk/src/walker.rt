@@ -1,6 +1,7 @@
 //! The walk of an event's deliveries.
 
 ghost use Rattle.std.specs.Prelude.{◌≡◌, ℕ, List, [], Option, false, OnOk, OnErr, IfOk};
+ghost use Rattle.pd_atom.specs.Names.{Extends};
 ghost use Rattle.pd_io.specs.Stream.{TookPart};
 ghost use Rattle.pd_say.specs.Gathering.{Says, Fails, IsSaid, HasCause};
 ghost use Rattle.pd_kind.specs.Said.{said_by};
@@ -106,6 +107,7 @@ impl Walker {
             (outcome (net_of patch.old) now (world (kept_of patch.old symbols.old queue.old) budget.old []) start.now).said) }
         ensures net { net_of patch.new ≡ net_of patch.old }
         ensures states { StatesStay (states_of patch.old) (states_of patch.new) }
+        ensures extends { Extends symbols.old symbols.new }
         ensures cause { HasCause (L.faults lines.old) (L.faults lines.new) result }
     {
         self.held.clear();
@@ -139,6 +141,7 @@ fn begin<L: Sink>(
         TookPart before (L.taken lines.new) (outcome (net_of patch.old) now (world (kept_of patch.old symbols.old queue.old) budget.old said) start.now).said) }
     ensures net { net_of patch.new ≡ net_of patch.old }
     ensures states { StatesStay (states_of patch.old) (states_of patch.new) }
+    ensures extends { Extends symbols.old symbols.new }
     ensures cause { HasCause (L.faults lines.old) (L.faults lines.new) result }
 {
     match start {
@@ -174,6 +177,7 @@ fn walk_name<L: Sink>(
         TookPart before (L.taken lines.new) (ran (net_of patch.old) now (world (kept_of patch.old symbols.old queue.old) budget.old said) (named_tasks (net_of patch.old) name message.now.selector message.now.atoms.now)).said) }
     ensures net { net_of patch.new ≡ net_of patch.old }
     ensures states { StatesStay (states_of patch.old) (states_of patch.new) }
+    ensures extends { Extends symbols.old symbols.new }
     ensures cause { HasCause (L.faults lines.old) (L.faults lines.new) result }
 {
     stack.clear();
@@ -229,6 +233,7 @@ fn walk_clock<L: Sink>(
         TookPart before (L.taken lines.new) (told_by (net_of patch.old) now owner (fired_at (net_of patch.old) (states_of patch.old) owner) (world (kept_of patch.old symbols.old queue.old) budget.old said)).said) }
     ensures net { net_of patch.new ≡ net_of patch.old }
     ensures states { StatesStay (states_of patch.old) (states_of patch.new) }
+    ensures extends { Extends symbols.old symbols.new }
     ensures cause { HasCause (L.faults lines.old) (L.faults lines.new) result }
 {
     fire_at(patch, owner, sends);
@@ -256,6 +261,7 @@ fn walk_loads<L: Sink>(
         TookPart before (L.taken lines.new) (all_loaded (net_of patch.old) now (world (kept_of patch.old symbols.old queue.old) budget.old said) boxes.now).said) }
     ensures net { net_of patch.new ≡ net_of patch.old }
     ensures states { StatesStay (states_of patch.old) (states_of patch.new) }
+    ensures extends { Extends symbols.old symbols.new }
     ensures cause { HasCause (L.faults lines.old) (L.faults lines.new) result }
 {
     for node in boxes {
@@ -286,6 +292,7 @@ fn walk_box<L: Sink>(
         TookPart before (L.taken lines.new) (told_by (net_of patch.old) now node (said_by sends.old) (world (kept_of patch.old symbols.old queue.old) budget.old said)).said) }
     ensures net { net_of patch.new ≡ net_of patch.old }
     ensures states { StatesStay (states_of patch.old) (states_of patch.new) }
+    ensures extends { Extends symbols.old symbols.new }
     ensures cause { HasCause (L.faults lines.old) (L.faults lines.new) result }
 {
     stack.clear();
@@ -315,6 +322,7 @@ fn walk<L: Sink>(
         OnErr result (TookPart before (L.taken lines.new) final.said) }
     ensures net { net_of patch.new ≡ net_of patch.old }
     ensures states { StatesStay (states_of patch.old) (states_of patch.new) }
+    ensures extends { Extends symbols.old symbols.new }
     ensures cause { HasCause (L.faults lines.old) (L.faults lines.new) result }
 {
     if budget.cut {

@@ -9,7 +9,7 @@ returns-then-not-has_state-clause-reply c =
 pub returns-clause-reply : goal.returns-clause-reply
 returns-clause-reply c =
     heard-reply c.args.patch.now c.take_state-state.new.self c.put_state.new.self c.args.now c.args.node c.args.inlet c.args.selector c.args.symbols.now c.hear_with.new.symbols c.take_state-state.result c.hear_with.new.state c.args.atoms.now _
-    c.take_state-state.ensures.state c.take_state-state.ensures.keeps c.take_state-state.ensures.rest c.hear_with.ensures c.put_state.ensures.keeps
+    c.take_state-state.ensures.state c.take_state-state.ensures.keeps c.take_state-state.ensures.rest c.hear_with.ensures.heard c.put_state.ensures.keeps
 
 pub returns-clause-net : goal.returns-clause-net
 returns-clause-net c =

@@ -6,6 +6,7 @@ use Rattle.pd_stack.specs.Turns.{told}
 use Rattle.pd_walk.specs.Ways.{IsUnderWay}
 use Rattle.pd_hearing.proofs.ResultLemmas.{on_ok_map, on_err_map, none-is}
 use Rattle.pd_walk.proofs.WayLemmas.{costs-doing, takes-some, takes-none, takes-fails, goes_on, fails, ends, stands, is_cut, fails_cut}
+use Rattle.pd_hearing.proofs.TableLemmas.{extends-then}
 use Rattle.pd_walk.proofs.StayLemmas.{all-stay, stay-then}
 use Rattle.pd_hearing.proofs.WorldLemmas.{kept-same}
 use Rattle.pd_walk.proofs.RelayLemmas.{relays, passed}
@@ -74,6 +75,7 @@ loop-task-preserved-in-Continue-branch-3 g c =
       routes = rw (ap (λ (n : Net). n.web) c.perform.ensures.net) r.ensures.routes;
       net = c.perform.ensures.net ∙ r.ensures.net ∙ c.loop-task.invariant.net;
       states = stay-then _ _ _ (stay-then _ _ _ c.loop-task.invariant.states r.ensures.states) c.perform.ensures.states;
+      extends = extends-then c.args.symbols.now c.loop-task.symbols c.perform.new.symbols c.loop-task.invariant.extends c.perform.ensures.extends;
       way = λ before final way.
           let taken = takes-some _ _ _ c.loop-task.budget before _ _ final _ c.next_task.new.stack _ _ c.in_ok-task.field-0 c.in-Some.task c.in-Some.is c.loop-task.invariant.uncut (c.loop-task.invariant.way before final way) c.in_ok-task.ensures.ok in
           subst (λ (n : Net). IsUnderWay n c.args.now (kept_of c.perform.new.patch c.perform.new.symbols c.perform.new.queue)
@@ -95,6 +97,7 @@ loop-task-preserved g c =
       routes = r.ensures.routes;
       net = r.ensures.net ∙ c.loop-task.invariant.net;
       states = stay-then _ _ _ c.loop-task.invariant.states r.ensures.states;
+      extends = c.loop-task.invariant.extends;
       way = λ before final way.
           let taken = takes-some _ _ _ c.loop-task.budget before _ _ final _ c.next_task.new.stack _ _ c.in_ok-task.field-0 c.in-Some.task c.in-Some.is c.loop-task.invariant.uncut (c.loop-task.invariant.way before final way) c.in_ok-task.ensures.ok in
           subst (λ (n : Net). IsUnderWay n c.args.now (kept_of r.new.patch c.loop-task.symbols c.loop-task.queue) r.new.budget r.new.stack [] before (g.L.Sink.taken c.next_task.new.lines) c.next_task.new.held.items final) (sym r.ensures.net)
@@ -109,3 +112,7 @@ returns-then-budget-clause-states g c = all-stay _
 pub returns-in_err-perform-clause-states : goal.returns-in_err-perform-clause-states
 returns-in_err-perform-clause-states g c =
     stay-then _ _ _ (stay-then _ _ _ c.loop-task.invariant.states c.relay_task.ensures.states) c.perform.ensures.states
+
+pub returns-in_err-perform-clause-extends : goal.returns-in_err-perform-clause-extends
+returns-in_err-perform-clause-extends g c =
+    extends-then c.args.symbols.now c.loop-task.symbols c.perform.new.symbols c.loop-task.invariant.extends c.perform.ensures.extends

@@ -8,6 +8,7 @@ use Rattle.pd_walk.specs.Outcome.{world, all_loaded}
 use Rattle.pd_walk.specs.Ways.{IsDone}
 use Rattle.pd_hearing.proofs.KnownLemmas.{take_whole}
 use Rattle.pd_walk.proofs.WayLemmas.{loads-one, loads-more, loads-part}
+use Rattle.pd_hearing.proofs.TableLemmas.{extends-then}
 use Rattle.pd_walk.proofs.StayLemmas.{stay-then}
 use Rattle.pd_walk.proofs.walker.walk_loads.Goals as goal
 
@@ -19,6 +20,7 @@ loop-node-preserved g c =
     record {
       net = c.walk_box.ensures.net ∙ c.loop-node.invariant.net;
       states = stay-then _ _ _ c.loop-node.invariant.states c.walk_box.ensures.states;
+      extends = extends-then c.args.symbols.now c.loop-node.symbols c.walk_box.new.symbols c.loop-node.invariant.extends c.walk_box.ensures.extends;
       done = λ before said is_said.
           let w : World Kept = world (kept_of c.args.patch.now c.args.symbols.now c.args.queue.now) c.args.budget.now said in
           let v : World Kept = all_loaded (net_of c.args.patch.now) c.args.now w (take c.loop-node.node-index c.args.boxes.now) in
@@ -53,3 +55,7 @@ returns-clause-ok g c = λ before said is_said.
 
 pub returns-in_err-walk_box-clause-states : goal.returns-in_err-walk_box-clause-states
 returns-in_err-walk_box-clause-states g c = stay-then _ _ _ c.loop-node.invariant.states c.walk_box.ensures.states
+
+pub returns-in_err-walk_box-clause-extends : goal.returns-in_err-walk_box-clause-extends
+returns-in_err-walk_box-clause-extends g c =
+    extends-then c.args.symbols.now c.loop-node.symbols c.walk_box.new.symbols c.loop-node.invariant.extends c.walk_box.ensures.extends
