@@ -81,7 +81,8 @@ use Rattle.pd_proper_law.proofs.LawLemmas.{tree_proper}
 use Rattle.pd_proper_law.proofs.OwnLemmas.{written_settled}
 use Rattle.pd_proper_law.proofs.SavableLemmas.{kinds_savable, contents_save}
 use Rattle.pd_stage.specs.Choices.{Wanted, Edits, Saves, Undoes, Redoes, Made, Choice, Refuses, Lacks, Makes}
-use Rattle.pd_stage.specs.Lawful.{IsSaved}
+use Rattle.pd_reload_law.specs.Wires.{StandOnce}
+use Rattle.pd_stage.specs.Lawful.{IsSaved, StandsAt}
 use Rattle.pd_stage.specs.Stages.{Stage, Taken}
 use Rattle.pd_engine.specs.Opening.{Grows, first_stage}
 use Rattle.pd_steady.specs.Steady.{IsSteady}
@@ -393,6 +394,7 @@ module _ (holds : Option (List FileRow)) (name : List ℕ) (rate : Rate) (d : Pa
 
     pub saved_again : OpensAgain grows.files.files name rate t p s.names (text_of s.names (present_document p))
     saved_again = record {
+      stands = runs;
       page = present_document p;
       reads = reads s.names (present_document p) saved.table proper;
       is_now = refl;
@@ -418,3 +420,37 @@ module _ (holds : Option (List FileRow)) (name : List ℕ) (rate : Rate) (d : Pa
   pub all_again : Tells → ReadsBack → (most : ℕ) (edits : List Taken) → AreFound first table keys t shallow most edits → AreAgain grows.files.files name rate t edits
   all_again tells reads most [] h = tt
   all_again tells reads most (x ∷ edits) h = (one_again tells reads most x.wanted x x.choice h.0, all_again tells reads most edits h.1)
+
+  -- ---- a stage at which nothing is saved
+
+  -- a save that could be made there
+  abbrev made_there : Stage → Patch → Made
+  made_there s q = record {
+    net = s.net;
+    states = s.states;
+    clocks = s.clocks;
+    names = s.names;
+    lines = [];
+    files = (s.file, text_of s.names (present_document q)) ∷ [];
+    looks = 0;
+  }
+
+  saved_there : (s : Stage) (q : Patch) → StandsAt q s → IsTable s.names → StandOnce q.web → IsSaved s (made_there s q)
+  saved_there s q at of once = record {
+    patch = q;
+    stands = at;
+    table = of;
+    once = once;
+    net = refl;
+    states = refl;
+    clocks = refl;
+    names = refl;
+    lines = refl;
+    files = refl;
+    looks = refl;
+  }
+
+  pub stage_again : Tells → ReadsBack → (most : ℕ) (s : Stage) → IsGood first table keys t shallow most s → (q : Patch) → StandsAt q s → IsTable s.names → StandOnce q.web
+      → OpensAgain grows.files.files name rate t q s.names (text_of s.names (present_document q))
+  unfolding saved_there
+  stage_again tells reads most s good q at of once = saved_again tells reads most s (made_there s q) good (saved_there s q at of once)

@@ -396,6 +396,14 @@ module _ (p : Patch) (table : Names) (ks : List ℕ) (t : Tree) (low : deep t.bo
   pub both_found : (most more : ℕ) → most ≤ more → (a b : List Taken) → AreFound most a → AreFound more b → AreFound more (a ++ b)
   both_found most more l a b h k = all-append (λ t. IsGood more t.found) a b (longer_found most more l a h) k
 
+  -- opening, and then steps
+  pub steps_found : (g : Guards) (asks : AsksAlike) (six : 6 ≤ length table) (file : List ℕ) (ahead : List Choice) (xs : List Step) (most : ℕ) → most ≤ 2 ^ 101
+      → IsGood most (first_stage file p table ahead) → AreSteps most xs (opened file p table ahead).stage → AreFair (followed_by (opened file p table ahead) (steps_by own_ways xs)).edits
+      → EndsWell most (followed_by (opened file p table ahead) (steps_by own_ways xs))
+  steps_found g asks six file ahead xs most low h k l =
+      followed g asks six most low (first_stage file p table ahead) (opened file p table ahead) (steps_by own_ways xs) (opened_leads g asks six most low file ahead)
+      (steps_lead g asks six most low xs (opened file p table ahead).stage k) h l
+
   pub run_found : (g : Guards) (asks : AsksAlike) (six : 6 ≤ length table) (file : List ℕ) (ahead : List Choice) (xs : List Step) (most : ℕ) → most + block_units ≤ 2 ^ 101
       → IsGood most (first_stage file p table ahead) → AreSteps most xs (opened file p table ahead).stage → AreFair (run_by own_ways file p table ahead xs).edits
       → AreFound (most + block_units) (run_by own_ways file p table ahead xs).edits
@@ -405,7 +413,6 @@ module _ (p : Patch) (table : Names) (ks : List ℕ) (t : Tree) (low : deep t.bo
       let last : Passage = finished_by own_ways b.stage in
       let low : most ≤ 2 ^ 101 = in_time most top in
       let first : EndsWell most b =
-      followed g asks six most low (first_stage file p table ahead) o (steps_by own_ways xs) (opened_leads g asks six most low file ahead) (steps_lead g asks six most low xs o.stage k) h
-      (fair_first b.edits last.edits l) in
+      steps_found g asks six file ahead xs most low h k (fair_first b.edits last.edits l) in
       both_found most (most + block_units) (one_block most) b.edits last.edits first.found
       (last_found g asks six most top b.stage first.stage (fair_second b.edits last.edits l))

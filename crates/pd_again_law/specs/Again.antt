@@ -19,6 +19,7 @@ use Rattle.pd_patch.specs.Document.{present_document}
 use Rattle.pd_patch.specs.Grown.{IsTree, IsFresh, HasCause}
 use Rattle.pd_patch.specs.declared.refusal.GrowRefusal.{GrowRefusal}
 use Rattle.pd_patch.specs.declared.refusal.GrowRefusal.TheVariants.{NoMemory}
+use Rattle.pd_reload_law.specs.Reloading.{RunsAs}
 use Rattle.pd_reload_law.specs.Saving.{tree_now}
 use Rattle.pd_alike_law.specs.Alike.{HaveSameOwners}
 use Rattle.pd_inside_law.specs.Inside.{IsSameCanvas}
@@ -36,9 +37,10 @@ pub record IsSamePatch (p : Patch) (now : Tree) (names : Names) (q : Patch) (nam
   pub canvases : (path : List ℕ) → is_some (reached q.grove (Some q.grove.root) path) ≡ is_some (reached p.grove (Some p.grove.root) path)
   pub alike : (path : List ℕ) (c d : ℕ) → reached p.grove (Some p.grove.root) path ≡ Some c → reached q.grove (Some q.grove.root) path ≡ Some d → IsSameCanvas p c q d
 
--- The text of a patch reads back as its document with no name more, and from this, with the files from which the patch grew and the same `$0`
--- numbers, the tree grows that the patch is by now: each patch that stands as what grows is the same patch. It is refused for want of memory alone.
+-- The patch stands as the tree t. Its text reads back as its document with no name more, and from this, with the files from which the patch grew and the
+-- same `$0` numbers, the tree grows that the patch is by now: each patch that stands as what grows is the same patch. It is refused for want of memory alone.
 pub record OpensAgain (files : List (ℕ × Answer)) (name : List ℕ) (rate : Rate) (t : Tree) (p : Patch) (names : Names) (text : List ℕ) : Type 0 where
+  pub stands : RunsAs p.grove t
   pub page : Page
   pub reads : document_of names text ≡ Ok (page, names)
   pub is_now : page ≡ present_document p
