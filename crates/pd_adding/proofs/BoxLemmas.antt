@@ -1,20 +1,26 @@
 -- What edits put into an empty canvas.
-use Rattle.std.proofs.Common.{◌≡◌, ℕ, zero, suc, ℤ, ◌-◌, ◌<◌, Bool, true, false, List, [], ◌∷◌, length, Option, Some, None, option_map, slice_get, slice_index_or, IfSome, if◌then◌else◌, refl, sym, ap, ◌∙◌, subst, arith}
+use Rattle.std.proofs.Common.{codes, get_or, ◌≡◌, ℕ, zero, suc, ℤ, ◌-◌, ◌<◌, Bool, true, false, List, [], ◌∷◌, length, Option, Some, None, option_map, slice_get, slice_index_or, IfSome, if◌then◌else◌, refl, sym, ap, ◌∙◌, subst, arith}
 use Rattle.std.specs.Option.{unwrap_or}
 use Rattle.std.specs.List.{All}
-use Rattle.std.proofs.lemmas.List.Elements.{All-cons}
+use Rattle.std.proofs.lemmas.List.{get_or-take}
+use Rattle.std.proofs.lemmas.List.Elements.{All-cons, All-weaker, recursion_from_All}
+use Rattle.pd_num.specs.Scale.{millionths, IsInRange}
+use Rattle.pd_num.specs.Reading.{number_at, numeral_at, exponent_at}
 use Rattle.pd_atom.specs.declared.Atom.{Atom}
 use Rattle.pd_atom.specs.declared.Atom.TheVariants.{Symbol}
-use Rattle.pd_atom.specs.Names.{Names, IsTable}
+use Rattle.pd_atom.specs.Names.{Names, IsTable, name_of}
 use Rattle.pd_atom.specs.Atoms.{IsOf}
+use Rattle.pd_atom.specs.Tokens.{nameless, named, IsSettled}
 use Rattle.pd_atom.proofs.NameLemmas.{six_names}
+use Rattle.pd_atom.proofs.TokenLemmas.{settled_named}
 use Rattle.pd_canvas.specs.declared.edits.Edit.{Edit}
 use Rattle.pd_canvas.specs.declared.edits.Edit.TheVariants as edit
 use Rattle.pd_canvas.specs.declared.tree.Element.{Element}
 use Rattle.pd_canvas.specs.Pages.{Obj, Sub, Page, Entry, elements_of, page_with_header, empty_page}
 use Rattle.pd_canvas.specs.Edits.{pd, begins_with_pd, new_header, element, object, appended, edited}
 use Rattle.pd_canvas.specs.Views.{entry_of, entries_of}
-use Rattle.pd_adding.specs.Boxes.{PutsBox, IsBare, box_put}
+use Rattle.pd_canvas.specs.Proper.{IsReady}
+use Rattle.pd_adding.specs.Boxes.{PutsBox, IsBare, CanBeWritten, box_put}
 
 some_same : (x b : Entry) → Some x ≡ Some b → x ≡ b
 some_same x b h = ap (λ (o : Option Entry). unwrap_or o x) h
@@ -43,12 +49,26 @@ put_so (edit.Move n x y) p b h = (cc)
 
 -- ---- the box
 
-object_by : (names : Names) (x y : ℤ) (text : List Atom) (b : Bool) → All (IsOf names) text →
+pd_name : (names : Names) → IsTable names → name_of names pd ≡ codes "pd"
+pd_name names t = sym (get_or-take 6 names 4 [] (omega arith)) ∙ ap (λ l. get_or l 4 []) t.begins
+
+pd_nameless : nameless (codes "pd") ≡ None
+unfolding nameless number_at numeral_at exponent_at
+pd_nameless = refl
+
+pd_ready : (names : Names) → IsTable names → IsReady names (Symbol pd)
+pd_ready names t =
+    let six = six_names names t in
+    let is = pd_name names t in
+    let low : pd < length names = omega (arith, six) in
+    (low, subst (λ x. IsSettled names (named x pd)) is (settled_named names pd t low (ap nameless is ∙ pd_nameless)))
+
+object_by : (names : Names) (x y : ℤ) (text : List Atom) (b : Bool) → All (IsReady names) text →
     IsBare names (if b then element Sub (page_with_header (new_header text)) x y text else element Obj empty_page x y text)
 object_by names x y text true k = (k, refl)
 object_by names x y text false k = (k, refl)
 
-object_bare : (names : Names) (x y : ℤ) (text : List Atom) → All (IsOf names) text → IsBare names (object x y text)
+object_bare : (names : Names) (x y : ℤ) (text : List Atom) → All (IsReady names) text → IsBare names (object x y text)
 object_bare names x y text k = object_by names x y text (begins_with_pd text) k
 
 pub put_bare : (names : Names) (e : Edit) (b : Entry) → IsTable names → PutsBox names e → box_put e ≡ Some b → IsBare names b
@@ -58,9 +78,8 @@ put_bare names (edit.Comment x y text) b t k h = subst (IsBare names) (some_same
 put_bare names (edit.FloatBox x y text) b t k h = subst (IsBare names) (some_same _ b h) (k, refl)
 put_bare names (edit.SymbolBox x y text) b t k h = subst (IsBare names) (some_same _ b h) (k, refl)
 put_bare names (edit.Sub x y name) b t k h =
-    let six = six_names names t in
-    let known : All (IsOf names) (Symbol pd ∷ name) = All-cons (IsOf names) (Symbol pd) name (omega (arith, six)) k in
-    subst (IsBare names) (some_same (object x y (Symbol pd ∷ name)) b h) (object_bare names x y (Symbol pd ∷ name) known)
+    let ready : All (IsReady names) (Symbol pd ∷ name) = All-cons (IsReady names) (Symbol pd) name (pd_ready names t) k in
+    subst (IsBare names) (some_same (object x y (Symbol pd ∷ name)) b h) (object_bare names x y (Symbol pd ∷ name) ready)
 put_bare names (edit.Connect wire) b t k h = absurd k
 put_bare names (edit.Disconnect wire) b t k h = absurd k
 put_bare names (edit.Delete n) b t k h = absurd k
@@ -102,3 +121,15 @@ put_last names e items o k h last =
 pub last_bare : (names : Names) (e : Edit) (o : Option Element) → IsTable names → PutsBox names e → option_map entry_of o ≡ box_put e → IfSome o (λ x. IsBare names (entry_of x))
 last_bare names e None t k h = tt
 last_bare names e (Some x) t k h = put_bare names e (entry_of x) t k (sym h)
+
+-- ---- what can be written
+
+pub bare_known : (names : Names) (b : Entry) → IsBare names b → All (IsOf names) b.head.text
+bare_known names b bare = All-weaker (IsReady names) (IsOf names) (λ a h. h.0) b.head.text bare.0
+
+-- the box of an edit can be written, where its place has numbers
+pub put_written : (names : Names) (x : Element) (r : Option Entry) → Some (entry_of x) ≡ r → IsBare names (entry_of x) → IsInRange millionths (entry_of x).head.x
+    → IsInRange millionths (entry_of x).head.y → IfSome r (CanBeWritten names)
+put_written names x r h bare a b =
+    let written : CanBeWritten names (entry_of x) = record { x = a; y = b; text = recursion_from_All (IsReady names) (entry_of x).head.text bare.0 } in
+    subst (λ (o : Option Entry). IfSome o (CanBeWritten names)) h written

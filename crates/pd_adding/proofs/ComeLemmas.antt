@@ -11,6 +11,7 @@ use Rattle.pd_patch.specs.declared.patch.Patch.{Patch}
 use Rattle.pd_wiring.specs.declared.refusals.EditRefusal.TheVariants.{TextTooLong, TooDeep}
 use Rattle.pd_adding.specs.Boxes.{IsBare}
 use Rattle.pd_adding.specs.Coming.{coming_in, coming_by}
+use Rattle.pd_adding.proofs.BoxLemmas.{bare_known}
 
 pub come_by : (p : Patch) (path : List ℕ) (o : Option Entry) (e : Entry) (r : Option ℕ) → o ≡ Some e → sub_reached p.grove (Some p.grove.root) path ≡ r
     → coming_by p path o ≡ coming_in (length path) e r
@@ -57,4 +58,4 @@ levels_fit (Other s) b depth left none high room = omega arith
 pub box_suits : (names : Names) (e : Entry) (depth left : ℕ) → IsBare names e → length e.head.text ≤ 1024 → (is_sub e.head.form && nat_lt 254 depth) ≡ false
     → left ≡ 255 - depth → EntrySuits names left e
 box_suits names e depth left bare short high room =
-    ((bare.0, short), subst (λ (b : Boxes). TextsSuit names b × (weight b ≤ 16384)) (sym bare.1) (tt, omega arith), levels_fit e.head.form e.page.boxes depth left bare.1 high room)
+    ((bare_known names e bare, short), subst (λ (b : Boxes). TextsSuit names b × (weight b ≤ 16384)) (sym bare.1) (tt, omega arith), levels_fit e.head.form e.page.boxes depth left bare.1 high room)

@@ -1,6 +1,11 @@
 pub mod BoxLemmas
 pub mod ComeLemmas
 pub mod GrowLemmas
+pub mod ReadLemmas
+pub mod GatherLemmas
+pub mod GrewLemmas
 pub mod CountLemmas
 pub mod AddLemmas
 pub mod SingleLemmas
+pub mod PatchLemmas
+pub mod LimitLemmas

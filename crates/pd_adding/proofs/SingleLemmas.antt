@@ -49,7 +49,7 @@ module _ (row : Row) where
 
 -- ---- what a box takes
 
-same_inner : (lib : ℕ → Option Answer) (root : List ℕ) (left : ℕ) → inside_grown lib root left ≡ inner_of lib root left
+pub same_inner : (lib : ℕ → Option Answer) (root : List ℕ) (left : ℕ) → inside_grown lib root left ≡ inner_of lib root left
 same_inner lib root zero = refl
 same_inner lib root (suc n) = refl
 

@@ -28,6 +28,11 @@ coming_by p path (Some e) = coming_in (length path) e (sub_reached p.grove (Some
 abbrev pub coming : Names → Patch → List ℕ → Edit → Result (ℕ × Entry) EditRefusal
 coming names p path e = coming_by p path (box_put (settled_edit names e))
 
+-- there is such a canvas, and nothing is against the box
+abbrev pub IsComing : Result (ℕ × Entry) EditRefusal → Type 0
+IsComing (Ok c) = Unit {0}
+IsComing (Err why) = ⊥
+
 -- the `$0` of the patch's own document
 abbrev pub zero_in : Option Board → ℕ
 zero_in None = 0

@@ -5,6 +5,7 @@ ghost use Rattle.std.specs.List.{All};
 ghost use Rattle.pd_atom.specs.Atoms.{IsOf};
 ghost use Rattle.pd_atom.specs.Tokens.{settled};
 ghost use Rattle.pd_canvas.specs.Views.{entry_of};
+ghost use Rattle.pd_canvas.specs.Proper.{IsReady};
 ghost use Rattle.pd_adding.specs.Boxes.{settled_edit, IsKnown, PutsBox, IsBare, box_put};
 
 use pd_atom::{Symbols, settle};
@@ -85,7 +86,7 @@ fn settled_box(alloc: Global, symbols: &Symbols, edit: &Edit) -> Result<Option<E
 fn settled_text(alloc: Global, symbols: &Symbols, text: &Atoms) -> Result<Atoms, AllocError>
     requires known { All (IsOf symbols.now) text.now }
     ensures text { IfOk result (λ t. t ≡ map (settled symbols.now) text.now) }
-    ensures known { IfOk result (λ t. All (IsOf symbols.now) t) }
+    ensures ready { IfOk result (λ t. All (IsReady symbols.now) t) }
 {
     let mut out = Atoms::new(alloc);
     for atom in text.as_slice() {

@@ -1,11 +1,11 @@
 //! Which box an edit puts into which canvas.
 
-ghost use Rattle.std.specs.Prelude.{◌≡◌, ◌≢◌, ◌-◌, ◌&&◌, nat_lt, Ok, Err, IfOk, IfErr, length};
+ghost use Rattle.std.specs.Prelude.{◌≡◌, ◌≢◌, ◌-◌, ◌&&◌, nat_lt, Ok, Err, IfOk, IfErr, IfSome, length};
 ghost use Rattle.pd_canvas.specs.Views.{entry_of};
 ghost use Rattle.pd_growth.specs.Suits.{EntrySuits};
 ghost use Rattle.pd_grove.specs.TextOrder.{is_sub};
 ghost use Rattle.pd_wiring.specs.declared.refusals.EditRefusal.TheVariants.{NoMemory};
-ghost use Rattle.pd_adding.specs.Boxes.{IsKnown};
+ghost use Rattle.pd_adding.specs.Boxes.{IsKnown, settled_edit, box_put, CanBeWritten};
 ghost use Rattle.pd_adding.specs.Coming.{coming, own_zero};
 
 use crate::boxes::box_of;
@@ -46,6 +46,7 @@ pub fn box_to_come(
     ensures comes { IfOk result (λ c. coming symbols.now patch.now path.now edit.now ≡ Ok (c.canvas, entry_of c.element)) }
     ensures left { IfOk result (λ c. c.left ≡ 255 - length path.now) }
     ensures suits { IfOk result (λ c. EntrySuits symbols.now c.left (entry_of c.element)) }
+    ensures written { IfOk result (λ c. IfSome (box_put (settled_edit symbols.now edit.now)) (CanBeWritten symbols.now)) }
     ensures refused { IfErr result (λ why. why ≢ NoMemory → coming symbols.now patch.now path.now edit.now ≡ Err why) }
 {
     let Ok(put) = box_of(alloc, symbols, edit) else {
@@ -54,6 +55,9 @@ pub fn box_to_come(
     let Some(element) = put else {
         return Err(EditRefusal::NoDocument);
     };
+    // They are called for what they say of the place, which the proof cites.
+    let _x = element.x.micros();
+    let _y = element.y.micros();
     let Some(canvas) = patch.grove.own_canvas_at(path) else {
         return Err(EditRefusal::NoCanvas);
     };

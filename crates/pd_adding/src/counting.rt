@@ -7,7 +7,7 @@ ghost use Rattle.pd_tree.specs.Trees.{Trees, stands_of, stands_in, weight, zeros
 ghost use Rattle.pd_fit.specs.Fitting.{wires_inside};
 ghost use Rattle.pd_growth.specs.Steps.{zeros_from};
 ghost use Rattle.pd_gather.specs.Gather.{Known};
-ghost use Rattle.pd_patch.specs.Sounds.{sound_in, sound_of};
+ghost use Rattle.pd_patch.specs.Sounds.{sound_in};
 ghost use Rattle.pd_wiring.specs.declared.refusals.EditRefusal.TheVariants.{TooManyWires, NoMemory};
 ghost use Rattle.pd_adding.specs.Counts.{AreWithin};
 ghost use Rattle.pd_adding.specs.Growing.{totalled};

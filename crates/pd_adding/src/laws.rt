@@ -1,6 +1,6 @@
 //! Laws of edits that put boxes, and of boxes that hold no canvas.
 
-ghost use Rattle.std.specs.Prelude.{◌≡◌, ◌≢◌, ◌+◌, ◌-◌, true, ℕ, List, [], ◌∷◌, length, Option, None, Some, Result, Ok, Err};
+ghost use Rattle.std.specs.Prelude.{◌≡◌, ◌≢◌, ◌≤◌, ◌+◌, ◌-◌, true, ℕ, List, [], ◌∷◌, length, Option, None, Some, Result, Ok, Err};
 ghost use Rattle.std.specs.declared.vec.Vec.{Vec};
 ghost use Rattle.std.specs.declared.alloc.Global.{Global};
 ghost use Rattle.pd_io.specs.declared.files.FileRow.{FileRow};
@@ -9,6 +9,7 @@ ghost use Rattle.pd_atom.specs.Names.{Names, given};
 ghost use Rattle.pd_object.specs.declared.kinds.Kind.{Kind};
 ghost use Rattle.pd_object.specs.declared.kinds.Named.TheVariants as named;
 ghost use Rattle.pd_naming.specs.Naming.{named_by};
+ghost use Rattle.pd_clock.specs.declared.times.Rate.{Rate};
 ghost use Rattle.pd_canvas.specs.declared.edits.Edit.{Edit};
 ghost use Rattle.pd_canvas.specs.Pages.{Obj, Page, Entry};
 ghost use Rattle.pd_canvas.specs.Edits.{edited, appended};
@@ -16,18 +17,22 @@ ghost use Rattle.pd_library.specs.declared.answers.Answer.{Answer};
 ghost use Rattle.pd_tree.specs.declared.rows.Row.{Row};
 ghost use Rattle.pd_tree.specs.Trees.{Cell, Trees, Leaf, Done, width, weight, zeros_in, stand_of, stands_of, stands_in};
 ghost use Rattle.pd_growth.specs.Making.{Around};
-ghost use Rattle.pd_growth.specs.Steps.{Stock, gives, text_expanded};
-ghost use Rattle.pd_growth.specs.Growth.{Inner, box_grown};
+ghost use Rattle.pd_growth.specs.Steps.{Stock, beginning, gives, text_expanded};
+ghost use Rattle.pd_growth.specs.Growth.{Inner, box_grown, grown};
 ghost use Rattle.pd_growth.specs.Growing.{inside_grown};
 ghost use Rattle.pd_gather.specs.Gather.{Known, known};
+ghost use Rattle.pd_web.specs.Changes.{wires_told};
 ghost use Rattle.pd_patch.specs.declared.patch.Patch.{Patch};
+ghost use Rattle.pd_patch.specs.Grown.{IsTree};
 ghost use Rattle.pd_regrowth_law.specs.Regrowth.{Takes};
 ghost use Rattle.pd_wiring.specs.declared.refusals.EditRefusal.{EditRefusal};
 ghost use Rattle.pd_wiring.specs.declared.refusals.EditRefusal.TheVariants.{ShelfFault, NoMemory};
+ghost use Rattle.pd_wiring.specs.Changes.{AreAlike};
 ghost use Rattle.pd_adding.specs.declared.counts.Counts.{Counts};
 ghost use Rattle.pd_adding.specs.Adding.{ComesTo};
 ghost use Rattle.pd_adding.specs.Boxes.{box_put};
 ghost use Rattle.pd_adding.specs.Coming.{coming, own_zero};
+ghost use Rattle.pd_adding.specs.Counted.{AreCounted, IsLimited, with_wires};
 ghost use Rattle.pd_adding.specs.Counts.{stock_by};
 ghost use Rattle.pd_adding.specs.Growing.{Added, growth_of, totalled, GrowsTo, EndsFor};
 ghost use Rattle.pd_adding.specs.Single.{IsSingle, is_plain};
@@ -66,4 +71,20 @@ pub fn single_boxes()
     ensures kinds { (lib : ℕ → Option Answer) (root : List ℕ) (left : ℕ) (inner : Inner) (a : Around) (e : Entry) (w v : Stock) (t : Trees)
         (text : List Atom) (names : Names) (k : Kind) → e.head.form ≡ Obj → text_expanded a.zero a.arguments e.head.text w.names ≡ given text names →
         named_by names text ≡ named.Kind k → box_grown lib root left inner a e w ≡ gives t v → IsSingle t }
+{}
+
+/// Counts stay those of a patch: with its wires told anew where the tree is the same, and as they are where the boxes differ only in what
+/// they keep.
+pub fn counts_stay()
+    ensures wires { (n : Counts) (p q : Patch) → AreCounted n p → q.grove ≡ p.grove → q.rate ≡ p.rate → AreCounted (with_wires (wires_told q.web) n) q }
+    ensures alike { (n : Counts) (p q : Patch) → AreCounted n p → AreAlike p q → q.grove.root ≡ p.grove.root → q.rate ≡ p.rate → AreCounted n q }
+{}
+
+/// A patch that has just grown is within the limits, so that `count_patch` counts it, whichever `$0` growth began with; and its own `$0` is
+/// none above the greatest.
+pub fn grown_patches_are_limited()
+    ensures tree { (p : Patch) (names table : Names) (rate : Rate) (lib : ℕ → Option Answer) (file : List ℕ) (page : Page) (first : ℕ) →
+        (grew : IsTree p names rate (grown lib file page (beginning table first))) → IsLimited rate grew.tree }
+    ensures zero { (p : Patch) (names table : Names) (rate : Rate) (lib : ℕ → Option Answer) (file : List ℕ) (page : Page) (first : ℕ) →
+        IsTree p names rate (grown lib file page (beginning table first)) → own_zero p ≤ 1000000000 }
 {}

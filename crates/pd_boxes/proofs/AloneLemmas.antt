@@ -1,8 +1,7 @@
 -- A box that came and holds no canvas came alone.
 use Rattle.std.proofs.Common.{◌≡◌, ◌≢◌, ℕ, zero, suc, ◌+◌, ◌≤◌, List, [], ◌∷◌, ◌++◌, length, Option, Some, None, IsSome, refl, sym, ap, ◌∙◌, subst, arith}
-use Rattle.std.specs.Prelude.{slice_get, option_map, option_and_then, ◌⊎◌}
+use Rattle.std.specs.Prelude.{slice_get, option_map, option_and_then}
 use mathlib.Core.Logic.{⊎_elim}
-use Rattle.std.proofs.lemmas.Bool.{cases_eq}
 use Rattle.std.proofs.lemmas.Option.{none-some, same_Some}
 use Rattle.pd_atom.specs.declared.Atom.{Atom}
 use Rattle.pd_canvas.specs.declared.tree.Element.{Element}

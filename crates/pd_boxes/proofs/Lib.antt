@@ -6,3 +6,6 @@ pub mod RoomLemmas
 pub mod PutLemmas
 pub mod SignalLemmas
 pub mod RowLemmas
+pub mod KindLemmas
+pub mod ReserveLemmas
+pub mod AskingLemmas

@@ -1,9 +1,8 @@
 -- Where room was set aside for a box, a patch tells what it told.
-use Rattle.std.proofs.Common.{◌≡◌, ◌≢◌, ℕ, zero, suc, ℤ, append-nil, ◌<◌, ◌≤◌, Bool, true, ◌&&◌, List, [], ◌∷◌, ◌++◌, map, filter, length, Option, Some, None, IsSome, inl, inr, refl, sym, ap, ◌∙◌, subst, arith}
+use Rattle.std.proofs.Common.{◌≡◌, ℕ, zero, suc, ℤ, Bool, true, ◌&&◌, List, [], ◌∷◌, ◌++◌, map, filter, Option, Some, None, IsSome, inl, inr, refl, sym, ap, ◌∙◌, subst, arith}
 use Rattle.std.specs.Prelude.{slice_get, option_map, option_and_then, replicate, ◌⊎◌}
 use mathlib.Core.Logic.{⊎_elim}
-use Rattle.std.specs.List.{AllByRecursion, flat_map}
-use Rattle.std.proofs.lemmas.Bool.{cases_eq}
+use Rattle.std.specs.List.{flat_map}
 use Rattle.std.proofs.lemmas.Option.{none-some, same_Some}
 use Rattle.slab.specs.Slab.{get}
 use Rattle.pd_atom.specs.Names.{Names}
@@ -34,10 +33,9 @@ use Rattle.pd_web.specs.declared.jacks.Jack.{Jack}
 use Rattle.pd_web.specs.declared.web.Hop.{Hop}
 use Rattle.pd_web.specs.declared.web.Web.{Web}
 use Rattle.pd_web.specs.Canvases.{keys_at}
-use Rattle.pd_web.specs.Changes.{IsSame}
-use Rattle.pd_web.specs.Homes.{IsPortOf, inner_in as box_in}
+use Rattle.pd_web.specs.Homes.{inner_in as box_in}
 use Rattle.pd_web.specs.Hops.{ports_told, fan_hops}
-use Rattle.pd_web.specs.Jacks.{spot_jack, canvas_jacks, jacks_by, jacks_in, jacks_at, made_in}
+use Rattle.pd_web.specs.Jacks.{spot_jack, jacks_by, jacks_in, jacks_at, made_in}
 use Rattle.pd_patch.specs.declared.patch.Patch.{Patch}
 use Rattle.pd_patch.specs.Built.{IsBuilt, block_sizes}
 use Rattle.pd_patch.specs.Linked.{HasLinks, ShareCanvas}
@@ -47,7 +45,7 @@ use Rattle.pd_patch.specs.Telling.{order_in}
 use Rattle.pd_patch.specs.Values.{block_at, block_count, blocks_told}
 use Rattle.pd_wiring.specs.Changes.{CanRewire}
 use Rattle.pd_wiring.proofs.BuiltLemmas.{roomed, roomed_built, same_links}
-use Rattle.pd_placing.specs.Room.{SameLists, IsSameButRoom as IsSameOrder}
+use Rattle.pd_placing.specs.Room.{IsSameButRoom as IsSameOrder}
 use Rattle.pd_boxes.specs.Rows.{IsLonger}
 use Rattle.pd_boxes.specs.Room.{SameButRoom}
 use Rattle.pd_boxes.specs.Put.{CanPut}
@@ -117,7 +115,7 @@ module _ (g g' : Grove) (S : IsSameButRoom g g') where
       ∙ ap (λ (f : ℕ → Option Node). spots_among f (get g.boards) 257 true (keys_at g' g'.root)) nodes_same
       ∙ ap (spots_among (get g.nodes) (get g.boards) 257 true) (keys_same g'.root ∙ ap (keys_at g) S.root)
 
-  owners_same : (table : Names) (file : List ℕ) (class : Class) (name : ℕ) → owners_in table file g' class name ≡ owners_in table file g class name
+  pub owners_same : (table : Names) (file : List ℕ) (class : Class) (name : ℕ) → owners_in table file g' class name ≡ owners_in table file g class name
   owners_same table file class name =
       ap (λ (f : ℕ → Option Node). root_owning table file class name ++ boxes_owning table f class name (spots_in_order g')) nodes_same
       ∙ ap (λ (ps : List Spot). root_owning table file class name ++ boxes_owning table (get g.nodes) class name ps) order_same

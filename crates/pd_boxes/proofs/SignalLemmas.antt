@@ -1,16 +1,13 @@
 -- A box that came into a patch, and the signal order of its canvas.
-use Rattle.std.proofs.Common.{◌≡◌, ◌≢◌, ℕ, zero, suc, ◌+◌, ◌-◌, ◌<◌, ◌==◌, true, List, [], ◌∷◌, ◌++◌, drop, take, length, Option, Some, None, refl, sym, ap, ◌∙◌, subst, arith}
+use Rattle.std.proofs.Common.{◌≡◌, ℕ, zero, suc, ◌-◌, ◌<◌, true, List, [], ◌∷◌, ◌++◌, drop, take, length, Option, Some, refl, sym, ap, ◌∙◌, subst, arith}
 use Rattle.std.specs.Prelude.{slice_get}
 use Rattle.std.proofs.lemmas.Bool.{eq-eqb}
-use Rattle.std.proofs.lemmas.List.{drop_all, take_all}
+use Rattle.std.proofs.lemmas.List.{drop_all}
 use Rattle.slab.specs.Slab.{get}
 use Rattle.pd_atom.specs.Names.{Names}
 use Rattle.pd_order.specs.Graph.{tally}
-use Rattle.pd_order.specs.Listing.{Listing}
-use Rattle.pd_chain.specs.declared.graph.SignalWire.{SignalWire}
 use Rattle.pd_links.specs.declared.links.Links.{Links}
 use Rattle.pd_links.specs.Linked.{feeders_of, followers_of}
-use Rattle.pd_grove.specs.declared.nodes.Node.{Node}
 use Rattle.pd_grove.specs.declared.seeds.Seed.{Seed}
 use Rattle.pd_grove.specs.Telling.{inner_in}
 use Rattle.pd_grove.specs.Forest.{IsForest}

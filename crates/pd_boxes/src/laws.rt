@@ -1,13 +1,17 @@
 //! Laws over a running patch into which a box came, and over its table of names.
 
 ghost use Rattle.std.specs.Prelude.{◌≡◌, ℕ, List};
+ghost use Rattle.slab.specs.Slab.{get};
 ghost use Rattle.pd_atom.specs.Names.{Names};
 ghost use Rattle.pd_clock.specs.declared.times.Rate.{Rate};
 ghost use Rattle.pd_name.specs.declared.Class.{Class};
 ghost use Rattle.pd_grove.specs.declared.seeds.Seed.{Seed};
+ghost use Rattle.pd_grove.specs.Forest.{IsForest};
 ghost use Rattle.pd_bind.specs.Owning.{owners_in};
+ghost use Rattle.pd_web.specs.Jacks.{KindsSmall};
 ghost use Rattle.pd_patch.specs.declared.patch.Patch.{Patch};
 ghost use Rattle.pd_patch.specs.Built.{IsBuilt};
+ghost use Rattle.pd_wiring.specs.Changes.{CanRewire, AreAlike};
 ghost use Rattle.pd_boxes.specs.declared.room.Place.{Place};
 ghost use Rattle.pd_boxes.specs.Put.{CanPut, IsPut, IsLeaf, IsNoPort};
 ghost use Rattle.pd_boxes.specs.Room.{SameButRoom};
@@ -26,4 +30,13 @@ pub fn patches_run_on()
 pub fn room_changes_nothing()
     ensures can { (p q : Patch) → SameButRoom p q → CanPut p → CanPut q }
     ensures built { (p q : Patch) → SameButRoom p q → (names : Names) (file : List ℕ) (rate : Rate) → IsBuilt p names file rate → IsBuilt q names file rate }
+{}
+
+/// What a box that comes asks of a patch doesn't hang on what the boxes keep, nor on names, clocks or blocks; where wires came or went it
+/// asks what an edit of wires does besides. A patch that runs has it if its boxes are one tree, of small kinds.
+pub fn putting_asks_alike()
+    ensures alike { (p q : Patch) → AreAlike p q → q.grove.root ≡ p.grove.root → CanPut p → CanPut q }
+    ensures rewired { (p q : Patch) → q.grove ≡ p.grove → CanRewire q → CanPut p → CanPut q }
+    ensures own { (p : Patch) → IsForest (get p.grove.nodes) (get p.grove.boards) p.grove.root → KindsSmall p.grove →
+        (names : Names) (file : List ℕ) (rate : Rate) → IsBuilt p names file rate → CanPut p }
 {}

@@ -1,9 +1,8 @@
-use Rattle.std.proofs.Common.{◌≡◌, sym, ap, ◌∙◌, subst}
+use Rattle.std.proofs.Common.{sym, ap, ◌∙◌, subst}
 use Rattle.pd_patch.specs.Telling.{order_in}
 use Rattle.pd_placing.specs.Placing.{AreOrderedBut}
 use Rattle.pd_placing.specs.Room.{HasPlaces}
 use Rattle.pd_wiring.proofs.GraphLemmas.{canvas_lawful, ordered_by_wires}
-use Rattle.pd_boxes.specs.Put.{ComesIn}
 use Rattle.pd_boxes.proofs.BuiltLemmas.{still_wired}
 use Rattle.pd_boxes.proofs.SignalLemmas.{is_there, is_loose, lacks_box, still_last}
 use Rattle.pd_boxes.proofs.putting.put.Goals as goal

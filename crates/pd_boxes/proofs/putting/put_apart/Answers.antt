@@ -1,4 +1,4 @@
-use Rattle.std.proofs.Common.{◌≡◌, ◌+◌, ◌<◌, List, [], ◌∷◌, length, refl, sym, ap, ◌∙◌, subst, arith}
+use Rattle.std.proofs.Common.{◌+◌, List, [], length, refl, sym, ap, subst, arith}
 use Rattle.slab.specs.Slab.{get}
 use Rattle.pd_grove.specs.declared.seeds.Seed.{Seed}
 use Rattle.pd_grove.specs.declared.ports.Side.TheVariants.{Outlets}
@@ -7,7 +7,7 @@ use Rattle.pd_grove.specs.Room.{HasPlace}
 use Rattle.pd_patch.specs.Values.{blocks_told}
 use Rattle.pd_boxes.specs.Put.{node_of, keys_before, keys_behind}
 use Rattle.pd_boxes.proofs.PortLemmas.{no_home}
-use Rattle.pd_boxes.proofs.PutLemmas.{leaf_in, key_low, below_root, is_live, forest, small, apart, near, jacks, lists, bare, ports, owner_fits, others_own, owners, few, once, reach, numbers, other_numbers, blocks, value_reach}
+use Rattle.pd_boxes.proofs.PutLemmas.{leaf_in, key_low, below_root, is_live, forest, small, apart, near, lists, bare, ports, owner_fits, others_own, owners, few, once, reach, numbers, other_numbers, blocks, value_reach}
 use Rattle.pd_boxes.proofs.putting.put_apart.Goals as goal
 
 pub put_box-key-requires-clause-deep : goal.put_box-key-requires-clause-deep

@@ -1,0 +1,7 @@
+mod TextLemmas
+mod ComingLemmas
+mod PlaceLemmas
+mod StayLemmas
+mod PlainLemmas
+mod SeedLemmas
+mod AddLemmas

@@ -1,0 +1,81 @@
+-- A box that an edit puts into a canvas of a running patch.
+use Rattle.std.specs.Prelude.{◌≡◌, ◌⊎◌, ℕ, List, length, None, Ok, Err}
+use Rattle.pd_canvas.specs.declared.edits.Edit.{Edit}
+use Rattle.pd_tree.specs.Trees.{Cell, Done, Leaf, stand_of}
+use Rattle.pd_growth.specs.Suits.{RowSuits}
+use Rattle.pd_gather.specs.Gather.{Known}
+use Rattle.pd_grove.specs.declared.seeds.Seed.{Seed}
+use Rattle.pd_grove.specs.States.{IsFresh}
+use Rattle.pd_web.specs.Canvases.{keys_at}
+use Rattle.pd_patch.specs.declared.patch.Patch.{Patch}
+use Rattle.pd_wiring.specs.declared.refusals.EditRefusal.{EditRefusal}
+use Rattle.pd_wiring.specs.declared.refusals.EditRefusal.TheVariants.{NoDocument, ShelfFault, NoMemory}
+use Rattle.pd_boxes.specs.declared.room.Place.{Place}
+use Rattle.pd_boxes.specs.Room.{SameButRoom}
+use Rattle.pd_boxes.specs.Put.{CanPut, IsLeaf, IsNoPort, IsPut}
+use Rattle.pd_adding.specs.declared.counts.Counts.{Counts}
+use Rattle.pd_adding.specs.Boxes.{IsKnown}
+use Rattle.pd_adding.specs.Coming.{coming, IsComing}
+use Rattle.pd_adding.specs.Growing.{Added}
+use Rattle.pd_adding.specs.Adding.{ComesTo}
+use Rattle.pd_putting.specs.declared.adding.NewBox.{NewBox}
+
+-- where it comes: behind the boxes of the canvas
+abbrev pub last_place : Patch → ℕ → Place
+last_place p canvas = record { canvas = canvas; number = length (keys_at p.grove canvas) }
+
+-- What grew is one box without a canvas, and no port of a box around. Other boxes aren't put yet.
+pub record IsPlain (p : Patch) (a : Added) : Type 0 where
+  pub cell : Cell
+  pub single : a.boxes ≡ Leaf cell Done
+  pub no_port : IsNoPort p (last_place p a.canvas) cell.kind
+
+-- What grew came in as the last box of its canvas, under this key, and keeps what its kind keeps at first. All else of the patch stays, but that
+-- there is more room.
+pub record IsBoxPut (old new : Patch) (now : ℕ) (a : Added) (key : ℕ) : Type 0 where
+  pub plain : IsPlain old a
+  pub ready : Patch
+  pub room : SameButRoom old ready
+  pub seed : Seed
+  pub is_row : stand_of seed.row ≡ record { cell = plain.cell; sheet = None; boxes = 0 }
+  pub suits : RowSuits a.known.names seed.row
+  pub leaf : IsLeaf seed
+  pub fresh : IsFresh old.rate now seed
+  pub put : IsPut ready new a.known.names (last_place old a.canvas) seed key
+  pub goes_on : CanPut new
+
+-- An edit put a box, with this known after it, as what grew: `k` was known before it, `n` were the counts of the patch, and it is this time.
+pub record AddsBox (old new : Patch) (n : Counts) (name path : List ℕ) (now : ℕ) (e : Edit) (k after : Known) (b : NewBox) : Type 0 where
+  pub added : Added
+  pub is_known : IsKnown k.names e
+  pub comes : ComesTo None old n name path e k (Ok added)
+  pub put : IsBoxPut old new now added b.key
+  pub canvas : b.canvas ≡ added.canvas
+  pub counts : b.counts ≡ added.counts
+  pub known_is : after ≡ added.known
+
+-- an edit comes to a box that isn't put yet
+pub record IsNotPutYet (p : Patch) (n : Counts) (name path : List ℕ) (e : Edit) (k : Known) : Type 0 where
+  pub added : Added
+  pub comes : ComesTo None p n name path e k (Ok added)
+  pub other : IsPlain p added → ⊥
+
+-- Why an edit that puts a box is refused: memory was wanting; or the folder gave no file for which growing the box asks; or it comes to this refusal;
+-- or its text names what the table hasn't, or such a box isn't put yet.
+abbrev pub IsNotPut : Patch → Counts → List ℕ → List ℕ → Edit → Known → EditRefusal → Type 0
+IsNotPut p n name path e k why =
+    (why ≡ NoMemory) ⊎ (((why ≡ ShelfFault) × IsComing (coming k.names p path e)) ⊎ (ComesTo None p n name path e k (Err why) ⊎
+    ((why ≡ NoDocument) × ((IsKnown k.names e → ⊥) ⊎ IsNotPutYet p n name path e k))))
+
+-- the box could come, and memory was wanting to put it
+pub record IsShortOfRoom (old new : Patch) (n : Counts) (name path : List ℕ) (e : Edit) (k : Known) : Type 0 where
+  pub added : Added
+  pub comes : ComesTo None old n name path e k (Ok added)
+  pub plain : IsPlain old added
+  pub room : SameButRoom old new
+  pub goes_on : CanPut new
+
+-- it is refused for this, and the patch stays; or the box could come, memory was wanting to put it, and there may be more room
+abbrev pub IsNotAdded : Patch → Patch → Counts → List ℕ → List ℕ → Edit → Known → EditRefusal → Type 0
+IsNotAdded old new n name path e k why =
+    ((new ≡ old) × IsNotPut old n name path e k why) ⊎ ((why ≡ NoMemory) × IsShortOfRoom old new n name path e k)

@@ -1,0 +1,30 @@
+-- A box that comes in as the last one of its canvas, and one that doesn't.
+use Rattle.std.specs.Prelude.{◌≡◌, ◌⊎◌, ℕ}
+use Rattle.pd_atom.specs.Names.{Names}
+use Rattle.pd_grove.specs.declared.seeds.Seed.{Seed}
+use Rattle.pd_patch.specs.declared.patch.Patch.{Patch}
+use Rattle.pd_wiring.specs.declared.refusals.EditRefusal.{EditRefusal}
+use Rattle.pd_wiring.specs.declared.refusals.EditRefusal.TheVariants.{NoDocument, NoMemory}
+use Rattle.pd_boxes.specs.Room.{SameButRoom}
+use Rattle.pd_boxes.specs.Put.{IsPut}
+use Rattle.pd_adding.specs.declared.adding.Grown.{Grown}
+use Rattle.pd_adding.specs.Growing.{Added}
+use Rattle.pd_adding.specs.Adding.{IsAdded}
+use Rattle.pd_putting.specs.Adds.{last_place, IsPlain}
+
+-- room was set aside, and then a box of a seed came in as the last one of a canvas
+pub record PutsLast (old new : Patch) (table : Names) (canvas : ℕ) (s : Seed) (key : ℕ) : Type 0 where
+  pub ready : Patch
+  pub room : SameButRoom old ready
+  pub put : IsPut ready new table (last_place old canvas) s key
+
+-- what grew aside is this, with these names
+pub record HasGrown (g : Grown) (names : Names) : Type 0 where
+  pub added : Added
+  pub is : IsAdded g added
+  pub names_are : added.known.names ≡ names
+
+-- What grew doesn't come in: memory was wanting, and there may be more room; or it is a box that isn't put yet, and the patch stays.
+abbrev pub StaysOut : Patch → Patch → Added → EditRefusal → Type 0
+StaysOut old new a why =
+    ((why ≡ NoMemory) × (IsPlain old a × SameButRoom old new)) ⊎ ((why ≡ NoDocument) × ((new ≡ old) × (IsPlain old a → ⊥)))

@@ -1,0 +1,99 @@
+//! A box that an edit puts, grown aside and put in.
+
+ghost use Rattle.std.specs.Prelude.{◌≡◌, ◌≤◌, Err, IfOk, IfErr, OnErr};
+ghost use Rattle.pd_io.specs.Faults.{Rose};
+ghost use Rattle.pd_atom.specs.Names.{Extends};
+ghost use Rattle.pd_gather.specs.Gather.{known, AreProper};
+ghost use Rattle.pd_web.specs.Changes.{wires_told};
+ghost use Rattle.pd_wiring.specs.declared.refusals.EditRefusal.TheVariants.{ShelfFault};
+ghost use Rattle.pd_boxes.specs.Put.{CanPut};
+ghost use Rattle.pd_adding.specs.Coming.{own_zero};
+ghost use Rattle.pd_adding.specs.Counts.{AreWithin};
+ghost use Rattle.pd_putting.specs.Adds.{AddsBox, IsNotAdded};
+
+use crate::known::is_known;
+use crate::placing::put_grown;
+use pd_adding::{Counts, grow_aside};
+use pd_atom::Symbols;
+use pd_canvas::Edit;
+use pd_clock::Time;
+use pd_gather::Library;
+use pd_io::Shelf;
+use pd_order::Steps;
+use pd_patch::Patch;
+use pd_wiring::EditRefusal;
+use std::alloc::Global;
+use std::sync::ledger::Ledger;
+
+/// Which canvas an edit is for and when: the patch's file name, the path to the canvas, and the present time.
+#[derive(Clone, Copy)]
+pub struct Site<'a> {
+    pub name: &'a [u8],
+    pub path: &'a [u32],
+    pub now: Time,
+}
+
+/// A box that an edit put: its key, the key of its canvas, and the counts of the patch with it.
+#[derive(Clone, Copy, Debug, PartialEq, Eq)]
+pub struct NewBox {
+    pub key: u32,
+    pub canvas: u32,
+    pub counts: Counts,
+}
+
+/// Puts a box that an edit names last into a canvas of the patch's own document: one without a canvas inside, which is no port of a box
+/// around. `counts` are the counts of the patch.
+///
+/// # Errors
+///
+/// The first reason against it: `NoDocument` for an edit that puts no box or whose text isn't of the table, `NoCanvas`, `TextTooLong`,
+/// `TooDeep`; then `ShelfFault`, `SymbolsFull` or `TooManyBoxes`, whichever growth comes to first; then `TooManyWires` and `TooMuchSound`;
+/// then `NoDocument` for a box that isn't put yet. `NoMemory` may come in place of any. Names and files are then as before.
+pub fn add_box<H: Shelf, L: Ledger>(
+    alloc: Global,
+    patch: &mut Patch,
+    counts: Counts,
+    site: Site<'_>,
+    edit: &Edit,
+    library: &mut Library,
+    shelf: &mut H,
+    symbols: &mut Symbols,
+    steps: &mut Steps<L>,
+) -> Result<NewBox, EditRefusal>
+    requires can { CanPut patch.old }
+    requires counted { counts.wires ≡ wires_told patch.old.web }
+    requires within { AreWithin counts }
+    requires zero { own_zero patch.old ≤ 1000000000 }
+    requires found { AreProper symbols.old library.old }
+    ensures added { IfOk result (λ b. AddsBox patch.old patch.new counts site.entry.name.now site.entry.path.now site.entry.now edit.now (known library.old symbols.old) (known library.new symbols.new) b) }
+    ensures refused { IfErr result (IsNotAdded patch.old patch.new counts site.entry.name.now site.entry.path.now edit.now (known library.old symbols.old)) }
+    ensures goes_on { CanPut patch.new }
+    ensures counted { IfOk result (λ b. b.counts.wires ≡ wires_told patch.new.web) }
+    ensures as_many { OnErr result (wires_told patch.new.web ≡ wires_told patch.old.web) }
+    ensures within { IfOk result (λ b. AreWithin b.counts) }
+    ensures zero { own_zero patch.new ≡ own_zero patch.old }
+    ensures library { OnErr result (library.new ≡ library.old) }
+    ensures names { OnErr result (symbols.new ≡ symbols.old) }
+    ensures found { AreProper symbols.new library.new }
+    ensures extends { Extends symbols.old symbols.new }
+    ensures kept { H.holds shelf.new ≡ H.holds shelf.old }
+    ensures cause { result ≡ Err ShelfFault → Rose (H.faults shelf.old) (H.faults shelf.new) }
+    ensures shelf_counted { H.faults shelf.old ≤ H.faults shelf.new }
+    ensures looks { steps.new ≡ steps.old }
+{
+    if !is_known(symbols, edit) {
+        return Err(EditRefusal::NoDocument);
+    }
+    let files = library.files().len();
+    let names = symbols.len();
+    let grown = grow_aside(
+        alloc, patch, counts, site.name, site.path, edit, library, shelf, symbols,
+    )?;
+    match put_grown(alloc, patch, grown, site.now, symbols, steps) {
+        Ok(put) => Ok(put),
+        Err(why) => {
+            library.forget(files, names, symbols);
+            Err(why)
+        }
+    }
+}

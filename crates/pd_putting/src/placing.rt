@@ -1,0 +1,192 @@
+//! What grew aside, put into its canvas as the last box.
+
+ghost use Rattle.std.specs.Prelude.{◌≡◌, ◌||◌, ◌∷◌, [], true, false, length, is_some, None, IfOk, IfErr, OnErr};
+ghost use Rattle.slab.specs.Slab.{get, ContainsKey};
+ghost use Rattle.pd_grove.specs.declared.ports.Side.TheVariants.{Inlets, Outlets};
+ghost use Rattle.pd_grove.specs.Forest.{holder_in};
+ghost use Rattle.pd_grove.specs.Ports.{port_signal};
+ghost use Rattle.pd_grove.specs.States.{AreSmall, IsFresh};
+ghost use Rattle.pd_tree.specs.Trees.{Cell, Done, Leaf, stand_of, stands_of, stands_in};
+ghost use Rattle.pd_web.specs.Canvases.{keys_at};
+ghost use Rattle.pd_web.specs.Changes.{wires_told};
+ghost use Rattle.pd_boxes.specs.Room.{SameButRoom};
+ghost use Rattle.pd_boxes.specs.Put.{CanPut, IsLeaf, IsNoPort};
+ghost use Rattle.pd_adding.specs.Adding.{IsAdded};
+ghost use Rattle.pd_adding.specs.Coming.{own_zero};
+ghost use Rattle.pd_adding.specs.Growing.{Added};
+ghost use Rattle.pd_putting.specs.Adds.{last_place, IsPlain, IsBoxPut};
+ghost use Rattle.pd_putting.specs.Last.{PutsLast, HasGrown, StaysOut};
+
+use crate::adding::NewBox;
+use pd_adding::{Grown, single_boxes};
+use pd_atom::Symbols;
+use pd_boxes::{Place, patches_run_on, put, reserve_box, room_changes_nothing};
+use pd_clock::{Rate, Time};
+use pd_grove::{Seed, Seeds};
+use pd_kind::{Glue, Kind, Signal};
+use pd_order::Steps;
+use pd_patch::Patch;
+use pd_tree::Row;
+use pd_wiring::EditRefusal;
+use std::alloc::{AllocError, Global};
+use std::sync::ledger::Ledger;
+
+/// Puts what grew aside into its canvas as the last box, where it is one box without a canvas inside and no port of a box around.
+///
+/// # Errors
+///
+/// `NoDocument` for any other box; `NoMemory` where memory ran out, or where the canvas has as many boxes as can be counted.
+pub(crate) fn put_grown<L: Ledger>(
+    alloc: Global,
+    patch: &mut Patch,
+    grown: Grown,
+    now: Time,
+    symbols: &mut Symbols,
+    steps: &mut Steps<L>,
+) -> Result<NewBox, EditRefusal>
+    requires can { CanPut patch.old }
+    requires here { ContainsKey patch.old.grove.boards grown.canvas }
+    requires grown { HasGrown grown symbols.old }
+    ensures put { IfOk result (λ b. (a : Added) → IsAdded grown a → a.known.names ≡ symbols.old → IsBoxPut patch.old patch.new now a b.key) }
+    ensures canvas { IfOk result (λ b. b.canvas ≡ grown.canvas) }
+    ensures counts { IfOk result (λ b. b.counts ≡ grown.counts) }
+    ensures refused { IfErr result (λ why. (a : Added) → IsAdded grown a → StaysOut patch.old patch.new a why) }
+    ensures goes_on { CanPut patch.new }
+    ensures as_many { wires_told patch.new.web ≡ wires_told patch.old.web }
+    ensures zero { own_zero patch.new ≡ own_zero patch.old }
+    ensures table { symbols.new ≡ symbols.old }
+    ensures looks { steps.new ≡ steps.old }
+{
+    if !is_plain(patch, &grown) {
+        return Err(EditRefusal::NoDocument);
+    }
+    let canvas = grown.canvas;
+    let counts = grown.counts;
+    let Ok(seed) = seed_of(alloc, grown.rows, patch.rate, now) else {
+        return Err(EditRefusal::NoMemory);
+    };
+    let Ok(key) = put_last(alloc, patch, canvas, seed, symbols, steps) else {
+        return Err(EditRefusal::NoMemory);
+    };
+    Ok(NewBox {
+        key,
+        canvas,
+        counts,
+    })
+}
+
+/// Whether what grew is one box without a canvas inside, and no port of a box around.
+fn is_plain(patch: &Patch, grown: &Grown) -> bool
+    ensures yes { result ≡ true → (a : Added) → IsAdded grown.now a → IsPlain patch.now a }
+    ensures no { result ≡ false → (a : Added) → IsAdded grown.now a → IsPlain patch.now a → ⊥ }
+{
+    single_boxes();
+    let rows = grown.rows.as_slice();
+    if rows.len() != 1 {
+        return false;
+    }
+    let row = &rows[0];
+    if row.sheet.is_some() {
+        return false;
+    }
+    if !is_held(patch, grown.canvas) {
+        return true;
+    }
+    !is_port(&row.kind)
+}
+
+/// Whether a box holds the canvas of a key.
+fn is_held(patch: &Patch, canvas: u32) -> bool
+    ensures { result ≡ is_some (holder_in (get patch.now.grove.boards canvas)) }
+{
+    match patch.grove.board(canvas) {
+        Some(board) => board.holder.is_some(),
+        None => false,
+    }
+}
+
+/// Whether a box of a kind is a port of its canvas.
+fn is_port(kind: &Kind) -> bool
+    ensures { result ≡ (is_some (port_signal Inlets kind.now) || is_some (port_signal Outlets kind.now)) }
+{
+    match kind {
+        Kind::Glue(Glue::Port { .. }) | Kind::Signal(Signal::Inlet | Signal::Outlet) => true,
+        _ => false,
+    }
+}
+
+/// The seed of the one box of a list, which holds no canvas.
+///
+/// # Errors
+///
+/// `AllocError` where memory ran out.
+fn seed_of(alloc: Global, rows: Vec<Row>, rate: Rate, now: Time) -> Result<Seed, AllocError>
+    requires small { AreSmall rows.items }
+    requires one { length rows.items ≡ 1 }
+    ensures stand { IfOk result (λ s. stand_of s.row ∷ [] ≡ stands_in rows.items) }
+    ensures fresh { IfOk result (IsFresh rate now) }
+    ensures leaf { IfOk result (λ s. s.row.sheet ≡ None → s.row.boxes ≡ 0 → IsLeaf s) }
+{
+    let mut seeds = Seeds::prepare(alloc, rows, rate, now)?;
+    match seeds.next() {
+        Some(seed) => Ok(seed),
+        None => unreachable!(),
+    }
+}
+
+/// Sets room aside for a box that comes last in a live canvas, puts it in, and gives its key.
+///
+/// # Errors
+///
+/// `AllocError` where memory ran out, or where the canvas has as many boxes as can be counted.
+fn put_last<L: Ledger>(
+    alloc: Global,
+    patch: &mut Patch,
+    canvas: u32,
+    seed: Seed,
+    symbols: &mut Symbols,
+    steps: &mut Steps<L>,
+) -> Result<u32, AllocError>
+    requires can { CanPut patch.old }
+    requires here { ContainsKey patch.old.grove.boards canvas }
+    requires leaf { IsLeaf seed }
+    requires plain { IsNoPort patch.old (last_place patch.old canvas) seed.row.kind }
+    ensures put { IfOk result (PutsLast patch.old patch.new symbols.old canvas seed) }
+    ensures short { OnErr result (SameButRoom patch.old patch.new) }
+    ensures goes_on { CanPut patch.new }
+    ensures as_many { wires_told patch.new.web ≡ wires_told patch.old.web }
+    ensures zero { own_zero patch.new ≡ own_zero patch.old }
+    ensures table { symbols.new ≡ symbols.old }
+    ensures looks { steps.new ≡ steps.old }
+{
+    patches_run_on();
+    room_changes_nothing();
+    let number = next_number(patch, canvas)?;
+    let place = Place { canvas, number };
+    let room = reserve_box(alloc, patch, place, seed, symbols)?;
+    Ok(put(patch, room, symbols, steps))
+}
+
+/// The number of the box that comes next in the canvas of a key: how many boxes it has.
+///
+/// # Errors
+///
+/// `AllocError` where that is no number of 32 bits.
+fn next_number(patch: &Patch, canvas: u32) -> Result<u32, AllocError>
+    ensures { IfOk result (λ number. number ≡ length (keys_at patch.now.grove canvas)) }
+{
+    match u32::try_from(boxes_in(patch, canvas)) {
+        Ok(number) => Ok(number),
+        Err(_) => Err(AllocError),
+    }
+}
+
+/// How many boxes the canvas of a key has.
+fn boxes_in(patch: &Patch, canvas: u32) -> usize
+    ensures { result ≡ length (keys_at patch.now.grove canvas) }
+{
+    match patch.grove.board(canvas) {
+        Some(board) => board.nodes.len(),
+        None => 0,
+    }
+}
