@@ -19,6 +19,7 @@ use Rattle.pd_canvas.specs.Proper.{levels}
 use Rattle.pd_library.specs.declared.answers.Answer.{Answer}
 use Rattle.pd_library.specs.declared.answers.Answer.TheVariants.{Found, Absent, Bad}
 use Rattle.pd_tree.specs.declared.rows.Fault.TheVariants.{Unknown, InsideItself, TooDeep}
+use Rattle.pd_tree.specs.declared.rows.Sheet.{Sheet}
 use Rattle.pd_tree.specs.Trees.{Cell, Trees, Done, Leaf, Holder, Tree, join}
 use Rattle.pd_grove.specs.TextOrder.{is_sub, placed_in_order}
 use Rattle.pd_bind.specs.Naming.{owned, symbol_named, unless_dash, receive_name, glue_owned, canvas_symbol, first_symbol, subpatch_symbol, owned_by_kind, owned_by}
@@ -253,7 +254,7 @@ receive_stays names more text x h =
 -- ---- what a box makes
 
 -- a box owns the same in each table that goes on
-abbrev Steady : Names → Bool → Cell → Type 0
+abbrev pub Steady : Names → Bool → Cell → Type 0
 Steady names top c = (more : Names) → Extends names more → owned_by more top c ≡ owned_by names top c
 
 steady_more : (names names2 : Names) (top : Bool) (c : Cell) → Extends names names2 → Steady names top c → Steady names2 top c
@@ -516,3 +517,48 @@ grown_alike lib name p w v t more l o h x =
       boxes = subst (λ (y : Tree). AllByRecursion (λ q. owned_by more q.is_top q.cell ≡ owned_by v.names q.is_top q.cell) (placed_in_order true y.boxes)) g.tree_is
           (all_alike v.names more true g.boxes x steady);
     }
+
+-- ---- one box without a canvas
+
+is_leaf : Trees → Bool
+is_leaf (Leaf c rest) = true
+is_leaf _ = false
+
+no_leaf : (c : Cell) (s : Sheet) (inner rest : Trees) (d : Cell) → Holder c s inner rest ≡ Leaf d Done → ⊥
+unfolding is_leaf
+no_leaf c s inner rest d e = let never : false ≡ true = ap is_leaf e in (cc)
+
+cell_in : Cell → Trees → Cell
+cell_in d (Leaf c rest) = c
+cell_in d _ = d
+
+leaf_same : (c d : Cell) → Leaf c Done ≡ Leaf d Done → c ≡ d
+unfolding cell_in
+leaf_same c d e = ap (cell_in d) e
+
+leaf_made : (lib : ℕ → Option Answer) (root : List ℕ) (left : ℕ) (inner : Inner) (a : Around) (e : Entry) (text : List Atom) (m : Making) (w v : Stock) (c : Cell)
+    → made lib root left a w.names e.head.form text ≡ Ok m → AreOf v.names c.text → box_made inner a e text m w ≡ gives (Leaf c Done) v → Steady v.names a.is_top c
+leaf_made lib root left inner a e text (Plain k fault) w v c is o h =
+    let leaf = Leaf (cell_of e.head text k fault) Done in
+    let cell : cell_of e.head text k fault ≡ c = leaf_same (cell_of e.head text k fault) c (gives_same leaf (Leaf c Done) w v h) in
+    let stock : w ≡ v = gives_stock leaf (Leaf c Done) w v h in
+    let own : AreOf w.names text = subst (λ (x : Stock). AreOf x.names text) (sym stock) (subst (λ (x : Cell). AreOf v.names x.text) (sym cell) o) in
+    let steady : MakingSteady w.names a.is_top e.head text (Plain k fault) =
+    subst (OkAnd (MakingSteady w.names a.is_top e.head text)) is (made_steady lib root left a w.names e.head text e.head.form refl own) in
+    subst (λ (x : Cell). Steady v.names a.is_top x) cell (subst (λ (x : Stock). Steady x.names a.is_top (cell_of e.head text k fault)) stock steady)
+leaf_made lib root left inner a e text Subpatch w v c is o h =
+    let x = chain (receiver_brought a.is_top text w) (λ _ u. canvas_grown inner a e.page e.head text u) (Leaf c Done) v h in
+    let went = canvas_went inner a e.page e.head text x.stock (Leaf c Done) v x.next in
+    absurd (no_leaf _ _ _ _ c went.tree_is)
+leaf_made lib root left inner a e text (File n p) w v c is o h =
+    let args = arguments_of (drop 1 text) in
+    let x = chain (numbered w) (λ z u. canvas_grown inner (around_instance a z n args) p e.head text u) (Leaf c Done) v h in
+    let went = canvas_went inner (around_instance a x.value n args) p e.head text x.stock (Leaf c Done) v x.next in
+    absurd (no_leaf _ _ _ _ c went.tree_is)
+
+-- such a box owns the same in each table that goes on, where its text is of the table
+pub leaf_steady : (lib : ℕ → Option Answer) (root : List ℕ) (left : ℕ) (inner : Inner) (a : Around) (e : Entry) (w v : Stock) (c : Cell)
+    → AreOf v.names c.text → box_grown lib root left inner a e w ≡ gives (Leaf c Done) v → Steady v.names a.is_top c
+leaf_steady lib root left inner a e w v c o h =
+    let b = box_went lib root left inner a e w (Leaf c Done) v h in
+    leaf_made lib root left inner a e b.text b.making b.named v c b.made_is o b.box_is

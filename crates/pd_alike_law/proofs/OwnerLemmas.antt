@@ -105,6 +105,29 @@ flags_alike names more class name (p ∷ ps) a =
     ap (λ o. is_owned class name o ∷ map (owns more class name) ps) a.0
     ∙ ap (λ (l : List Bool). owns names class name p ∷ l) (flags_alike names more class name ps a.1)
 
+somes_same : (xs ys : List ℕ) → map (λ k. Some k) xs ≡ map (λ k. Some k) ys → xs ≡ ys
+somes_same [] [] h = refl
+somes_same [] (y ∷ ys) h = absurd (cc)
+somes_same (x ∷ xs) [] h = absurd (cc)
+somes_same (x ∷ xs) (y ∷ ys) h =
+    let first : Some x ≡ Some y = cc in
+    let rest : map (λ k. Some k) xs ≡ map (λ k. Some k) ys = cc in
+    ap (λ (k : ℕ). k ∷ xs) (same_Some x y first) ∙ ap (λ (l : List ℕ). y ∷ l) (somes_same xs ys rest)
+
+-- the owners of a name are the same ones in a table in which the boxes of the tree own the same
+pub owners_alike : (names more : Names) (file : List ℕ) (g : Grove) (s : Sheet) (t : Trees) (class : Class) (name : ℕ) → GroveStands g s t → deep t ≤ 256
+    → OwnAlike names more file t → owners_in more file g class name ≡ owners_in names file g class name
+owners_alike names more file g s t class name G low same =
+    let root = is_owned class name (owned Receiver (canvas_symbol names file)) in
+    let told : map (owns more class name) (placed_in_order true t) ≡ map (owns names class name) (placed_in_order true t) =
+    flags_alike names more class name (placed_in_order true t) same.boxes in
+    let first : is_owned class name (owned Receiver (canvas_symbol more file)) ≡ root = ap (λ x. is_owned class name (owned Receiver x)) same.root in
+    somes_same (owners_in more file g class name) (owners_in names file g class name)
+    (owned_places more file g s t class name G low
+    ∙ ap (λ x. map (owner_at g) (trues (x ∷ map (owns more class name) (placed_in_order true t)))) first
+    ∙ ap (λ l. map (owner_at g) (trues (root ∷ l))) told
+    ∙ sym (owned_places names file g s t class name G low))
+
 pub owners_opened : (p q : Patch) (t : Tree) (names more : Names) (file : List ℕ) (class : Class) (name : ℕ) → HasOpened p t q
     → owners_of p.names class name ≡ owners_in names file p.grove class name → owners_of q.names class name ≡ owners_in more file q.grove class name
     → OwnAlike names more file t.boxes → HaveSameOwners p q class name

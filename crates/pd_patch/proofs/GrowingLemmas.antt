@@ -17,6 +17,9 @@ use Rattle.pd_growth.specs.Steps.{Stock, Step}
 use Rattle.pd_growth.specs.Growth.{grown}
 use Rattle.pd_growth.specs.Growing.{GivesTree, EndsUnlessMemory}
 use Rattle.pd_grove.specs.Standing.{GroveStands, NodesOf}
+use Rattle.pd_grove.specs.TextOrder.{deep}
+use Rattle.pd_grove.specs.Forest.{IsForest}
+use Rattle.pd_web.specs.Jacks.{KindsSmall}
 use Rattle.pd_patch.specs.declared.patch.Patch.{Patch}
 use Rattle.pd_patch.specs.Refusals.{stopped}
 use Rattle.pd_patch.specs.Sounds.{sound_in}
@@ -68,17 +71,21 @@ is_wide lib name page w g names G count e = (tree_fits lib name page w G.after G
 
 pub tree_planted : (lib : ℕ → Option Answer) (name : List ℕ) (page : Page) (w : Stock) (g : Grown) (names table : Names) (rate : Rate) (G : GivesTree g names (grown lib name page w)) (p : Patch) (fresh : IsFresh p table name rate)
     → table ≡ names → levels page.boxes + 1 ≤ 256 → wires_fitting g.sheet G.tree.boxes ≤ 65536 → sound_in rate g.rows.items ≤ 16777216 → GroveStands p.grove g.sheet G.tree.boxes
-    → NodesOf G.tree.boxes (get p.grove.nodes) → IsTree p table rate (grown lib name page w)
-tree_planted lib name page w g names table rate G p fresh t low few l stands of_tree =
+    → NodesOf G.tree.boxes (get p.grove.nodes) → (deep G.tree.boxes < 257 → IsForest (get p.grove.nodes) (get p.grove.boards) p.grove.root) → KindsSmall p.grove
+    → IsTree p table rate (grown lib name page w)
+tree_planted lib name page w g names table rate G p fresh t low few l stands of_tree forest small =
     let e = sound_grown rate g.rows.items G.tree.boxes G.rows in
     let fits = tree_fits lib name page w G.after G.tree G.step in
     let planted = subst (λ (s : Sheet). GroveStands p.grove s G.tree.boxes) G.sheet stands in
+    let shallow : deep G.tree.boxes + 1 ≤ 256 = tree_shallow lib name page w G.after G.tree low G.step in
     record {
       tree = G.tree;
       given = record { after = G.after; step = G.step; table = t ∙ G.names };
       stands = planted;
       of_tree = of_tree;
-      shallow = tree_shallow lib name page w G.after G.tree low G.step;
+      forest = forest (omega (arith, shallow));
+      small = small;
+      shallow = shallow;
       wired = wired p.grove p.web G.tree fresh.wires fresh.own planted fits.2;
       few_wires = sheet_wires (λ n. n ≤ 65536) g names (grown lib name page w) G few;
       few_values = omega (arith, l, e);

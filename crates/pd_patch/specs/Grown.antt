@@ -15,14 +15,15 @@ use Rattle.pd_grove.specs.declared.ports.Side.{Side}
 use Rattle.pd_grove.specs.Standing.{GroveStands, NodesOf}
 use Rattle.pd_grove.specs.States.{NodesFresh}
 use Rattle.pd_grove.specs.Owning.{AreOwn}
+use Rattle.pd_grove.specs.Forest.{IsForest}
 use Rattle.pd_grove.specs.TextOrder.{deep}
 use Rattle.pd_bind.specs.Owning.{owners_in, root_owner}
 use Rattle.pd_web.specs.declared.web.Web.{Web}
-use Rattle.pd_web.specs.Jacks.{jacks_at, made_in}
+use Rattle.pd_web.specs.Jacks.{jacks_at, made_in, KindsSmall}
 use Rattle.pd_web.specs.Sockets.{made_at}
 use Rattle.pd_web.specs.Lines.{all_lines, fed_from, feeding}
 use Rattle.pd_web.specs.Hops.{ports_told, fan_hops, feed_hops, places_of, port_told}
-use Rattle.pd_web.specs.Changes.{Meet}
+use Rattle.pd_web.specs.Changes.{Meet, wires_told}
 use Rattle.pd_web.specs.Homes.{IsPortOf}
 use Rattle.pd_web.specs.Canvases.{keys_at}
 use Rattle.pd_patch.specs.declared.patch.Patch.{Patch}
@@ -36,8 +37,8 @@ use Rattle.pd_patch.specs.Sounds.{sound_of}
 use Rattle.pd_patch.specs.Values.{AreSilent, HasNoOthers, blocks_told}
 use Rattle.pd_patch.specs.Wired.{IsWired}
 
--- Each box has its ports, and the wires are those that fit: of each outlet and to each inlet, in the order of their canvas. Each wire stands at both
--- of its ports.
+-- Each box has its ports, and the wires are those that fit, no more in number: of each outlet and to each inlet, in the order of their canvas. Each
+-- wire stands at both of its ports.
 pub record AreLaid (g : Grove) (w : Web) : Type 0 where
   pub ports : (side : Side) (k : ℕ) → ports_told w side k ≡ jacks_at side g k
   pub made : (k : ℕ) → made_at w.sockets.items k ≡ made_in (get g.nodes k)
@@ -45,6 +46,7 @@ pub record AreLaid (g : Grove) (w : Web) : Type 0 where
   pub feeds : (k inlet : ℕ) → places_of (feed_hops w k inlet) ≡ feeding k inlet (all_lines g)
   pub homes : (j k i : ℕ) → port_told w j ≡ Some (k, i) → IsPortOf g j k i
   pub homes_found : (j k i : ℕ) → IsPortOf g j k i → IsSome (port_told w j)
+  pub counted : wires_told w ≡ length (all_lines g)
   pub few : length (all_lines g) ≤ 65536
   pub meet : Meet w
 
@@ -75,12 +77,15 @@ pub record Gives (s : Step Tree) (names : Names) (t : Tree) : Type 0 where
   pub table : names ≡ after.names
 
 -- The tree stands that growth gives, with its wires, and each box is one of that tree. With the root at most 256 canvases lie in one
--- another. No more wires fit, and no more sound is in it, than there may be.
+-- another. Boxes and canvases name each other as in one tree, and every box has a kind with no more ports than a text can give it. No more
+-- wires fit, and no more sound is in it, than there may be.
 pub record IsTree (p : Patch) (names : Names) (rate : Rate) (s : Step Tree) : Type 0 where
   pub tree : Tree
   pub given : Gives s names tree
   pub stands : GroveStands p.grove tree.sheet tree.boxes
   pub of_tree : NodesOf tree.boxes (get p.grove.nodes)
+  pub forest : IsForest (get p.grove.nodes) (get p.grove.boards) p.grove.root
+  pub small : KindsSmall p.grove
   pub shallow : deep tree.boxes + 1 ≤ 256
   pub wired : IsWired p.grove p.web tree
   pub few_wires : wires_fitting tree.sheet tree.boxes ≤ 65536

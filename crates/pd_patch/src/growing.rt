@@ -1,6 +1,6 @@
 //! Growth, layer by layer.
 
-ghost use Rattle.std.specs.Prelude.{◌≡◌, length, IfOk, IfErr};
+ghost use Rattle.std.specs.Prelude.{◌≡◌, ◌<◌, length, IfOk, IfErr};
 ghost use Rattle.std.specs.List.{AllByRecursion};
 ghost use Rattle.slab.specs.Slab.{get};
 ghost use Rattle.pd_atom.specs.Names.{Extends};
@@ -13,8 +13,9 @@ ghost use Rattle.pd_growth.specs.Steps.{beginning};
 ghost use Rattle.pd_growth.specs.Growth.{grown};
 ghost use Rattle.pd_tree.specs.Trees.{Trees, width, stands_of, stands_in};
 ghost use Rattle.pd_grove.specs.Standing.{GroveStands, NodesOf};
+ghost use Rattle.pd_grove.specs.Forest.{IsForest};
+ghost use Rattle.pd_grove.specs.TextOrder.{deep, keys_in_order};
 ghost use Rattle.pd_web.specs.Jacks.{KindsSmall};
-ghost use Rattle.pd_grove.specs.TextOrder.{keys_in_order};
 ghost use Rattle.pd_patch.specs.Report.{notices_in, loads_among};
 ghost use Rattle.pd_patch.specs.Fed.{AreFed};
 ghost use Rattle.pd_patch.specs.Grown.{AreLaid, IsFresh, IsTree, HasCause};
@@ -95,6 +96,9 @@ fn plant_whole(
     ensures table { symbols.new ≡ symbols.old }
     ensures stands { (t : Trees) → stands_in rows.items ≡ stands_of t → width t ≡ count → IfOk result (λ r. GroveStands r.0.grove sheet t) }
     ensures of_tree { (t : Trees) → stands_in rows.items ≡ stands_of t → IfOk result (λ r. NodesOf t (get r.0.grove.nodes)) }
+    ensures small { IfOk result (λ r. KindsSmall r.0.grove) }
+    ensures forest { (t : Trees) → stands_in rows.items ≡ stands_of t → width t ≡ count → deep t < 257 →
+        IfOk result (λ r. IsForest (get r.0.grove.nodes) (get r.0.grove.boards) r.0.grove.root) }
     ensures fresh { IfOk result (λ r. IsFresh r.0 symbols.old name.now rate) }
     ensures notices { IfOk result (λ r. r.1.notices.items ≡ notices_in r.0.grove r.0.web r.0.orders.items) }
     ensures loads { IfOk result (λ r. r.1.fresh.items ≡ loads_among r.0.grove (keys_in_order r.0.grove)) }

@@ -1,14 +1,14 @@
 //! The running patch: boxes and canvases under keys, their wires, names, signal orders and clocks.
 //!
 //! `Patch::grow` joins growth, planting, wires, names, signal orders and clocks. After `Ok` the tree stands under
-//! keys that growth of the document gives, with the names that growth left; with the root at most 256 canvases lie
-//! in one another in it (`tree`). Its wires are those of the tree that fit, told by paths and numbers of boxes
-//! (`IsWired`); under each name stand its owners, each canvas has its signal order and each box its number, no
-//! clock is set and there is room for one of each box, each wire leads to a box of its own canvas and the links are the
-//! signal wires, at both their boxes, and each box has its first state and, where one of its
-//! outlets carries signals, a silent block for each outlet, and no key but a box's has a block (`fresh`). The lines
-//! to print and the load boxes are those of this tree (`notices`, `loads`): the boxes that aren't made, the wires
-//! that don't fit and the canvases with loops, each in text order.
+//! keys that growth of the document gives, with the names that growth left; with the root at most 256 canvases lie in
+//! one another in it, and boxes and canvases name each other as in one tree (`tree`). Its wires are those of the tree
+//! that fit, told by paths and numbers of boxes (`IsWired`); under each name stand its owners, each canvas has its
+//! signal order and each box its number, no clock is set and there is room for one of each box, each wire leads to a
+//! box of its own canvas and the links are the signal wires, at both their boxes, and each box has its first state
+//! and, where one of its outlets carries signals, a silent block for each outlet, and no key but a box's has a block
+//! (`fresh`). The lines to print and the load boxes are those of this tree (`notices`, `loads`): the boxes that
+//! aren't made, the wires that don't fit and the canvases with loops, each in text order.
 //!
 //! A refusal comes exactly where it is due (`cause`): `SymbolsFull` and `TooManyBoxes` where growth ends so,
 //! `TooManyWires` where more than 65,536 wires of the grown tree fit, `TooMuchSound` where no more do and tables,

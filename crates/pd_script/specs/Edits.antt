@@ -1,5 +1,5 @@
 -- The edit that a change and a text are.
-use Rattle.std.specs.Prelude.{List}
+use Rattle.std.specs.Prelude.{Bool, true, false, List}
 use Rattle.pd_atom.specs.declared.Atom.{Atom}
 use Rattle.pd_canvas.specs.declared.edits.Edit.{Edit}
 use Rattle.pd_canvas.specs.declared.edits.Edit.TheVariants as edit
@@ -15,3 +15,12 @@ edit_of (change.Disconnect wire) text = edit.Disconnect wire
 edit_of (change.Delete number) text = edit.Delete number
 edit_of (change.Retype number) text = edit.Retype number text
 edit_of (change.Move number x y) text = edit.Move number x y
+
+-- whether an edit puts a box
+abbrev pub puts_box : Edit → Bool
+puts_box (edit.Connect wire) = false
+puts_box (edit.Disconnect wire) = false
+puts_box (edit.Delete number) = false
+puts_box (edit.Retype number text) = false
+puts_box (edit.Move number x y) = false
+puts_box e = true

@@ -3,7 +3,7 @@
 ghost use Rattle.std.specs.Prelude.{◌≡◌, IfOk};
 ghost use Rattle.pd_queue.specs.Entries.{wire_edit};
 ghost use Rattle.pd_script.specs.Changes.{made_box as made_box_of};
-ghost use Rattle.pd_script.specs.Edits.{edit_of};
+ghost use Rattle.pd_script.specs.Edits.{edit_of, puts_box};
 
 use crate::changes::{BoxVerb, Change};
 use crate::lists::{CommandAtoms, CommandPath};
@@ -59,6 +59,27 @@ impl CommandEdit {
             | Change::Delete { .. }
             | Change::Retype { .. }
             | Change::Move { .. } => None,
+        }
+    }
+
+    /// Whether the edit puts a box.
+    pub fn puts_box(&self) -> bool
+        ensures { result ≡ puts_box self.now }
+    {
+        match self.change {
+            Change::Box { shape, .. } => match shape {
+                BoxVerb::Obj
+                | BoxVerb::Msg
+                | BoxVerb::Text
+                | BoxVerb::FloatAtom
+                | BoxVerb::SymbolAtom
+                | BoxVerb::Sub => true,
+            },
+            Change::Connect { .. }
+            | Change::Disconnect { .. }
+            | Change::Delete { .. }
+            | Change::Retype { .. }
+            | Change::Move { .. } => false,
         }
     }
 

@@ -1,7 +1,7 @@
 -- How many places of a list hold something, and so how many wires there are.
 use Rattle.std.proofs.Common.{◌≡◌, ◌≢◌, ℕ, zero, suc, ◌+◌, Bool, true, false, cond, is_some, List, [], ◌∷◌, length, filter, Option, Some, None, slice_index_or, refl, sym, ap, ◌∙◌, arith}
 use Rattle.std.specs.Prelude.{option_map, IsSome}
-use Rattle.pd_wire.specs.Book.{wire_at}
+use Rattle.pd_wire.specs.Book.{Book, Adds, wire_at, live_wires}
 use Rattle.pd_web.specs.declared.web.Web.{Web}
 use Rattle.pd_web.specs.Lines.{Line}
 use Rattle.pd_web.specs.Changes.{line_told, wires_told, IsSame, Joins, CutsWire}
@@ -63,6 +63,14 @@ module _ {X : Type 0} where
       held_more y ys is ∙ ap (λ n. n + 1) (held_alike xs ys (λ j. others (suc j) (λ q. cc)) ∙ sym (held_same x xs was))
   held_one_more (x ∷ xs) (y ∷ ys) (suc k) was is others =
       held_both x y xs ys 1 (others 0 (λ q. cc)) (held_one_more xs ys k was is (λ j ne. others (suc j) (suc_other j k ne)))
+
+-- where the same keys are wires there are as many
+pub wires_alike : (b b' : Book) → ((k : ℕ) → wire_at b' k ≡ wire_at b k) → live_wires b' ≡ live_wires b
+wires_alike b b' h = held_alike b.wires b'.wires (λ k. ap is_some (h k))
+
+pub wire_is_one_more : (b b' : Book) (key source fan_place sink feed_place : ℕ) → Adds b b' key source fan_place sink feed_place → live_wires b' ≡ live_wires b + 1
+wire_is_one_more b b' key source fan_place sink feed_place a =
+    held_one_more b.wires b'.wires key (ap is_some a.was_vacant.1) (ap is_some a.wire) (λ k ne. ap is_some (a.other_wires k ne))
 
 mapped_some : {X Y : Type 0} (f : X → Y) (o : Option X) → is_some (option_map f o) ≡ is_some o
 mapped_some f None = refl

@@ -7,7 +7,7 @@ ghost use Rattle.pd_web.specs.Jacks.{KindsSmall, jacks_at, made_in};
 ghost use Rattle.pd_web.specs.Sockets.{made_at};
 ghost use Rattle.pd_web.specs.Lines.{all_lines, fed_from, feeding};
 ghost use Rattle.pd_web.specs.Hops.{ports_told, fan_hops, feed_hops, places_of, port_told};
-ghost use Rattle.pd_web.specs.Changes.{Meet};
+ghost use Rattle.pd_web.specs.Changes.{Meet, wires_told};
 ghost use Rattle.pd_web.specs.Homes.{IsPortOf};
 ghost use Rattle.pd_web.specs.declared.lay.Unlaid.TheVariants.{TooManyWires};
 
@@ -56,6 +56,7 @@ impl Web {
         ensures meet { IfOk result (λ w. Meet w) }
         ensures homes { IfOk result (λ w. (j k i : ℕ) → port_told w j ≡ Some (k, i) → IsPortOf grove.now j k i) }
         ensures homes_found { IfOk result (λ w. (j k i : ℕ) → IsPortOf grove.now j k i → IsSome (port_told w j)) }
+        ensures counted { IfOk result (λ w. wires_told w ≡ length (all_lines grove.now)) }
         ensures few { OnOk result (length (all_lines grove.now) ≤ 65536) }
         ensures many { result ≡ Err TooManyWires → 65536 < length (all_lines grove.now) }
     {

@@ -1,6 +1,7 @@
 //! Laying the wires that fit.
 
 ghost use Rattle.std.specs.Prelude.{◌≡◌, ◌∷◌, ◌++◌, ◌+◌, ◌<◌, ◌≤◌, [], ℕ, List, Err, length, OnOk};
+ghost use Rattle.pd_wire.specs.Book.{live_wires};
 ghost use Rattle.pd_web.specs.declared.lay.Unlaid.TheVariants.{TooManyWires};
 ghost use Rattle.pd_web.specs.Sockets.{AreTied, Keeps};
 ghost use Rattle.pd_web.specs.Lines.{Line, IsLaid, IsRoute, laid_lines, laid_at, seen_at, lines_at, all_lines};
@@ -28,6 +29,7 @@ pub(crate) fn lay_wires(
     ensures tied { OnOk result (AreTied sockets.new spots.new.items book.new) }
     ensures keeps { OnOk result (Keeps sockets.old sockets.new) }
     ensures laid { IsLaid sockets.old book.old [] → OnOk result (IsLaid sockets.new book.new (all_lines grove.now)) }
+    ensures counted { OnOk result (live_wires book.new ≡ live_wires book.old + length (all_lines grove.now)) }
     ensures few { OnOk result (length (all_lines grove.now) ≤ most) }
     ensures many { result ≡ Err TooManyWires → most < length (all_lines grove.now) }
 {
@@ -53,6 +55,7 @@ fn lay_board(
     ensures tied { OnOk result (AreTied sockets.new spots.new.items book.new) }
     ensures keeps { OnOk result (Keeps sockets.old sockets.new) }
     ensures laid { (ls : List Line) → IsLaid sockets.old book.old ls → OnOk result (IsLaid sockets.new book.new (ls ++ lines_at grove.now key)) }
+    ensures counted { OnOk result (live_wires book.new ≡ live_wires book.old + length (lines_at grove.now key)) }
     ensures left { OnOk result (left.new + length (lines_at grove.now key) ≡ left.old) }
     ensures many { result ≡ Err TooManyWires → left.old < length (lines_at grove.now key) }
 {
@@ -82,6 +85,7 @@ fn lay_all(
     ensures tied { OnOk result (AreTied sockets.new spots.new.items book.new) }
     ensures keeps { OnOk result (Keeps sockets.old sockets.new) }
     ensures laid { (ls : List Line) → IsLaid sockets.old book.old ls → OnOk result (IsLaid sockets.new book.new (ls ++ laid_lines sockets.old keys.now wires.now)) }
+    ensures counted { OnOk result (live_wires book.new ≡ live_wires book.old + length (laid_lines sockets.old keys.now wires.now)) }
     ensures left { OnOk result (left.new + length (laid_lines sockets.old keys.now wires.now) ≡ left.old) }
     ensures many { result ≡ Err TooManyWires → left.old < length (laid_lines sockets.old keys.now wires.now) }
 {
@@ -104,6 +108,7 @@ fn lay_one(
     ensures tied { OnOk result (AreTied sockets.new spots.new.items book.new) }
     ensures keeps { OnOk result (Keeps sockets.old sockets.new) }
     ensures laid { (ls : List Line) → IsLaid sockets.old book.old ls → OnOk result (IsLaid sockets.new book.new (ls ++ laid_lines sockets.old keys.now (wire.now ∷ []))) }
+    ensures counted { OnOk result (live_wires book.new ≡ live_wires book.old + length (laid_lines sockets.old keys.now (wire.now ∷ []))) }
     ensures left { OnOk result (left.new + length (laid_lines sockets.old keys.now (wire.now ∷ [])) ≡ left.old) }
     ensures many { result ≡ Err TooManyWires → left.old < length (laid_lines sockets.old keys.now (wire.now ∷ [])) }
 {
@@ -126,6 +131,7 @@ fn join_counted(
     ensures tied { OnOk result (AreTied sockets.new spots.new.items book.new) }
     ensures keeps { OnOk result (Keeps sockets.old sockets.new) }
     ensures laid { (ls : List Line) → IsLaid sockets.old book.old ls → OnOk result (IsLaid sockets.new book.new (ls ++ line ∷ [])) }
+    ensures counted { OnOk result (live_wires book.new ≡ live_wires book.old + 1) }
     ensures left { OnOk result (left.new + 1 ≡ left.old) }
     ensures many { result ≡ Err TooManyWires → left.old ≡ 0 }
 {
@@ -149,6 +155,7 @@ fn join_ports(
     ensures tied { OnOk result (AreTied sockets.new spots.new.items book.new) }
     ensures keeps { OnOk result (Keeps sockets.old sockets.new) }
     ensures laid { (ls : List Line) → IsLaid sockets.old book.old ls → OnOk result (IsLaid sockets.new book.new (ls ++ line ∷ [])) }
+    ensures counted { OnOk result (live_wires book.new ≡ live_wires book.old + 1) }
 {
     let source = end_for(sockets, spots, book, line.from())?;
     let sink = end_for(sockets, spots, book, line.to())?;

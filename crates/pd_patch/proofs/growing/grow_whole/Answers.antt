@@ -42,3 +42,4 @@ returns-clause-tree c =
     (few_fitting g c.grow.new.symbols s G c.in_ok-has_too_many_wires.field-0 c.if-branch.false told)
     (subst (λ (rows : List Row). sound_in c.args.rate rows ≤ 16777216) c.as_slice-2.ensures.value (few_values _ (sym c.if-is_too_much.false ∙ c.is_too_much.ensures)))
     (c.in_ok-planted.ensures.stands G.tree.boxes G.rows wide) (c.in_ok-planted.ensures.of_tree G.tree.boxes G.rows)
+    (c.in_ok-planted.ensures.forest G.tree.boxes G.rows wide) c.in_ok-planted.ensures.small

@@ -1,4 +1,4 @@
-use Rattle.std.proofs.Common.{◌≡◌, Some, subst}
+use Rattle.std.proofs.Common.{◌≡◌, Some, subst, arith}
 use Rattle.std.proofs.lemmas.Result.{on_ok_weaker}
 use Rattle.pd_web.specs.declared.joints.Joint.{Joint}
 use Rattle.pd_web.specs.declared.sockets.Spot.{Spot}
@@ -6,6 +6,7 @@ use Rattle.pd_web.specs.Sockets.{end_at}
 use Rattle.pd_web.specs.Lines.{line_from, IsJoint}
 use Rattle.pd_web.proofs.SocketLemmas.{tied_still, keeps_more}
 use Rattle.pd_web.proofs.WireLemmas.{holds_grown}
+use Rattle.pd_web.proofs.CountLemmas.{wires_alike}
 use Rattle.pd_web.proofs.LineLemmas.{laid_line}
 use Rattle.pd_web.proofs.wires.join_ports.Goals as goal
 
@@ -28,3 +29,9 @@ returns-clause-laid c = λ ls l.
     let keeps = keeps_more c.args.sockets.now c.end_for.new.sockets all first.keeps then.keeps in
     on_ok_weaker c.join.result (λ h. laid_line c.args.sockets.now all c.join.new.book l.joints ls joint line keeps at l.lines h)
     (c.join.ensures.holds l.joints (holds_grown _ _ _ _ l.joints then.grows (holds_grown _ _ _ _ l.joints first.grows l.held)))
+
+pub returns-clause-counted : goal.returns-clause-counted
+returns-clause-counted c =
+    let first = wires_alike c.args.book.now c.end_for.new.book c.in_ok-source.ensures.grows.wires in
+    let then = wires_alike c.end_for.new.book c.end_for-2.new.book c.in_ok-sink.ensures.grows.wires in
+    on_ok_weaker c.join.result (λ h. omega (arith, first, then, h)) c.join.ensures.more

@@ -21,12 +21,15 @@ loop-wire-preserved c =
     let more = more_counted all c.loop-wire.sockets keys ws i no_wire c.loop-wire-test.true inv.keeps in
     let left = step.left in
     let had = inv.left in
+    let counted = step.counted in
+    let had_counted = inv.counted in
     record {
       tied = step.tied;
       keeps = keeps_more all c.loop-wire.sockets c.lay_one.new.sockets inv.keeps step.keeps;
       laid = λ ls l.
           let P : List Line → Type 0 = λ xs. IsLaid c.lay_one.new.sockets c.lay_one.new.book xs in
           subst P (laid_more all c.loop-wire.sockets keys ws i no_wire ls c.loop-wire-test.true inv.keeps) (step.laid (ls ++ laid_lines all keys (take i ws)) (inv.laid ls l));
+      counted = omega (arith, more, counted, had_counted);
       left = omega (arith, more, left, had);
     }
 

@@ -28,3 +28,11 @@ returns-in-None-clause-laid c = λ ls l. laid_none c.args.sockets.now c.args.key
 
 pub returns-in-None-clause-left : goal.returns-in-None-clause-left
 returns-in-None-clause-left c = let e = ap length (no_line c.args.sockets.now c.args.keys.now c.args.wire.now (sym c.line_of.ensures ∙ c.in-None.is)) in omega (arith, e)
+
+pub returns-in-Some-clause-counted : goal.returns-in-Some-clause-counted
+returns-in-Some-clause-counted c =
+    on_ok_weaker c.join_counted.result (λ h. let e = ap length (one_line c.args.sockets.now c.args.keys.now c.args.wire.now c.in-Some.line (sym c.line_of.ensures ∙ c.in-Some.is)) in omega (arith, e, h))
+    c.join_counted.ensures.counted
+
+pub returns-in-None-clause-counted : goal.returns-in-None-clause-counted
+returns-in-None-clause-counted c = let e = ap length (no_line c.args.sockets.now c.args.keys.now c.args.wire.now (sym c.line_of.ensures ∙ c.in-None.is)) in omega (arith, e)

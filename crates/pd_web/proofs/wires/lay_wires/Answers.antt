@@ -18,10 +18,13 @@ loop-key-preserved c =
     let sum = length-append (lines_below g key) (lines_at g key) in
     let left = step.left in
     let had = inv.left in
+    let counted = step.counted in
+    let had_counted = inv.counted in
     record {
       tied = step.tied;
       keeps = keeps_more c.args.sockets.now c.loop-key.sockets c.lay_board.new.sockets inv.keeps step.keeps;
       laid = λ h. let P : List Line → Type 0 = λ xs. IsLaid c.lay_board.new.sockets c.lay_board.new.book xs in subst P (sym (below_more g key)) (step.laid (lines_below g key) (inv.laid h));
+      counted = omega (arith, more, sum, counted, had_counted);
       left = omega (arith, more, sum, left, had);
     }
 
@@ -51,3 +54,12 @@ returns-clause-few c =
     let all = ap length (below_end c.args.grove.now c.loop-key.key (omega (arith, same, above, far))) in
     let left = c.loop-key.invariant.left in
     omega (arith, all, left)
+
+pub returns-clause-counted : goal.returns-clause-counted
+returns-clause-counted c =
+    let same = c.in_ok-end.ensures.same in
+    let above = c.boards_end.ensures.slots in
+    let far = c.loop-key-test.false in
+    let all = ap length (below_end c.args.grove.now c.loop-key.key (omega (arith, same, above, far))) in
+    let counted = c.loop-key.invariant.counted in
+    omega (arith, all, counted)
