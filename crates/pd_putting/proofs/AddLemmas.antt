@@ -1,13 +1,13 @@
 -- Why an edit puts no box, and what is counted where it puts one.
-use Rattle.std.proofs.Common.{◌≡◌, ◌≢◌, ◌+◌, ℕ, List, Option, Result, Ok, Err, inl, inr, refl, sym, ap, ◌∙◌, arith}
+use Rattle.std.proofs.Common.{◌≡◌, ◌≢◌, ◌+◌, ℕ, List, Option, Result, Ok, Err, IfSome, inl, inr, refl, sym, ap, ◌∙◌, subst, arith}
 use mathlib.Core.Logic.{⊎_elim}
 use Rattle.pd_io.specs.declared.files.FileRow.{FileRow}
-use Rattle.pd_atom.specs.Names.{Names}
+use Rattle.pd_atom.specs.Names.{Names, IsTable}
 use Rattle.pd_canvas.specs.declared.edits.Edit.{Edit}
 use Rattle.pd_library.specs.declared.answers.Answer.{Answer}
 use Rattle.pd_tree.specs.Trees.{Cell, Done, Leaf}
 use Rattle.pd_fit.specs.Fitting.{wires_inside}
-use Rattle.pd_gather.specs.Gather.{Known, known}
+use Rattle.pd_gather.specs.Gather.{Known, known, AreProper}
 use Rattle.pd_web.specs.Changes.{wires_told}
 use Rattle.pd_patch.specs.declared.patch.Patch.{Patch}
 use Rattle.pd_wiring.specs.declared.refusals.EditRefusal.{EditRefusal}
@@ -16,7 +16,7 @@ use Rattle.pd_boxes.specs.Room.{SameButRoom}
 use Rattle.pd_boxes.specs.Put.{CanPut}
 use Rattle.pd_adding.specs.declared.adding.Grown.{Grown}
 use Rattle.pd_adding.specs.declared.counts.Counts.{Counts}
-use Rattle.pd_adding.specs.Boxes.{IsKnown}
+use Rattle.pd_adding.specs.Boxes.{IsKnown, CanBeWritten, settled_edit, box_put}
 use Rattle.pd_adding.specs.Coming.{coming, IsComing}
 use Rattle.pd_adding.specs.Counts.{with_boxes}
 use Rattle.pd_adding.specs.Growing.{Added}
@@ -89,14 +89,20 @@ module _ (holds : Option (List FileRow)) (p : Patch) (n : Counts) (name path : L
   count_grown q now b counted same put as_many =
       wires_counted p q n b.counts G.added put.plain.cell counted (same ∙ G.is.counts) (counts_are holds p n name path e k G.added G.comes) put.plain.single as_many
 
-  pub adds_box : (q : Patch) (now : ℕ) (b : NewBox) (last : Names) → IsKnown k.names e → IsBoxPut p q now G.added b.key → b.canvas ≡ g.canvas → b.counts ≡ g.counts → last ≡ names
-      → AddsBox p q n name path now e k (known files last) b
-  adds_box q now b last is_known put canvas counts table = record {
+  pub adds_box : (q : Patch) (now : ℕ) (b : NewBox) (last : Names) → AreProper k.names k.files → IsKnown k.names e → IfSome (box_put (settled_edit k.names e)) (CanBeWritten k.names)
+      → IsBoxPut p q now G.added b.key → b.canvas ≡ g.canvas → b.counts ≡ g.counts → last ≡ names → AddsBox p q n name path now e k (known files last) b
+  adds_box q now b last found is_known written put canvas counts table = record {
     added = G.added;
+    table = G.table;
+    found = found;
     is_known = is_known;
+    written = written;
     comes = comes_anyhow holds p n name path e k (Ok G.added) G.comes;
+    files = G.files;
+    grew = G.grew;
     put = put;
     canvas = canvas ∙ G.is.canvas;
     counts = counts ∙ G.is.counts;
     known_is = ap (known files) table ∙ G.known;
+    table_after = subst IsTable (sym table) G.table_after;
   }

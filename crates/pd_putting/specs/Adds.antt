@@ -1,9 +1,10 @@
 -- A box that an edit puts into a canvas of a running patch.
-use Rattle.std.specs.Prelude.{◌≡◌, ◌⊎◌, ℕ, List, length, None, Ok, Err}
+use Rattle.std.specs.Prelude.{◌≡◌, ◌⊎◌, ℕ, List, length, None, Ok, Err, IfSome}
+use Rattle.pd_atom.specs.Names.{IsTable}
 use Rattle.pd_canvas.specs.declared.edits.Edit.{Edit}
 use Rattle.pd_tree.specs.Trees.{Cell, Done, Leaf, stand_of}
 use Rattle.pd_growth.specs.Suits.{RowSuits}
-use Rattle.pd_gather.specs.Gather.{Known}
+use Rattle.pd_gather.specs.Gather.{Known, AreProper}
 use Rattle.pd_grove.specs.declared.seeds.Seed.{Seed}
 use Rattle.pd_grove.specs.States.{IsFresh}
 use Rattle.pd_web.specs.Canvases.{keys_at}
@@ -14,10 +15,10 @@ use Rattle.pd_boxes.specs.declared.room.Place.{Place}
 use Rattle.pd_boxes.specs.Room.{SameButRoom}
 use Rattle.pd_boxes.specs.Put.{CanPut, IsLeaf, IsNoPort, IsPut}
 use Rattle.pd_adding.specs.declared.counts.Counts.{Counts}
-use Rattle.pd_adding.specs.Boxes.{IsKnown}
+use Rattle.pd_adding.specs.Boxes.{IsKnown, CanBeWritten, settled_edit, box_put}
 use Rattle.pd_adding.specs.Coming.{coming, IsComing}
 use Rattle.pd_adding.specs.Growing.{Added}
-use Rattle.pd_adding.specs.Adding.{ComesTo}
+use Rattle.pd_adding.specs.Adding.{ComesTo, GrewWith}
 use Rattle.pd_putting.specs.declared.adding.NewBox.{NewBox}
 
 -- where it comes: behind the boxes of the canvas
@@ -44,15 +45,22 @@ pub record IsBoxPut (old new : Patch) (now : ℕ) (a : Added) (key : ℕ) : Type
   pub put : IsPut ready new a.known.names (last_place old a.canvas) seed key
   pub goes_on : CanPut new
 
--- An edit put a box, with this known after it, as what grew: `k` was known before it, `n` were the counts of the patch, and it is this time.
+-- An edit put a box, with this known after it, as what grew: `k` was known before it, `n` were the counts of the patch, and it is this time. The
+-- documents that were found before it are proper. It grew where the files were known for which it asked.
 pub record AddsBox (old new : Patch) (n : Counts) (name path : List ℕ) (now : ℕ) (e : Edit) (k after : Known) (b : NewBox) : Type 0 where
   pub added : Added
+  pub table : IsTable k.names
+  pub found : AreProper k.names k.files
   pub is_known : IsKnown k.names e
+  pub written : IfSome (box_put (settled_edit k.names e)) (CanBeWritten k.names)
   pub comes : ComesTo None old n name path e k (Ok added)
+  pub files : Known
+  pub grew : GrewWith old n name path e k files added
   pub put : IsBoxPut old new now added b.key
   pub canvas : b.canvas ≡ added.canvas
   pub counts : b.counts ≡ added.counts
   pub known_is : after ≡ added.known
+  pub table_after : IsTable after.names
 
 -- an edit comes to a box that isn't put yet
 pub record IsNotPutYet (p : Patch) (n : Counts) (name path : List ℕ) (e : Edit) (k : Known) : Type 0 where

@@ -7,8 +7,7 @@
 //! (`IsNotAdded`) leaves the patch, the names and the files that are known as they were; where memory ran out there may be more
 //! room in the patch, and all that it tells stays.
 //!
-//! The caller keeps the counts of the patch from one edit to the next, so that no edit counts boxes, wires or values. Nothing
-//! above uses this crate yet.
+//! The caller keeps the counts of the patch from one edit to the next, so that no edit counts boxes, wires or values.
 //!
 //! Free: want of memory, and the key of a box that comes.
 //!

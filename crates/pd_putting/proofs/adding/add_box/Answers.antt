@@ -46,7 +46,7 @@ returns-in-Ok-clause-added g c =
     let path = c.args.site.path.now in
     let names = names_grown holds c.args.patch.now c.args.counts name path c.args.edit.now k c.grow_aside.new.library c.grow_aside.new.symbols c.in_ok-grown.grown G in
     adds_box holds c.args.patch.now c.args.counts name path c.args.edit.now k c.grow_aside.new.library c.grow_aside.new.symbols c.in_ok-grown.grown G
-    c.put_grown.new.patch c.args.site.now c.in-Ok.put c.put_grown.new.symbols (c.is_known.ensures.known c.if-not-is_known.false)
+    c.put_grown.new.patch c.args.site.now c.in-Ok.put c.put_grown.new.symbols c.requires.found (c.is_known.ensures.known c.if-not-is_known.false) c.in_ok-grown.ensures.written
     (c.in-Ok.ensures.put G.added G.is names) c.in-Ok.ensures.canvas c.in-Ok.ensures.counts c.put_grown.ensures.table
 
 pub returns-in-Ok-clause-counted : goal.returns-in-Ok-clause-counted

@@ -1,0 +1,13 @@
+//! Laws of edits that put boxes into a running patch. Nothing runs here.
+//!
+//! Where an edit put a box, the tree that stood stands with the box last in its canvas: it grows again from its own document, its wires hold
+//! and fit, and each name has its owners (`boxes_come_into_trees`). So it is, with the same tree, where room was set aside and no box came
+//! (`room_keeps_trees`). The counts go on as those of the tree (`counts_follow_boxes`). Its document is proper, and what a save writes of boxes
+//! can be written and read (`boxes_can_be_saved`).
+//!
+//! Definitions: `Coming`.
+#![tactic(auto)]
+
+mod laws;
+
+pub use laws::{boxes_can_be_saved, boxes_come_into_trees, counts_follow_boxes, room_keeps_trees};
