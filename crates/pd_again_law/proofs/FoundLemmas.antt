@@ -1,134 +1,110 @@
--- At each stage of a run the contents of boxes are settled, names go on, and wires fit and hold.
-use Rattle.std.proofs.Common.{◌≡◌, ◌<◌, ◌≤◌, ◌+◌, ◌-◌, ◌^◌, inl, inr, ℕ, zero, suc, Bool, true, false, nat_lt, nat_le, if◌then◌else◌, List, [], ◌∷◌, ◌++◌, length, Option, Some, None, IfSome, refl, sym, ap, subst, arith}
+-- At each stage of a run a tree stands that grows again from its own document, whatever wires and boxes came.
+use Rattle.std.proofs.Common.{◌≡◌, ◌<◌, ◌≤◌, ◌+◌, ◌-◌, ◌^◌, inl, inr, ℕ, zero, suc, Bool, true, false, nat_lt, nat_le, if◌then◌else◌, List, [], ◌∷◌, ◌++◌, length, Option, Some, None, IfSome, refl, sym, ap, ◌∙◌, subst, arith}
+use Rattle.std.specs.Prelude.{option_map}
 use Rattle.std.specs.List.{AllByRecursion}
-use Rattle.std.proofs.lemmas.Bool.{leb-true, ltb-true}
 use Rattle.slab.specs.Slab.{get}
-use Rattle.pd_atom.specs.Names.{Names, Extends}
+use Rattle.std.proofs.lemmas.Bool.{leb-true, ltb-true}
+use Rattle.pd_atom.specs.Names.{Names, Extends, IsTable}
 use Rattle.pd_canvas.specs.declared.edits.Edit.{Edit}
+use Rattle.pd_canvas.specs.declared.edits.Edit.TheVariants as edit
+use Rattle.pd_canvas.specs.Proper.{IsProper}
+use Rattle.pd_clock.specs.declared.times.Rate.{Rate}
 use Rattle.pd_clock.specs.Queue.{Clock}
+use Rattle.pd_kind.specs.declared.states.State.{State}
+use Rattle.pd_kind.specs.Fit.{blank}
 use Rattle.pd_kind.specs.Forming.{cut_atoms}
+use Rattle.pd_object.specs.declared.kinds.Kind.{Kind}
 use Rattle.pd_script.specs.declared.commands.Command.{Command}
 use Rattle.pd_script.specs.declared.commands.Command.TheVariants as command
-use Rattle.pd_tree.specs.Ports.{fits}
-use Rattle.pd_tree.specs.Trees.{Tree}
+use Rattle.pd_library.specs.Files.{answer_in}
+use Rattle.pd_tree.specs.Trees.{Tree, weight, document_in}
 use Rattle.pd_turns.specs.Turns.{World}
-use Rattle.pd_grove.specs.Telling.{keys_in}
+use Rattle.pd_grove.specs.Telling.{kind_in}
 use Rattle.pd_grove.specs.TextOrder.{deep, keys_in_order}
-use Rattle.pd_web.specs.Hops.{boxes_told}
-use Rattle.pd_present.specs.Presents.{wires_among}
 use Rattle.pd_patch.specs.declared.patch.Patch.{Patch}
 use Rattle.pd_patch.specs.Report.{loads_among}
-use Rattle.pd_hearing.specs.Worlds.{Net, Kept, net_of}
-use Rattle.pd_block.specs.Nets as block
+use Rattle.pd_patch.specs.Sounds.{sound_of}
+use Rattle.pd_gather.specs.Gather.{Known}
+use Rattle.pd_wiring.specs.Plans.{Plan, Attaches, Detaches, IsCarriedOut}
+use Rattle.pd_hearing.specs.Worlds.{Net, Kept, net_of, states_of}
+use Rattle.pd_regrowth_law.proofs.StepLemmas.{extends_same}
+use Rattle.pd_regrowth_law.proofs.AgainLemmas.{library_more}
+use Rattle.pd_regrowth_law.specs.Suits.{AnswersAlike}
+use Rattle.pd_reload_law.specs.Reloading.{RunsAs}
+use Rattle.pd_putting_law.specs.Again.{StandsAgain}
+use Rattle.pd_putting_law.proofs.AgainLemmas.{stands_on}
+use Rattle.pd_boxes.specs.Put.{CanPut}
+use Rattle.pd_putting.specs.Adds.{AddsBox}
+use Rattle.pd_putting.specs.declared.adding.NewBox.{NewBox}
+use Rattle.pd_put_law.specs.Coming.{with_leaf}
+use Rattle.pd_put_law.proofs.ComeLemmas.{goes_on, box_runs, box_again}
+use Rattle.pd_put_law.proofs.OwnerLemmas.{own_more, room_own, box_owners}
+use Rattle.pd_put_law.proofs.PutLemmas.{box_holds, box_fits, more_boxes, more_sound}
+use Rattle.pd_put_law.proofs.RoomLemmas as room
+use Rattle.pd_put_law.proofs.WrittenLemmas.{room_contents, box_proper, box_contents}
 use Rattle.pd_guards.proofs.FactLemmas.{all-append}
 use Rattle.pd_guards.proofs.MoreLemmas.{longer}
-use Rattle.pd_sized.specs.Kinds.{kinds_of}
-use Rattle.pd_contents_law.specs.Contents.{HaveContents, GoesOn, counts_of}
+use Rattle.pd_sized.specs.Kinds.{kinds_of, blank_of, KeepsOfKind}
+use Rattle.pd_contents_law.specs.Contents.{counts_of}
 use Rattle.pd_contents_law.proofs.SettledLemmas.{onward}
 use Rattle.pd_contents_law.proofs.RunLemmas.{all_more, outcome_kept}
 use Rattle.pd_contents_law.proofs.BlockLemmas.{block_kept}
 use Rattle.pd_proper_law.specs.Saves.{IsWritten}
-use Rattle.pd_saved_law.specs.Fitting.{WiresFit}
-use Rattle.pd_saved_law.proofs.FitLemmas.{edits_fit, room_fits}
-use Rattle.pd_stage.specs.Choices.{Wanted, Edits, Saves, Undoes, Redoes, Made, Choice, Refuses, Lacks, Makes, first_choice, later}
-use Rattle.pd_stage.specs.Lawful.{IsMade, IsShort, MayCome, AreLawful}
+use Rattle.pd_proper_law.proofs.SavableLemmas.{kinds_savable}
+use Rattle.pd_stage.specs.Choices.{Base, base_of, Wanted, Edits, Asks, Saves, Undoes, Redoes, Made, Choice, Refuses, Lacks, Makes, first_choice, later}
+use Rattle.pd_stage.specs.Lawful.{StandsAt, with_wire_count, known_at, IsMade, IsShort, IsRewiringLawful, IsPutIn, IsUnputForRoom, IsPutLawful, IsEditLawful, IsSaved, MayCome, AreLawful}
 use Rattle.pd_stage.specs.Stages.{Stage, Taken, Passage, with_names, with_ahead, still, followed_by}
-use Rattle.pd_stage.specs.Events.{Beginning, Message, Firing, Loading, stage_by, edit_by, edit_taken, edit_asked, edits_taken, begun, delivered, with_kept, event}
-use Rattle.pd_stage.specs.Times.{IsStageOf, block_units, most_fired, first_clock, next_clock, taken_off, with_taken, with_fired, fires, fires_or_not, fires_below, clocks_fire, block_net, sound_at, block_sounds, block_runs, blocks_run, time_is, comes_to, advanced, finished}
-use Rattle.pd_stage.proofs.EditLemmas.{AsksAlike, ButWires, taken_rewires, taken_stands}
+use Rattle.pd_stage.specs.Events.{Beginning, Message, Firing, Loading, with_net, stage_by, edit_by, edit_taken, edit_asked, edits_taken, begun, delivered, with_kept, event}
+use Rattle.pd_stage.specs.Times.{block_units, most_fired, first_clock, next_clock, taken_off, with_taken, with_fired, fires, fires_or_not, fires_below, clocks_fire, block_net, sound_at, block_sounds, block_runs, blocks_run, time_is, comes_to, advanced, finished}
 use Rattle.pd_engine.specs.Messages.{message_in}
 use Rattle.pd_engine.specs.Commands.{commanded}
 use Rattle.pd_engine.specs.Opening.{first_stage, opened}
-use Rattle.pd_engine.proofs.WholeLemmas.{sounds_of}
+use Rattle.pd_engine.proofs.WholeLemmas.{both_on}
 use Rattle.pd_steady.specs.Runs.{own_ways, finished_by}
 use Rattle.pd_steady.specs.Steady.{IsSteady, IsCommand}
 use Rattle.pd_steady.specs.Steps.{Step, Does, Learns, Comes, AreSteps, step_by, steps_by, run_by}
-use Rattle.pd_steady.proofs.EventLemmas.{Guards, Begins, start_of, starts, outcome_is, wires_steady, delivered_steady}
-use Rattle.pd_steady.proofs.FairLemmas.{IsRefusal, IsFair, AreFair, lawful_fair, fair_first, fair_second}
+use Rattle.pd_steady.proofs.EventLemmas.{Guards, Begins, start_of, starts, outcome_is, owned_at, delivered_steady}
+use Rattle.pd_steady.proofs.ExtendLemmas.{outcome_extends}
+use Rattle.pd_steady.proofs.FairLemmas.{IsRefusal, IsFair, AreFair, fair_first, fair_second, taken_left}
 use Rattle.pd_steady.proofs.OwnLemmas.{commanded_own, advanced_own, finished_own}
-use Rattle.pd_steady.proofs.RunLemmas.{named_steady}
-use Rattle.pd_steady.proofs.TreeLemmas.{tree_on, taken_tree}
-use Rattle.pd_again_law.proofs.FewLemmas.{Few, few_edit, few_same}
-use Rattle.pd_again_law.proofs.HeldLemmas.{NetHeld, held_of, held_in, held_edit, held_room}
+use Rattle.pd_steady.proofs.RunLemmas.{altered_steady, named_steady}
+use Rattle.pd_steady.proofs.TreeLemmas.{taken_owned}
 use Rattle.pd_steady.proofs.TimeLemmas.{below_limit, fires_end, within, below, same_end, ends_soon, steady_longer, fired_steady, timed_steady, sounds_steady}
+use Rattle.pd_again_law.proofs.HeldLemmas.{Settled, IsHeld, bare_kind, NetHeld, told, held_in, held_edit, held_room}
 
--- ---- wires that fit, by what messages leave as it is
+-- ---- what is so of a stage of a run
 
-abbrev pub AllFit : Net → Type 0
-AllFit n = (c : ℕ) → AllByRecursion (λ v. fits (boxes_told n.web (keys_in (get n.boards c))) v ≡ true) (wires_among n.web n.numbers.items (keys_in (get n.boards c)))
-
-pub fit_of : (q : Patch) (n : Net) → n ≡ net_of q → AllFit n → WiresFit q
-fit_of q n e h = record { all = subst AllFit e h }
-
-pub net_fits : (q : Patch) (n : Net) → n ≡ net_of q → WiresFit q → AllFit n
-net_fits q n e f = subst AllFit (sym e) f.all
-
-module _ (ks : List ℕ) (t : Tree) (low : deep t.boxes ≤ 256) where
-  -- they fit, those that leave these boxes are few, and they hold
-  abbrev pub NetFits : Net → Type 0
-  NetFits n = AllFit n × Few n.web ks × NetHeld t low n
-
-  few_of : (q : Patch) (n : Net) → n ≡ net_of q → Few n.web ks → Few q.web ks
-  few_of q n e h = subst (λ (x : Net). Few x.web ks) e h
-
-  few_in : (q : Patch) (n : Net) → n ≡ net_of q → Few q.web ks → Few n.web ks
-  few_in q n e h = subst (λ (x : Net). Few x.web ks) (sym e) h
-
-  made_fit : (s : Stage) (path : List ℕ) (e : Edit) (m : Made) → IsMade s path e m → NetFits s.net → NetFits m.net
-  made_fit s path e m h f = (
-    net_fits h.new m.net h.net (edits_fit h.old h.new path e h.canvas h.stands.rewires (fit_of h.old s.net h.stands.net f.0) h.rewired),
-    few_in h.new m.net h.net (few_edit h.old h.new path e h.canvas ks h.rewired (few_of h.old s.net h.stands.net f.1)),
-    held_in t low h.new m.net h.net (held_edit t low h.old h.new path e h.canvas h.stands.rewires h.rewired (held_of t low h.old s.net h.stands.net f.2)),
-  )
-
-  short_fit : (s : Stage) (path : List ℕ) (e : Edit) (net : Net) → IsShort s path e net → NetFits s.net → NetFits net
-  short_fit s path e net h f = (
-    net_fits h.new net h.net_is (room_fits h.old h.new h.same (fit_of h.old s.net h.stands.net f.0)),
-    few_in h.new net h.net_is (few_same h.old.web h.new.web ks h.same.web (few_of h.old s.net h.stands.net f.1)),
-    held_in t low h.new net h.net_is (held_room t low h.old h.new h.same (held_of t low h.old s.net h.stands.net f.2)),
-  )
-
-  edit_fit : (s : Stage) (ahead : List Choice) (path : List ℕ) (e : Edit) (c : Choice) → MayCome (Edits None path e) (with_ahead s []) c → NetFits s.net → NetFits (stage_by (with_ahead s ahead) c).net
-  edit_fit s ahead path e (Refuses why) h f = f
-  edit_fit s ahead path e (Lacks net) h f = short_fit (with_ahead s []) path e net h f
-  edit_fit s ahead path e (Makes m) h f = made_fit (with_ahead s []) path e m h f
-
-  save_fit : (s : Stage) (ahead : List Choice) (c : Choice) → MayCome (Saves None) (with_ahead s []) c → NetFits s.net → NetFits (stage_by (with_ahead s ahead) c).net
-  save_fit s ahead (Refuses why) h f = f
-  save_fit s ahead (Lacks net) h f = absurd h
-  save_fit s ahead (Makes m) h f = subst NetFits (sym h.net) f
-
-  refused_fit : (s : Stage) (ahead : List Choice) (c : Choice) (why : _) → c ≡ Refuses why → NetFits s.net → NetFits (stage_by (with_ahead s ahead) c).net
-  refused_fit s ahead c why h f = subst (λ (x : Choice). NetFits (stage_by (with_ahead s ahead) x).net) (sym h) f
-
-  choice_fit : (wanted : Wanted) (s : Stage) (ahead : List Choice) (c : Choice) → MayCome wanted (with_ahead s []) c → NetFits s.net → NetFits (stage_by (with_ahead s ahead) c).net
-  choice_fit (Edits None path e) s ahead c h f = edit_fit s ahead path e c h f
-  choice_fit (Edits (Some document) path e) s ahead c h f = refused_fit s ahead c _ h f
-  choice_fit (Saves None) s ahead c h f = save_fit s ahead c h f
-  choice_fit (Saves (Some document)) s ahead c h f = refused_fit s ahead c _ h f
-  choice_fit Undoes s ahead c h f = refused_fit s ahead c _ h f
-  choice_fit Redoes s ahead c h f = refused_fit s ahead c _ h f
-
-  taken_fit : (wanted : Wanted) (s : Stage) → AreLawful (edit_taken wanted s).edits → NetFits s.net → NetFits (edit_taken wanted s).stage.net
-  unfolding edit_taken
-  taken_fit wanted s h f = choice_fit wanted s (later s.ahead) (first_choice s.ahead) h.0 f
-
--- ---- what is so at each stage of a run of a patch
+-- as many boxes are counted as a tree has, and as many values of tables, arrays and delay lines
+pub record HasCounted (rate : Rate) (b : Base) (t : Tree) : Type 0 where
+  pub boxes : b.counts.boxes ≡ weight t.boxes
+  pub sound : b.counts.sound ≡ sound_of rate t.boxes
 
 enough : (a b : ℕ) → 6 ≤ a → a ≤ b → 6 ≤ b
 enough a b h k = omega (arith, h, k)
 
-module _ (p : Patch) (table : Names) (ks : List ℕ) (t : Tree) (low : deep t.boxes ≤ 256) where
-  abbrev Contents : Names → Stage → Type 0
-  Contents names s = HaveContents (IsWritten p.grove) (counts_of (kinds_of p)) names s.states
+pub six_more : (names more : Names) → Extends names more → 6 ≤ length names → 6 ≤ length more
+six_more names more x h = enough (length names) (length more) h (longer names more x)
 
-  -- it is steady, and a stage of the patch; the names go on from where it opened; what is written of boxes is settled, and wires fit and hold
+-- wherever the table of names goes on, the document of the tree is proper in it
+abbrev pub StaysProper : Names → Tree → Type 0
+StaysProper names t = (more : Names) → Extends names more → IsTable more → IsProper more (document_in t)
+
+module _ (rate : Rate) (name : List ℕ) where
+  -- a tree stands in each patch of which the stage tells, and grows again from its own document; as many boxes and values are counted as it has
+  pub record IsStanding (s : Stage) : Type 0 where
+    pub file : s.file ≡ name
+    pub rates : s.net.rate ≡ rate
+    pub six : 6 ≤ length s.names
+    pub tree : Tree
+    pub low : deep tree.boxes ≤ 256
+    pub again : StandsAgain (answer_in s.base.files) s.file s.names tree
+    pub proper : StaysProper s.names tree
+    pub counted : HasCounted rate s.base tree
+    pub held : NetHeld s.file s.names s.states tree s.net
+
   pub record IsGood (most : ℕ) (s : Stage) : Type 0 where
     pub steady : IsSteady most s
-    pub at : IsStageOf p s
-    pub names : Extends table s.names
-    pub contents : Contents s.names s
-    pub fit : NetFits ks t low s.net
+    pub stands : IsStanding s
 
   -- an edit found such a stage
   abbrev pub AreFound : ℕ → List Taken → Type 0
@@ -140,10 +116,245 @@ module _ (p : Patch) (table : Names) (ks : List ℕ) (t : Tree) (low : deep t.bo
     pub found : AreFound most q.edits
 
   pub good_longer : (most more : ℕ) → most ≤ more → (s : Stage) → IsGood most s → IsGood more s
-  good_longer most more l s h = record { steady = steady_longer most more s l h.steady; at = h.at; names = h.names; contents = h.contents; fit = h.fit }
+  good_longer most more l s h = record { steady = steady_longer most more s l h.steady; stands = h.stands }
 
-  module _ (g : Guards) (asks : AsksAlike) (six : 6 ≤ length table) (most : ℕ) (top : most ≤ 2 ^ 101) where
-    abbrev Leads : Stage → Passage → Type 0
+  -- ---- edits
+
+  ahead_stands : (s : Stage) (ahead : List Choice) → IsStanding s → IsStanding (with_ahead s ahead)
+  ahead_stands s ahead h = record {
+    file = h.file;
+    rates = h.rates;
+    six = h.six;
+    tree = h.tree;
+    low = h.low;
+    again = h.again;
+    proper = h.proper;
+    counted = h.counted;
+    held = h.held;
+  }
+
+  -- a patch that stands at a stage
+  held_at : (s : Stage) (p : Patch) (h : IsStanding s) → StandsAt p s → IsHeld s.file s.names s.states h.tree p
+  held_at s p h at = h.held p (told s.net p at.net)
+
+  rate_at : (s : Stage) (p : Patch) → IsStanding s → StandsAt p s → p.rate ≡ rate
+  rate_at s p h at = sym (ap (λ (n : Net). n.rate) at.net) ∙ h.rates
+
+  -- a stage with other wires
+  rewired_stands : (s : Stage) (net : Net) (base : Base) (p q : Patch) (h : IsStanding s) → StandsAt p s → net ≡ net_of q → q.rate ≡ p.rate → base.files ≡ s.base.files
+      → base.counts.boxes ≡ s.base.counts.boxes → base.counts.sound ≡ s.base.counts.sound → IsHeld s.file s.names s.states h.tree q
+      → StandsAgain (answer_in base.files) s.file s.names h.tree × HasCounted rate base h.tree × NetHeld s.file s.names s.states h.tree net × (net.rate ≡ rate)
+  rewired_stands s net base p q h at is same files boxes sound held = (
+    subst (λ (fs : _). StandsAgain (answer_in fs) s.file s.names h.tree) (sym files) h.again,
+    record { boxes = boxes ∙ h.counted.boxes; sound = sound ∙ h.counted.sound },
+    held_in s.file s.names s.states h.tree q net is held,
+    ap (λ (n : Net). n.rate) is ∙ same ∙ rate_at s p h at,
+  )
+
+  made_stands : (s : Stage) (path : List ℕ) (e : Edit) (m : Made) → IsMade s path e m → IsStanding s → IsStanding (stage_by s (Makes m))
+  made_stands s path e m x h =
+      let held : IsHeld s.file s.names s.states h.tree x.new =
+      held_edit s.file s.names s.states h.tree h.low x.old x.new path e x.canvas x.stands.puts.runs x.rewired (held_at s x.old h x.stands) in
+      let rest = rewired_stands s m.net m.base x.old x.new h x.stands x.net (rate_kept x.rewired.plan x.old x.new x.rewired.done) (ap (λ (b : Base). b.files) x.base)
+      (ap (λ (b : Base). b.counts.boxes) x.base) (ap (λ (b : Base). b.counts.sound) x.base) held in
+      record {
+        file = h.file;
+        rates = rest.3;
+        six = subst (λ (ns : Names). 6 ≤ length ns) (sym x.names) h.six;
+        tree = h.tree;
+        low = h.low;
+        again = subst (λ (ns : Names). StandsAgain (answer_in m.base.files) s.file ns h.tree) (sym x.names) rest.0;
+        proper = subst (λ (ns : Names). StaysProper ns h.tree) (sym x.names) h.proper;
+        counted = rest.1;
+        held = subst (λ (ns : Names). NetHeld s.file ns m.states h.tree m.net) (sym x.names)
+            (subst (λ (f : ℕ → Option State). NetHeld s.file s.names f h.tree m.net) (sym x.states) rest.2);
+      }
+    where
+      rate_kept : (plan : Plan) (p q : Patch) → IsCarriedOut plan p q → q.rate ≡ p.rate
+      rate_kept (Attaches c l) p q d = d.rest.rate
+      rate_kept (Detaches c key l) p q d = d.rest.rate
+
+  short_stands : (s : Stage) (path : List ℕ) (e : Edit) (net : Net) → IsShort s path e net → IsStanding s → IsStanding (with_net s net)
+  short_stands s path e net x h =
+      let held : IsHeld s.file s.names s.states h.tree x.new =
+      held_room s.file s.names s.states h.tree h.low x.old x.new x.same (held_at s x.old h x.stands) in
+      let rest = rewired_stands s net s.base x.old x.new h x.stands x.net_is x.same.rate refl refl refl held in
+      record { file = h.file; rates = rest.3; six = h.six; tree = h.tree; low = h.low; again = rest.0; proper = h.proper; counted = rest.1; held = rest.2 }
+
+  -- a patch that stands at a steady stage
+  keeps_at : (most : ℕ) (s : Stage) (p : Patch) → IsSteady most s → StandsAt p s → KeepsOfKind (kinds_of p) (states_of p)
+  keeps_at most s p steady at k =
+      let kind : kind_in (s.net.nodes k) ≡ kinds_of p k = ap (λ (n : Net). kind_in (n.nodes k)) at.net ∙ bare_kind (get p.grove.nodes k) in
+      ap (λ (f : ℕ → Option State). option_map blank (f k)) (sym at.states) ∙ steady.ready.kinds k ∙ ap (λ (o : Option Kind). option_map blank_of o) kind
+
+  pub runs_at : (most : ℕ) (s : Stage) (p : Patch) (h : IsStanding s) → IsSteady most s → StandsAt p s → RunsAs p.grove h.tree
+  runs_at most s p h steady at =
+      record { stands = (held_at s p h at).stands; shallow = h.low; savable = kinds_savable p (keeps_at most s p steady at) }
+
+  -- an edit that put a box
+  module _ (most : ℕ) (s : Stage) (path : List ℕ) (e : Edit) (m : Made) (x : IsPutIn s path e m) (steady : IsSteady most s) (h : IsStanding s) where
+    abbrev can : CanPut x.old
+    can = x.stands.puts
+
+    abbrev before : Known
+    before = known_at s
+
+    abbrev now : Tree
+    now = with_leaf path x.adds.put.plain.cell h.tree
+
+    was : IsHeld s.file s.names s.states h.tree x.old
+    was = held_at s x.old h x.stands
+
+    runs : RunsAs x.old.grove h.tree
+    runs = runs_at most s x.old h steady x.stands
+
+    again : StandsAgain (answer_in x.after.files) s.file x.after.names now
+    again = box_again x.old x.new s.base.counts s.file path s.time e before x.after x.box x.adds can h.tree runs h.again
+
+    new_runs : RunsAs x.new.grove now
+    new_runs = box_runs x.old x.new s.base.counts s.file path s.time e before x.after x.box x.adds can h.tree runs h.again
+
+    on : Extends s.names x.after.names
+    on = goes_on x.old x.new s.base.counts s.file path s.time e before x.after x.box x.adds
+
+    counted : HasCounted rate (base_of x.after.files x.box.counts) now
+    counted = record {
+      boxes = more_boxes x.old x.new s.base.counts s.file path s.time e before x.after x.box x.adds can h.tree runs h.counted.boxes;
+      sound = subst (λ (r : Rate). x.box.counts.sound ≡ sound_of r now.boxes) (rate_at s x.old h x.stands)
+          (more_sound x.old x.new s.base.counts s.file path s.time e before x.after x.box x.adds can h.tree runs
+          (subst (λ (r : Rate). s.base.counts.sound ≡ sound_of r h.tree.boxes) (sym (rate_at s x.old h x.stands)) h.counted.sound));
+    }
+
+    few : weight now.boxes ≤ 16384
+    few = as_few (weight now.boxes) x.box.counts.boxes 16384 counted.boxes (subst (λ (b : Base). b.counts.boxes ≤ 16384) x.base x.within.boxes)
+      where
+        as_few : (a b c : ℕ) → b ≡ a → b ≤ c → a ≤ c
+        as_few a b c e l = omega (arith, e, l)
+
+    held : IsHeld s.file x.after.names (states_of x.new) now x.new
+    held = record {
+      stands = new_runs.stands;
+      fit = box_fits x.old x.new s.base.counts s.file path s.time e before x.after x.box x.adds can was.fit;
+      holds = box_holds x.old x.new s.base.counts s.file path s.time e before x.after x.box x.adds can h.tree was.holds;
+      owners = box_owners x.old x.new s.base.counts s.file path s.time e before x.after x.box h.tree x.adds runs h.again was.owners;
+      contents = box_contents x.old x.new s.base.counts s.file path s.time e before x.after x.box x.adds can h.tree runs h.again
+          (subst (λ (f : ℕ → Option State). Settled x.old s.names f) x.stands.states was.contents);
+    }
+
+    put_stands : IsStanding (stage_by s (Makes m))
+    put_stands = record {
+      file = h.file;
+      rates = ap (λ (n : Net). n.rate) x.net ∙ x.adds.put.put.comes.rate ∙ x.adds.put.room.rate ∙ rate_at s x.old h x.stands;
+      six = subst (λ (ns : Names). 6 ≤ length ns) (sym x.names) (six_more s.names x.after.names on h.six);
+      tree = now;
+      low = new_runs.shallow;
+      again = subst (λ (b : Base). StandsAgain (answer_in b.files) s.file m.names now) (sym x.base)
+          (subst (λ (ns : Names). StandsAgain (answer_in x.after.files) s.file ns now) (sym x.names) again);
+      proper = λ more on_more table.
+          let later : Extends x.after.names more = subst (λ (ns : Names). Extends ns more) x.names on_more in
+          box_proper x.old x.new s.base.counts s.file path s.time e before x.after x.box x.adds can h.tree runs h.again more later table few
+          (h.proper more (onward s.names x.after.names more on later) table);
+      counted = subst (λ (b : Base). HasCounted rate b now) (sym x.base) counted;
+      held = held_in s.file m.names m.states now x.new m.net x.net
+          (subst (λ (ns : Names). IsHeld s.file ns m.states now x.new) (sym x.names)
+          (subst (λ (f : ℕ → Option State). IsHeld s.file x.after.names f now x.new) (sym x.states) held));
+    }
+
+  -- a box could have come
+  unput_stands : (most : ℕ) (s : Stage) (path : List ℕ) (e : Edit) (net : Net) → IsUnputForRoom s path e net → IsSteady most s → IsStanding s → IsStanding (with_net s net)
+  unput_stands most s path e net x steady h =
+      let was : IsHeld s.file s.names s.states h.tree x.old = held_at s x.old h x.stands in
+      let same = x.short.room in
+      let held : IsHeld s.file s.names s.states h.tree x.new = record {
+        stands = (room.room_runs x.old.grove x.new.grove same.grove h.tree (runs_at most s x.old h steady x.stands)).stands;
+        fit = room.room_fits x.old x.new same was.fit;
+        holds = room.room_holds x.old x.new same h.tree was.holds;
+        owners = room_own x.old x.new s.names s.file same was.owners;
+        contents = room_contents x.old x.new s.names s.states same was.contents;
+      } in
+      record {
+        file = h.file;
+        rates = ap (λ (n : Net). n.rate) x.net_is ∙ same.rate ∙ rate_at s x.old h x.stands;
+        six = h.six;
+        tree = h.tree;
+        low = h.low;
+        again = h.again;
+        proper = h.proper;
+        counted = h.counted;
+        held = held_in s.file s.names s.states h.tree x.new net x.net_is held;
+      }
+
+  saved_stands : (s : Stage) (m : Made) → IsSaved s m → IsStanding s → IsStanding (stage_by s (Makes m))
+  saved_stands s m x h = record {
+    file = h.file;
+    rates = ap (λ (n : Net). n.rate) x.net ∙ h.rates;
+    six = subst (λ (ns : Names). 6 ≤ length ns) (sym x.names) h.six;
+    tree = h.tree;
+    low = h.low;
+    again = subst (λ (b : Base). StandsAgain (answer_in b.files) s.file m.names h.tree) (sym x.base)
+        (subst (λ (ns : Names). StandsAgain (answer_in s.base.files) s.file ns h.tree) (sym x.names) h.again);
+    proper = subst (λ (ns : Names). StaysProper ns h.tree) (sym x.names) h.proper;
+    counted = subst (λ (b : Base). HasCounted rate b h.tree) (sym x.base) h.counted;
+    held = subst (λ (n : Net). NetHeld s.file m.names m.states h.tree n) (sym x.net)
+        (subst (λ (ns : Names). NetHeld s.file ns m.states h.tree s.net) (sym x.names) (subst (λ (f : ℕ → Option State). NetHeld s.file s.names f h.tree s.net) (sym x.states) h.held));
+  }
+
+  -- what is asked for, at a stage whose edits to come are these
+  module _ (most : ℕ) (s : Stage) (ahead : List Choice) (steady : IsSteady most (with_ahead s [])) (h : IsStanding (with_ahead s [])) where
+    on_ahead : (r : Stage) → IsStanding r → IsStanding (with_ahead r ahead)
+    on_ahead r k = ahead_stands r ahead k
+
+    wire_stands : (path : List ℕ) (e : Edit) (c : Choice) → IsRewiringLawful (with_ahead s []) path e c → IsStanding (stage_by (with_ahead s ahead) c)
+    wire_stands path e (Refuses why) x = on_ahead (with_ahead s []) h
+    wire_stands path e (Lacks net) x = on_ahead (with_net (with_ahead s []) net) (short_stands (with_ahead s []) path e net x h)
+    wire_stands path e (Makes m) x = on_ahead (stage_by (with_ahead s []) (Makes m)) (made_stands (with_ahead s []) path e m x h)
+
+    box_stands : (path : List ℕ) (e : Edit) (c : Choice) → IsPutLawful (with_ahead s []) path e c → IsStanding (stage_by (with_ahead s ahead) c)
+    box_stands path e (Refuses why) x = on_ahead (with_ahead s []) h
+    box_stands path e (Lacks net) x = on_ahead (with_net (with_ahead s []) net) (unput_stands most (with_ahead s []) path e net x steady h)
+    box_stands path e (Makes m) x = on_ahead (stage_by (with_ahead s []) (Makes m)) (put_stands most (with_ahead s []) path e m x steady h)
+
+    save_stands : (c : Choice) → MayCome (Saves None) (with_ahead s []) c → IsStanding (stage_by (with_ahead s ahead) c)
+    save_stands (Refuses why) x = on_ahead (with_ahead s []) h
+    save_stands (Lacks net) x = absurd x
+    save_stands (Makes m) x = on_ahead (stage_by (with_ahead s []) (Makes m)) (saved_stands (with_ahead s []) m x h)
+
+    none_stands : (c : Choice) (why : _) → c ≡ Refuses why → IsStanding (stage_by (with_ahead s ahead) c)
+    none_stands c why x = subst (λ (y : Choice). IsStanding (stage_by (with_ahead s ahead) y)) (sym x) (on_ahead (with_ahead s []) h)
+
+    edit_stands : (path : List ℕ) (e : Edit) (c : Choice) → IsEditLawful (with_ahead s []) path e c → IsStanding (stage_by (with_ahead s ahead) c)
+    edit_stands path (edit.Connect v) c x = wire_stands path (edit.Connect v) c x
+    edit_stands path (edit.Disconnect v) c x = wire_stands path (edit.Disconnect v) c x
+    edit_stands path (edit.Delete number) c x = none_stands c _ x
+    edit_stands path (edit.Retype number text) c x = none_stands c _ x
+    edit_stands path (edit.Move number a b) c x = none_stands c _ x
+    edit_stands path (edit.Obj a b text) c x = box_stands path (edit.Obj a b text) c x
+    edit_stands path (edit.Msg a b text) c x = box_stands path (edit.Msg a b text) c x
+    edit_stands path (edit.Comment a b text) c x = box_stands path (edit.Comment a b text) c x
+    edit_stands path (edit.FloatBox a b text) c x = box_stands path (edit.FloatBox a b text) c x
+    edit_stands path (edit.SymbolBox a b text) c x = box_stands path (edit.SymbolBox a b text) c x
+    edit_stands path (edit.Sub a b text) c x = box_stands path (edit.Sub a b text) c x
+
+    choice_stands : (wanted : Wanted) (c : Choice) → MayCome wanted (with_ahead s []) c → IsStanding (stage_by (with_ahead s ahead) c)
+    choice_stands (Edits None path e) c x = edit_stands path e c x
+    choice_stands (Edits (Some document) path e) c x = none_stands c _ x
+    choice_stands (Asks path e) c x = wire_stands path e c x
+    choice_stands (Saves None) c x = save_stands c x
+    choice_stands (Saves (Some document)) c x = none_stands c _ x
+    choice_stands Undoes c x = none_stands c _ x
+    choice_stands Redoes c x = none_stands c _ x
+
+    refused_stands : (c : Choice) → IsRefusal c → IsStanding (stage_by (with_ahead s ahead) c)
+    refused_stands (Refuses why) r = on_ahead (with_ahead s []) h
+    refused_stands (Lacks net) r = absurd r
+    refused_stands (Makes m) r = absurd r
+
+    fair_stands : (wanted : Wanted) (c : Choice) → IsFair (record { found = with_ahead s []; wanted = wanted; choice = c }) → IsStanding (stage_by (with_ahead s ahead) c)
+    fair_stands wanted c (inl l) = choice_stands wanted c l
+    fair_stands wanted c (inr r) = refused_stands c r
+
+  module _ (g : Guards) (most : ℕ) (top : most ≤ 2 ^ 101) where
+    abbrev pub Leads : Stage → Passage → Type 0
     Leads s q = IsGood most s → AreFair q.edits → EndsWell most q
 
     here : (s : Stage) → Leads s (still s)
@@ -159,45 +370,20 @@ module _ (p : Patch) (table : Names) (ks : List ℕ) (t : Tree) (low : deep t.bo
     if_leads true s q r f k = f refl
     if_leads false s q r f k = k
 
-    -- edits
-    ahead_good : (s : Stage) (ahead : List Choice) → IsGood most s → IsGood most (with_ahead s ahead)
-    ahead_good s ahead h = record {
-      steady = record { time = h.steady.time; near = h.steady.near; order = h.steady.order; values = h.steady.values; ready = h.steady.ready; block = h.steady.block; ends = h.steady.ends; tree = tree_on s (with_ahead s ahead) refl h.steady.tree };
-      at = record { web = h.at.web; links = h.at.links; orders = h.at.orders; net = h.at.net; rewires = h.at.rewires };
-      names = h.names;
-      contents = h.contents;
-      fit = h.fit;
-    }
-
-    lawful_good : (wanted : Wanted) (s : Stage) → AreLawful (edit_taken wanted s).edits → IsGood most s → IsGood most (edit_taken wanted s).stage
-    lawful_good wanted s l h =
-        let r : Stage = (edit_taken wanted s).stage in
-        let e : ButWires s r = taken_rewires wanted s l in
-        record {
-          steady = wires_steady most s r h.steady e (taken_tree wanted s (lawful_fair (edit_taken wanted s).edits l) h.steady.tree);
-          at = taken_stands asks p wanted s l h.at;
-          names = subst (λ (x : Stage). Extends table x.names) (sym e.is) h.names;
-          contents = subst (λ (x : Stage). Contents x.names x) (sym e.is) h.contents;
-          fit = taken_fit ks t low wanted s l h.fit;
-        }
-
-    refused_good : (wanted : Wanted) (s : Stage) (c : Choice) → IsRefusal c → IsGood most s → IsGood most (edit_by wanted s c).stage
-    refused_good wanted s (Refuses why) r h = ahead_good s (later s.ahead) h
-    refused_good wanted s (Lacks net) r h = absurd r
-    refused_good wanted s (Makes m) r h = absurd r
-
-    either_good : (wanted : Wanted) (s : Stage) → IsFair (record { found = with_ahead s []; wanted = wanted; choice = first_choice s.ahead }) → IsGood most s → IsGood most (edit_taken wanted s).stage
-    unfolding edit_taken
-    either_good wanted s (inl l) h = lawful_good wanted s (l, tt) h
-    either_good wanted s (inr r) h = refused_good wanted s (first_choice s.ahead) r h
+    -- an edit is found at a stage whose edits to come aren't told
+    bare_good : (s : Stage) → IsGood most s → IsGood most (with_ahead s [])
+    bare_good s h = record { steady = altered_steady most s (with_ahead s []) h.steady (inl (inl (record { ahead = []; is = refl }))) (both_on s (with_ahead s []) refl refl refl (extends_same s.names) (owned_at most s h.steady)); stands = ahead_stands s [] h.stands }
 
     taken_good : (wanted : Wanted) (s : Stage) → AreFair (edit_taken wanted s).edits → IsGood most s → IsGood most (edit_taken wanted s).stage
     unfolding edit_taken
-    taken_good wanted s l h = either_good wanted s l.0 h
+    taken_good wanted s l h = record {
+      steady = altered_steady most s (edit_taken wanted s).stage h.steady (taken_left wanted s l) (taken_owned wanted s l (owned_at most s h.steady));
+      stands = fair_stands most s (later s.ahead) (bare_good s h).steady (bare_good s h).stands wanted (first_choice s.ahead) l.0;
+    }
 
     taken_found : (wanted : Wanted) (s : Stage) → IsGood most s → AreFound most (edit_taken wanted s).edits
     unfolding edit_taken
-    taken_found wanted s h = (ahead_good s [] h, tt)
+    taken_found wanted s h = (bare_good s h, tt)
 
     taken_leads : (wanted : Wanted) (s : Stage) → Leads s (edit_taken wanted s)
     taken_leads wanted s h l = record { stage = taken_good wanted s l h; found = taken_found wanted s h }
@@ -207,30 +393,49 @@ module _ (p : Patch) (table : Names) (ks : List ℕ) (t : Tree) (low : deep t.bo
     edits_lead [] s = here s
     edits_lead (asked ∷ waiting) s = followed s (edit_asked asked s) (edits_taken waiting) (taken_leads _ s) (edits_lead waiting (edit_asked asked s).stage)
 
-    -- events
-    six_names : (s : Stage) → IsGood most s → 6 ≤ length s.names
-    six_names s h = enough (length table) (length s.names) six (longer table s.names h.names)
+    -- names that go on
+    again_on : (s : Stage) (names : Names) (h : IsStanding s) → Extends s.names names → StandsAgain (answer_in s.base.files) s.file names h.tree
+    again_on s names h x =
+        stands_on (answer_in s.base.files) (answer_in s.base.files) s.file s.names names h.tree h.again (λ symbol answer e. e) x
+        (library_more s.names names x (answer_in s.base.files) h.again.library)
 
-    goes_on : (s : Stage) (b : Beginning) → IsGood most s → Begins s.names b → GoesOn (IsWritten p.grove) (counts_of (kinds_of p)) s.names (delivered s b).kept
-    goes_on s b h k =
-        subst (λ (w : World Kept). GoesOn (IsWritten p.grove) (counts_of (kinds_of p)) s.names w.kept) (outcome_is s.net s.time (begun s) b)
-        (outcome_kept (IsWritten p.grove) (counts_of (kinds_of p)) s.net s.time (begun s) (start_of b) h.steady.order (starts s.names b k) (six_names s h) h.contents)
+    held_on : (s : Stage) (names : Names) (states : ℕ → Option State) (h : IsStanding s) → Extends s.names names
+        → ((p : Patch) → Settled p s.names s.states → Settled p names states) → NetHeld s.file names states h.tree s.net
+    held_on s names states h x goes p tells =
+        let was : IsHeld s.file s.names s.states h.tree p = h.held p tells in
+        record {
+          stands = was.stands;
+          fit = was.fit;
+          holds = was.holds;
+          owners = own_more (answer_in s.base.files) s.file p s.names names h.tree was.stands h.low h.again x was.owners;
+          contents = goes p was.contents;
+        }
+
+    proper_on : (s : Stage) (names : Names) (h : IsStanding s) → Extends s.names names → StaysProper names h.tree
+    proper_on s names h x more on table = h.proper more (onward s.names names more x on) table
+
+    -- events
+    names_on : (s : Stage) (b : Beginning) → Extends s.names (delivered s b).kept.names
+    names_on s b = subst (λ (w : World Kept). Extends s.names w.kept.names) (outcome_is s.net s.time (begun s) b) (outcome_extends s.net s.time (begun s) (start_of b))
 
     kept_good : (s : Stage) (b : Beginning) → IsGood most s → Begins s.names b → IsGood most (with_kept s (delivered s b).kept)
     kept_good s b h k =
-        let o : GoesOn (IsWritten p.grove) (counts_of (kinds_of p)) s.names (delivered s b).kept = goes_on s b h k in
+        let on : Extends s.names (delivered s b).kept.names = names_on s b in
         record {
           steady = delivered_steady g most s b h.steady k;
-          at = record {
-            web = h.at.web;
-            links = h.at.links;
-            orders = h.at.orders;
-            net = ap (λ (n : block.Net). block.with_clocks n (delivered s b).kept.clocks) h.at.net;
-            rewires = h.at.rewires;
+          stands = record {
+            file = h.stands.file;
+            rates = h.stands.rates;
+            six = six_more s.names (delivered s b).kept.names on h.stands.six;
+            tree = h.stands.tree;
+            low = h.stands.low;
+            again = again_on s (delivered s b).kept.names h.stands on;
+            proper = proper_on s (delivered s b).kept.names h.stands on;
+            counted = h.stands.counted;
+            held = held_on s (delivered s b).kept.names (delivered s b).kept.states h.stands on (λ p c.
+                subst (λ (w : World Kept). Settled p w.kept.names w.kept.states) (outcome_is s.net s.time (begun s) b)
+                (outcome_kept (IsWritten p.grove) (counts_of (kinds_of p)) s.net s.time (begun s) (start_of b) h.steady.order (starts s.names b k) h.stands.six c).contents);
           };
-          names = onward table s.names (delivered s b).kept.names h.names o.names;
-          contents = o.contents;
-          fit = h.fit;
         }
 
     event_leads : (s : Stage) (b : Beginning) → (IsGood most s → Begins s.names b) → Leads s (event s b)
@@ -240,20 +445,30 @@ module _ (p : Patch) (table : Names) (ks : List ℕ) (t : Tree) (low : deep t.bo
         let e : EndsWell most (edits_taken (delivered s b).kept.queue r) = edits_lead (delivered s b).kept.queue r (kept_good s b h (k h)) l in
         record { stage = e.stage; found = e.found }
 
+    -- the same but for times and clocks
+    same_stands : (s r : Stage) → r.file ≡ s.file → r.net ≡ s.net → r.states ≡ s.states → r.names ≡ s.names → r.base ≡ s.base → IsStanding s → IsStanding r
+    same_stands s r file net states names base h = record {
+      file = file ∙ h.file;
+      rates = ap (λ (n : Net). n.rate) net ∙ h.rates;
+      six = subst (λ (ns : Names). 6 ≤ length ns) (sym names) h.six;
+      tree = h.tree;
+      low = h.low;
+      again = subst (λ (b : Base). StandsAgain (answer_in b.files) r.file r.names h.tree) (sym base)
+          (subst (λ (f : List ℕ). StandsAgain (answer_in s.base.files) f r.names h.tree) (sym file)
+          (subst (λ (ns : Names). StandsAgain (answer_in s.base.files) s.file ns h.tree) (sym names) h.again));
+      proper = subst (λ (ns : Names). StaysProper ns h.tree) (sym names) h.proper;
+      counted = subst (λ (b : Base). HasCounted rate b h.tree) (sym base) h.counted;
+      held = subst (λ (n : Net). NetHeld r.file r.names r.states h.tree n) (sym net)
+          (subst (λ (f : List ℕ). NetHeld f r.names r.states h.tree s.net) (sym file)
+          (subst (λ (ns : Names). NetHeld s.file ns r.states h.tree s.net) (sym names)
+          (subst (λ (f : ℕ → Option State). NetHeld s.file s.names f h.tree s.net) (sym states) h.held)));
+    }
+
     -- clocks
     fired_good : (s : Stage) (c : Clock) → c.time ≤ most → IsGood most s → IsGood most (with_fired (with_taken s (taken_off s.clocks)) c.time)
     fired_good s c l h = record {
       steady = fired_steady g most top s c l h.steady;
-      at = record {
-        web = h.at.web;
-        links = h.at.links;
-        orders = h.at.orders;
-        net = ap (λ (n : block.Net). block.with_clocks n (taken_off s.clocks)) h.at.net;
-        rewires = h.at.rewires;
-      };
-      names = h.names;
-      contents = h.contents;
-      fit = h.fit;
+      stands = same_stands s (with_fired (with_taken s (taken_off s.clocks)) c.time) refl refl refl refl refl h.stands;
     }
 
     fires_lead : (s : Stage) (c : Clock) → c.time ≤ most → Leads s (fires s c)
@@ -271,22 +486,39 @@ module _ (p : Patch) (table : Names) (ks : List ℕ) (t : Tree) (low : deep t.bo
     clocks_lead (suc n) limit s l =
         clock_leads s (fires_below n limit) limit (next_clock limit s.clocks) l (below_limit limit (first_clock s.clocks)) (λ r. clocks_lead n limit r l)
 
-    -- blocks
-    sounds_lead : (s : Stage) → s.block_end ≤ most → Leads s (block_sounds s)
+    -- blocks: the blocks of outlets are others, which no patch that stands is asked for
+    played_held : (s : Stage) (h : IsStanding s) → NetHeld s.file s.names (block_sounds s).stage.states h.tree (block_sounds s).stage.net
     unfolding block_sounds
-    sounds_lead s low h l =
-        let steady : IsSteady most (block_sounds s).stage = sounds_steady g most top s low h.steady in
-        let at : IsStageOf p (block_sounds s).stage = sounds_of p s h.at in
+    played_held s h p tells =
+        let was : IsHeld s.file s.names s.states h.tree p =
+        h.held p (record { nodes = tells.nodes; boards = tells.boards; root = tells.root; web = tells.web; links = tells.links; orders = tells.orders; numbers = tells.numbers; owners = tells.owners }) in
         record {
-          stage = record {
-            steady = steady;
-            at = at;
-            names = h.names;
-            contents = block_kept (IsWritten p.grove) (counts_of (kinds_of p)) s.names (block_net s) (s.block_end - block_units) (sound_at s) h.contents;
-            fit = h.fit;
-          };
-          found = tt;
+          stands = was.stands;
+          fit = was.fit;
+          holds = was.holds;
+          owners = was.owners;
+          contents = block_kept (IsWritten p.grove) (counts_of (kinds_of p)) s.names (block_net s) (s.block_end - block_units) (sound_at s) was.contents;
         }
+
+    sounds_lead : (s : Stage) → s.block_end ≤ most → Leads s (block_sounds s)
+    unfolding block_sounds played_held
+    sounds_lead s low h l = record {
+      stage = record {
+        steady = sounds_steady g most top s low h.steady;
+        stands = record {
+          file = h.stands.file;
+          rates = h.stands.rates;
+          six = h.stands.six;
+          tree = h.stands.tree;
+          low = h.stands.low;
+          again = h.stands.again;
+          proper = h.stands.proper;
+          counted = h.stands.counted;
+          held = played_held s h.stands;
+        };
+      };
+      found = tt;
+    }
 
     block_leads : (s : Stage) → s.block_end ≤ most → Leads s (block_runs s)
     block_leads s low =
@@ -305,13 +537,7 @@ module _ (p : Patch) (table : Names) (ks : List ℕ) (t : Tree) (low : deep t.bo
     -- to a time
     timed_leads : (to : ℕ) (s : Stage) → to ≤ most → Leads s (time_is to s)
     timed_leads to s low h l = record {
-      stage = record {
-        steady = timed_steady g most top s to low h.steady;
-        at = record { web = h.at.web; links = h.at.links; orders = h.at.orders; net = h.at.net; rewires = h.at.rewires };
-        names = h.names;
-        contents = h.contents;
-        fit = h.fit;
-      };
+      stage = record { steady = timed_steady g most top s to low h.steady; stands = same_stands s (time_is to s).stage refl refl refl refl refl h.stands };
       found = tt;
     }
 
@@ -347,10 +573,17 @@ module _ (p : Patch) (table : Names) (ks : List ℕ) (t : Tree) (low : deep t.bo
     named_good : (s : Stage) (names : Names) → Extends s.names names → IsGood most s → IsGood most (with_names s names)
     named_good s names x h = record {
       steady = named_steady most s names h.steady x;
-      at = record { web = h.at.web; links = h.at.links; orders = h.at.orders; net = h.at.net; rewires = h.at.rewires };
-      names = onward table s.names names h.names x;
-      contents = all_more (IsWritten p.grove) (counts_of (kinds_of p)) s.names names x s.states h.contents;
-      fit = h.fit;
+      stands = record {
+        file = h.stands.file;
+        rates = h.stands.rates;
+        six = six_more s.names names x h.stands.six;
+        tree = h.stands.tree;
+        low = h.stands.low;
+        again = again_on s names h.stands x;
+        proper = proper_on s names h.stands x;
+        counted = h.stands.counted;
+        held = held_on s names s.states h.stands x (λ p c. all_more (IsWritten p.grove) (counts_of (kinds_of p)) s.names names x s.states c);
+      };
     }
 
     pub steps_lead : (xs : List Step) (s : Stage) → AreSteps most xs s → Leads s (steps_by own_ways xs s)
@@ -365,9 +598,9 @@ module _ (p : Patch) (table : Names) (ks : List ℕ) (t : Tree) (low : deep t.bo
         (steps_lead xs (step_by own_ways (Comes to) s).stage k.1)
 
     -- where a patch opens
-    pub opened_leads : (file : List ℕ) (ahead : List Choice) → Leads (first_stage file p table ahead) (opened file p table ahead)
-    opened_leads file ahead h l =
-        let s : Stage = first_stage file p table ahead in
+    pub opened_leads : (file : List ℕ) (p : Patch) (table : Names) (base : Base) (ahead : List Choice) → Leads (first_stage file p table base ahead) (opened file p table base ahead)
+    opened_leads file p table base ahead h l =
+        let s : Stage = first_stage file p table base ahead in
         let b : Beginning = Loading (loads_among p.grove (keys_in_order p.grove)) in
         let e : EndsWell most (event s b) = event_leads s b (λ x. tt) h l in
         record { stage = e.stage; found = e.found }
@@ -386,33 +619,33 @@ module _ (p : Patch) (table : Names) (ks : List ℕ) (t : Tree) (low : deep t.bo
   same_most : (n : ℕ) → n + block_units ≤ n + block_units
   same_most n = omega arith
 
-  pub last_found : (g : Guards) (asks : AsksAlike) (six : 6 ≤ length table) (most : ℕ) → most + block_units ≤ 2 ^ 101 → (r : Stage) → IsGood most r → AreFair (finished_by own_ways r).edits
+  pub last_found : (g : Guards) (most : ℕ) → most + block_units ≤ 2 ^ 101 → (r : Stage) → IsGood most r → AreFair (finished_by own_ways r).edits
       → AreFound (most + block_units) (finished_by own_ways r).edits
-  last_found g asks six most top r h l =
-      (same_leads g asks six (most + block_units) top r (finished_by own_ways r) (finished r) (finished_own r)
-      (finished_leads g asks six (most + block_units) top r most h.steady.time (same_most most)) (good_longer most (most + block_units) (one_block most) r h) l).found
+  last_found g most top r h l =
+      (same_leads g (most + block_units) top r (finished_by own_ways r) (finished r) (finished_own r)
+      (finished_leads g (most + block_units) top r most h.steady.time (same_most most)) (good_longer most (most + block_units) (one_block most) r h) l).found
 
   -- two parts, the second of which may be longer
   pub both_found : (most more : ℕ) → most ≤ more → (a b : List Taken) → AreFound most a → AreFound more b → AreFound more (a ++ b)
   both_found most more l a b h k = all-append (λ t. IsGood more t.found) a b (longer_found most more l a h) k
 
   -- opening, and then steps
-  pub steps_found : (g : Guards) (asks : AsksAlike) (six : 6 ≤ length table) (file : List ℕ) (ahead : List Choice) (xs : List Step) (most : ℕ) → most ≤ 2 ^ 101
-      → IsGood most (first_stage file p table ahead) → AreSteps most xs (opened file p table ahead).stage → AreFair (followed_by (opened file p table ahead) (steps_by own_ways xs)).edits
-      → EndsWell most (followed_by (opened file p table ahead) (steps_by own_ways xs))
-  steps_found g asks six file ahead xs most low h k l =
-      followed g asks six most low (first_stage file p table ahead) (opened file p table ahead) (steps_by own_ways xs) (opened_leads g asks six most low file ahead)
-      (steps_lead g asks six most low xs (opened file p table ahead).stage k) h l
+  pub steps_found : (g : Guards) (file : List ℕ) (p : Patch) (table : Names) (base : Base) (ahead : List Choice) (xs : List Step) (most : ℕ) → most ≤ 2 ^ 101
+      → IsGood most (first_stage file p table base ahead) → AreSteps most xs (opened file p table base ahead).stage
+      → AreFair (followed_by (opened file p table base ahead) (steps_by own_ways xs)).edits → EndsWell most (followed_by (opened file p table base ahead) (steps_by own_ways xs))
+  steps_found g file p table base ahead xs most low h k l =
+      followed g most low (first_stage file p table base ahead) (opened file p table base ahead) (steps_by own_ways xs) (opened_leads g most low file p table base ahead)
+      (steps_lead g most low xs (opened file p table base ahead).stage k) h l
 
-  pub run_found : (g : Guards) (asks : AsksAlike) (six : 6 ≤ length table) (file : List ℕ) (ahead : List Choice) (xs : List Step) (most : ℕ) → most + block_units ≤ 2 ^ 101
-      → IsGood most (first_stage file p table ahead) → AreSteps most xs (opened file p table ahead).stage → AreFair (run_by own_ways file p table ahead xs).edits
-      → AreFound (most + block_units) (run_by own_ways file p table ahead xs).edits
-  run_found g asks six file ahead xs most top h k l =
-      let o : Passage = opened file p table ahead in
+  pub run_found : (g : Guards) (file : List ℕ) (p : Patch) (table : Names) (base : Base) (ahead : List Choice) (xs : List Step) (most : ℕ) → most + block_units ≤ 2 ^ 101
+      → IsGood most (first_stage file p table base ahead) → AreSteps most xs (opened file p table base ahead).stage → AreFair (run_by own_ways file p table base ahead xs).edits
+      → AreFound (most + block_units) (run_by own_ways file p table base ahead xs).edits
+  run_found g file p table base ahead xs most top h k l =
+      let o : Passage = opened file p table base ahead in
       let b : Passage = followed_by o (steps_by own_ways xs) in
       let last : Passage = finished_by own_ways b.stage in
       let low : most ≤ 2 ^ 101 = in_time most top in
       let first : EndsWell most b =
-      steps_found g asks six file ahead xs most low h k (fair_first b.edits last.edits l) in
+      steps_found g file p table base ahead xs most low h k (fair_first b.edits last.edits l) in
       both_found most (most + block_units) (one_block most) b.edits last.edits first.found
-      (last_found g asks six most top b.stage first.stage (fair_second b.edits last.edits l))
+      (last_found g most top b.stage first.stage (fair_second b.edits last.edits l))

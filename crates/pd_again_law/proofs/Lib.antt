@@ -1,4 +1,3 @@
-pub mod FewLemmas
 pub mod HeldLemmas
 pub mod FoundLemmas
 pub mod AgainLemmas

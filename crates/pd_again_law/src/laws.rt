@@ -4,26 +4,24 @@ ghost use Rattle.pd_io.specs.declared.files.FileRow.{FileRow};
 ghost use Rattle.pd_atom.specs.Names.{Names, IsTable};
 ghost use Rattle.pd_canvas.specs.Pages.{Page};
 ghost use Rattle.pd_clock.specs.declared.times.Rate.{Rate};
-ghost use Rattle.pd_doc.specs.Writing.{text_of};
 ghost use Rattle.pd_patch.specs.declared.patch.Patch.{Patch};
-ghost use Rattle.pd_patch.specs.Document.{present_document};
 ghost use Rattle.pd_reload_law.specs.Wires.{StandOnce};
-ghost use Rattle.pd_stage.specs.Choices.{Choice};
+ghost use Rattle.pd_stage.specs.Choices.{Base, Choice};
 ghost use Rattle.pd_stage.specs.Lawful.{StandsAt, AreLawful};
 ghost use Rattle.pd_stage.specs.Stages.{followed_by};
 ghost use Rattle.pd_stage.specs.Times.{block_units};
 ghost use Rattle.pd_engine.specs.Opening.{Grows, opened};
 ghost use Rattle.pd_steady.specs.Runs.{own_ways};
 ghost use Rattle.pd_steady.specs.Steps.{Step, AreSteps, steps_by, run_by};
-ghost use Rattle.pd_again_law.specs.Again.{OpensAgain, AreAgain};
+ghost use Rattle.pd_again_law.specs.Again.{Reopens, AreAgain};
 
-/// In a run in which each edit is lawful, from where a patch opens to its end, each save puts a text that opens again as the patch that was
-/// saved.
+/// In a run in which each edit is lawful, from where a patch opens to its end, whatever wires and boxes come, each save puts a text that opens again
+/// as the patch that was saved.
 pub fn saves_open_again()
-    ensures { (holds : Option (List FileRow)) (name : List ℕ) (rate : Rate) (d : Page) (names table : Names) (p : Patch) (most : ℕ) (steps : List Step)
-        (ahead : List Choice) → (grows : Grows holds name rate d names p table) → most + block_units ≤ 2 ^ 101 →
-        AreSteps most steps (opened name p table ahead).stage → AreLawful (run_by own_ways name p table ahead steps).edits →
-        AreAgain grows.files.files name rate grows.tree.tree (run_by own_ways name p table ahead steps).edits }
+    ensures { (holds : Option (List FileRow)) (name : List ℕ) (rate : Rate) (d : Page) (names table : Names) (p : Patch) (base : Base) (most : ℕ)
+        (steps : List Step) (ahead : List Choice) → Grows holds name rate d names p table base → most + block_units ≤ 2 ^ 101 →
+        AreSteps most steps (opened name p table base ahead).stage → AreLawful (run_by own_ways name p table base ahead steps).edits →
+        AreAgain name rate (run_by own_ways name p table base ahead steps).edits }
 {
     pd_guards::delivery_passes_nothing_over();
     pd_guards::messages_keep_values();
@@ -32,18 +30,17 @@ pub fn saves_open_again()
     pd_guards::blocks_stay_in_order();
     pd_guards::commands_begin_in_order();
     pd_steady::opening_is_steady();
-    pd_wiring::rewiring_asks_alike();
     pd_reload_law::documents_tell_trees();
     pd_doc::written_read();
 }
 
 /// In such a run a patch that stands anywhere between two steps has a text that opens again as that patch, also where nothing is saved.
 pub fn stages_open_again()
-    ensures { (holds : Option (List FileRow)) (name : List ℕ) (rate : Rate) (d : Page) (names table : Names) (p : Patch) (most : ℕ) (steps : List Step)
-        (ahead : List Choice) → (grows : Grows holds name rate d names p table) → most ≤ 2 ^ 101 → AreSteps most steps (opened name p table ahead).stage →
-        let run = followed_by (opened name p table ahead) (steps_by own_ways steps) in
-        AreLawful run.edits → (q : Patch) → StandsAt q run.stage → IsTable run.stage.names → StandOnce q.web →
-        OpensAgain grows.files.files name rate grows.tree.tree q run.stage.names (text_of run.stage.names (present_document q)) }
+    ensures { (holds : Option (List FileRow)) (name : List ℕ) (rate : Rate) (d : Page) (names table : Names) (p : Patch) (base : Base) (most : ℕ)
+        (steps : List Step) (ahead : List Choice) → Grows holds name rate d names p table base → most ≤ 2 ^ 101 →
+        AreSteps most steps (opened name p table base ahead).stage →
+        let run = followed_by (opened name p table base ahead) (steps_by own_ways steps) in
+        AreLawful run.edits → (q : Patch) → StandsAt q run.stage → IsTable run.stage.names → StandOnce q.web → Reopens name rate run.stage q }
 {
     pd_guards::delivery_passes_nothing_over();
     pd_guards::messages_keep_values();
@@ -52,7 +49,6 @@ pub fn stages_open_again()
     pd_guards::blocks_stay_in_order();
     pd_guards::commands_begin_in_order();
     pd_steady::opening_is_steady();
-    pd_wiring::rewiring_asks_alike();
     pd_reload_law::documents_tell_trees();
     pd_doc::written_read();
 }

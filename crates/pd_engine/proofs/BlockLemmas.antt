@@ -13,7 +13,7 @@ use Rattle.pd_io.specs.declared.files.FileRow.{FileRow}
 use Rattle.pd_mix.specs.Samples.{block_bytes}
 use Rattle.pd_made.specs.declared.tally.Tally.{Tally}
 use Rattle.pd_made.specs.Tallies.{tallied}
-use Rattle.pd_stage.specs.Choices.{Choice}
+use Rattle.pd_stage.specs.Choices.{Base, Choice}
 use Rattle.pd_stage.specs.Stages.{Stage, with_ahead}
 use Rattle.pd_stage.specs.Leads.{sinks, Comes, Stops}
 use Rattle.pd_stage.specs.Times.{with_blocks, with_played, played_at, block_sounds}
@@ -49,13 +49,14 @@ played_net p p' x same blocks =
       end = (net_of p).end;
     }) blocks
 
-abbrev stage : List ℕ → Net → (ℕ → Option State) → List Clock → Names → ℕ → ℕ → ℕ → Tally → List Choice → Stage
-stage file net states clocks names time block_end fired tally ahead = record {
+abbrev stage : List ℕ → Net → (ℕ → Option State) → List Clock → Names → Base → ℕ → ℕ → ℕ → Tally → List Choice → Stage
+stage file net states clocks names base time block_end fired tally ahead = record {
   file = file;
   net = net;
   states = states;
   clocks = clocks;
   names = names;
+  base = base;
   time = time;
   block_end = block_end;
   fired = fired;
@@ -63,20 +64,21 @@ stage file net states clocks names time block_end fired tally ahead = record {
   ahead = ahead;
 }
 
-pub played_stage : (s s' : Stage) (x : Played) → s'.file ≡ s.file → s'.net ≡ with_blocks s.net x → s'.states ≡ x.sound.states → s'.clocks ≡ s.clocks → s'.names ≡ s.names
+pub played_stage : (s s' : Stage) (x : Played) → s'.file ≡ s.file → s'.net ≡ with_blocks s.net x → s'.states ≡ x.sound.states → s'.clocks ≡ s.clocks → s'.names ≡ s.names → s'.base ≡ s.base
     → s'.time ≡ max s.time s.block_end → s'.block_end ≡ min (s.block_end + 64000000000) 340282366920938463463374607431768211455 → s'.fired ≡ 0
     → s'.tally ≡ tallied s.tally (block_bytes x.out) → s'.ahead ≡ s.ahead → s' ≡ with_played s x
-played_stage s s' x file net states clocks names time block_end fired tally ahead =
-    ap (λ (l : List ℕ). stage l s'.net s'.states s'.clocks s'.names s'.time s'.block_end s'.fired s'.tally s'.ahead) file
-    ∙ ap (λ (n : Net). stage s.file n s'.states s'.clocks s'.names s'.time s'.block_end s'.fired s'.tally s'.ahead) net
-    ∙ ap (λ (f : ℕ → Option State). stage s.file (with_blocks s.net x) f s'.clocks s'.names s'.time s'.block_end s'.fired s'.tally s'.ahead) states
-    ∙ ap (λ (c : List Clock). stage s.file (with_blocks s.net x) x.sound.states c s'.names s'.time s'.block_end s'.fired s'.tally s'.ahead) clocks
-    ∙ ap (λ (n : Names). stage s.file (with_blocks s.net x) x.sound.states s.clocks n s'.time s'.block_end s'.fired s'.tally s'.ahead) names
-    ∙ ap (λ (t : ℕ). stage s.file (with_blocks s.net x) x.sound.states s.clocks s.names t s'.block_end s'.fired s'.tally s'.ahead) time
-    ∙ ap (λ (t : ℕ). stage s.file (with_blocks s.net x) x.sound.states s.clocks s.names (max s.time s.block_end) t s'.fired s'.tally s'.ahead) block_end
-    ∙ ap (λ (n : ℕ). stage s.file (with_blocks s.net x) x.sound.states s.clocks s.names (max s.time s.block_end) (min (s.block_end + 64000000000) 340282366920938463463374607431768211455) n s'.tally s'.ahead) fired
-    ∙ ap (λ (t : Tally). stage s.file (with_blocks s.net x) x.sound.states s.clocks s.names (max s.time s.block_end) (min (s.block_end + 64000000000) 340282366920938463463374607431768211455) 0 t s'.ahead) tally
-    ∙ ap (λ (a : List Choice). stage s.file (with_blocks s.net x) x.sound.states s.clocks s.names (max s.time s.block_end) (min (s.block_end + 64000000000) 340282366920938463463374607431768211455) 0 (tallied s.tally (block_bytes x.out)) a) ahead
+played_stage s s' x file net states clocks names base time block_end fired tally ahead =
+    ap (λ (l : List ℕ). stage l s'.net s'.states s'.clocks s'.names s'.base s'.time s'.block_end s'.fired s'.tally s'.ahead) file
+    ∙ ap (λ (n : Net). stage s.file n s'.states s'.clocks s'.names s'.base s'.time s'.block_end s'.fired s'.tally s'.ahead) net
+    ∙ ap (λ (f : ℕ → Option State). stage s.file (with_blocks s.net x) f s'.clocks s'.names s'.base s'.time s'.block_end s'.fired s'.tally s'.ahead) states
+    ∙ ap (λ (c : List Clock). stage s.file (with_blocks s.net x) x.sound.states c s'.names s'.base s'.time s'.block_end s'.fired s'.tally s'.ahead) clocks
+    ∙ ap (λ (n : Names). stage s.file (with_blocks s.net x) x.sound.states s.clocks n s'.base s'.time s'.block_end s'.fired s'.tally s'.ahead) names
+    ∙ ap (λ (b : Base). stage s.file (with_blocks s.net x) x.sound.states s.clocks s.names b s'.time s'.block_end s'.fired s'.tally s'.ahead) base
+    ∙ ap (λ (t : ℕ). stage s.file (with_blocks s.net x) x.sound.states s.clocks s.names s.base t s'.block_end s'.fired s'.tally s'.ahead) time
+    ∙ ap (λ (t : ℕ). stage s.file (with_blocks s.net x) x.sound.states s.clocks s.names s.base (max s.time s.block_end) t s'.fired s'.tally s'.ahead) block_end
+    ∙ ap (λ (n : ℕ). stage s.file (with_blocks s.net x) x.sound.states s.clocks s.names s.base (max s.time s.block_end) (min (s.block_end + 64000000000) 340282366920938463463374607431768211455) n s'.tally s'.ahead) fired
+    ∙ ap (λ (t : Tally). stage s.file (with_blocks s.net x) x.sound.states s.clocks s.names s.base (max s.time s.block_end) (min (s.block_end + 64000000000) 340282366920938463463374607431768211455) 0 t s'.ahead) tally
+    ∙ ap (λ (a : List Choice). stage s.file (with_blocks s.net x) x.sound.states s.clocks s.names s.base (max s.time s.block_end) (min (s.block_end + 64000000000) 340282366920938463463374607431768211455) 0 (tallied s.tally (block_bytes x.out)) a) ahead
 
 -- its samples were taken
 pub block_comes : (s s' : Stage) (t u u' : Option (List ℕ)) (k : ℕ) (h : Option (List FileRow)) (f : ℕ) → s' ≡ with_played s (played_at s) → u' ≡ grown u (block_bytes (played_at s).out)

@@ -12,7 +12,7 @@ use Rattle.pd_patch.specs.declared.patch.Patch.{Patch}
 use Rattle.pd_patch.specs.Walking.{RestStays, AllButTime}
 use Rattle.pd_hearing.specs.Worlds.{Net, net_of, states_of}
 use Rattle.pd_hearing.proofs.WorldLemmas.{clocks-net}
-use Rattle.pd_stage.specs.Choices.{Choice}
+use Rattle.pd_stage.specs.Choices.{Base, Choice}
 use Rattle.pd_stage.specs.Stages.{Stage, Passage, choices_of, still, with_ahead, followed_by}
 use Rattle.pd_stage.specs.Leads.{Sinks, Leads, BreaksOff, Comes, Stops}
 use Rattle.pd_stage.specs.Events.{event, Firing}
@@ -92,13 +92,14 @@ unfolding fires_below
 fires_no_more n limit s is = rw is refl
 
 -- where a patch stands
-abbrev pub stage_with : List ℕ → Patch → Names → ℕ → ℕ → ℕ → Tally → List Choice → Stage
-stage_with file p names time block_end fired tally ahead = record {
+abbrev pub stage_with : List ℕ → Patch → Names → Base → ℕ → ℕ → ℕ → Tally → List Choice → Stage
+stage_with file p names base time block_end fired tally ahead = record {
   file = file;
   net = net_of p;
   states = states_of p;
   clocks = p.timers.clocks.clocks;
   names = names;
+  base = base;
   time = time;
   block_end = block_end;
   fired = fired;
@@ -107,13 +108,14 @@ stage_with file p names time block_end fired tally ahead = record {
 }
 
 -- a clock was taken off the patch
-abbrev parted : List ℕ → Net → Grove → List Clock → Names → ℕ → ℕ → ℕ → Tally → List Choice → Stage
-parted file net grove clocks names time block_end fired tally ahead = record {
+abbrev parted : List ℕ → Net → Grove → List Clock → Names → Base → ℕ → ℕ → ℕ → Tally → List Choice → Stage
+parted file net grove clocks names base time block_end fired tally ahead = record {
   file = file;
   net = net;
   states = λ k. state_in (get grove.nodes k);
   clocks = clocks;
   names = names;
+  base = base;
   time = time;
   block_end = block_end;
   fired = fired;
@@ -121,17 +123,17 @@ parted file net grove clocks names time block_end fired tally ahead = record {
   ahead = ahead;
 }
 
-pub clocks_taken : (p p' : Patch) (file : List ℕ) (names : Names) (time block_end fired : ℕ) (tally : Tally) (ahead : List Choice) (cs : List Clock) → p'.grove ≡ p.grove → RestStays p p' → p'.timers.end ≡ p.timers.end
-    → p'.timers.clocks.clocks ≡ cs → stage_with file p' names time block_end fired tally ahead ≡ with_taken (stage_with file p names time block_end fired tally ahead) cs
-clocks_taken p p' file names time block_end fired tally ahead cs grove rest end is =
-    ap (λ (n : Net). parted file n p'.grove p'.timers.clocks.clocks names time block_end fired tally ahead) (clocks-net p p' grove rest end)
-    ∙ ap (λ (g : Grove). parted file (net_of p) g p'.timers.clocks.clocks names time block_end fired tally ahead) grove
-    ∙ ap (λ (c : List Clock). parted file (net_of p) p.grove c names time block_end fired tally ahead) is
+pub clocks_taken : (p p' : Patch) (file : List ℕ) (names : Names) (base : Base) (time block_end fired : ℕ) (tally : Tally) (ahead : List Choice) (cs : List Clock) → p'.grove ≡ p.grove → RestStays p p' → p'.timers.end ≡ p.timers.end
+    → p'.timers.clocks.clocks ≡ cs → stage_with file p' names base time block_end fired tally ahead ≡ with_taken (stage_with file p names base time block_end fired tally ahead) cs
+clocks_taken p p' file names base time block_end fired tally ahead cs grove rest end is =
+    ap (λ (n : Net). parted file n p'.grove p'.timers.clocks.clocks names base time block_end fired tally ahead) (clocks-net p p' grove rest end)
+    ∙ ap (λ (g : Grove). parted file (net_of p) g p'.timers.clocks.clocks names base time block_end fired tally ahead) grove
+    ∙ ap (λ (c : List Clock). parted file (net_of p) p.grove c names base time block_end fired tally ahead) is
 
 -- the time of the event was set
-pub now_set : (p p' : Patch) (file : List ℕ) (names : Names) (time block_end fired : ℕ) (tally : Tally) (ahead : List Choice) → AllButTime p p'
-    → stage_with file p' names time block_end fired tally ahead ≡ stage_with file p names time block_end fired tally ahead
-now_set p p' file names time block_end fired tally ahead h =
+pub now_set : (p p' : Patch) (file : List ℕ) (names : Names) (base : Base) (time block_end fired : ℕ) (tally : Tally) (ahead : List Choice) → AllButTime p p'
+    → stage_with file p' names base time block_end fired tally ahead ≡ stage_with file p names base time block_end fired tally ahead
+now_set p p' file names base time block_end fired tally ahead h =
     let q : Patch = record {
       grove = p'.grove;
       web = p'.web;
@@ -144,7 +146,7 @@ now_set p p' file names time block_end fired tally ahead h =
       rate = p'.rate;
       present = p.present;
     } in
-    clocks_taken p q file names time block_end fired tally ahead p.timers.clocks.clocks h.tree
+    clocks_taken p q file names base time block_end fired tally ahead p.timers.clocks.clocks h.tree
     (record { web = h.web; names = h.names; links = h.links; orders = h.orders; numbers = h.numbers; values = h.values; rate = h.rate; present = refl })
     (ap (λ t. t.end) h.timers) (ap (λ t. t.clocks.clocks) h.timers)
 
@@ -166,6 +168,7 @@ timed s time fired = record {
   states = s.states;
   clocks = s.clocks;
   names = s.names;
+  base = s.base;
   time = time;
   block_end = s.block_end;
   fired = fired;

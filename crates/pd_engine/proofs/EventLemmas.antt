@@ -35,9 +35,9 @@ final_is : (s : Stage) (st : Start) (q : Waiting) (b : Budget) → q ≡ [] → 
 final_is s st q b none whole =
     ap (λ (w : World Kept). outcome s.net s.time w st) (from_is s q b none whole) ∙ outcome_is s.net s.time (begun s) st
 
-stays : (s s' : Stage) (q : Waiting) → s'.file ≡ s.file → s'.net ≡ s.net → s'.time ≡ s.time → s'.block_end ≡ s.block_end → s'.fired ≡ s.fired → s'.tally ≡ s.tally
+stays : (s s' : Stage) (q : Waiting) → s'.file ≡ s.file → s'.net ≡ s.net → s'.base ≡ s.base → s'.time ≡ s.time → s'.block_end ≡ s.block_end → s'.fired ≡ s.fired → s'.tally ≡ s.tally
     → (more : List Choice) → with_ahead s' more ≡ with_kept (with_ahead s more) (record { states = s'.states; clocks = s'.clocks; names = s'.names; queue = q })
-stays s s' q file net time block_end fired tally more = rw (file, net, time, block_end, fired, tally) refl
+stays s s' q file net base time block_end fired tally more = rw (file, net, base, time, block_end, fired, tally) refl
 
 -- what is kept at a stage, with the edits that wait
 abbrev kept_with : Stage → Waiting → Kept
@@ -45,14 +45,14 @@ kept_with s queue = record { states = s.states; clocks = s.clocks; names = s.nam
 
 -- deliveries are done
 delivers : (s s' : Stage) (w : World Kept) (queue : Waiting) (t₁ t₂ u : Option (List ℕ)) (k : ℕ) (h : Option (List FileRow)) (f : ℕ) → kept_with s' queue ≡ w.kept → t₂ ≡ grown t₁ w.said
-    → s'.file ≡ s.file → s'.net ≡ s.net → s'.time ≡ s.time → s'.block_end ≡ s.block_end → s'.fired ≡ s.fired → s'.tally ≡ s.tally
+    → s'.file ≡ s.file → s'.net ≡ s.net → s'.base ≡ s.base → s'.time ≡ s.time → s'.block_end ≡ s.block_end → s'.fired ≡ s.fired → s'.tally ≡ s.tally
     → Comes (λ x. after_deliveries x w) (with_ahead s) (with_ahead s') (sinks t₁ u k h f) (sinks t₂ u k h f)
-delivers s s' w queue t₁ t₂ u k h f kept says file net time block_end fired tally = record {
+delivers s s' w queue t₁ t₂ u k h f kept says file net base time block_end fired tally = record {
   items = said w.said;
   edits = [];
   same = λ more.
       ap (λ (x : Kept). record { stage = with_kept (with_ahead s more) x; items = said w.said; edits = [] }) (sym kept)
-      ∙ ap (λ (r : Stage). record { stage = r; items = said w.said; edits = [] }) (sym (stays s s' queue file net time block_end fired tally more))
+      ∙ ap (λ (r : Stage). record { stage = r; items = said w.said; edits = [] }) (sym (stays s s' queue file net base time block_end fired tally more))
       ∙ ap (λ (i : List Item). record { stage = with_ahead s' more; items = i; edits = [] }) (sym (append-nil (said w.said)));
   took = took_said t₁ t₂ u k h f w.said says;
   lawful = tt;
@@ -65,12 +65,12 @@ module _ (s s' : Stage) (st : Start) (q queue : Waiting) (b budget : Budget) (t�
   w = delivered s (beginning_of st)
 
   module _ (left : IsLeft (kept_with s' queue) budget t₁ t₂ (outcome s.net s.time (from s q b) st))
-      (file : s'.file ≡ s.file) (net : s'.net ≡ s.net) (time : s'.time ≡ s.time) (block_end : s'.block_end ≡ s.block_end) (fired : s'.fired ≡ s.fired) (tally : s'.tally ≡ s.tally) where
+      (file : s'.file ≡ s.file) (net : s'.net ≡ s.net) (base : s'.base ≡ s.base) (time : s'.time ≡ s.time) (block_end : s'.block_end ≡ s.block_end) (fired : s'.fired ≡ s.fired) (tally : s'.tally ≡ s.tally) where
     kept : kept_with s' queue ≡ w.kept
     kept = left.kept_is ∙ ap (λ (v : World Kept). v.kept) (final_is s st q b none whole)
 
     comes : Comes (λ x. after_deliveries x w) (with_ahead s) (with_ahead s') (sinks t₁ u k h f) (sinks t₂ u k h f)
-    comes = delivers s s' w queue t₁ t₂ u k h f kept (left.said ∙ ap (λ (v : World Kept). grown t₁ v.said) (final_is s st q b none whole)) file net time block_end fired tally
+    comes = delivers s s' w queue t₁ t₂ u k h f kept (left.said ∙ ap (λ (v : World Kept). grown t₁ v.said) (final_is s st q b none whole)) file net base time block_end fired tally
 
     asked : queue ≡ w.kept.queue
     asked = ap (λ (x : Kept). x.queue) kept

@@ -9,3 +9,9 @@ pub mod SavingLemmas
 pub mod ShowLemmas
 pub mod TimeLemmas
 pub mod WholeLemmas
+pub mod ComingLemmas
+pub mod PutLemmas
+pub mod TreeLemmas
+pub mod ProperLemmas
+pub mod PuttingLemmas
+pub mod FreshLemmas

@@ -1,9 +1,9 @@
 -- What an edit of the patch's own document comes to.
-use Rattle.std.proofs.Common.{◌≡◌, ◌≢◌, ◌≤◌, ◌+◌, ◌⊎◌, arith, nat_lt, cond, true, false, Bool, ℕ, List, [], ◌∷◌, refl, sym, ◌∙◌, ap, subst, inl, inr, Option, Some, None, Result, Ok, Err, OnErr, OnOk, IfOk}
+use Rattle.std.proofs.Common.{◌≡◌, ◌≢◌, ◌≤◌, ◌+◌, ◌⊎◌, ◌++◌, append_assoc, arith, nat_lt, cond, true, false, Bool, ℕ, List, [], ◌∷◌, refl, sym, ◌∙◌, ap, subst, inl, inr, Option, Some, None, Result, Ok, Err, OnErr, OnOk, IfOk}
 use Rattle.std.proofs.lemmas.Result.{on_err_weaker}
 use Rattle.pd_io.specs.Stream.{grown, TookPart}
 use Rattle.pd_io.specs.declared.files.FileRow.{FileRow}
-use Rattle.pd_atom.specs.Names.{Names}
+use Rattle.pd_atom.specs.Names.{Names, Extends}
 use Rattle.pd_canvas.specs.declared.edits.Edit.{Edit}
 use Rattle.pd_canvas.specs.declared.edits.Edit.TheVariants as edit
 use Rattle.pd_canvas.specs.declared.wires.Wire.{Wire}
@@ -11,32 +11,52 @@ use Rattle.slab.specs.Slab.{get}
 use Rattle.pd_grove.specs.declared.grove.Grove.{Grove}
 use Rattle.pd_grove.specs.Telling.{state_in}
 use Rattle.pd_queue.specs.Entries.{wire_edit}
+use Rattle.pd_script.specs.Edits.{puts_box}
+use Rattle.pd_boxes.specs.Put.{CanPut}
 use Rattle.pd_web.specs.declared.lines.Line.{Line}
 use Rattle.pd_web.specs.declared.web.Web.{Web}
 use Rattle.pd_web.specs.Changes.{wires_told}
+use Rattle.pd_web.proofs.CountLemmas.{same_are_as_many}
 use Rattle.pd_made.specs.declared.tally.Tally.{Tally}
 use Rattle.pd_patch.specs.declared.patch.Patch.{Patch}
+use Rattle.pd_say.proofs.GatheringLemmas.{grown-grown}
 use Rattle.pd_say.specs.Lines.{refusal_text}
+use Rattle.pd_say.specs.declared.refusals.Request.{Request}
 use Rattle.pd_say.specs.declared.refusals.Request.TheVariants as request
 use Rattle.pd_say.specs.declared.refusals.Why.{Why}
+use Rattle.pd_say.specs.declared.refusals.Why.TheVariants as why
 use Rattle.pd_wiring.specs.Changes.{CanRewire, SameButRoom, StaysButWire}
+use Rattle.pd_boxes.specs.Room.{SameButRoom as RoomSet}
+use Rattle.pd_adding.specs.Growing.{Added}
+use Rattle.pd_putting.specs.Adds.{AddsBox, IsBoxPut, IsNotPut, IsShortOfRoom}
+use Rattle.pd_putting.specs.declared.adding.NewBox.{NewBox}
+use Rattle.pd_gather.specs.Gather.{known}
+use Rattle.pd_library.specs.declared.answers.Answer.{Answer}
+use Rattle.pd_clock.specs.Queue.{Clock}
+use Rattle.pd_kind.specs.declared.states.State.{State}
 use Rattle.pd_wiring.specs.Plans.{Plan, Attaches, Detaches, planned, attaching, detaching, connecting, disconnecting, wire_found, refusal_by, IsCarriedOut, most_looks}
 use Rattle.pd_wiring.specs.declared.asking.WireRefusal.{WireRefusal}
 use Rattle.pd_wiring.specs.declared.asking.WireRefusal.TheVariants as wire
 use Rattle.pd_wiring.specs.declared.refusals.EditRefusal.{EditRefusal}
 use Rattle.pd_wiring.specs.declared.refusals.EditRefusal.TheVariants as refusal
 use Rattle.pd_hearing.specs.Worlds.{net_of, states_of}
-use Rattle.pd_stage.specs.Choices.{Wanted, Edits, Saves, Undoes, Redoes, Made, Choice, text_of_choice, looks_of_choice, faults_of_choice, faults_of_why, request_of}
+use Rattle.pd_stage.specs.Choices.{Base, base_of, Wanted, Edits, Asks, Saves, Undoes, Redoes, Made, Choice, text_of_choice, looks_of_choice, faults_of_choice, faults_of_why, request_of}
 use Rattle.pd_stage.specs.Choices as stage
 use Rattle.pd_stage.specs.Stages.{Stage, Passage, still, with_ahead, after}
-use Rattle.pd_stage.specs.Lawful.{why_of, StandsAt, IsMade, MayCome}
-use Rattle.pd_stage.specs.Lines.{loops_text}
+use Rattle.pd_stage.specs.Lawful.{why_of, StandsAt, with_wire_count, IsMade, IsRewiringLawful, IsPutIn, IsPutLawful, MayCome}
+use Rattle.pd_stage.specs.Lines.{loops_text, put_text}
 use Rattle.pd_stage.specs.Leads.{Sinks, sinks, Took, Comes, Stops, Says, SaysPart}
 use Rattle.pd_stage.specs.Events.{edit_taken, stage_by, files_put, with_net}
 use Rattle.pd_stage.proofs.EditLemmas.{taken_at, took_looks, edit_logged_by, edit_stops_by}
 use Rattle.pd_engine.specs.declared.refusals.Outcome.{Outcome}
+use Rattle.pd_engine.specs.declared.refusals.Outcome.TheVariants.{Done}
 use Rattle.pd_engine.specs.Commands.{outcome_of, refused_as, first_outcome}
-use Rattle.pd_engine.specs.Edits.{Makes, Lacks, Refuses, EditsTo, edit_text, edit_outcome, IsTakenSo, IsEdited, IsAlwaysRefused}
+use Rattle.pd_engine.specs.Edits.{Makes, Lacks, Refuses, EditsTo, edit_text, edit_outcome, IsTakenSo, IsAlwaysRefused}
+use mathlib.Core.Logic.{∥∥₁_map}
+use Rattle.pd_adding.specs.declared.counts.Counts.{Counts}
+use Rattle.pd_adding.specs.Counts.{AreWithin}
+use Rattle.pd_stage.proofs.CountedLemmas.{edit_few}
+use Rattle.pd_engine.proofs.RewireLemmas.{IsKept, wired_kept}
 use Rattle.pd_engine.proofs.ClockLemmas.{stage_with}
 
 -- ---- one choice, and where it leads
@@ -174,7 +194,7 @@ is_wire_edit (edit.Delete n) f some = cc
 is_wire_edit (edit.Retype n text) f some = cc
 is_wire_edit (edit.Move n x y) f some = cc
 
-both_ok : {A E : Type 0} {P : Type 0} {Q R : A → Type 0} (r : Result A E) → ((a : A) → P → Q a → R a) → OnOk r P → IfOk r Q → IfOk r R
+pub both_ok : {A E : Type 0} {P : Type 0} {Q R : A → Type 0} (r : Result A E) → ((a : A) → P → Q a → R a) → OnOk r P → IfOk r Q → IfOk r R
 both_ok (Ok a) f p q = f a p q
 both_ok (Err e) f p q = tt
 
@@ -184,137 +204,222 @@ plan_stays : (plan : Plan) (p q : Patch) → IsCarriedOut plan p q → (source :
 plan_stays (Attaches c l) p q h = (l.source, h.rest)
 plan_stays (Detaches c key l) p q h = (l.source, h.rest)
 
-module _ (path : List ℕ) (e : Edit) (file : List ℕ) (names : Names) (time block_end fired : ℕ) (tally : Tally) where
-  abbrev at : Patch → List Choice → Stage
-  at p m = stage_with file p names time block_end fired tally m
+-- what an edit comes to that changes wires alone, or is none that is made
+no_edit : (e : EditRefusal) (plan : Plan) → ◌≡◌ {A = Result Plan EditRefusal} (Err e) (Ok plan) → ⊥
+no_edit e plan h = cc
 
-  abbrev wanted : Wanted
-  wanted = Edits None path e
+same_cause : (e f : EditRefusal) → ◌≡◌ {A = Result Plan EditRefusal} (Err e) (Err f) → e ≡ f
+same_cause e f h = cc
 
-  stands : (p : Patch) → CanRewire p → StandsAt p (at p [])
-  stands p rewires = record { net = refl; states = refl; rewires = rewires }
+unmade : (s : Stage) (path : List ℕ) (e : Edit) (c : Choice) → ((p : Patch) → planned p path e ≡ Err refusal.NoDocument) → IsRewiringLawful s path e c → c ≡ stage.Refuses why.NoDocument
+unmade s path e (stage.Refuses reason) none h =
+    ap (λ (w : Why). stage.Refuses w) (h.reason_is ∙ ap (λ (x : EditRefusal). why_of x) (sym (same_cause refusal.NoDocument h.cause (sym (none h.patch) ∙ h.is_planned))))
+unmade s path e (stage.Lacks net) none h = absurd (no_edit refusal.NoDocument h.plan (sym (none h.old) ∙ h.is_planned))
+unmade s path e (stage.Makes m) none h = absurd (no_edit refusal.NoDocument h.rewired.plan (sym (none h.old) ∙ h.rewired.is_planned))
+
+pub edit_may : (s : Stage) (path : List ℕ) (e : Edit) (c : Choice) → puts_box e ≡ false → IsRewiringLawful s path e c → MayCome (Edits None path e) s c
+edit_may s path (edit.Connect v) c none h = h
+edit_may s path (edit.Disconnect v) c none h = h
+edit_may s path (edit.Delete n) c none h = unmade s path (edit.Delete n) c (λ p. refl) h
+edit_may s path (edit.Retype n text) c none h = unmade s path (edit.Retype n text) c (λ p. refl) h
+edit_may s path (edit.Move n x y) c none h = unmade s path (edit.Move n x y) c (λ p. refl) h
+edit_may s path (edit.Obj x y text) c none h = cc
+edit_may s path (edit.Msg x y text) c none h = cc
+edit_may s path (edit.Comment x y text) c none h = cc
+edit_may s path (edit.FloatBox x y text) c none h = cc
+edit_may s path (edit.SymbolBox x y text) c none h = cc
+edit_may s path (edit.Sub x y name) c none h = cc
+
+pub outcome_by : (c : EditRefusal) → refused_as (why_of c) ≡ edit_outcome (Err c)
+outcome_by refusal.NoDocument = refl
+outcome_by refusal.NoCanvas = refl
+outcome_by (refusal.NoBox n) = refl
+outcome_by (refusal.NoPort n p o) = refl
+outcome_by refusal.NoWire = refl
+outcome_by refusal.SignalIntoControl = refl
+outcome_by refusal.TextTooLong = refl
+outcome_by refusal.TooDeep = refl
+outcome_by refusal.ShelfFault = refl
+outcome_by refusal.SymbolsFull = refl
+outcome_by refusal.TooManyBoxes = refl
+outcome_by refusal.TooManyWires = refl
+outcome_by refusal.TooMuchSound = refl
+outcome_by refusal.NoMemory = refl
+
+-- an edit by which wires alone may change, and which is told as an edit
+pub record IsWireEdit (wanted : Wanted) (path : List ℕ) (e : Edit) : Type 0 where
+  pub may : (s : Stage) (c : Choice) → IsRewiringLawful s path e c → MayCome wanted s c
+  pub request : request_of wanted ≡ request.Edit
+
+pub asks : (path : List ℕ) (e : Edit) → IsWireEdit (Asks path e) path e
+asks path e = record { may = λ s c h. h; request = refl }
+
+pub edits : (path : List ℕ) (e : Edit) → puts_box e ≡ false → IsWireEdit (Edits None path e) path e
+edits path e none = record { may = λ s c h. edit_may s path e c none h; request = refl }
+
+module _ (wanted : Wanted) (path : List ℕ) (e : Edit) (is : IsWireEdit wanted path e) (file : List ℕ) (names : Names) (base : Base) (time block_end fired : ℕ) (tally : Tally)
+    (old new : Patch) (wires : ℕ) (was : base.counts.wires ≡ wires_told old.web) (now_is : wires ≡ wires_told new.web) where
+  abbrev at : Patch → Base → List Choice → Stage
+  at p b m = stage_with file p names b time block_end fired tally m
+
+  abbrev counted : Base
+  counted = with_wire_count base wires
+
+  stands : CanPut old → StandsAt old (at old base [])
+  stands puts = record { net = refl; states = refl; puts = puts }
 
   -- it was made
-  abbrev made : (old new : Patch) (canvas looks looks' : ℕ) → Makes old new path e canvas looks looks' → Made
-  made old new canvas looks looks' d = record {
+  abbrev made : (canvas looks looks' : ℕ) → Makes old new path e canvas looks looks' → Made
+  made canvas looks looks' d = record {
     net = net_of new;
     states = states_of new;
     clocks = new.timers.clocks.clocks;
     names = names;
+    base = with_wire_count base (wires_told new.web);
     lines = loops_text new canvas;
     files = [];
     looks = most_looks d.rewired.plan old new;
   }
 
-  made_may : (old new : Patch) (canvas looks looks' : ℕ) → CanRewire old → (d : Makes old new path e canvas looks looks') → IsMade (at old []) path e (made old new canvas looks looks' d)
-  made_may old new canvas looks looks' rewires d =
+  made_may : (canvas looks looks' : ℕ) → CanPut old → (d : Makes old new path e canvas looks looks') → IsMade (at old base []) path e (made canvas looks looks' d)
+  made_may canvas looks looks' puts d =
       let r = plan_stays d.rewired.plan old new d.rewired.done in
       record {
         old = old;
         new = new;
         canvas = canvas;
-        stands = stands old rewires;
+        stands = stands puts;
         rewired = d.rewired;
         net = refl;
         states = ap (λ (g : Grove). λ k. state_in (get g.nodes k)) r.1.grove;
         clocks = ap (λ x. x.clocks.clocks) r.1.timers;
         names = refl;
+        base = refl;
         lines = refl;
         files = refl;
         looks = refl;
       }
 
+  -- where there are as many wires, all is counted as before
+  as_many : wires_told new.web ≡ wires_told old.web → base ≡ counted
+  as_many same = ap (λ (n : ℕ). with_wire_count base n) (was ∙ sym same ∙ sym now_is)
+
   -- memory was wanting
-  short_stage : (old new : Patch) (m : List Choice) → SameButRoom old new → with_net (at old m) (net_of new) ≡ at new m
-  short_stage old new m same = rw (same.grove, same.timers) refl
+  short_stage : (m : List Choice) → SameButRoom old new → with_net (at old base m) (net_of new) ≡ at new counted m
+  short_stage m same =
+      let room : with_net (at old base m) (net_of new) ≡ at new base m = rw (same.grove, same.timers) refl in
+      room ∙ ap (λ (b : Base). at new b m) (as_many (same_are_as_many old.web new.web same.web))
 
   -- what an edit came to, with its looks
-  abbrev pub Edited : (old new : Patch) → Result ℕ EditRefusal → (looks looks' : ℕ) → Type 0
-  Edited old new r looks looks' = Told wanted (at old []) (at new) (edit_text new r) (edit_outcome r) looks looks'
+  abbrev pub Edited : Result ℕ EditRefusal → (looks looks' : ℕ) → Type 0
+  Edited r looks looks' = Told wanted (at old base []) (at new counted) (edit_text new r) (edit_outcome r) looks looks'
 
-  short_so : (old new : Patch) (cause : EditRefusal) (looks looks' : ℕ) → CanRewire old → CanRewire new → looks' ≡ looks → Lacks old new path e cause → Edited old new (Err cause) looks looks'
-  short_so old new cause looks looks' before now same d = record {
+  refusal_is : (c : EditRefusal) → refusal_text (request_of wanted) (why_of c) ≡ refusal_text request.Edit (why_of c)
+  refusal_is c = ap (λ (r : Request). refusal_text r (why_of c)) is.request
+
+  short_so : (cause : EditRefusal) (looks looks' : ℕ) → CanPut old → CanRewire new → looks' ≡ looks → Lacks old new path e cause → Edited (Err cause) looks looks'
+  short_so cause looks looks' before now same d = record {
     came = record {
       choice = stage.Lacks (net_of new);
-      may = record { old = old; new = new; plan = d.plan; stands = stands old before; is_planned = d.is_planned; same = d.same; rewires = now; net_is = refl };
-      text_is = ap (λ (c : EditRefusal). refusal_text request.Edit (why_of c)) (sym d.short);
-      stage = λ m. short_stage old new m d.same;
+      may = is.may (at old base []) (stage.Lacks (net_of new))
+          (record { old = old; new = new; plan = d.plan; stands = stands before; is_planned = d.is_planned; same = d.same; rewires = now; net_is = refl });
+      text_is = ap (λ (c : EditRefusal). refusal_text (request_of wanted) (why_of c)) (sym d.short) ∙ refusal_is cause;
+      stage = λ m. short_stage m d.same;
       answer = ap (λ (c : EditRefusal). edit_outcome (Err c)) (sym d.short);
     };
     few = (refl, refl, omega arith);
   }
 
-  outcome_by : (c : EditRefusal) → refused_as (why_of c) ≡ edit_outcome (Err c)
-  outcome_by refusal.NoDocument = refl
-  outcome_by refusal.NoCanvas = refl
-  outcome_by (refusal.NoBox n) = refl
-  outcome_by (refusal.NoPort n p o) = refl
-  outcome_by refusal.NoWire = refl
-  outcome_by refusal.SignalIntoControl = refl
-  outcome_by refusal.TextTooLong = refl
-  outcome_by refusal.TooDeep = refl
-  outcome_by refusal.ShelfFault = refl
-  outcome_by refusal.SymbolsFull = refl
-  outcome_by refusal.TooManyBoxes = refl
-  outcome_by refusal.TooManyWires = refl
-  outcome_by refusal.TooMuchSound = refl
-  outcome_by refusal.NoMemory = refl
-
-  refused_so : (old new : Patch) (cause : EditRefusal) (looks looks' : ℕ) → CanRewire old → looks' ≡ looks → Refuses old new path e cause → Edited old new (Err cause) looks looks'
-  refused_so old new cause looks looks' before same d = record {
+  refused_so : (cause : EditRefusal) (looks looks' : ℕ) → CanPut old → looks' ≡ looks → Refuses old new path e cause → Edited (Err cause) looks looks'
+  refused_so cause looks looks' before same d = record {
     came = record {
       choice = stage.Refuses (why_of cause);
-      may = record { patch = old; cause = cause; stands = stands old before; is_planned = d.is_planned; reason_is = refl };
-      text_is = refl;
-      stage = λ m. ap (λ (p : Patch). at p m) (sym d.same);
+      may = is.may (at old base []) (stage.Refuses (why_of cause)) (record { patch = old; cause = cause; stands = stands before; is_planned = d.is_planned; reason_is = refl });
+      text_is = refusal_is cause;
+      stage = λ m. ap (λ (p : Patch). at p base m) (sym d.same) ∙ ap (λ (b : Base). at new b m) (as_many (ap (λ (p : Patch). wires_told p.web) d.same));
       answer = outcome_by cause;
     };
     few = (refl, faultless old path e cause d.is_planned, omega arith);
   }
 
-  pub edited : (old new : Patch) (r : Result ℕ EditRefusal) (looks looks' : ℕ) → CanRewire old → CanRewire new → EditsTo old new path e r looks looks' → Edited old new r looks looks'
-  edited old new (Ok canvas) looks looks' before now d = record {
+  pub edited : (r : Result ℕ EditRefusal) (looks looks' : ℕ) → CanPut old → CanRewire new → EditsTo old new path e r looks looks' → Edited r looks looks'
+  edited (Ok canvas) looks looks' before now d = record {
     came = record {
-      choice = stage.Makes (made old new canvas looks looks' d);
-      may = made_may old new canvas looks looks' before d;
+      choice = stage.Makes (made canvas looks looks' d);
+      may = is.may (at old base []) (stage.Makes (made canvas looks looks' d)) (made_may canvas looks looks' before d);
       text_is = refl;
-      stage = λ m. refl;
+      stage = λ m. ap (λ (n : ℕ). at new (with_wire_count base n) m) (sym now_is);
       answer = refl;
     };
     few = (refl, refl, d.few_looks);
   }
-  edited old new (Err cause) looks looks' before now (same, inl d) = short_so old new cause looks looks' before now same d
-  edited old new (Err cause) looks looks' before now (same, inr d) = refused_so old new cause looks looks' before same d
+  edited (Err cause) looks looks' before now (same, inl d) = short_so cause looks looks' before now same d
+  edited (Err cause) looks looks' before now (same, inr d) = refused_so cause looks looks' before same d
 
 -- it was told
-module _ {E : Type 0} (r : Result Outcome E) (path : List ℕ) (e : Edit) (file : List ℕ) (names : Names) (time block_end fired : ℕ) (tally : Tally) (old new : Patch) (to : List Choice → Stage)
-    (done : Result ℕ EditRefusal) (t t' : Option (List ℕ)) (k k' : ℕ) (before : CanRewire old) (now : CanRewire new) (edits : EditsTo old new path e done k k')
-    (stands : to ≡ stage_with file new names time block_end fired tally) where
-  told : Told (Edits None path e) (stage_with file old names time block_end fired tally []) (stage_with file new names time block_end fired tally) (edit_text new done) (edit_outcome done) k k'
-  told = edited path e file names time block_end fired tally old new done k k' before now edits
+module _ {E : Type 0} (r : Result Outcome E) (wanted : Wanted) (path : List ℕ) (e : Edit) (is : IsWireEdit wanted path e) (file : List ℕ) (names : Names) (base : Base) (time block_end fired : ℕ) (tally : Tally)
+    (old new : Patch) (wires : ℕ) (was : base.counts.wires ≡ wires_told old.web) (now_is : wires ≡ wires_told new.web) (to : List Choice → Stage)
+    (done : Result ℕ EditRefusal) (t t' : Option (List ℕ)) (k k' : ℕ) (before : CanPut old) (now : CanRewire new) (edits : EditsTo old new path e done k k')
+    (stands : to ≡ stage_with file new names (with_wire_count base wires) time block_end fired tally) where
+  abbrev from : List Choice → Stage
+  from = stage_with file old names base time block_end fired tally
 
-  so : t' ≡ grown t (edit_text new done) → IsEdited path e (edit_outcome done) (stage_with file old names time block_end fired tally) to t t' k k'
-  so said = λ samples held faults.
-      subst (λ (x : List Choice → Stage). IsTakenSo (Edits None path e) (edit_outcome done) (stage_with file old names time block_end fired tally) x (sinks t samples k held faults) (sinks t' samples k' held faults))
-      (sym stands)
-      (told_so (Edits None path e) (stage_with file old names time block_end fired tally []) (stage_with file new names time block_end fired tally) (edit_text new done) (edit_outcome done) t t' samples k k' held faults told said)
+  abbrev there : List Choice → Stage
+  there = stage_with file new names (with_wire_count base wires) time block_end fired tally
 
-  answered_so : (o : Outcome) → t' ≡ grown t (edit_text new done) → o ≡ edit_outcome done → IsEdited path e o (stage_with file old names time block_end fired tally) to t t' k k'
-  answered_so o said is = λ samples held faults.
-      subst (λ (x : Outcome). IsTakenSo (Edits None path e) x (stage_with file old names time block_end fired tally) to (sinks t samples k held faults) (sinks t' samples k' held faults)) (sym is) (so said samples held faults)
+  told : Told wanted (from []) there (edit_text new done) (edit_outcome done) k k'
+  told = edited wanted path e is file names base time block_end fired tally old new wires was now_is done k k' before now edits
 
-  pub says_edit : t' ≡ grown t (edit_text new done) → Says (edit_taken (Edits None path e)) (stage_with file old names time block_end fired tally) to t t' k k'
+  so : t' ≡ grown t (edit_text new done) → (samples : Option (List ℕ)) (held : Option (List FileRow)) (faults : ℕ)
+      → IsTakenSo wanted (edit_outcome done) from to (sinks t samples k held faults) (sinks t' samples k' held faults)
+  so said samples held faults =
+      subst (λ (x : List Choice → Stage). IsTakenSo wanted (edit_outcome done) from x (sinks t samples k held faults) (sinks t' samples k' held faults)) (sym stands)
+      (told_so wanted (from []) there (edit_text new done) (edit_outcome done) t t' samples k k' held faults told said)
+
+  answered_so : (o : Outcome) → t' ≡ grown t (edit_text new done) → o ≡ edit_outcome done → (samples : Option (List ℕ)) (held : Option (List FileRow)) (faults : ℕ)
+      → IsTakenSo wanted o from to (sinks t samples k held faults) (sinks t' samples k' held faults)
+  answered_so o said answer samples held faults =
+      subst (λ (x : Outcome). IsTakenSo wanted x from to (sinks t samples k held faults) (sinks t' samples k' held faults)) (sym answer) (so said samples held faults)
+
+  pub says_edit : t' ≡ grown t (edit_text new done) → Says (edit_taken wanted) from to t t' k k'
   says_edit said = λ samples held faults. (so said samples held faults).comes
 
-  pub part_edit : TookPart t t' (edit_text new done) → SaysPart (edit_taken (Edits None path e)) (stage_with file old names time block_end fired tally) t t' k k'
+  pub part_edit : TookPart t t' (edit_text new done) → SaysPart (edit_taken wanted) from t t' k k'
   part_edit part = λ samples held faults.
-      told_part (Edits None path e) (stage_with file old names time block_end fired tally []) (stage_with file new names time block_end fired tally) (edit_text new done) (edit_outcome done) t t' samples k k' held faults told part
+      told_part wanted (from []) there (edit_text new done) (edit_outcome done) t t' samples k k' held faults told part
 
-  pub edited_so : OnOk r (t' ≡ grown t (edit_text new done)) → IfOk r (λ o. o ≡ edit_outcome done) → IfOk r (λ o. IsEdited path e o (stage_with file old names time block_end fired tally) to t t' k k')
-  edited_so said is = both_ok r (λ o a b. answered_so o a b) said is
+  pub edited_so : OnOk r (t' ≡ grown t (edit_text new done)) → IfOk r (λ o. o ≡ edit_outcome done)
+      → IfOk r (λ o. (samples : Option (List ℕ)) (held : Option (List FileRow)) (faults : ℕ) → IsTakenSo wanted o from to (sinks t samples k held faults) (sinks t' samples k' held faults))
+  edited_so said is = both_ok r (λ o a b samples held faults. answered_so o a b samples held faults) said is
 
-  pub edited_part : OnErr r (TookPart t t' (edit_text new done)) → OnErr r (SaysPart (edit_taken (Edits None path e)) (stage_with file old names time block_end fired tally) t t' k k')
+  pub edited_part : OnErr r (TookPart t t' (edit_text new done)) → OnErr r (SaysPart (edit_taken wanted) from t t' k k')
   edited_part part = on_err_weaker r (λ a. part_edit a) part
+
+-- ---- what the engine knows of its patch goes on
+
+edits_grove : (old new : Patch) (path : List ℕ) (e : Edit) (r : Result ℕ EditRefusal) (looks looks' : ℕ) → EditsTo old new path e r looks looks' → new.grove ≡ old.grove
+edits_grove old new path e (Ok canvas) looks looks' d = (plan_stays d.rewired.plan old new d.rewired.done).1.grove
+edits_grove old new path e (Err cause) looks looks' (same, inl d) = d.same.grove
+edits_grove old new path e (Err cause) looks looks' (same, inr d) = ap (λ (p : Patch). p.grove) d.same
+
+edits_few : (old new : Patch) (path : List ℕ) (e : Edit) (r : Result ℕ EditRefusal) (looks looks' : ℕ) → EditsTo old new path e r looks looks'
+    → wires_told old.web ≤ 65536 → wires_told new.web ≤ 65536
+edits_few old new path e (Ok canvas) looks looks' d low = edit_few d.rewired.plan old new path e d.rewired.is_planned d.rewired.done low
+edits_few old new path e (Err cause) looks looks' (same, inl d) low = subst (λ (n : ℕ). n ≤ 65536) (sym (same_are_as_many old.web new.web d.same.web)) low
+edits_few old new path e (Err cause) looks looks' (same, inr d) low = subst (λ (p : Patch). wires_told p.web ≤ 65536) (sym d.same) low
+
+pub edits_kept : (old new : Patch) (counts : Counts) (wires : ℕ) (path : List ℕ) (e : Edit) (r : Result ℕ EditRefusal) (looks looks' : ℕ) → EditsTo old new path e r looks looks'
+    → CanRewire new → wires ≡ wires_told new.web → IsKept old counts → IsKept new (record counts { wires = wires })
+edits_kept old new counts wires path e r looks looks' d now is k = wired_kept old new counts (record counts { wires = wires }) (edits_grove old new path e r looks looks' d) now is k
+
+pub edits_within : (old new : Patch) (counts : Counts) (wires : ℕ) (path : List ℕ) (e : Edit) (r : Result ℕ EditRefusal) (looks looks' : ℕ) → EditsTo old new path e r looks looks'
+    → counts.wires ≡ wires_told old.web → wires ≡ wires_told new.web → ∥ AreWithin counts ∥₁ → ∥ AreWithin (record counts { wires = wires }) ∥₁
+edits_within old new counts wires path e r looks looks' d was is t = ∥∥₁_map t (λ h. record {
+  boxes = h.boxes;
+  wires = subst (λ (n : ℕ). n ≤ 65536) (sym is) (edits_few old new path e r looks looks' d (subst (λ (n : ℕ). n ≤ 65536) was h.wires));
+  sound = h.sound;
+  zeros = h.zeros;
+})
 
 -- what `make` is told to make is the edit of wires that was asked for, or none
 pub not_made : (p : Patch) (path : List ℕ) (e : Edit) (looks : ℕ) → wire_edit e ≡ None → EditsTo p p path e (Err refusal.NoDocument) looks looks
@@ -356,6 +461,7 @@ module _ (old new : Patch) (path : List ℕ) (e : Edit) (cause : EditRefusal) wh
 
 always_may : (wanted : Wanted) (reason : Why) (s : Stage) → IsAlwaysRefused wanted reason → MayCome wanted s (stage.Refuses reason)
 always_may (Edits None path e) reason s h = absurd h
+always_may (Asks path e) reason s h = absurd h
 always_may (Edits (Some document) path e) reason s h = ap (λ (w : Why). stage.Refuses w) h
 always_may (Saves None) reason s h = absurd h
 always_may (Saves (Some document)) reason s h = ap (λ (w : Why). stage.Refuses w) h
@@ -364,6 +470,7 @@ always_may Redoes reason s h = ap (λ (w : Why). stage.Refuses w) h
 
 always_faultless : (wanted : Wanted) (reason : Why) → IsAlwaysRefused wanted reason → faults_of_why reason ≡ 0
 always_faultless (Edits None path e) reason h = absurd h
+always_faultless (Asks path e) reason h = absurd h
 always_faultless (Edits (Some document) path e) reason h = ap faults_of_why h
 always_faultless (Saves None) reason h = absurd h
 always_faultless (Saves (Some document)) reason h = ap faults_of_why h
@@ -376,3 +483,113 @@ always_told wanted reason s o looks h is = record {
   came = record { choice = stage.Refuses reason; may = always_may wanted reason (with_ahead s []) h; text_is = refl; stage = λ m. refl; answer = sym is };
   few = (refl, always_faultless wanted reason h, omega arith);
 }
+
+-- ---- a box that an edit puts
+
+-- where the edit puts a box, what may come is what may come of that
+pub put_may : (s : Stage) (path : List ℕ) (e : Edit) (c : Choice) → puts_box e ≡ true → IsPutLawful s path e c → MayCome (Edits None path e) s c
+put_may s path (edit.Connect v) c one h = cc
+put_may s path (edit.Disconnect v) c one h = cc
+put_may s path (edit.Delete n) c one h = cc
+put_may s path (edit.Retype n text) c one h = cc
+put_may s path (edit.Move n x y) c one h = cc
+put_may s path (edit.Obj x y text) c one h = h
+put_may s path (edit.Msg x y text) c one h = h
+put_may s path (edit.Comment x y text) c one h = h
+put_may s path (edit.FloatBox x y text) c one h = h
+put_may s path (edit.SymbolBox x y text) c one h = h
+put_may s path (edit.Sub x y name) c one h = h
+
+-- a box more leaves the clocks of messages
+pub put_clocks : (p q : Patch) (a : Added) (now key : ℕ) → IsBoxPut p q now a key → q.timers.clocks.clocks ≡ p.timers.clocks.clocks
+put_clocks p q a now key b = ap (λ x. x.clocks.clocks) b.put.comes.clocks ∙ b.room.clocks
+
+module _ (path : List ℕ) (e : Edit) (one : puts_box e ≡ true) (file : List ℕ) (names : Names) (files : List (ℕ × Answer)) (counts : Counts) (time block_end fired : ℕ) (tally : Tally) (old new : Patch) where
+  abbrev before : List Choice → Stage
+  before = stage_with file old names (base_of files counts) time block_end fired tally
+
+  pub stands_before : CanPut old → StandsAt old (before [])
+  stands_before puts = record { net = refl; states = refl; puts = puts }
+
+  -- it was put
+  module _ (more : Names) (learned : List (ℕ × Answer)) (b : NewBox) (puts : CanPut old) (d : AddsBox old new counts file path time e (known files names) (known learned more) b)
+      (onward : Extends names more) (within : AreWithin b.counts) where
+    abbrev pub put_made : Made
+    put_made = record {
+      net = net_of new;
+      states = states_of new;
+      clocks = old.timers.clocks.clocks;
+      names = more;
+      base = base_of learned b.counts;
+      lines = put_text more new b.key b.canvas;
+      files = [];
+      looks = 0;
+    }
+
+    pub put_is : IsPutIn (before []) path e put_made
+    put_is = record {
+      old = old;
+      new = new;
+      after = known learned more;
+      box = b;
+      stands = stands_before puts;
+      adds = d;
+      net = refl;
+      states = refl;
+      clocks = refl;
+      names = refl;
+      more = onward;
+      base = refl;
+      within = within;
+      lines = refl;
+      files = refl;
+      looks = refl;
+    }
+
+    abbrev pub put_came : Came (Edits None path e) (before []) (stage_with file new more (base_of learned b.counts) time block_end fired tally) (put_text more new b.key b.canvas) Done
+    put_came = record {
+      choice = stage.Makes put_made;
+      may = put_may (before []) path e (stage.Makes put_made) one put_is;
+      text_is = refl;
+      stage = λ m. ap (λ (c : List Clock). record (stage_with file new more (base_of learned b.counts) time block_end fired tally m) { clocks = c }) (sym (put_clocks old new d.added time b.key d.put));
+      answer = refl;
+    }
+
+  -- it was refused
+  pub room_clocks : RoomSet old new → (m : List Choice) → with_net (before m) (net_of new) ≡ stage_with file new names (base_of files counts) time block_end fired tally m
+  room_clocks room m =
+      ap (λ (f : ℕ → Option State). record (with_net (before m) (net_of new)) { states = f }) (λ i k. state_in (sym (room.grove.nodes k) i))
+      ∙ ap (λ (c : List Clock). record (stage_with file new names (base_of files counts) time block_end fired tally m) { clocks = c }) (sym room.clocks)
+
+  abbrev pub refused_came : (cause : EditRefusal) → CanPut old → new ≡ old → IsNotPut old counts file path e (known files names) cause
+      → Came (Edits None path e) (before []) (stage_with file new names (base_of files counts) time block_end fired tally) (refusal_text request.Edit (why_of cause)) (edit_outcome (Err cause))
+  refused_came cause puts same d = record {
+    choice = stage.Refuses (why_of cause);
+    may = put_may (before []) path e (stage.Refuses (why_of cause)) one (record { patch = old; cause = cause; stands = stands_before puts; refused = d; reason_is = refl });
+    text_is = refl;
+    stage = λ m. ap (λ (p : Patch). stage_with file p names (base_of files counts) time block_end fired tally m) (sym same);
+    answer = outcome_by cause;
+  }
+
+  -- memory was wanting to put it
+  abbrev pub short_came : (cause : EditRefusal) → CanPut old → cause ≡ refusal.NoMemory → IsShortOfRoom old new counts file path e (known files names)
+      → Came (Edits None path e) (before []) (stage_with file new names (base_of files counts) time block_end fired tally) (refusal_text request.Edit (why_of cause)) (edit_outcome (Err cause))
+  short_came cause puts short d = record {
+    choice = stage.Lacks (net_of new);
+    may = put_may (before []) path e (stage.Lacks (net_of new)) one (record { old = old; new = new; stands = stands_before puts; short = d; net_is = refl });
+    text_is = ap (λ (c : EditRefusal). refusal_text request.Edit (why_of c)) (sym short);
+    stage = λ m. room_clocks d.room m;
+    answer = ap (λ (c : EditRefusal). edit_outcome (Err c)) (sym short);
+  }
+
+-- a line was said, and a part of another
+pub took_behind : (t u v : Option (List ℕ)) (a b : List ℕ) → u ≡ grown t a → TookPart u v b → TookPart t v (a ++ b)
+took_behind t u v a b said part = record {
+  part = a ++ part.part;
+  begins = record { rest = part.begins.rest; is = ap (λ (x : List ℕ). a ++ x) part.begins.is ∙ sym (append_assoc a part.part part.begins.rest) };
+  is = part.is ∙ ap (λ (x : Option (List ℕ)). grown x part.part) said ∙ grown-grown t a part.part;
+}
+
+-- both were said
+pub said_behind : (t u v : Option (List ℕ)) (a b : List ℕ) → u ≡ grown t a → v ≡ grown u b → v ≡ grown t (a ++ b)
+said_behind t u v a b first second = second ∙ ap (λ (x : Option (List ℕ)). grown x b) first ∙ grown-grown t a b

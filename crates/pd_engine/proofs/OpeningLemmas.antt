@@ -1,5 +1,6 @@
 -- How files are read, documents refused, and patches opened.
-use Rattle.std.proofs.Common.{◌≡◌, arith, ℕ, Bool, true, false, List, [], length, nat_le, refl, sym, ◌∙◌, ap, subst, Option, Some, None, Result, Ok, Err, IfSome, IfOk, IfErr, OnErr, inr, if◌then◌else◌}
+use Rattle.std.proofs.Common.{◌≡◌, arith, ℕ, Bool, true, false, List, [], length, nat_le, refl, sym, ◌∙◌, ap, subst, Option, Some, None, Result, Ok, Err, IfSome, IfOk, IfErr, OnErr, inl, inr, if◌then◌else◌}
+use Rattle.std.specs.Prelude.{◌≤◌, IsErrAnd}
 use Rattle.pd_io.specs.Rows.{held_at, answer_of, handed_out}
 use Rattle.pd_io.specs.Stream.{TookPart, grown as lines_grown}
 use Rattle.pd_io.specs.declared.files.FileRow.{FileRow}
@@ -34,8 +35,9 @@ use Rattle.pd_grove.specs.TextOrder.{keys_in_order}
 use Rattle.pd_engine.specs.declared.engine.Engine.{Engine}
 use Rattle.pd_engine.specs.declared.refusals.OpenRefusal.{OpenRefusal}
 use Rattle.pd_engine.specs.declared.refusals.OpenRefusal.TheVariants.{Absent, Bad, ShelfFault, WriteFault, NoMemory}
+use Rattle.pd_engine.specs.Causes.{HasOpeningCauses}
 use Rattle.pd_engine.specs.Refusals.{unread, ungathered, ungrown}
-use Rattle.pd_stage.specs.Choices.{Choice}
+use Rattle.pd_stage.specs.Choices.{Base, Choice}
 use Rattle.pd_stage.specs.Items.{Item}
 use Rattle.pd_stage.specs.Stages.{Stage, Taken, Passage, still, saying}
 use Rattle.pd_stage.specs.Leads.{sinks, Took, Comes, Stops, Says, SaysPart}
@@ -117,10 +119,10 @@ grow_refused s rate grow.TooMuchSound none h = (refl, h)
 grow_refused s rate grow.NoMemory none h = tt
 
 -- a patch that has grown stands at its first stage
-pub begins_at : (file : List ℕ) (p : Patch) (names : Names) (time end : ℕ) (tally : Tally) → time ≡ 0 → end ≡ block_units → tally ≡ nothing
-    → stage_with file p names time end 0 tally ≡ first_stage file p names
-begins_at file p names time end tally zero one none =
-    ap (λ (t : ℕ). stage_with file p names t end 0 tally) zero ∙ ap (λ (t : ℕ). stage_with file p names 0 t 0 tally) one ∙ ap (λ (t : Tally). stage_with file p names 0 block_units 0 t) none
+pub begins_at : (file : List ℕ) (p : Patch) (names : Names) (base : Base) (time end : ℕ) (tally : Tally) → time ≡ 0 → end ≡ block_units → tally ≡ nothing
+    → stage_with file p names base time end 0 tally ≡ first_stage file p names base
+begins_at file p names base time end tally zero one none =
+    ap (λ (t : ℕ). stage_with file p names base t end 0 tally) zero ∙ ap (λ (t : ℕ). stage_with file p names base 0 t 0 tally) one ∙ ap (λ (t : Tally). stage_with file p names base 0 block_units 0 t) none
 
 -- nobody reads how many looks there were
 took_unlooked : (t t' u : Option (List ℕ)) (k k' n : ℕ) (h : Option (List FileRow)) (f : ℕ) (items : List Item) (edits : List Taken) → Took (sinks t u k h f) (sinks t' u k' h f) items edits
@@ -158,8 +160,8 @@ module _ (s s₂ : List Choice → Stage) (text boxes told : List ℕ) (t₁ t�
   loads_broken took = stops_first (λ x. saying x text) loads s (sinks t₁ u k h f) (sinks t₂ u k h f) (written_breaks s text t₁ t₂ u k h f took)
 
 -- a patch that has grown opens
-module _ (holds : Option (List FileRow)) (name : List ℕ) (rate : Rate) (d : Page) (names : Names) (p : Patch) (table : Names) (remarks : List Remark) (boxes : List ℕ)
-    (t t' : Option (List ℕ)) (grows : Grows holds name rate d names p table) (notes : remarks ≡ notices_in p.grove p.web p.orders.items)
+module _ (holds : Option (List FileRow)) (name : List ℕ) (rate : Rate) (d : Page) (names : Names) (p : Patch) (table : Names) (base : Base) (remarks : List Remark) (boxes : List ℕ)
+    (t t' : Option (List ℕ)) (grows : Grows holds name rate d names p table base) (notes : remarks ≡ notices_in p.grove p.web p.orders.items)
     (loads : boxes ≡ loads_among p.grove (keys_in_order p.grove)) where
   same : (s : Stage) → loaded s (remarks_text table p remarks) boxes ≡ opening p table s
   same s =
@@ -167,28 +169,40 @@ module _ (holds : Option (List FileRow)) (name : List ℕ) (rate : Rate) (d : Pa
       ∙ ap (λ (x : List ℕ). loaded s (remarks_text table p (notices_in p.grove p.web p.orders.items)) x) loads
 
   pub opens_so : (r : Result Engine OpenRefusal) → IfOk r (λ e. e.library ≡ grows.files.files)
-      → IfOk r (λ e. (looks : ℕ) → Says (λ s. loaded s (remarks_text table p remarks) boxes) (first_stage name p table) (stage_at e) t t' looks looks)
+      → IfOk r (λ e. (looks : ℕ) → Says (λ s. loaded s (remarks_text table p remarks) boxes) (first_stage name p table base) (stage_at e) t t' looks looks)
       → IfOk r (λ e. Opens holds name rate d names e.library (stage_at e) t t')
   opens_so (Ok e) keeps says = record {
     patch = p;
     table = table;
+    base = base;
     grows = grows;
     keeps = keeps;
-    says = λ looks samples held faults. leads_same (λ m. loaded (first_stage name p table m) (remarks_text table p remarks) boxes) (λ m. opening p table (first_stage name p table m)) (λ m. still (stage_at e m)) _ _
-        (λ m. sym (same (first_stage name p table m))) (says looks samples held faults);
+    says = λ looks samples held faults. leads_same (λ m. loaded (first_stage name p table base m) (remarks_text table p remarks) boxes) (λ m. opening p table (first_stage name p table base m)) (λ m. still (stage_at e m)) _ _
+        (λ m. sym (same (first_stage name p table base m))) (says looks samples held faults);
   }
   opens_so (Err e) keeps says = tt
 
   pub breaks_so : (r : Result Engine OpenRefusal)
-      → OnErr r ((looks : ℕ) → SaysPart (λ s. loaded s (remarks_text table p remarks) boxes) (first_stage name p table) t t' looks looks)
+      → OnErr r ((looks : ℕ) → SaysPart (λ s. loaded s (remarks_text table p remarks) boxes) (first_stage name p table base) t t' looks looks)
       → IfErr r (λ e. e ≡ WriteFault) → IfErr r (IsRefused holds name rate d names t t')
   breaks_so (Ok e) took is = tt
   breaks_so (Err e) took is =
       inr (inr (record {
         patch = p;
         table = table;
+        base = base;
         grows = grows;
-        took = λ looks samples held faults. broke_same (λ m. loaded (first_stage name p table m) (remarks_text table p remarks) boxes) (λ m. opening p table (first_stage name p table m)) _ _
-            (λ m. sym (same (first_stage name p table m))) (took looks samples held faults);
+        took = λ looks samples held faults. broke_same (λ m. loaded (first_stage name p table base m) (remarks_text table p remarks) boxes) (λ m. opening p table (first_stage name p table base m)) _ _
+            (λ m. sym (same (first_stage name p table base m))) (took looks samples held faults);
         is = is;
       }))
+
+-- memory was wanting
+pub short_refused : (holds : Option (List FileRow)) (name : List ℕ) (rate : Rate) (d : Page) (names : Names) (t t' : Option (List ℕ)) (r : Result Engine OpenRefusal)
+    → IsErrAnd r (λ e. e ≡ NoMemory) → IfErr r (IsRefused holds name rate d names t t')
+short_refused holds name rate d names t t' (Ok e) h = absurd h
+short_refused holds name rate d names t t' (Err e) h = inl (subst (λ (x : OpenRefusal). IsUngathered holds name d names x) (sym h) tt)
+
+pub short_causes : (folder folder' lines : ℕ) (r : Result Engine OpenRefusal) → IsErrAnd r (λ e. e ≡ NoMemory) → folder ≤ folder' → HasOpeningCauses folder folder' lines lines r
+short_causes folder folder' lines (Ok e) h le = absurd h
+short_causes folder folder' lines (Err e) h le = record { shelf = λ k. cc; write = λ k. cc; folder_counted = le; lines_counted = omega arith }

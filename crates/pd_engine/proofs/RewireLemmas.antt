@@ -1,12 +1,30 @@
 -- What wires rest on is known of a patch as soon as some proof of it is.
-use Rattle.std.proofs.Common.{◌≡◌, ◌⊎◌, ℕ, Bool, true, false, zero, suc, List, [], ◌∷◌, ◌++◌, refl, sym, ◌∙◌, ap, subst, eqb, inl, inr, Option, Some, None}
+use Rattle.std.proofs.Common.{◌≡◌, ◌<◌, ◌≤◌, ◌⊎◌, length, ℕ, Bool, true, false, zero, suc, List, [], ◌∷◌, ◌++◌, refl, sym, ◌∙◌, ap, subst, eqb, inl, inr, Option, Some, None}
 use Rattle.std.proofs.lemmas.Bool.{eqb-true, eq-eqb, false≢true}
 use Rattle.std.proofs.Props.{props}
 use Rattle.std.specs.Coded.{Coded, Coded-set, code_by, coded×, coded_list, coded_option, coded_ℕ, coded_bool, ×_prop, Unit-prop}
 use Rattle.std.specs.List.{AllByRecursion}
 use Rattle.std.specs.Prelude.{slice_get, IsSome}
 use mathlib.Core.Logic.{∥∥₁_elim, ∥∥₁_map}
-use Rattle.slab.specs.Slab.{get}
+use Rattle.slab.specs.Slab.{Slab, get}
+use Rattle.pd_atom.specs.Names.{Names, IsTable, Extends}
+use Rattle.pd_object.specs.declared.kinds.Kind.{Kind}
+use Rattle.pd_object.specs.declared.kinds.Kind.TheVariants as kind
+use Rattle.pd_object.specs.declared.kinds.Glue.{Glue}
+use Rattle.pd_object.specs.declared.kinds.Glue.TheVariants as glue
+use Rattle.pd_object.specs.declared.kinds.Signal.{Signal}
+use Rattle.pd_object.specs.declared.kinds.Signal.TheVariants as signal
+use Rattle.pd_object.specs.Ports.{IsSmallGlue, IsSmallSignal, IsSmallKind}
+use Rattle.std.specs.Prelude.{IfNone, ℤ}
+use Rattle.pd_script.specs.declared.commands.Script.{Script}
+use Rattle.pd_script.specs.Options.{Gives}
+use Rattle.pd_script.specs.Scripts.{command_of}
+use Rattle.pd_regrowth_law.proofs.StepLemmas.{extends_same}
+use Rattle.pd_library.specs.declared.answers.Answer.{Answer}
+use Rattle.pd_gather.specs.Gather.{AreProper}
+use Rattle.pd_gather.proofs.SuitLemmas.{still_found}
+use Rattle.pd_bind.specs.Owning.{root_owner}
+use Rattle.pd_grove.specs.Forest.{IsForest}
 use Rattle.pd_order.specs.Graph.{Graph, AreNext, IsLeast, AreByRank, IsOrder}
 use Rattle.pd_order.specs.Listing.{Listing}
 use Rattle.pd_grove.specs.declared.boards.Board.{Board}
@@ -29,7 +47,11 @@ use Rattle.pd_wiring.specs.Changes.{CanRewire, AreAlike}
 use Rattle.pd_web.specs.Changes.{wires_told}
 use Rattle.pd_block.specs.Nets as block
 use Rattle.pd_hearing.specs.Worlds.{Net, bare, net_of}
-use Rattle.pd_stage.proofs.EditLemmas.{AsksAlike}
+use Rattle.pd_boxes.specs.Put.{CanPut}
+use Rattle.pd_boxes.proofs.AskingLemmas.{put_alike, put_rewired}
+use Rattle.pd_adding.specs.declared.counts.Counts.{Counts}
+use Rattle.pd_adding.specs.Coming.{zero_in, own_zero}
+use Rattle.pd_adding.specs.Counts.{AreWithin}
 
 -- a fact, or that it can't be
 abbrev Decided : Type 0 → Type 0
@@ -181,37 +203,119 @@ rewires_sure p t =
       numbers = λ c i k e. same_sure (coded_option coded_ℕ) _ _ (∥∥₁_map t (λ h. h.numbers c i k e));
     }
 
--- ---- what an edit of wires asks of patches that are alike
+-- ---- what a box that comes asks of a patch
 
--- the wires are known to be sound, and are counted
-pub record IsCounted (p : Patch) (wires : ℕ) : Type 0 where
-  pub rewires : ∥ CanRewire p ∥₁
-  pub counted : wires ≡ wires_told p.web
+less_prop : (m n : ℕ) → IsProp (m < n)
+less_prop m n = hlevel props
 
-alike_counted : (asks : AsksAlike) (p q : Patch) (wires : ℕ) → AreAlike p q → IsCounted p wires → IsCounted q wires
-alike_counted asks p q wires a k = record { rewires = ∥∥₁_map k.rewires (λ h. asks p q a h); counted = k.counted ∙ ap wires_told (sym a.web) }
+less_sure : (m n : ℕ) → ∥ m < n ∥₁ → m < n
+less_sure m n t = ∥∥₁_elim t (less_prop m n) (λ h. h)
 
-pub net_counted : (asks : AsksAlike) (p q : Patch) (wires : ℕ) → net_of q ≡ net_of p → IsCounted p wires → IsCounted q wires
-net_counted asks p q wires e k =
-    alike_counted asks p q wires (record {
+few_prop : (m n : ℕ) → IsProp (m ≤ n)
+few_prop m n = hlevel props
+
+few_sure : (m n : ℕ) → ∥ m ≤ n ∥₁ → m ≤ n
+few_sure m n t = ∥∥₁_elim t (few_prop m n) (λ h. h)
+
+none_sure : {A : Type 0} (o : Option A) → ∥ o ≡ None ∥₁ → o ≡ None
+none_sure None t = refl
+none_sure (Some x) t = absurd (never (λ e. some_none x e) t)
+
+glue_prop : (g : Glue) → IsProp (IsSmallGlue g)
+glue_prop (glue.Message t) = few_prop (length t) 1024
+glue_prop (glue.FloatBox t) = few_prop (length t) 1024
+glue_prop (glue.SymbolBox t) = few_prop (length t) 1024
+glue_prop (glue.Array t vs) = few_prop (length t) 1024
+glue_prop (glue.Trigger w outs) = few_prop (length outs) 1024
+glue_prop (glue.Pack slots) = few_prop (length slots) 1024
+glue_prop (glue.Unpack slots) = few_prop (length slots) 1024
+glue_prop (glue.Route args) = few_prop (length args) 1024
+glue_prop (glue.Select w args) = few_prop (length args) 1024
+glue_prop (glue.Print ws) = few_prop (length ws) 1024
+glue_prop (glue.ListAppend w atoms) = few_prop (length atoms) 1024
+glue_prop (glue.ListPrepend atoms) = few_prop (length atoms) 1024
+glue_prop _ = Unit-prop
+
+signal_prop : (x : Signal) → IsProp (IsSmallSignal x)
+signal_prop (signal.Dac channels) = few_prop (length channels) 1024
+signal_prop _ = Unit-prop
+
+kind_prop : (k : Kind) → IsProp (IsSmallKind k)
+kind_prop (kind.Glue g) = glue_prop g
+kind_prop (kind.Signal x) = signal_prop x
+kind_prop _ = Unit-prop
+
+forest_sure : (g : Grove) → ∥ IsForest (get g.nodes) (get g.boards) g.root ∥₁ → IsForest (get g.nodes) (get g.boards) g.root
+forest_sure g t = record {
+  own = own_sure g (∥∥₁_map t (λ h. h.own));
+  placed = λ k c e. sure (there_decided (keys_at g c) k) (∥∥₁_map t (λ h. h.placed k c e));
+  inside = λ k j e. same_sure (coded_option coded_ℕ) _ _ (∥∥₁_map t (λ h. h.inside k j e));
+  held = λ c k e. same_sure (coded_option coded_ℕ) _ _ (∥∥₁_map t (λ h. h.held c k e));
+  deeper = λ k c j e f. same_sure coded_ℕ _ _ (∥∥₁_map t (λ h. h.deeper k c j e f));
+  rooted = (
+    some_sure _ (∥∥₁_map t (λ h. h.rooted.0)),
+    same_sure (coded_option coded_ℕ) _ _ (∥∥₁_map t (λ h. h.rooted.1)),
+    same_sure coded_ℕ _ _ (∥∥₁_map t (λ h. h.rooted.2)),
+  );
+  alone = λ c live none. same_sure coded_ℕ _ _ (∥∥₁_map t (λ h. h.alone c live none));
+  shallow = λ c. less_sure _ _ (∥∥₁_map t (λ h. h.shallow c));
+}
+
+pub puts_sure : (p : Patch) → ∥ CanPut p ∥₁ → CanPut p
+puts_sure p t = record {
+  forest = forest_sure p.grove (∥∥₁_map t (λ h. h.forest));
+  small = λ k n e. ∥∥₁_elim (∥∥₁_map t (λ h. h.small k n e)) (kind_prop n.kind) (λ h. h);
+  apart = none_sure (get p.grove.nodes root_owner) (∥∥₁_map t (λ h. h.apart));
+  runs = rewires_sure p (∥∥₁_map t (λ h. h.runs));
+}
+
+pub within_sure : (n : Counts) → ∥ AreWithin n ∥₁ → AreWithin n
+within_sure n t = record {
+  boxes = few_sure _ _ (∥∥₁_map t (λ h. h.boxes));
+  wires = few_sure _ _ (∥∥₁_map t (λ h. h.wires));
+  sound = few_sure _ _ (∥∥₁_map t (λ h. h.sound));
+  zeros = few_sure _ _ (∥∥₁_map t (λ h. h.zeros));
+}
+
+-- ---- what an edit asks of patches that are alike
+
+-- boxes can come, wires are counted, and the patch's own `$0` is one that it may be
+pub record IsKept (p : Patch) (counts : Counts) : Type 0 where
+  pub puts : ∥ CanPut p ∥₁
+  pub counted : counts.wires ≡ wires_told p.web
+  pub zero : own_zero p ≤ 1000000000
+
+zero_same : (p q : Patch) → q.grove.boards ≡ p.grove.boards → q.grove.root ≡ p.grove.root → own_zero q ≡ own_zero p
+zero_same p q boards root = ap (λ (b : Slab Board). zero_in (get b q.grove.root)) boards ∙ ap (λ (r : ℕ). zero_in (get p.grove.boards r)) root
+
+alike_kept : (p q : Patch) (counts : Counts) → AreAlike p q → q.grove.root ≡ p.grove.root → IsKept p counts → IsKept q counts
+alike_kept p q counts a root k = record {
+  puts = ∥∥₁_map k.puts (λ h. put_alike p q a root h);
+  counted = k.counted ∙ ap wires_told (sym a.web);
+  zero = subst (λ (n : ℕ). n ≤ 1000000000) (sym (zero_same p q a.boards root)) k.zero;
+}
+
+pub net_kept : (p q : Patch) (counts : Counts) → net_of q ≡ net_of p → IsKept p counts → IsKept q counts
+net_kept p q counts e k =
+    alike_kept p q counts (record {
       nodes = λ j. ap (λ (n : Net). n.nodes j) e;
       boards = ap (λ (n : Net). n.boards) e;
       web = ap (λ (n : Net). n.web) e;
       links = ap (λ (n : Net). n.links) e;
       orders = ap (λ (n : Net). n.orders) e;
       numbers = ap (λ (n : Net). n.numbers) e;
-    }) k
+    }) (ap (λ (n : Net). n.root) e) k
 
-pub block_counted : (asks : AsksAlike) (p q : Patch) (wires : ℕ) → block.net_of q ≡ block.net_of p → IsCounted p wires → IsCounted q wires
-block_counted asks p q wires e k =
-    alike_counted asks p q wires (record {
+pub block_kept : (p q : Patch) (counts : Counts) → block.net_of q ≡ block.net_of p → IsKept p counts → IsKept q counts
+block_kept p q counts e k =
+    alike_kept p q counts (record {
       nodes = λ j. ap (λ (n : block.Net). n.nodes j) e;
       boards = ap (λ (n : block.Net). n.boards) e;
       web = ap (λ (n : block.Net). n.web) e;
       links = ap (λ (n : block.Net). n.links) e;
       orders = ap (λ (n : block.Net). n.orders) e;
       numbers = ap (λ (n : block.Net). n.numbers) e;
-    }) k
+    }) (ap (λ (n : block.Net). n.root) e) k
 
 -- the boxes are the same, and so is the rest
 tree_alike : (p q : Patch) → q.grove ≡ p.grove → q.web ≡ p.web → q.links ≡ p.links → q.orders ≡ p.orders → q.numbers ≡ p.numbers → AreAlike p q
@@ -224,8 +328,27 @@ tree_alike p q tree web links orders numbers = record {
   numbers = numbers;
 }
 
-pub now_counted : (asks : AsksAlike) (p q : Patch) (wires : ℕ) → AllButTime p q → IsCounted p wires → IsCounted q wires
-now_counted asks p q wires h k = alike_counted asks p q wires (tree_alike p q h.tree h.web h.links h.orders h.numbers) k
+pub now_kept : (p q : Patch) (counts : Counts) → AllButTime p q → IsKept p counts → IsKept q counts
+now_kept p q counts h k = alike_kept p q counts (tree_alike p q h.tree h.web h.links h.orders h.numbers) (ap (λ (g : Grove). g.root) h.tree) k
 
-pub clock_counted : (asks : AsksAlike) (p q : Patch) (wires : ℕ) → q.grove ≡ p.grove → RestStays p q → IsCounted p wires → IsCounted q wires
-clock_counted asks p q wires tree h k = alike_counted asks p q wires (tree_alike p q tree h.web h.links h.orders h.numbers) k
+pub clock_kept : (p q : Patch) (counts : Counts) → q.grove ≡ p.grove → RestStays p q → IsKept p counts → IsKept q counts
+clock_kept p q counts tree h k = alike_kept p q counts (tree_alike p q tree h.web h.links h.orders h.numbers) (ap (λ (g : Grove). g.root) tree) k
+
+-- an edit of wires keeps the boxes
+pub wired_kept : (p q : Patch) (counts counts' : Counts) → q.grove ≡ p.grove → CanRewire q → counts'.wires ≡ wires_told q.web → IsKept p counts → IsKept q counts'
+wired_kept p q counts counts' grove now counted k = record {
+  puts = ∥∥₁_map k.puts (λ h. put_rewired p q grove now h);
+  counted = counted;
+  zero = subst (λ (g : Grove). zero_in (get g.boards g.root) ≤ 1000000000) (sym grove) k.zero;
+}
+
+-- files that are known stay proper where names come
+pub found_more : (names more : Names) (files : List (ℕ × Answer)) → Extends names more → IsTable names → IsTable more → ∥ AreProper names files ∥₁ → ∥ AreProper more files ∥₁
+found_more names more files x before after t = ∥∥₁_map t (λ h. still_found names more x before after files h)
+
+-- a record that is read only adds names
+pub read_more : (r : Option (ℤ × Script)) (names after : Names) (tokens : List (List ℕ))
+    → ((ms : ℤ) (s : Script) → command_of names tokens ≡ Some (ms, s, after) → Extends names after)
+    → Gives (λ x. (x.0, x.1, after)) r (command_of names tokens) → IfNone r (after ≡ names) → Extends names after
+read_more None names after tokens law exact same = subst (λ (n : Names). Extends names n) (sym same) (extends_same names)
+read_more (Some x) names after tokens law exact same = law x.0 x.1 exact

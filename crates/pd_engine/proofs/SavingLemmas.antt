@@ -17,11 +17,11 @@ use Rattle.pd_say.specs.declared.refusals.Request.TheVariants as request
 use Rattle.pd_say.specs.declared.refusals.Why.{Why}
 use Rattle.pd_say.specs.declared.refusals.Why.TheVariants as why
 use Rattle.pd_reload_law.specs.Wires.{StandOnce}
-use Rattle.pd_wiring.specs.Changes.{CanRewire}
+use Rattle.pd_boxes.specs.Put.{CanPut}
 use Rattle.pd_wiring.specs.declared.refusals.EditRefusal.TheVariants as refusal
 use Rattle.pd_hearing.specs.Worlds.{net_of, states_of}
 use Rattle.pd_stage.specs.Items.{Put, lines_of, samples_of}
-use Rattle.pd_stage.specs.Choices.{Saves, Made, Refuses, Makes}
+use Rattle.pd_stage.specs.Choices.{Base, Saves, Made, Refuses, Makes}
 use Rattle.pd_stage.specs.Stages.{Stage, with_ahead, faults_of}
 use Rattle.pd_stage.specs.Lawful.{StandsAt, why_of}
 use Rattle.pd_stage.specs.Leads.{RoseBy, sinks, Took, Stops}
@@ -34,12 +34,12 @@ use Rattle.pd_engine.specs.Edits.{IsSavedSo}
 use Rattle.pd_engine.proofs.ClockLemmas.{stage_with}
 use Rattle.pd_engine.proofs.MakingLemmas.{Came, came_so, came_part}
 
-module _ (file : List ℕ) (p : Patch) (names : Names) (time block_end fired : ℕ) (tally : Tally) (rewires : CanRewire p) (t u : Option (List ℕ)) (k : ℕ) (h h' : Option (List FileRow)) (f f' : ℕ) (counted : f ≤ f') where
+module _ (file : List ℕ) (p : Patch) (names : Names) (base : Base) (time block_end fired : ℕ) (tally : Tally) (puts : CanPut p) (t u : Option (List ℕ)) (k : ℕ) (h h' : Option (List FileRow)) (f f' : ℕ) (counted : f ≤ f') where
   abbrev s : Stage
-  s = stage_with file p names time block_end fired tally []
+  s = stage_with file p names base time block_end fired tally []
 
   pub stands : StandsAt p s
-  stands = record { net = refl; states = refl; rewires = rewires }
+  stands = record { net = refl; states = refl; puts = puts }
 
   -- its text was put
   abbrev saved : Made
@@ -48,6 +48,7 @@ module _ (file : List ℕ) (p : Patch) (names : Names) (time block_end fired : �
     states = states_of p;
     clocks = p.timers.clocks.clocks;
     names = names;
+    base = base;
     lines = [];
     files = (file, text_of names (present_document p)) ∷ [];
     looks = 0;
@@ -56,7 +57,7 @@ module _ (file : List ℕ) (p : Patch) (names : Names) (time block_end fired : �
   abbrev pub saved_came : IsTable names → StandOnce p.web → Came (Saves None) s (with_ahead s) [] Done
   saved_came table once = record {
     choice = Makes saved;
-    may = record { patch = p; stands = stands; table = table; once = once; net = refl; states = refl; clocks = refl; names = refl; lines = refl; files = refl; looks = refl };
+    may = record { patch = p; stands = stands; table = table; once = once; net = refl; states = refl; clocks = refl; names = refl; base = refl; lines = refl; files = refl; looks = refl };
     text_is = refl;
     stage = λ m. refl;
     answer = refl;

@@ -1,14 +1,29 @@
--- What stays of a patch in a run, and that its blocks are whole.
-use Rattle.std.proofs.Common.{◌≡◌, ℕ, zero, suc, ◌+◌, ◌-◌, ◌<◌, ◌≤◌, arith, Bool, true, false, if◌then◌else◌, nat_le, nat_lt, List, [], Option, refl, sym, ap, subst}
-use Rattle.std.specs.Prelude.{Some, None}
+-- A tree stands in a run, and so its blocks are whole.
+use Rattle.std.proofs.Common.{inl, ◌≡◌, ℕ, zero, suc, ◌+◌, ◌-◌, ◌<◌, ◌≤◌, arith, Bool, true, false, if◌then◌else◌, nat_le, nat_lt, List, [], ◌∷◌, Option, refl, sym, ap, ◌∙◌, subst}
+use Rattle.std.specs.Prelude.{Some, None, option_map}
+use Rattle.std.proofs.lemmas.Option.{none-some, same_Some}
+use Rattle.slab.specs.Slab.{get}
 use Rattle.pd_io.specs.declared.files.FileRow.{FileRow}
-use Rattle.pd_atom.specs.Names.{Names}
+use Rattle.pd_atom.specs.Names.{Names, Extends}
+use Rattle.pd_library.specs.Files.{answer_in}
+use Rattle.pd_growth.specs.Steps.{beginning}
+use Rattle.pd_regrowth_law.proofs.StepLemmas.{extends_same}
+use Rattle.pd_regrowth_law.proofs.SuitLemmas.{texts_of_sound}
+use Rattle.pd_gather.proofs.KnownLemmas.{library_of}
+use Rattle.pd_alike_law.specs.Alike.{OwnAlike}
+use Rattle.pd_alike_law.proofs.NameLemmas.{grown_alike}
 use Rattle.pd_canvas.specs.Pages.{Page}
 use Rattle.pd_clock.specs.declared.times.Rate.{Rate}
 use Rattle.pd_clock.specs.Queue.{Clock}
 use Rattle.pd_tree.specs.declared.rows.Sheet.{Sheet}
-use Rattle.pd_tree.specs.Trees.{Trees}
-use Rattle.pd_grove.specs.Standing.{GroveStands}
+use Rattle.pd_tree.specs.Trees.{Trees, Done, Leaf, Holder, Tree, weight}
+use Rattle.pd_queue.specs.Queue.{Waiting}
+use Rattle.pd_turns.specs.Turns.{World}
+use Rattle.pd_hearing.specs.Worlds.{Kept}
+use Rattle.pd_canvas.specs.declared.edits.Edit.{Edit}
+use Rattle.pd_grove.specs.declared.boards.Board.{Board}
+use Rattle.pd_grove.specs.declared.nodes.Node.{Node}
+use Rattle.pd_grove.specs.Standing.{NodeSeen, BoardSeen, node_seen, board_seen, Stands, GroveStands}
 use Rattle.pd_grove.specs.TextOrder.{deep, keys_in_order}
 use Rattle.pd_patch.specs.declared.patch.Patch.{Patch}
 use Rattle.pd_patch.specs.Orders.{AreOrdered}
@@ -18,90 +33,189 @@ use Rattle.pd_script.specs.declared.commands.Command.{Command}
 use Rattle.pd_script.specs.declared.commands.Command.TheVariants as command
 use Rattle.pd_block.specs.Nets as block
 use Rattle.pd_block.specs.Blocks.{block_within, block_of}
-use Rattle.pd_wiring.specs.Changes.{CanRewire}
-use Rattle.pd_stage.specs.Choices.{Choice}
+use Rattle.pd_patch.proofs.BuiltLemmas.{is_built}
+use Rattle.pd_wiring.proofs.BuiltLemmas.{runs_rewire}
+use Rattle.pd_stage.specs.Choices.{Base, Wanted, Choice}
 use Rattle.pd_stage.specs.Lawful.{AreLawful}
 use Rattle.pd_stage.specs.Stages.{Stage, Taken, Passage, still, followed_by}
-use Rattle.pd_stage.specs.Events.{Message, Loading, Firing}
-use Rattle.pd_stage.specs.Times.{IsStageOf, with_wires, block_units, block_net, sound_at, played_at, taken_off, with_taken, with_fired, fires, fires_or_not, fires_below, next_clock, most_fired, clocks_fire, block_sounds, block_runs, blocks_run, comes_to, advanced, finished}
+use Rattle.pd_stage.specs.Events.{Beginning, Message, Loading, Firing, with_kept, delivered, edit_taken, edit_asked, edits_taken, event}
+use Rattle.pd_web.specs.Changes.{wires_told}
+use Rattle.pd_adding.specs.Counts.{AreWithin}
+use Rattle.pd_stage.specs.Times.{with_wires, with_played, with_time, block_units, block_net, sound_at, played_at, taken_off, with_taken, with_fired, fires, fires_or_not, fires_below, next_clock, most_fired, clocks_fire, block_sounds, block_runs, blocks_run, comes_to, advanced, finished}
 use Rattle.pd_stage.proofs.LeadLemmas.{lawful_first, lawful_second}
-use Rattle.pd_stage.proofs.EditLemmas.{AsksAlike, taken_stands, event_stands}
+use Rattle.pd_stage.specs.Trees.{HasTree, HasOwners}
+use Rattle.pd_stage.proofs.EditLemmas.{asked_changes, taken_alters}
 use Rattle.pd_engine.specs.Messages.{message_in}
 use Rattle.pd_engine.specs.Commands.{commanded}
 use Rattle.pd_engine.specs.Opening.{Grows, opened, first_stage}
+use Rattle.pd_engine.proofs.TreeLemmas.{changed_tree, altered_tree, HasBoth, altered_both, named_owners}
 
--- a part of a run in which each edit is lawful keeps what stays
-abbrev Stands : Patch → Stage → Passage → Type 0
-Stands p s q = IsStageOf p s → AreLawful q.edits → IsStageOf p q.stage
+-- where only clocks, times, names, blocks of outlets and what boxes keep are others
+pub tree_on : (s r : Stage) → block_net r ≡ block.with_clocks (block_net s) r.clocks → r.base ≡ s.base → HasTree s → HasTree r
+tree_on s r e base t = record {
+  patch = t.patch;
+  tree = t.tree;
+  stands = t.stands;
+  of = record {
+    web = t.of.web;
+    links = t.of.links;
+    orders = t.of.orders;
+    net = e ∙ ap (λ (n : block.Net). block.with_clocks n r.clocks) t.of.net;
+    rewires = t.of.rewires;
+  };
+  shallow = t.shallow;
+  boxes = ap (λ (b : Base). b.counts.boxes) base ∙ t.boxes;
+  wires = ap (λ (b : Base). b.counts.wires) base ∙ t.wires ∙ sym (ap (λ (n : block.Net). wires_told n.web) e);
+  within = subst (λ (b : Base). AreWithin b.counts) (sym base) t.within;
+  own = t.own;
+  apart = t.apart;
+}
 
-either_of : (p : Patch) (s : Stage) (b : Bool) (q r : Passage) → Stands p s q → Stands p s r → Stands p s (if b then q else r)
-either_of p s true q r h k = h
-either_of p s false q r h k = k
+-- the same with the owners of names, where names go on
+pub both_on : (s r : Stage) → block_net r ≡ block.with_clocks (block_net s) r.clocks → r.base ≡ s.base → r.file ≡ s.file → Extends s.names r.names → HasBoth s → HasBoth r
+unfolding tree_on
+both_on s r e base file more t = record { tree = tree_on s r e base t.tree; owners = named_owners s r t.tree.patch t.tree.tree file more t.owners }
 
-then_of : (p : Patch) (s : Stage) (q : Passage) (next : Stage → Passage) → Stands p s q → ((r : Stage) → Stands p r (next r)) → Stands p s (followed_by q next)
-then_of p s q next first rest h lawful =
+-- a part of a run in which each edit is lawful keeps a tree
+abbrev pub Stays : Stage → Passage → Type 0
+Stays s q = HasTree s → AreLawful q.edits → HasTree q.stage
+
+either_of : (s : Stage) (b : Bool) (q r : Passage) → Stays s q → Stays s r → Stays s (if b then q else r)
+either_of s true q r h k = h
+either_of s false q r h k = k
+
+then_of : (s : Stage) (q : Passage) (next : Stage → Passage) → Stays s q → ((r : Stage) → Stays r (next r)) → Stays s (followed_by q next)
+then_of s q next first rest h lawful =
     let more : List Taken = (next q.stage).edits in
     rest q.stage (first h (lawful_first q.edits more lawful)) (lawful_second q.edits more lawful)
 
--- with other clocks
-other_clocks : (p : Patch) (s : Stage) (clocks : List Clock) (time : ℕ) → IsStageOf p s → IsStageOf p (with_fired (with_taken s clocks) time)
-other_clocks p s clocks time h =
-    record { web = h.web; links = h.links; orders = h.orders; net = ap (λ (n : block.Net). block.with_clocks n clocks) h.net; rewires = h.rewires }
+-- edits and events
 
-pub sounds_of : (p : Patch) (s : Stage) → IsStageOf p s → IsStageOf p (block_sounds s).stage
+pub taken_of : (wanted : Wanted) (s : Stage) → Stays s (edit_taken wanted s)
+taken_of wanted s h lawful = altered_tree s (edit_taken wanted s).stage (taken_alters wanted s lawful) h
+
+pub asked_of : (asked : List ℕ × Edit) (s : Stage) → Stays s (edit_asked asked s)
+asked_of asked s h lawful = changed_tree s (edit_asked asked s).stage (asked_changes asked s lawful) h
+
+pub edits_of : (waiting : Waiting) (s : Stage) → Stays s (edits_taken waiting s)
+unfolding edits_taken
+edits_of [] s h lawful = h
+edits_of (asked ∷ waiting) s h lawful = then_of s (edit_asked asked s) (edits_taken waiting) (asked_of asked s) (λ r. edits_of waiting r) h lawful
+
+pub event_of : (s : Stage) (b : Beginning) → Stays s (event s b)
+unfolding event
+event_of s b h lawful =
+    let w : World Kept = delivered s b in
+    edits_of w.kept.queue (with_kept s w.kept) (tree_on s (with_kept s w.kept) refl refl h) lawful
+
+-- the same with the owners of names: an edit, and an event whose deliveries only add names
+
+pub taken_both : (wanted : Wanted) (s : Stage) → AreLawful (edit_taken wanted s).edits → HasBoth s → HasBoth (edit_taken wanted s).stage
+taken_both wanted s lawful t = altered_both s (edit_taken wanted s).stage (taken_alters wanted s lawful) t
+
+pub edits_both : (waiting : Waiting) (s : Stage) → AreLawful (edits_taken waiting s).edits → HasBoth s → HasBoth (edits_taken waiting s).stage
+unfolding edits_taken
+edits_both [] s lawful t = t
+edits_both (asked ∷ waiting) s lawful t =
+    let r : Stage = (edit_asked asked s).stage in
+    edits_both waiting r (lawful_second (edit_asked asked s).edits (edits_taken waiting r).edits lawful)
+    (altered_both s r (inl (asked_changes asked s (lawful_first (edit_asked asked s).edits (edits_taken waiting r).edits lawful))) t)
+
+pub event_both : (s : Stage) (b : Beginning) → Extends s.names (delivered s b).kept.names → AreLawful (event s b).edits → HasBoth s → HasBoth (event s b).stage
+unfolding event
+event_both s b more lawful t =
+    let w : World Kept = delivered s b in
+    edits_both w.kept.queue (with_kept s w.kept) lawful (both_on s (with_kept s w.kept) refl refl refl more t)
+
+-- clocks and blocks
+
+pub sounds_of : (s : Stage) → HasTree s → HasTree (block_sounds s).stage
 unfolding block_sounds
-sounds_of p s h = record { web = h.web; links = h.links; orders = h.orders; net = h.net; rewires = h.rewires }
+sounds_of s h = tree_on s (with_played s (played_at s)) refl refl h
 
-module _ (asks : AsksAlike) (p : Patch) where
-  fires_of : (s : Stage) (c : Clock) → Stands p s (fires s c)
-  fires_of s c h lawful = event_stands asks p (with_fired (with_taken s (taken_off s.clocks)) c.time) (Firing c.owner) lawful (other_clocks p s (taken_off s.clocks) c.time h)
+fires_of : (s : Stage) (c : Clock) → Stays s (fires s c)
+fires_of s c h lawful =
+    let r : Stage = with_fired (with_taken s (taken_off s.clocks)) c.time in
+    event_of r (Firing c.owner) (tree_on s r refl refl h) lawful
 
-  clock_of : (s : Stage) (rest : Stage → Passage) (o : Option Clock) → ((r : Stage) → Stands p r (rest r)) → Stands p s (fires_or_not s rest o)
-  clock_of s rest None f h lawful = h
-  clock_of s rest (Some c) f h lawful = then_of p s (fires s c) rest (fires_of s c) f h lawful
+clock_of : (s : Stage) (rest : Stage → Passage) (o : Option Clock) → ((r : Stage) → Stays r (rest r)) → Stays s (fires_or_not s rest o)
+clock_of s rest None f h lawful = h
+clock_of s rest (Some c) f h lawful = then_of s (fires s c) rest (fires_of s c) f h lawful
 
-  fires_below_of : (n limit : ℕ) (s : Stage) → Stands p s (fires_below n limit s)
-  unfolding fires_below
-  fires_below_of zero limit s h lawful = h
-  fires_below_of (suc n) limit s h lawful = clock_of s (fires_below n limit) (next_clock limit s.clocks) (λ r. fires_below_of n limit r) h lawful
+fires_below_of : (n limit : ℕ) (s : Stage) → Stays s (fires_below n limit s)
+unfolding fires_below
+fires_below_of zero limit s h lawful = h
+fires_below_of (suc n) limit s h lawful = clock_of s (fires_below n limit) (next_clock limit s.clocks) (λ r. fires_below_of n limit r) h lawful
 
-  pub clocks_of : (limit : ℕ) (s : Stage) → Stands p s (clocks_fire limit s)
-  clocks_of limit s h lawful = fires_below_of (most_fired - s.fired) limit s h lawful
+pub clocks_of : (limit : ℕ) (s : Stage) → Stays s (clocks_fire limit s)
+clocks_of limit s h lawful = fires_below_of (most_fired - s.fired) limit s h lawful
 
-  block_runs_of : (s : Stage) → Stands p s (block_runs s)
-  block_runs_of s h lawful = then_of p s (clocks_fire s.block_end s) block_sounds (clocks_of s.block_end s) (λ r k l. sounds_of p r k) h lawful
+block_runs_of : (s : Stage) → Stays s (block_runs s)
+block_runs_of s h lawful = then_of s (clocks_fire s.block_end s) block_sounds (clocks_of s.block_end s) (λ r k l. sounds_of r k) h lawful
 
-  blocks_run_of : (n to : ℕ) (s : Stage) → Stands p s (blocks_run n to s)
-  unfolding blocks_run
-  blocks_run_of zero to s h lawful = h
-  blocks_run_of (suc n) to s h lawful =
-      either_of p s (nat_le s.block_end to) (followed_by (block_runs s) (blocks_run n to)) (still s)
-      (then_of p s (block_runs s) (blocks_run n to) (block_runs_of s) (λ r. blocks_run_of n to r)) (λ k l. k) h lawful
+blocks_run_of : (n to : ℕ) (s : Stage) → Stays s (blocks_run n to s)
+unfolding blocks_run
+blocks_run_of zero to s h lawful = h
+blocks_run_of (suc n) to s h lawful =
+    either_of s (nat_le s.block_end to) (followed_by (block_runs s) (blocks_run n to)) (still s)
+    (then_of s (block_runs s) (blocks_run n to) (block_runs_of s) (λ r. blocks_run_of n to r)) (λ k l. k) h lawful
 
-  comes_of : (to : ℕ) (s : Stage) → Stands p s (comes_to to s)
-  comes_of to s h lawful =
-      let k : IsStageOf p (clocks_fire to s).stage = clocks_of to s h (lawful_first (clocks_fire to s).edits [] lawful) in
-      record { web = k.web; links = k.links; orders = k.orders; net = k.net; rewires = k.rewires }
+comes_of : (to : ℕ) (s : Stage) → Stays s (comes_to to s)
+comes_of to s h lawful =
+    let r : Stage = (clocks_fire to s).stage in
+    let k : HasTree r = clocks_of to s h (lawful_first (clocks_fire to s).edits [] lawful) in
+    tree_on r (with_time to r) refl refl k
 
-  pub advanced_of : (to : ℕ) (s : Stage) → Stands p s (advanced to s)
-  advanced_of to s h lawful = then_of p s (blocks_run (to + 1) to s) (comes_to to) (blocks_run_of (to + 1) to s) (comes_of to) h lawful
+pub advanced_of : (to : ℕ) (s : Stage) → Stays s (advanced to s)
+advanced_of to s h lawful = then_of s (blocks_run (to + 1) to s) (comes_to to) (blocks_run_of (to + 1) to s) (comes_of to) h lawful
 
-  pub finished_of : (s : Stage) → Stands p s (finished s)
-  finished_of s h lawful = either_of p s (nat_lt s.block_end (s.time + block_units)) (block_runs s) (still s) (block_runs_of s) (λ k l. k) h lawful
+pub finished_of : (s : Stage) → Stays s (finished s)
+finished_of s h lawful = either_of s (nat_lt s.block_end (s.time + block_units)) (block_runs s) (still s) (block_runs_of s) (λ k l. k) h lawful
 
-  pub commanded_of : (c : Command) (s : Stage) → Stands p s (commanded c s)
-  unfolding commanded
-  commanded_of (command.Send name atoms) s h lawful = event_stands asks p s (Message name (message_in atoms).selector (cut_atoms (message_in atoms).atoms)) lawful h
-  commanded_of (command.Edit place edit) s h lawful = taken_stands asks p _ s lawful h
-  commanded_of (command.Save document) s h lawful = taken_stands asks p _ s lawful h
-  commanded_of (command.Show path) s h lawful = h
-  commanded_of command.Undo s h lawful = taken_stands asks p _ s lawful h
-  commanded_of command.Redo s h lawful = taken_stands asks p _ s lawful h
+pub commanded_of : (c : Command) (s : Stage) → Stays s (commanded c s)
+unfolding commanded
+commanded_of (command.Send name atoms) s h lawful = event_of s (Message name (message_in atoms).selector (cut_atoms (message_in atoms).atoms)) h lawful
+commanded_of (command.Edit place edit) s h lawful = taken_of _ s h lawful
+commanded_of (command.Save document) s h lawful = taken_of _ s h lawful
+commanded_of (command.Show path) s h lawful = h
+commanded_of command.Undo s h lawful = taken_of _ s h lawful
+commanded_of command.Redo s h lawful = taken_of _ s h lawful
 
-  pub opened_of : (file : List ℕ) (names : Names) (ahead : List Choice) → CanRewire p → AreLawful (opened file p names ahead).edits → IsStageOf p (opened file p names ahead).stage
-  opened_of file names ahead rewires lawful =
-      event_stands asks p (first_stage file p names ahead) (Loading (loads_among p.grove (keys_in_order p.grove))) lawful
-      (record { web = p.web; links = p.links; orders = p.orders; net = refl; rewires = rewires })
+-- ---- where a patch opens
+
+module _ (holds : Option (List FileRow)) (name : List ℕ) (rate : Rate) (d : Page) (names table : Names) (p : Patch) (base : Base) (ahead : List Choice)
+    (g : Grows holds name rate d names p table base) where
+  pub first_tree : HasTree (first_stage name p table base ahead)
+  first_tree = record {
+    patch = p;
+    tree = g.tree.tree;
+    stands = g.tree.stands;
+    of = record { web = p.web; links = p.links; orders = p.orders; net = refl; rewires = runs_rewire p table name rate (is_built p table name rate g.fresh) };
+    shallow = (let low = g.tree.shallow in omega (arith, low));
+    boxes = g.first.counted.boxes ∙ ap (λ (t : Tree). weight t.boxes) g.first.tree_is;
+    wires = g.first.counted.wires;
+    within = g.first.within;
+    own = g.fresh.own;
+    apart = g.fresh.apart;
+  }
+
+  -- where a patch has grown each name has its owners, and its boxes own the same in each table that goes on
+  pub first_owners : HasOwners (first_stage name p table base ahead) p g.tree.tree
+  first_owners = record {
+    table = table;
+    goes_on = extends_same table;
+    owners = g.fresh.owners;
+    alike = λ more x. subst (λ (n : Names). OwnAlike n more name g.tree.tree.boxes) (sym g.tree.given.table)
+        (grown_alike (answer_in g.files.files) name d (beginning g.files.names 1001) g.tree.given.after g.tree.tree more (library_of g.files.names g.files.files g.found)
+        (texts_of_sound g.files.names d g.proper.sound) g.tree.given.step (subst (λ (n : Names). Extends n more) g.tree.given.table x));
+  }
+
+  pub first_both : HasBoth (first_stage name p table base ahead)
+  unfolding first_tree
+  first_both = record { tree = first_tree; owners = first_owners }
+
+  pub opened_of : AreLawful (opened name p table base ahead).edits → HasTree (opened name p table base ahead).stage
+  opened_of lawful = event_of (first_stage name p table base ahead) (Loading (loads_among p.grove (keys_in_order p.grove))) first_tree lawful
 
 -- what pd_block says of the levels of a patch whose tree stands
 abbrev pub LevelsAreEnough : Type 0
@@ -109,9 +223,9 @@ LevelsAreEnough = (p : Patch) (s : Sheet) (t : Trees) → GroveStands p.grove s 
     (clocks : List Clock) (sound : block.Sound) (start levels : ℕ) → deep t < levels →
     block_within levels (block.with_clocks (block.net_of p) clocks) sound start ≡ block_of (block.with_clocks (block.net_of p) clocks) sound start
 
-pub whole_block : (enough : LevelsAreEnough) (holds : Option (List FileRow)) (name : List ℕ) (rate : Rate) (d : Page) (names table : Names) (p : Patch) (s : Stage) (levels : ℕ)
-    → Grows holds name rate d names p table → IsStageOf p s → 256 ≤ levels → block_within levels (block_net s) (sound_at s) (s.block_end - block_units) ≡ played_at s
-whole_block enough holds name rate d names table p s levels g h l =
-    let shallow : deep g.tree.tree.boxes + 1 ≤ 256 = g.tree.shallow in
-    subst (λ (n : block.Net). block_within levels n (sound_at s) (s.block_end - block_units) ≡ block_of n (sound_at s) (s.block_end - block_units)) (sym h.net)
-    (enough (with_wires p h.web h.links h.orders) g.tree.tree.sheet g.tree.tree.boxes g.tree.stands h.rewires.orders (omega arith) s.clocks (sound_at s) (s.block_end - block_units) levels (omega arith))
+pub whole_block : (enough : LevelsAreEnough) (s : Stage) (levels : ℕ) → HasTree s → 256 ≤ levels → block_within levels (block_net s) (sound_at s) (s.block_end - block_units) ≡ played_at s
+whole_block enough s levels t l =
+    let shallow : deep t.tree.boxes ≤ 255 = t.shallow in
+    subst (λ (n : block.Net). block_within levels n (sound_at s) (s.block_end - block_units) ≡ block_of n (sound_at s) (s.block_end - block_units)) (sym t.of.net)
+    (enough (with_wires t.patch t.of.web t.of.links t.of.orders) t.tree.sheet t.tree.boxes t.stands t.of.rewires.orders (omega (arith, shallow)) s.clocks (sound_at s) (s.block_end - block_units) levels
+    (omega (arith, shallow, l)))

@@ -1,6 +1,5 @@
 -- What an edit of the patch's own document comes to.
-use Rattle.std.specs.Prelude.{◌≡◌, ◌≤◌, ◌+◌, ◌⊎◌, ℕ, List, Option, Some, None, Result, Ok, Err}
-use Rattle.pd_io.specs.declared.files.FileRow.{FileRow}
+use Rattle.std.specs.Prelude.{◌≡◌, ◌≤◌, ◌+◌, ◌⊎◌, ℕ, List, Some, None, Result, Ok, Err}
 use Rattle.pd_canvas.specs.declared.edits.Edit.{Edit}
 use Rattle.pd_patch.specs.declared.patch.Patch.{Patch}
 use Rattle.pd_say.specs.Lines.{refusal_text}
@@ -11,10 +10,10 @@ use Rattle.pd_wiring.specs.declared.refusals.EditRefusal.{EditRefusal}
 use Rattle.pd_wiring.specs.declared.refusals.EditRefusal.TheVariants.{NoMemory}
 use Rattle.pd_say.specs.declared.refusals.Why.{Why}
 use Rattle.pd_say.specs.declared.refusals.Why.TheVariants as why
-use Rattle.pd_stage.specs.Choices.{Wanted, Edits, Saves, Undoes, Redoes, Choice}
+use Rattle.pd_stage.specs.Choices.{Wanted, Edits, Asks, Saves, Undoes, Redoes, Choice}
 use Rattle.pd_stage.specs.Stages.{Stage}
 use Rattle.pd_stage.specs.Events.{edit_taken}
-use Rattle.pd_stage.specs.Leads.{Sinks, sinks, Comes}
+use Rattle.pd_stage.specs.Leads.{Sinks, Comes}
 use Rattle.pd_stage.specs.Lawful.{why_of}
 use Rattle.pd_stage.specs.Lines.{loops_text}
 use Rattle.pd_engine.specs.Commands.{first_outcome}
@@ -59,10 +58,8 @@ pub record IsTakenSo (wanted : Wanted) (outcome : Outcome) (from to : List Choic
   pub answer : outcome ≡ first_outcome comes.edits
 
 -- an edit of the patch's own document was taken, and this is answered
-abbrev pub IsEdited : List ℕ → Edit → Outcome → (List Choice → Stage) → (List Choice → Stage) → (lines lines' : Option (List ℕ)) → (looks looks' : ℕ) → Type 0
-IsEdited path e outcome from to lines lines' looks looks' =
-    (samples : Option (List ℕ)) (held : Option (List FileRow)) (faults : ℕ) →
-    IsTakenSo (Edits None path e) outcome from to (sinks lines samples looks held faults) (sinks lines' samples looks' held faults)
+abbrev pub IsEdited : List ℕ → Edit → Outcome → (List Choice → Stage) → (List Choice → Stage) → Sinks → Sinks → Type 0
+IsEdited path e outcome from to old new = IsTakenSo (Edits None path e) outcome from to old new
 
 -- the patch's own document was saved, or not, and this is answered
 abbrev pub IsSavedSo : Outcome → (List Choice → Stage) → (List Choice → Stage) → Sinks → Sinks → Type 0
@@ -72,6 +69,7 @@ IsSavedSo outcome from to old new = IsTakenSo (Saves None) outcome from to old n
 abbrev pub IsAlwaysRefused : Wanted → Why → Type 0
 IsAlwaysRefused (Edits None path e) reason = ⊥
 IsAlwaysRefused (Edits (Some document) path e) reason = reason ≡ why.NoDocument
+IsAlwaysRefused (Asks path e) reason = ⊥
 IsAlwaysRefused (Saves None) reason = ⊥
 IsAlwaysRefused (Saves (Some document)) reason = reason ≡ why.NoDocument
 IsAlwaysRefused Undoes reason = reason ≡ why.NothingToUndo

@@ -29,7 +29,9 @@ use Rattle.pd_engine.specs.declared.refusals.OpenRefusal.{OpenRefusal}
 use Rattle.pd_engine.specs.declared.refusals.OpenRefusal.TheVariants.{Absent, Bad, ShelfFault, WriteFault, NoMemory}
 use Rattle.pd_engine.specs.declared.refusals.BadCause.{BadCause}
 use Rattle.pd_engine.specs.declared.refusals.BadCause.TheVariants as cause
-use Rattle.pd_stage.specs.Choices.{Choice}
+use Rattle.pd_adding.specs.Counts.{AreWithin}
+use Rattle.pd_adding.specs.Counted.{AreCounted}
+use Rattle.pd_stage.specs.Choices.{Base, Choice}
 use Rattle.pd_stage.specs.Stages.{Stage, Passage, saying, joined}
 use Rattle.pd_stage.specs.Leads.{Says, SaysPart}
 use Rattle.pd_stage.specs.Events.{event, Loading}
@@ -37,15 +39,16 @@ use Rattle.pd_engine.specs.Refusals.{unread}
 use Rattle.pd_engine.specs.Remarks.{remarks_text}
 use Rattle.pd_stage.specs.Times.{block_units}
 
--- a patch that has just grown from the file of this name, with these names: the time is 0, the first block is to come, no sample is added up, and the
--- edits to come lead to this
-abbrev pub first_stage : List ℕ → Patch → Names → List Choice → Stage
-first_stage file p names ahead = record {
+-- a patch that has just grown from the file of this name, with these names, and what edits go on from: the time is 0, the first block is to come, no
+-- sample is added up, and the edits to come lead to this
+abbrev pub first_stage : List ℕ → Patch → Names → Base → List Choice → Stage
+first_stage file p names base ahead = record {
   file = file;
   net = net_of p;
   states = states_of p;
   clocks = p.timers.clocks.clocks;
   names = names;
+  base = base;
   time = 0;
   block_end = block_units;
   fired = 0;
@@ -61,8 +64,8 @@ loaded s lines boxes = joined (saying s lines) (event s (Loading boxes))
 abbrev pub opening : Patch → Names → Stage → Passage
 opening p names s = loaded s (remarks_text names p (notices_in p.grove p.web p.orders.items)) (loads_among p.grove (keys_in_order p.grove))
 
-abbrev pub opened : List ℕ → Patch → Names → List Choice → Passage
-opened file p names ahead = opening p names (first_stage file p names ahead)
+abbrev pub opened : List ℕ → Patch → Names → Base → List Choice → Passage
+opened file p names base ahead = opening p names (first_stage file p names base ahead)
 
 -- The growth of a document, the files being known.
 abbrev pub growth_of : List ℕ → Page → Known → Step Tree
@@ -76,9 +79,16 @@ Files = List (ℕ × Answer)
 abbrev pub GathersAll : Option (List FileRow) → List ℕ → Page → Names → Known → Type 0
 GathersAll holds name d names k = Gathers holds name d (known [] names) (Gathered k)
 
--- A document with its names grows into this patch, with these names. The document and the files that were gathered are proper in the table
--- of names that gathering left.
-pub record Grows (holds : Option (List FileRow)) (name : List ℕ) (rate : Rate) (d : Page) (names : Names) (p : Patch) (names' : Names) : Type 0 where
+-- where a patch has grown, edits go on from the files that were gathered, and from the counts of its tree, which are within the limits of a patch
+pub record IsFirst (base : Base) (files : Files) (p : Patch) (t : Tree) : Type 0 where
+  pub files_are : base.files ≡ files
+  pub counted : AreCounted base.counts p
+  pub tree_is : counted.tree ≡ t
+  pub within : AreWithin base.counts
+
+-- A document with its names grows into this patch, with these names, and edits go on from this. The document and the files that were gathered are
+-- proper in the table of names that gathering left.
+pub record Grows (holds : Option (List FileRow)) (name : List ℕ) (rate : Rate) (d : Page) (names : Names) (p : Patch) (names' : Names) (base : Base) : Type 0 where
   pub files : Known
   pub gathers : GathersAll holds name d names files
   pub table : IsTable files.names
@@ -86,14 +96,16 @@ pub record Grows (holds : Option (List FileRow)) (name : List ℕ) (rate : Rate)
   pub found : AreProper files.names files.files
   pub tree : IsTree p names' rate (growth_of name d files)
   pub fresh : IsFresh p names' name rate
+  pub first : IsFirst base files.files p tree.tree
 
 -- A document with its names opens as an engine that keeps the files that were gathered and stands at this stage, and its lines were taken.
 pub record Opens (holds : Option (List FileRow)) (name : List ℕ) (rate : Rate) (d : Page) (names : Names) (library : Files) (s : List Choice → Stage) (lines lines' : Option (List ℕ)) : Type 0 where
   pub patch : Patch
   pub table : Names
-  pub grows : Grows holds name rate d names patch table
+  pub base : Base
+  pub grows : Grows holds name rate d names patch table base
   pub keeps : library ≡ grows.files.files
-  pub says : (looks : ℕ) → Says (opening patch table) (first_stage name patch table) s lines lines' looks looks
+  pub says : (looks : ℕ) → Says (opening patch table) (first_stage name patch table base) s lines lines' looks looks
 
 -- The table of names is full while the files are gathered, or the folder failed, or memory was wanting.
 abbrev pub IsUngathered : Option (List FileRow) → List ℕ → Page → Names → OpenRefusal → Type 0
@@ -133,8 +145,9 @@ pub record StopsGrowing (holds : Option (List FileRow)) (name : List ℕ) (rate 
 pub record BreaksOff (holds : Option (List FileRow)) (name : List ℕ) (rate : Rate) (d : Page) (names : Names) (lines lines' : Option (List ℕ)) (e : OpenRefusal) : Type 0 where
   pub patch : Patch
   pub table : Names
-  pub grows : Grows holds name rate d names patch table
-  pub took : (looks : ℕ) → SaysPart (opening patch table) (first_stage name patch table) lines lines' looks looks
+  pub base : Base
+  pub grows : Grows holds name rate d names patch table base
+  pub took : (looks : ℕ) → SaysPart (opening patch table) (first_stage name patch table base) lines lines' looks looks
   pub is : e ≡ WriteFault
 
 -- why a document with its names doesn't open

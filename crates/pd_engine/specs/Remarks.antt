@@ -1,36 +1,15 @@
 -- The lines of growth.
-use Rattle.std.specs.Prelude.{ℕ, List, [], ◌∷◌, codes, decimal, Option, Some, None, if◌then◌else◌}
+use Rattle.std.specs.Prelude.{ℕ, List, [], ◌∷◌, codes, decimal}
 use Rattle.std.specs.List.{flat_map, concat}
 use Rattle.slab.specs.Slab.{get}
 use Rattle.pd_atom.specs.Names.{Names}
-use Rattle.pd_atom.specs.declared.Atom.{Atom}
 use Rattle.pd_canvas.specs.declared.wires.Wire.{Wire}
-use Rattle.pd_tree.specs.declared.rows.Fault.{Fault}
-use Rattle.pd_tree.specs.declared.rows.Fault.TheVariants.{Unknown, InsideItself, BadFile, TooDeep}
 use Rattle.pd_patch.specs.declared.patch.Patch.{Patch}
 use Rattle.pd_patch.specs.declared.report.Remark.{Remark}
 use Rattle.pd_patch.specs.declared.report.Remark.TheVariants.{NotMade, Unfit, Loop}
 use Rattle.pd_patch.specs.Telling.{fault_in}
-use Rattle.pd_say.specs.Lines.{named_error, file_error}
 use Rattle.pd_say.specs.Paths.{path_text}
-use Rattle.pd_hearing.specs.Guards.{is_atom}
-use Rattle.pd_stage.specs.Lines.{path_in, loop_text}
-
--- why a box could not be made that its line names so
-abbrev pub fault_text : Names → Atom → Fault → List ℕ
-fault_text names name Unknown = named_error names name (codes ": couldn't create\n")
-fault_text names name InsideItself = named_error names name (codes ": inside itself\n")
-fault_text names name (BadFile number) = file_error names name number
-fault_text names name TooDeep = named_error names name (codes ": too deep\n")
-
--- a name that isn't of the table isn't told
-abbrev pub told_fault : Names → Fault → Atom → List ℕ
-told_fault names fault name = if is_atom names name then fault_text names name fault else []
-
--- a box without text has no line
-abbrev pub unmade_text : Names → Option (Fault × Atom) → List ℕ
-unmade_text names None = []
-unmade_text names (Some f) = told_fault names f.0 f.1
+use Rattle.pd_stage.specs.Lines.{path_in, loop_text, unmade_text}
 
 -- a wire of the canvas at a path doesn't fit
 abbrev pub unfit_text : List ℕ → Wire → List ℕ

@@ -1,7 +1,7 @@
 -- Where an engine stands.
 use Rattle.std.specs.Prelude.{List}
 use Rattle.pd_hearing.specs.Worlds.{net_of, states_of}
-use Rattle.pd_stage.specs.Choices.{Choice}
+use Rattle.pd_stage.specs.Choices.{Choice, base_of}
 use Rattle.pd_stage.specs.Stages.{Stage}
 use Rattle.pd_engine.specs.declared.engine.Engine.{Engine}
 
@@ -13,6 +13,7 @@ stage_at e ahead = record {
   states = states_of e.patch;
   clocks = e.patch.timers.clocks.clocks;
   names = e.symbols;
+  base = base_of e.library e.counts;
   time = e.time;
   block_end = e.block_end;
   fired = e.fired;

@@ -42,12 +42,11 @@ impl Engine {
         ensures cause { HasCause (L.faults lines.old) (L.faults lines.new) result }
         ensures counted { H.faults shelf.old ≤ H.faults shelf.new }
         ensures stays { self.new.stopped ≡ self.old.stopped }
-        ensures library { self.new.library ≡ self.old.library }
     {
         match cmd {
             Command::Send { name, atoms } => self.send(*name, atoms.as_slice(), lines, steps),
             Command::Show { path } => self.show_at(path.as_slice(), lines),
-            Command::Edit { place, edit } => self.edit_at(place, edit, lines, steps),
+            Command::Edit { place, edit } => self.edit_at(place, edit, shelf, lines, steps),
             Command::Save { document } => self.save_at(*document, shelf, lines),
             Command::Undo => {
                 self.refuse(Request::Undo, Why::NothingToUndo, Outcome::Nothing, lines)
@@ -59,22 +58,24 @@ impl Engine {
     }
 
     /// Makes an edit of a canvas of a document. There are no drafts of abstractions yet.
-    fn edit_at<L: Sink, K: Ledger>(
+    fn edit_at<H: Shelf, L: Sink, K: Ledger>(
         &mut self,
         place: &CommandPlace,
         edit: &CommandEdit,
+        shelf: &mut H,
         lines: &mut L,
         steps: &mut Steps<K>,
     ) -> Result<Outcome, SinkFailed>
-        ensures ok { IfOk result (λ outcome. (samples : Option (List ℕ)) (held : Option (List FileRow)) (faults : ℕ) →
-            IsTakenSo (Edits place.now.document place.now.path edit.now) outcome (stage_at self.old) (stage_at self.new) (sinks (L.taken lines.old) samples steps.old held faults) (sinks (L.taken lines.new) samples steps.new held faults)) }
-        ensures err { OnErr result (SaysPart (edit_taken (Edits place.now.document place.now.path edit.now)) (stage_at self.old) (L.taken lines.old) (L.taken lines.new) steps.old steps.new) }
+        ensures ok { IfOk result (λ outcome. (samples : Option (List ℕ)) →
+            IsTakenSo (Edits place.now.document place.now.path edit.now) outcome (stage_at self.old) (stage_at self.new) (sinks (L.taken lines.old) samples steps.old (H.holds shelf.old) (H.faults shelf.old)) (sinks (L.taken lines.new) samples steps.new (H.holds shelf.new) (H.faults shelf.new))) }
+        ensures err { OnErr result ((samples : Option (List ℕ)) →
+            Stops (edit_taken (Edits place.now.document place.now.path edit.now)) (stage_at self.old) (sinks (L.taken lines.old) samples steps.old (H.holds shelf.old) (H.faults shelf.old)) (sinks (L.taken lines.new) samples steps.new (H.holds shelf.new) (H.faults shelf.new))) }
         ensures cause { HasCause (L.faults lines.old) (L.faults lines.new) result }
+        ensures counted { H.faults shelf.old ≤ H.faults shelf.new }
         ensures stays { self.new.stopped ≡ self.old.stopped }
-        ensures library { self.new.library ≡ self.old.library }
     {
         match place.document {
-            None => self.edit_own(place.path.as_slice(), edit, lines, steps),
+            None => self.edit_own(place.path.as_slice(), edit, shelf, lines, steps),
             Some(_) => {
                 let outcome = Outcome::Refused(EditRefusal::NoDocument);
                 self.refuse(Request::Edit, Why::NoDocument, outcome, lines)

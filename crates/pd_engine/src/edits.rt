@@ -1,9 +1,10 @@
 //! Edits and saves of the patch's own document.
 
-ghost use Rattle.std.specs.Prelude.{◌≡◌, ◌<◌, ◌≤◌, ℕ, List, Option, None, length, slice_index_or, OnOk, OnErr, IfOk};
+ghost use Rattle.std.specs.Prelude.{◌≡◌, ◌<◌, ◌≤◌, ℕ, true, List, Option, None, length, slice_index_or, OnOk, OnErr, IfOk};
 ghost use Rattle.pd_io.specs.Stream.{grown, TookPart};
 ghost use Rattle.pd_canvas.specs.declared.edits.Edit.{Edit as EditSeen};
 ghost use Rattle.pd_queue.specs.Entries.{wire_edit};
+ghost use Rattle.pd_script.specs.Edits.{puts_box};
 ghost use Rattle.pd_say.specs.Gathering.{HasCause};
 ghost use Rattle.pd_web.specs.Changes.{wires_told};
 ghost use Rattle.pd_wiring.specs.Changes.{CanRewire};
@@ -11,18 +12,20 @@ ghost use Rattle.pd_stage.specs.Choices.{Edits, Saves};
 ghost use Rattle.pd_stage.specs.Events.{edit_asked, edit_taken};
 ghost use Rattle.pd_stage.specs.Lawful.{why_of as why_so};
 ghost use Rattle.pd_stage.specs.Leads.{sinks, Stops, Says, SaysPart};
+ghost use Rattle.pd_stage.specs.Lines.{put_text};
 ghost use Rattle.pd_engine.specs.Stages.{stage_at};
 ghost use Rattle.pd_engine.specs.Edits.{EditsTo, edit_text, edit_outcome, IsEdited, IsSavedSo};
 
 use crate::engine::Engine;
 use crate::printing::print_refusal;
 use crate::refusals::{Outcome, unsaved};
-use crate::remarks::print_loop;
+use crate::remarks::{print_loop, print_unmade};
 use pd_canvas::Edit;
 use pd_edit::{EditRefusal, rewire};
 use pd_io::{Shelf, Sink, SinkFailed};
 use pd_order::Steps;
 use pd_patch::Patch;
+use pd_putting::{NewBox, Site, add_box};
 use pd_save::put_document;
 use pd_say::{Request, Why};
 use pd_script::CommandEdit;
@@ -52,7 +55,7 @@ impl Engine {
         let done = make(
             self.alloc,
             &mut self.patch,
-            &mut self.wires,
+            &mut self.counts.wires,
             asked.path(),
             edit,
             steps,
@@ -62,28 +65,116 @@ impl Engine {
     }
 
     /// Makes an edit of the canvas at a path of the patch's own document, or refuses it.
-    pub(crate) fn edit_own<L: Sink, K: Ledger>(
+    pub(crate) fn edit_own<H: Shelf, L: Sink, K: Ledger>(
         &mut self,
         path: &[u32],
         edit: &CommandEdit,
+        shelf: &mut H,
         lines: &mut L,
         steps: &mut Steps<K>,
     ) -> Result<Outcome, SinkFailed>
-        ensures ok { IfOk result (λ outcome. IsEdited path.now edit.now outcome (stage_at self.old) (stage_at self.new) (L.taken lines.old) (L.taken lines.new) steps.old steps.new) }
-        ensures err { OnErr result (SaysPart (edit_taken (Edits None path.now edit.now)) (stage_at self.old) (L.taken lines.old) (L.taken lines.new) steps.old steps.new) }
+        ensures ok { IfOk result (λ outcome. (samples : Option (List ℕ)) → IsEdited path.now edit.now outcome (stage_at self.old) (stage_at self.new) (sinks (L.taken lines.old) samples steps.old (H.holds shelf.old) (H.faults shelf.old)) (sinks (L.taken lines.new) samples steps.new (H.holds shelf.new) (H.faults shelf.new))) }
+        ensures err { OnErr result ((samples : Option (List ℕ)) → Stops (edit_taken (Edits None path.now edit.now)) (stage_at self.old) (sinks (L.taken lines.old) samples steps.old (H.holds shelf.old) (H.faults shelf.old)) (sinks (L.taken lines.new) samples steps.new (H.holds shelf.new) (H.faults shelf.new))) }
         ensures cause { HasCause (L.faults lines.old) (L.faults lines.new) result }
+        ensures counted { H.faults shelf.old ≤ H.faults shelf.new }
         ensures stays { self.new.stopped ≡ self.old.stopped }
-        ensures library { self.new.library ≡ self.old.library }
     {
+        if edit.puts_box() {
+            return self.put_own(path, edit, shelf, lines, steps);
+        }
         let done = make(
             self.alloc,
             &mut self.patch,
-            &mut self.wires,
+            &mut self.counts.wires,
             path,
             edit.wire_edit(),
             steps,
         );
         self.tell(done, lines)
+    }
+
+    /// Puts a box last into the canvas at a path of the patch's own document, or refuses it.
+    fn put_own<H: Shelf, L: Sink, K: Ledger>(
+        &mut self,
+        path: &[u32],
+        edit: &CommandEdit,
+        shelf: &mut H,
+        lines: &mut L,
+        steps: &mut Steps<K>,
+    ) -> Result<Outcome, SinkFailed>
+        requires { puts_box edit.now ≡ true }
+        ensures ok { IfOk result (λ outcome. (samples : Option (List ℕ)) → IsEdited path.now edit.now outcome (stage_at self.old) (stage_at self.new) (sinks (L.taken lines.old) samples steps.old (H.holds shelf.old) (H.faults shelf.old)) (sinks (L.taken lines.new) samples steps.new (H.holds shelf.new) (H.faults shelf.new))) }
+        ensures err { OnErr result ((samples : Option (List ℕ)) → Stops (edit_taken (Edits None path.now edit.now)) (stage_at self.old) (sinks (L.taken lines.old) samples steps.old (H.holds shelf.old) (H.faults shelf.old)) (sinks (L.taken lines.new) samples steps.new (H.holds shelf.new) (H.faults shelf.new))) }
+        ensures cause { HasCause (L.faults lines.old) (L.faults lines.new) result }
+        ensures counted { H.faults shelf.old ≤ H.faults shelf.new }
+        ensures stays { self.new.stopped ≡ self.old.stopped }
+    {
+        match edit.copy(self.alloc) {
+            Ok(edit) => self.put_copied(path, &edit, shelf, lines, steps),
+            Err(_) => self.tell(Err(EditRefusal::NoMemory), lines),
+        }
+    }
+
+    /// Puts a box last into the canvas at a path of the patch's own document, or refuses it, by an edit with a text of its own.
+    fn put_copied<H: Shelf, L: Sink, K: Ledger>(
+        &mut self,
+        path: &[u32],
+        edit: &Edit,
+        shelf: &mut H,
+        lines: &mut L,
+        steps: &mut Steps<K>,
+    ) -> Result<Outcome, SinkFailed>
+        requires { puts_box edit.now ≡ true }
+        ensures ok { IfOk result (λ outcome. (samples : Option (List ℕ)) → IsEdited path.now edit.now outcome (stage_at self.old) (stage_at self.new) (sinks (L.taken lines.old) samples steps.old (H.holds shelf.old) (H.faults shelf.old)) (sinks (L.taken lines.new) samples steps.new (H.holds shelf.new) (H.faults shelf.new))) }
+        ensures err { OnErr result ((samples : Option (List ℕ)) → Stops (edit_taken (Edits None path.now edit.now)) (stage_at self.old) (sinks (L.taken lines.old) samples steps.old (H.holds shelf.old) (H.faults shelf.old)) (sinks (L.taken lines.new) samples steps.new (H.holds shelf.new) (H.faults shelf.new))) }
+        ensures cause { HasCause (L.faults lines.old) (L.faults lines.new) result }
+        ensures counted { H.faults shelf.old ≤ H.faults shelf.new }
+        ensures stays { self.new.stopped ≡ self.old.stopped }
+    {
+        let site = Site {
+            name: self.file.as_slice(),
+            path,
+            now: self.time,
+        };
+        let done = add_box(
+            self.alloc,
+            &mut self.patch,
+            self.counts,
+            site,
+            edit,
+            &mut self.library,
+            shelf,
+            &mut self.symbols,
+            steps,
+        );
+        match done {
+            Ok(added) => {
+                self.counts = added.counts;
+                self.tell_put(added, lines)
+            }
+            Err(why) => self.tell(Err(why), lines),
+        }
+    }
+
+    /// Tells of a box that an edit put: why it could not be made, and a loop of its canvas.
+    fn tell_put<L: Sink>(&mut self, added: NewBox, lines: &mut L) -> Result<Outcome, SinkFailed>
+        ensures stage { stage_at self.new ≡ stage_at self.old }
+        ensures ok { OnOk result (L.taken lines.new ≡ grown (L.taken lines.old) (put_text self.old.symbols self.old.patch added.key added.canvas)) }
+        ensures answer { IfOk result (λ outcome. outcome ≡ Outcome.Done) }
+        ensures err { OnErr result (TookPart (L.taken lines.old) (L.taken lines.new) (put_text self.old.symbols self.old.patch added.key added.canvas)) }
+        ensures cause { HasCause (L.faults lines.old) (L.faults lines.new) result }
+        ensures stays { self.new.stopped ≡ self.old.stopped }
+    {
+        print_unmade(&self.patch, added.key, &self.symbols, &mut self.held, lines)?;
+        print_loop(
+            &self.patch,
+            added.canvas,
+            &mut self.numbers,
+            &self.symbols,
+            &mut self.held,
+            lines,
+        )?;
+        Ok(Outcome::Done)
     }
 
     /// Tells what an edit came to.

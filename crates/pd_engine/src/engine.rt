@@ -2,6 +2,7 @@
 
 ghost use Rattle.std.specs.Prelude.{◌≡◌, ◌≤◌, ◌^◌, ◌⊎◌, ℕ, true, false, IsTrue, IsErrOf, OnOk, OnErr, IfOk, IfSome, IfNone, List, Option, option_map, length};
 ghost use Rattle.pd_io.specs.Faults.{Rose};
+ghost use Rattle.pd_atom.specs.Names.{IsTable, Extends};
 ghost use Rattle.pd_lex.specs.Reading.{is_body};
 ghost use Rattle.pd_script.specs.Room.{IsWhole, IsWholeAfter};
 ghost use Rattle.pd_script.specs.Options.{Gives};
@@ -14,10 +15,14 @@ ghost use Rattle.pd_stage.specs.Leads.{sinks, Stops, Sounds, SoundsPart};
 ghost use Rattle.pd_stage.specs.Times.{advanced, finished};
 ghost use Rattle.pd_engine.specs.Commands.{commanded, IsCarriedOut};
 ghost use Rattle.pd_web.specs.Changes.{wires_told};
-ghost use Rattle.pd_wiring.specs.Changes.{CanRewire};
+ghost use Rattle.pd_gather.specs.Gather.{AreProper};
+ghost use Rattle.pd_boxes.specs.Put.{CanPut};
+ghost use Rattle.pd_adding.specs.Coming.{own_zero};
+ghost use Rattle.pd_adding.specs.Counts.{AreWithin};
 
 use crate::refusals::{EngineFault, Outcome};
 use crate::room::BoxNumbers;
+use pd_adding::Counts;
 use pd_atom::Symbols;
 use pd_clock::Time;
 use pd_gather::Library;
@@ -28,7 +33,7 @@ use pd_order::Steps;
 use pd_patch::Patch;
 use pd_queue::EditQueue;
 use pd_say::Held;
-use pd_script::{Command, CommandRoom, Script, read_command};
+use pd_script::{Command, CommandRoom, Script, read_command, tables_go_on};
 use pd_walk::Walker;
 use std::alloc::Global;
 use std::sync::ledger::Ledger;
@@ -40,8 +45,8 @@ pub struct Engine {
     /// The name under which the patch is saved.
     pub(crate) file: Vec<u8>,
     pub(crate) patch: Patch,
-    /// How many wires the patch has.
-    pub(crate) wires: usize,
+    /// What is counted of the patch.
+    pub(crate) counts: Counts,
     pub(crate) library: Library,
     pub(crate) symbols: Symbols,
     pub(crate) walker: Walker,
@@ -57,8 +62,11 @@ pub struct Engine {
     /// What the samples so far add up to.
     pub(crate) tally: Tally,
     pub(crate) stopped: bool,
-    ghost rewires: { ∥ CanRewire patch ∥₁ },
-    ghost counted: { wires ≡ wires_told patch.web },
+    ghost puts: { ∥ CanPut patch ∥₁ },
+    ghost counted: { counts.wires ≡ wires_told patch.web },
+    ghost within: { ∥ AreWithin counts ∥₁ },
+    ghost zero: { own_zero patch ≤ 1000000000 },
+    ghost found: { ∥ AreProper symbols library ∥₁ },
 }
 
 impl Engine {
@@ -98,11 +106,11 @@ impl Engine {
         ensures stays { self.new.stopped ≡ self.old.stopped }
         ensures library { self.new.library ≡ self.old.library }
     {
-        read_command(bytes, &mut self.symbols, room)
+        read_by(&mut self.symbols, bytes, room)
     }
 
-    /// Carries out a command at the present time, and prints what it has to print. Edits of wires and saves of the patch's own document
-    /// are made; others are refused, and there is nothing to undo or redo.
+    /// Carries out a command at the present time, and prints what it has to print. Edits of wires, edits that put a box without a canvas
+    /// inside, and saves of the patch's own document are made; others are refused, and there is nothing to undo or redo.
     ///
     /// # Errors
     ///
@@ -121,7 +129,6 @@ impl Engine {
         ensures nothing { self.old.stopped ≡ true → (self.new ≡ self.old) × (L.taken lines.new ≡ L.taken lines.old) }
         ensures after { OnErr result (self.new.stopped ≡ true) }
         ensures goes_on { OnOk result (self.new.stopped ≡ false) }
-        ensures library { self.new.library ≡ self.old.library }
         ensures untouched { self.old.stopped ≡ true → shelf.new ≡ shelf.old }
         ensures shelf_counted { H.faults shelf.old ≤ H.faults shelf.new }
         ensures cause { IsErrOf result EngineFault.WriteFault → Rose (L.faults lines.old) (L.faults lines.new) }
@@ -215,4 +222,25 @@ impl Engine {
         self.stopped = true;
         EngineFault::WriteFault
     }
+}
+
+/// Reads a record by a table of names, to which it only adds names.
+fn read_by(symbols: &mut Symbols, bytes: &[u8], room: &mut CommandRoom) -> Option<(Num, Script)>
+    requires whole { IsWhole room.old }
+    requires body { IsTrue (is_body bytes.now) }
+    requires short { length bytes.now ≤ 65536 }
+    ensures exact { Gives (λ r. (r.0, r.1, symbols.new)) result (command_of symbols.old (tokens_of bytes.now)) }
+    ensures of_table { IfSome result (λ r. ScriptOf symbols.new r.1) }
+    ensures refused { IfNone result (symbols.new ≡ symbols.old) }
+    ensures whole { IsWholeAfter (option_map (λ r. r.1) result) room.new }
+    ensures extends { Extends symbols.old symbols.new }
+    ensures table { IsTable symbols.old }
+    ensures table_after { IsTable symbols.new }
+{
+    // These are called for what they say of names that come, which the proof cites.
+    tables_go_on();
+    let _names = symbols.len();
+    let read = read_command(bytes, symbols, room);
+    let _names = symbols.len();
+    read
 }

@@ -10,7 +10,6 @@ use crate::engine::Engine;
 use pd_io::{Sink, SinkFailed};
 use pd_order::Steps;
 use pd_walk::{Budget, Start};
-use pd_wiring::rewiring_asks_alike;
 use std::sync::ledger::Ledger;
 
 impl Engine {
@@ -27,19 +26,23 @@ impl Engine {
         ensures stays { self.new.stopped ≡ self.old.stopped }
         ensures library { self.new.library ≡ self.old.library }
     {
-        rewiring_asks_alike();
         self.patch.set_now(self.time);
         let mut budget = Budget::new();
         self.queue.clear();
-        self.walker.deliver(
+        // The lengths are asked for what they say of the tables, which the proof cites.
+        let symbols = &mut self.symbols;
+        let _before = symbols.len();
+        let delivered = self.walker.deliver(
             &mut self.patch,
-            &mut self.symbols,
+            symbols,
             start,
             self.time,
             &mut budget,
             &mut self.queue,
             lines,
-        )?;
+        );
+        let _after = symbols.len();
+        delivered?;
         self.take_queued(lines, steps)
     }
 

@@ -13,7 +13,11 @@ ghost use Rattle.pd_say.specs.Gathering.{HasCause};
 ghost use Rattle.pd_engine.specs.Causes.{HasOpeningCauses};
 ghost use Rattle.pd_stage.specs.Events.{event, Loading};
 ghost use Rattle.pd_stage.specs.Leads.{Says, SaysPart};
-ghost use Rattle.pd_wiring.specs.Changes.{CanRewire};
+ghost use Rattle.pd_web.specs.Changes.{wires_told};
+ghost use Rattle.pd_boxes.specs.Put.{CanPut};
+ghost use Rattle.pd_adding.specs.Coming.{own_zero};
+ghost use Rattle.pd_adding.specs.Counts.{AreWithin};
+ghost use Rattle.pd_stage.specs.Choices.{base_of};
 ghost use Rattle.pd_engine.specs.Stages.{stage_at};
 ghost use Rattle.pd_engine.specs.Opening.{first_stage, loaded, growth_of, GathersAll, Opens, IsUngathered, IsUngrown, IsRefused, Reads, IsUnread, IsUnreadText, OpensFile, IsFileRefused};
 ghost use Rattle.pd_engine.specs.Remarks.{remarks_text};
@@ -23,7 +27,9 @@ use crate::refusals::{BadCause, OpenRefusal, ungathered, ungrown, unread};
 use crate::remarks::print_remarks;
 use crate::room::BoxNumbers;
 use crate::times::BLOCK;
+use pd_adding::{Counts, count_patch, grown_patches_are_limited};
 use pd_atom::Symbols;
+use pd_boxes::putting_asks_alike;
 use pd_clock::{Rate, Time};
 use pd_doc::{Doc, proper_extended, read};
 use pd_gather::Library;
@@ -34,7 +40,6 @@ use pd_patch::{Patch, Report, what_grows_is_built};
 use pd_queue::EditQueue;
 use pd_say::Held;
 use pd_walk::{Start, Walker};
-use pd_wiring::patches_that_run_rewire;
 use std::alloc::{AllocError, Global};
 use std::marker::Brand;
 use std::sync::ledger::{Blank, Ledger};
@@ -198,6 +203,7 @@ fn grow_all(
     ensures fresh { IfOk result (λ r. IsFresh r.0 symbols.new name.now rate) }
     ensures notices { IfOk result (λ r. r.1.notices.items ≡ notices_in r.0.grove r.0.web r.0.orders.items) }
     ensures loads { IfOk result (λ r. r.1.fresh.items ≡ loads_among r.0.grove (keys_in_order r.0.grove)) }
+    ensures extends { Extends symbols.old symbols.new }
     ensures refused { IfErr result (IsUngrown (growth_of name.now doc.root (known library.now symbols.old)) rate) }
     ensures causes { HasOpeningCauses 0 0 0 0 result }
 {
@@ -234,26 +240,34 @@ fn open_document<H: Shelf, L: Sink>(
     let _names = symbols.len();
     proper_extended();
     let (patch, report) = grow_all(alloc, doc, name, rate, &library, &mut symbols)?;
+    let _names = symbols.len();
     what_grows_is_built();
-    patches_that_run_rewire();
-    begin(alloc, patch, report, library, symbols, room, lines)
+    putting_asks_alike();
+    grown_patches_are_limited();
+    let counts = count_patch(alloc, &patch)?;
+    begin(alloc, patch, counts, report, library, symbols, room, lines)
 }
 
 /// Prints the lines of growth and loads the boxes.
 fn begin<L: Sink>(
     alloc: Global,
     patch: Patch,
+    counts: Counts,
     report: Report,
     library: Library,
     symbols: Symbols,
     room: Room,
     lines: &mut L,
 ) -> Result<Engine, OpenRefusal>
-    requires { CanRewire patch }
+    requires can { CanPut patch }
+    requires counted { counts.wires ≡ wires_told patch.web }
+    requires within { AreWithin counts }
+    requires zero { own_zero patch ≤ 1000000000 }
+    requires found { AreProper symbols library }
     ensures running { IfOk result (λ e. e.stopped ≡ false) }
     ensures library { IfOk result (λ e. e.library ≡ library) }
-    ensures ok { IfOk result (λ e. (looks : ℕ) → Says (λ s. loaded s (remarks_text symbols patch report.notices.items) report.fresh.items) (first_stage room.file.items patch symbols) (stage_at e) (L.taken lines.old) (L.taken lines.new) looks looks) }
-    ensures err { OnErr result ((looks : ℕ) → SaysPart (λ s. loaded s (remarks_text symbols patch report.notices.items) report.fresh.items) (first_stage room.file.items patch symbols) (L.taken lines.old) (L.taken lines.new) looks looks) }
+    ensures ok { IfOk result (λ e. (looks : ℕ) → Says (λ s. loaded s (remarks_text symbols patch report.notices.items) report.fresh.items) (first_stage room.file.items patch symbols (base_of library counts)) (stage_at e) (L.taken lines.old) (L.taken lines.new) looks looks) }
+    ensures err { OnErr result ((looks : ℕ) → SaysPart (λ s. loaded s (remarks_text symbols patch report.notices.items) report.fresh.items) (first_stage room.file.items patch symbols (base_of library counts)) (L.taken lines.old) (L.taken lines.new) looks looks) }
     ensures fault { IfErr result (λ e. e ≡ OpenRefusal.WriteFault) }
     ensures causes { HasOpeningCauses 0 0 (L.faults lines.old) (L.faults lines.new) result }
 {
@@ -263,13 +277,12 @@ fn begin<L: Sink>(
         queue,
         numbers,
     } = room;
-    let wires = patch.web.wire_count();
     let tally = Tally::new();
     let mut engine = Engine {
         alloc,
         file,
         patch,
-        wires,
+        counts,
         library,
         symbols,
         walker,

@@ -7,8 +7,8 @@ ghost use Rattle.pd_say.specs.Gathering.{Says, Fails, HasCause};
 ghost use Rattle.pd_patch.specs.Telling.{fault_in};
 ghost use Rattle.pd_patch.specs.Values.{stuck_in};
 ghost use Rattle.pd_hearing.specs.Worlds.{net_of};
-ghost use Rattle.pd_stage.specs.Lines.{numbers_told, path_in, loop_text, loops_text};
-ghost use Rattle.pd_engine.specs.Remarks.{told_fault, unmade_text, unfit_text, remark_text, remarks_text};
+ghost use Rattle.pd_stage.specs.Lines.{numbers_told, path_in, loop_text, loops_text, told_fault, unmade_text};
+ghost use Rattle.pd_engine.specs.Remarks.{unfit_text, remark_text, remarks_text};
 
 use crate::room::BoxNumbers;
 use crate::showing::fill_numbers;
@@ -34,6 +34,23 @@ pub(crate) fn print_remarks<L: Sink>(
 {
     held.clear();
     say_remarks(patch, remarks, numbers, symbols, held, lines)?;
+    flush(held, lines)
+}
+
+/// Prints why a box could not be made, where it could not.
+pub(crate) fn print_unmade<L: Sink>(
+    patch: &Patch,
+    node: u32,
+    symbols: &Symbols,
+    held: &mut Held,
+    lines: &mut L,
+) -> Result<(), SinkFailed>
+    ensures ok { OnOk result (L.taken lines.new ≡ grown (L.taken lines.old) (unmade_text symbols.now (fault_in (get patch.now.grove.nodes node)))) }
+    ensures err { OnErr result (TookPart (L.taken lines.old) (L.taken lines.new) (unmade_text symbols.now (fault_in (get patch.now.grove.nodes node)))) }
+    ensures cause { HasCause (L.faults lines.old) (L.faults lines.new) result }
+{
+    held.clear();
+    say_unmade(patch, node, symbols, held, lines)?;
     flush(held, lines)
 }
 

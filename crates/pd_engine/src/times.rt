@@ -16,7 +16,6 @@ use pd_mix::{BYTES, write_samples};
 use pd_num::Sig;
 use pd_order::Steps;
 use pd_walk::Start;
-use pd_wiring::rewiring_asks_alike;
 use std::sync::ledger::Ledger;
 
 /// The length of a block of 64 samples, in units.
@@ -97,7 +96,6 @@ impl Engine {
         let end = self.block_end.units();
         let start = Time::of_units(end.saturating_sub(BLOCK));
         let mut block = [[Sig::default(); 64]; 2];
-        rewiring_asks_alike();
         run_block(&mut self.patch, start, &mut block);
         let mut samples = [0; BYTES];
         write_samples(&block, &mut samples);
@@ -121,7 +119,6 @@ impl Engine {
         ensures stays { self.new.stopped ≡ self.old.stopped }
         ensures library { self.new.library ≡ self.old.library }
     {
-        rewiring_asks_alike();
         while self.fired < MOST_FIRED {
             let Some((time, owner)) = self.patch.next_clock(limit) else {
                 return Ok(());

@@ -1,5 +1,5 @@
 -- Each save of a play opens again.
-use Rattle.std.proofs.Common.{◌≡◌, ◌≤◌, ◌+◌, ◌^◌, ℕ, inl, inr, List, [], ◌∷◌, ◌++◌, length, Option, sym, subst, ◌∙◌}
+use Rattle.std.proofs.Common.{◌≡◌, ◌≤◌, ◌+◌, ℕ, inl, inr, List, [], ◌∷◌, ◌++◌, Option, sym, subst, ◌∙◌}
 use Rattle.std.specs.List.{AllByRecursion}
 use Rattle.std.proofs.lemmas.List.{append-nil}
 use Rattle.pd_io.specs.declared.files.FileRow.{FileRow}
@@ -9,11 +9,10 @@ use Rattle.pd_clock.specs.declared.times.Rate.{Rate}
 use Rattle.pd_clock.specs.Rates.{samples}
 use Rattle.pd_feed.specs.Script.{Script as Text}
 use Rattle.pd_patch.specs.declared.patch.Patch.{Patch}
-use Rattle.pd_stage.specs.Choices.{Choice}
+use Rattle.pd_stage.specs.Choices.{Base, Choice}
 use Rattle.pd_stage.specs.Leads.{Sinks}
 use Rattle.pd_stage.specs.Stages.{Stage, Taken, Passage}
 use Rattle.pd_stage.specs.Times.{block_units}
-use Rattle.pd_stage.proofs.EditLemmas.{AsksAlike}
 use Rattle.pd_engine.specs.Opening.{Grows, first_stage, opened}
 use Rattle.pd_steady.specs.Runs.{own_ways}
 use Rattle.pd_steady.specs.Steady.{IsSteady}
@@ -21,7 +20,7 @@ use Rattle.pd_steady.specs.Steps.{steps_by}
 use Rattle.pd_steady.proofs.FairLemmas.{AreFair, fair_first, fair_second}
 use Rattle.pd_again_law.specs.Again.{AreAgain}
 use Rattle.pd_again_law.proofs.FoundLemmas.{IsGood, AreFound, EndsWell, one_block, opened_leads, steps_lead, last_found, both_found}
-use Rattle.pd_again_law.proofs.AgainLemmas.{Tells, ReadsBack, keys, six, shallow, first_good, all_again}
+use Rattle.pd_again_law.proofs.AgainLemmas.{Tells, ReadsBack, first_good, all_again}
 use Rattle.pd_play.specs.Runs.{Run, Point, Ending, run_of}
 use Rattle.pd_play.specs.Playing.{Plays}
 use Rattle.pd_play.specs.Patches.{start, with_line}
@@ -31,49 +30,43 @@ use Rattle.pd_faithful.specs.Points.{most_units, IsSteadyAt, ended_by, IsStepped
 use Rattle.pd_faithful.proofs.FreeLemmas.{Laws, block_more, in_range}
 use Rattle.pd_faithful.proofs.StepLemmas.{run_stepped}
 
--- what the laws say of where a patch opens, of edits of wires, and of documents
+-- what the laws say of where a patch opens, and of documents
 pub record AgainLaws : Type 0 where
-  pub first : (holds : Option (List FileRow)) (name : List ℕ) (rate : Rate) (d : Page) (names table : Names) (p : Patch) (most : ℕ) (ahead : List Choice) → Grows holds name rate d names p table
-      → IsSteady most (first_stage name p table ahead)
-  pub asks : AsksAlike
+  pub first : (holds : Option (List FileRow)) (name : List ℕ) (rate : Rate) (d : Page) (names table : Names) (p : Patch) (base : Base) (most : ℕ) (ahead : List Choice)
+      → Grows holds name rate d names p table base → IsSteady most (first_stage name p table base ahead)
   pub tells : Tells
   pub reads : ReadsBack
 
-module _ (laws : Laws) (again : AgainLaws) (holds : Option (List FileRow)) (name : List ℕ) (rate : Rate) (d : Page) (names : Names) (p : Patch) (table : Names) (grows : Grows holds name rate d names p table) where
-  abbrev ks : List ℕ
-  ks = keys holds name rate d names p table grows
-
-  abbrev enough : 6 ≤ length table
-  enough = six holds name rate d names p table grows
-
-  ended_found : (status : Status) (r : Stage) → IsGood p table ks grows.tree.tree (shallow holds name rate d names p table grows) most_units r → AreFair (ended_by own_ways status r).edits → AreFound p table ks grows.tree.tree (shallow holds name rate d names p table grows) (most_units + block_units) (ended_by own_ways status r).edits
-  ended_found Done r h l = last_found p table ks grows.tree.tree (shallow holds name rate d names p table grows) laws.guards again.asks enough most_units block_more r h l
+module _ (laws : Laws) (again : AgainLaws) (holds : Option (List FileRow)) (name : List ℕ) (rate : Rate) (d : Page) (names : Names) (p : Patch) (table : Names) (base : Base)
+    (grows : Grows holds name rate d names p table base) where
+  ended_found : (status : Status) (r : Stage) → IsGood rate name most_units r → AreFair (ended_by own_ways status r).edits → AreFound rate name (most_units + block_units) (ended_by own_ways status r).edits
+  ended_found Done r h l = last_found rate name laws.guards most_units block_more r h l
   ended_found status r h l = tt
 
   -- from where the patch opens the run of a script
-  pub played_again : (ahead : List Choice) (ending : Ending) (text : Text) → let o : Passage = opened name p table ahead in
+  pub played_again : (ahead : List Choice) (ending : Ending) (text : Text) → let o : Passage = opened name p table base ahead in
       let q : Point = start o.stage (samples rate) in
-      IsSteadyAt q → AreFair (o.edits ++ (run_of ending text q).passage.edits) → AreAgain grows.files.files name rate grows.tree.tree (o.edits ++ (run_of ending text q).passage.edits)
+      IsSteadyAt q → AreFair (o.edits ++ (run_of ending text q).passage.edits) → AreAgain name rate (o.edits ++ (run_of ending text q).passage.edits)
   played_again ahead ending text steady w =
-      let o : Passage = opened name p table ahead in
+      let o : Passage = opened name p table base ahead in
       let q : Point = start o.stage (samples rate) in
       let run : Run = run_of ending text q in
       let later : AreFair run.passage.edits = fair_second o.edits run.passage.edits w in
-      let begins : EndsWell p table ks grows.tree.tree (shallow holds name rate d names p table grows) most_units o =
-      opened_leads p table ks grows.tree.tree (shallow holds name rate d names p table grows) laws.guards again.asks enough most_units in_range name ahead
-      (first_good holds name rate d names p table grows most_units ahead (again.first holds name rate d names table p most_units ahead grows)) (fair_first o.edits run.passage.edits w) in
+      let begins : EndsWell rate name most_units o =
+      opened_leads rate name laws.guards most_units in_range name p table base ahead
+      (first_good holds name rate d names p table base grows most_units ahead (again.first holds name rate d names table p base most_units ahead grows)) (fair_first o.edits run.passage.edits w) in
       let k : IsStepped most_units o.stage run = run_stepped laws ending text q steady later in
       let mid : Passage = steps_by own_ways k.steps o.stage in
       let last : Passage = ended_by own_ways run.status mid.stage in
       let both : AreFair (mid.edits ++ last.edits) = subst (λ (x : Passage). AreFair x.edits) k.same later in
-      let goes : EndsWell p table ks grows.tree.tree (shallow holds name rate d names p table grows) most_units mid =
-      steps_lead p table ks grows.tree.tree (shallow holds name rate d names p table grows) laws.guards again.asks enough most_units in_range k.steps o.stage k.are begins.stage (fair_first mid.edits last.edits both) in
-      let more : most_units ≤ most_units + block_units = one_block p table ks grows.tree.tree (shallow holds name rate d names p table grows) most_units in
-      let rest : AreFound p table ks grows.tree.tree (shallow holds name rate d names p table grows) (most_units + block_units) (mid.edits ++ last.edits) =
-      both_found p table ks grows.tree.tree (shallow holds name rate d names p table grows) most_units (most_units + block_units) more mid.edits last.edits goes.found (ended_found run.status mid.stage goes.stage (fair_second mid.edits last.edits both)) in
-      all_again holds name rate d names p table grows again.tells again.reads (most_units + block_units) (o.edits ++ run.passage.edits)
-      (both_found p table ks grows.tree.tree (shallow holds name rate d names p table grows) most_units (most_units + block_units) more o.edits run.passage.edits begins.found
-      (subst (λ (x : Passage). AreFound p table ks grows.tree.tree (shallow holds name rate d names p table grows) (most_units + block_units) x.edits) (sym k.same) rest))
+      let goes : EndsWell rate name most_units mid =
+      steps_lead rate name laws.guards most_units in_range k.steps o.stage k.are begins.stage (fair_first mid.edits last.edits both) in
+      let more : most_units ≤ most_units + block_units = one_block rate name most_units in
+      let rest : AreFound rate name (most_units + block_units) (mid.edits ++ last.edits) =
+      both_found rate name most_units (most_units + block_units) more mid.edits last.edits goes.found (ended_found run.status mid.stage goes.stage (fair_second mid.edits last.edits both)) in
+      all_again again.tells again.reads rate name (most_units + block_units) (o.edits ++ run.passage.edits)
+      (both_found rate name most_units (most_units + block_units) more o.edits run.passage.edits begins.found
+      (subst (λ (x : Passage). AreFound rate name (most_units + block_units) x.edits) (sym k.same) rest))
 
 -- ---- the edits of a run that are told
 

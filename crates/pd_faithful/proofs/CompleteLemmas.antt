@@ -241,13 +241,13 @@ module _ (rows : List FileRow) (name : List ℕ) (rate : Rate) (script : List �
   played_done : PlaysFreely name rate status (Some script) left' read read' old new → status ≡ Done
   played_done h =
       let reads : Reads (Some rows) name first_names (Ok (h.document, h.names)) = subst (λ (o : Option (List FileRow)). Reads o name first_names (Ok (h.document, h.names))) holds h.reads in
-      let held : Grows (Some rows) name rate h.document h.names h.plays.patch h.plays.table = subst (λ (o : Option (List FileRow)). Grows o name rate h.document h.names h.plays.patch h.plays.table) holds h.plays.grows in
+      let held : Grows (Some rows) name rate h.document h.names h.plays.patch h.plays.table h.plays.base = subst (λ (o : Option (List FileRow)). Grows o name rate h.document h.names h.plays.patch h.plays.table h.plays.base) holds h.plays.grows in
       let same : ◌≡◌ {A = Page × Names} (h.document, h.names) (p.document, p.names) =
       one_document rows name (p.document, p.names) (h.document, h.names) p.reads reads in
-      let grows : Grows (Some rows) name rate p.document p.names h.plays.patch h.plays.table =
-      subst (λ (r : Page × Names). Grows (Some rows) name rate r.0 r.1 h.plays.patch h.plays.table) same held in
-      ends_done name no_line h.plays.ending h.plays.bytes script left' read read' (λ ending bytes. played_by free_ways name h.plays.patch h.plays.table (choices_of h.plays.edits) (samples rate) ending (script_of 0 0 bytes)) h.plays.edits status
-      old new h.plays.is_script none.script_stays no_write h.plays.lawful (p.commands h.plays.patch h.plays.table (choices_of h.plays.edits) grows) h.plays.tells
+      let grows : Grows (Some rows) name rate p.document p.names h.plays.patch h.plays.table h.plays.base =
+      subst (λ (r : Page × Names). Grows (Some rows) name rate r.0 r.1 h.plays.patch h.plays.table h.plays.base) same held in
+      ends_done name no_line h.plays.ending h.plays.bytes script left' read read' (λ ending bytes. played_by free_ways name h.plays.patch h.plays.table h.plays.base (choices_of h.plays.edits) (samples rate) ending (script_of 0 0 bytes)) h.plays.edits status
+      old new h.plays.is_script none.script_stays no_write h.plays.lawful (p.commands h.plays.patch h.plays.table h.plays.base (choices_of h.plays.edits) grows) h.plays.tells
 
   either_done : Refuses name rate status (Some script) left' x x' old new ⊎ PlaysFreely name rate status (Some script) left' read read' old new → (status ≡ Done) ⊎ (status ≡ NoMemory)
   either_done (inl h) = inr (refused_short h)
@@ -266,9 +266,9 @@ module _ (laws : MadeLaws) (n : ℕ) (name : List ℕ) (rate : Rate) (few : n �
 
   made_done : (left' : Option (List ℕ)) → PlaysMadeFreely n name rate status left' old new → status ≡ Done
   made_done left' h =
-      let run : Ending → List ℕ → Run = λ ending bytes. played_by free_ways name h.patch h.table (choices_of h.edits) (samples rate) ending (script_of 0 0 bytes) in
+      let run : Ending → List ℕ → Run = λ ending bytes. played_by free_ways name h.patch h.table h.base (choices_of h.edits) (samples rate) ending (script_of 0 0 bytes) in
       ends_done name (summary_line n) h.ending h.bytes (made_script n) left' 0 0 run h.edits status old new h.is_script never_rose made_no_write h.lawful
-      (λ _. script_done free_ways laws n (start (opened_by free_ways name h.patch h.table (choices_of h.edits)).stage (samples rate)) few refl) h.tells
+      (λ _. script_done free_ways laws n (start (opened_by free_ways name h.patch h.table h.base (choices_of h.edits)).stage (samples rate)) few refl) h.tells
 
   made_either : RefusesBy (IsMadeRefusal n old.held name rate) name status None None x x' old new ⊎ ((left' : Option (List ℕ)) × PlaysMadeFreely n name rate status left' old new)
       → (status ≡ Done) ⊎ (status ≡ NoMemory)

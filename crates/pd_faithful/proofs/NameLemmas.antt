@@ -1,5 +1,5 @@
 -- No name of the table is lost as time goes on, where the edits on the way are fair.
-use Rattle.std.proofs.Common.{◌≡◌, ◌<◌, ◌≤◌, ◌+◌, ◌-◌, ◌^◌, ℕ, zero, suc, max, Bool, true, false, nat_lt, nat_le, if◌then◌else◌, length, Option, Some, None, IfSome, refl, sym, subst, arith}
+use Rattle.std.proofs.Common.{◌≡◌, ◌<◌, ◌≤◌, ◌+◌, ◌-◌, ◌^◌, ℕ, zero, suc, Bool, true, false, nat_lt, nat_le, if◌then◌else◌, length, Option, Some, None, IfSome, refl, sym, subst, arith}
 use Rattle.std.proofs.lemmas.Bool.{leb-true, ltb-true}
 use Rattle.pd_atom.specs.Names.{Names}
 use Rattle.pd_clock.specs.Queue.{Clock}
@@ -21,9 +21,8 @@ use Rattle.pd_stage.specs.Events.{Firing, begun, delivered, event}
 use Rattle.pd_stage.specs.Times.{most_fired, first_clock, if_below, next_clock, taken_off, with_taken, with_fired, fires, fires_or_not, fires_below, clocks_fire, block_sounds, block_runs, blocks_run, time_is, comes_to, advanced}
 use Rattle.pd_steady.specs.Steady.{IsSteady}
 use Rattle.pd_steady.proofs.FairLemmas.{AreFair, fair_first, fair_second, event_left}
-use Rattle.pd_steady.proofs.TreeLemmas.{tree_on}
 use Rattle.pd_steady.proofs.EventLemmas.{Guards, event_free}
-use Rattle.pd_steady.proofs.TimeLemmas.{block_free}
+use Rattle.pd_steady.proofs.TimeLemmas.{fired_steady, block_free}
 
 -- numbers apart, since tactics read all that is in scope
 within : (a b c : ℕ) → a ≤ b → b ≤ c → a ≤ c
@@ -31,12 +30,6 @@ within a b c h k = omega arith
 
 below : (a b c : ℕ) → a < b → b ≤ c → a ≤ c
 below a b c h k = omega arith
-
-greatest : (a b most : ℕ) → a ≤ most → b ≤ most → max a b ≤ most
-greatest a b most h k = omega arith
-
-no_less : (a b : ℕ) → a ≤ max a b
-no_less a b = omega arith
 
 same : (n : ℕ) → n ≤ n
 same n = omega arith
@@ -124,26 +117,10 @@ module _ (g : Guards) (most : ℕ) (top : most ≤ 2 ^ 101) where
   onward s r t a b = record { steady = b.steady; names = within (length s.names) (length r.names) (length t.names) a.names b.names }
 
   -- clocks
-  fired_steady : (s : Stage) (c : Clock) → c.time ≤ most → IsSteady most s → IsSteady most (with_fired (with_taken s (taken_off s.clocks)) c.time)
-  fired_steady s c l h =
-      let time : max s.time c.time ≤ most = greatest s.time c.time most h.time l in
-      let o : IsInOrder s.net (max s.time c.time) (kept_at s) =
-      g.lasts s.net s.time (max s.time c.time) (kept_at s) h.order (no_less s.time c.time) (within (max s.time c.time) most (2 ^ 101) time top) in
-      record {
-        time = time;
-        near = h.near;
-        order = record { time = o.time; first = o.first; kinds = o.kinds; states = o.states };
-        values = h.values;
-        ready = record { kinds = h.ready.kinds; whole = h.ready.whole; owners = h.ready.owners; channels = h.ready.channels; keys = h.ready.keys; fed = h.ready.fed; blocks = h.ready.blocks };
-        block = h.block;
-        ends = h.ends;
-        tree = tree_on s (with_fired (with_taken s (taken_off s.clocks)) c.time) refl h.tree;
-      }
-
   fires_keep : (s : Stage) (c : Clock) → c.time ≤ most → IsSteady most s → AreFair (fires s c).edits → Keeps most s (fires s c).stage
   fires_keep s c l h w =
       let r : Stage = with_fired (with_taken s (taken_off s.clocks)) c.time in
-      let k : IsSteady most r = fired_steady s c l h in
+      let k : IsSteady most r = fired_steady g most top s c l h in
       record { steady = (event_free g most r (Firing c.owner) k tt).steady w; names = fired_names r c.owner k.order w }
 
   clock_keeps : (s : Stage) (rest : Stage → Passage) (limit : ℕ) (o : Option Clock) → limit ≤ most → IfSome o (λ (c : Clock). c.time < limit)

@@ -16,7 +16,7 @@ use Rattle.pd_script.specs.declared.commands.Script.TheVariants as script
 use Rattle.pd_patch.specs.declared.patch.Patch.{Patch}
 use Rattle.pd_turns.specs.Turns.{World}
 use Rattle.pd_hearing.specs.Worlds.{Kept}
-use Rattle.pd_stage.specs.Choices.{Wanted, Choice, Refuses, Lacks, Makes, first_choice, later}
+use Rattle.pd_stage.specs.Choices.{Base, Wanted, Choice, Refuses, Lacks, Makes, first_choice, later}
 use Rattle.pd_stage.specs.Stages.{Stage, Taken, choices_of, Passage, with_names, with_ahead, still, joined, followed_by}
 use Rattle.pd_stage.specs.Lawful.{AreLawful}
 use Rattle.pd_stage.specs.Events.{Beginning, Firing, stage_by, edit_taken, edit_asked, edits_taken, delivered, with_kept, event}
@@ -146,8 +146,8 @@ commanded_takes (command.Show path) s = record { follow = tt; left = refl }
 commanded_takes command.Undo s = taken_takes _ s
 commanded_takes command.Redo s = taken_takes _ s
 
-opened_takes : (file : List ℕ) (p : Patch) (names : Names) (ahead : List Choice) → Takes ahead (opened file p names ahead)
-opened_takes file p names ahead = let e = event_takes (first_stage file p names ahead) _ in record { follow = e.follow; left = e.left }
+opened_takes : (file : List ℕ) (p : Patch) (names : Names) (base : Base) (ahead : List Choice) → Takes ahead (opened file p names base ahead)
+opened_takes file p names base ahead = let e = event_takes (first_stage file p names base ahead) _ in record { follow = e.follow; left = e.left }
 
 -- ---- the run of a script
 
@@ -203,10 +203,10 @@ run_takes : (ending : Ending) (text : Text) (p : Point) → Takes p.stage.ahead 
 run_takes ending text p = records_take (end_run ending text.end) (λ q. last_takes ending text.end q) text.records p
 
 -- from where a patch opens
-pub whole_takes : (file : List ℕ) (p : Patch) (names : Names) (ahead : List Choice) (ending : Ending) (text : Text) (q : Point) → q.stage ≡ (opened file p names ahead).stage
-    → Takes ahead (joined (opened file p names ahead) (run_of ending text q).passage)
-whole_takes file p names ahead ending text q e =
-    joined_take ahead (opened file p names ahead) (run_of ending text q).passage (opened_takes file p names ahead)
+pub whole_takes : (file : List ℕ) (p : Patch) (names : Names) (base : Base) (ahead : List Choice) (ending : Ending) (text : Text) (q : Point)
+    → q.stage ≡ (opened file p names base ahead).stage → Takes ahead (joined (opened file p names base ahead) (run_of ending text q).passage)
+whole_takes file p names base ahead ending text q e =
+    joined_take ahead (opened file p names base ahead) (run_of ending text q).passage (opened_takes file p names base ahead)
     (subst (λ (s : Stage). Takes s.ahead (run_of ending text q).passage) e (run_takes ending text q))
 
 -- ---- the edits of a run of which these are told

@@ -10,7 +10,7 @@ use Rattle.pd_feed.specs.Script.{Script as Text, script_of}
 use Rattle.pd_feed.specs.Feed.{IsAtEnd}
 use Rattle.pd_patch.specs.declared.patch.Patch.{Patch}
 use Rattle.pd_stage.specs.Items.{Item}
-use Rattle.pd_stage.specs.Choices.{Choice}
+use Rattle.pd_stage.specs.Choices.{Base, Choice}
 use Rattle.pd_stage.specs.Stages.{Stage, Taken, choices_of, faults_of, Passage, still, saying, after}
 use Rattle.pd_stage.specs.Lawful.{AreLawful}
 use Rattle.pd_stage.specs.Leads.{RoseBy, Sinks, sinks, Took, Leads as LeadsOn}
@@ -42,10 +42,10 @@ use Rattle.pd_faithful.proofs.AgainLemmas.{AgainLaws, played_again, told_all}
 -- what the laws say of opening
 pub record Opens : Type 0 where
   pub laws : Laws
-  pub steady : (holds : Option (List FileRow)) (name : List ℕ) (rate : Rate) (d : Page) (names table : Names) (p : Patch) (most : ℕ) (edits : List Choice) → Grows holds name rate d names p table
-      → AreLawful (opened name p table edits).edits → IsSteady most (opened name p table edits).stage
-  pub freely : (holds : Option (List FileRow)) (name : List ℕ) (rate : Rate) (d : Page) (names table : Names) (p : Patch) (edits : List Choice) → Grows holds name rate d names p table
-      → opened_by free_ways name p table edits ≡ opened name p table edits
+  pub steady : (holds : Option (List FileRow)) (name : List ℕ) (rate : Rate) (d : Page) (names table : Names) (p : Patch) (base : Base) (most : ℕ) (edits : List Choice) → Grows holds name rate d names p table base
+      → AreLawful (opened name p table base edits).edits → IsSteady most (opened name p table base edits).stage
+  pub freely : (holds : Option (List FileRow)) (name : List ℕ) (rate : Rate) (d : Page) (names table : Names) (p : Patch) (base : Base) (edits : List Choice) → Grows holds name rate d names p table base
+      → opened_by free_ways name p table base edits ≡ opened name p table base edits
 
 -- numbers apart
 early : (n : ℕ) → 0 ≤ n
@@ -75,8 +75,8 @@ run_at : Ending → Text → ℕ → Stage → Run
 run_at ending text rate s = run_of ending text (start s rate)
 
 -- the run from where it opens
-abbrev own_run : List ℕ → Patch → Names → List Choice → ℕ → Ending → Text → Run
-own_run name p table edits rate ending text = behind (opened name p table edits) (run_of ending text (start (opened name p table edits).stage rate))
+abbrev own_run : List ℕ → Patch → Names → Base → List Choice → ℕ → Ending → Text → Run
+own_run name p table base edits rate ending text = behind (opened name p table base edits) (run_of ending text (start (opened name p table base edits).stage rate))
 
 module _ (opens : Opens) where
   -- where it opens by edits that are lawful
@@ -86,19 +86,20 @@ module _ (opens : Opens) where
       let o = h.opens in
       let led = o.says 0 None None 0 in
       let ahead : List Choice = choices_of led.edits ++ edits in
-      let lawful : AreLawful (opened name o.patch o.table ahead).edits = subst (λ (p : Passage). AreLawful p.edits) (sym (led.same edits)) (lawful_both led.edits [] led.lawful tt) in
+      let lawful : AreLawful (opened name o.patch o.table o.base ahead).edits = subst (λ (p : Passage). AreLawful p.edits) (sym (led.same edits)) (lawful_both led.edits [] led.lawful tt) in
       starts_steady (s edits) rate
       (subst (λ (x : Stage). IsSteady most_units x) (ap (λ (p : Passage). p.stage) (led.same edits))
-      (opens.steady holds name rate h.document h.names o.table o.patch most_units ahead o.grows lawful))
+      (opens.steady holds name rate h.document h.names o.table o.patch o.base most_units ahead o.grows lawful))
 
-  pub whole_free : (holds : Option (List FileRow)) (name : List ℕ) (rate : Rate) (d : Page) (names table : Names) (p : Patch) (edits : List Choice) (ending : Ending) (text : Text)
-      → Grows holds name rate d names p table → AreLawful (opened name p table edits).edits → AreFair (run_of ending text (start (opened name p table edits).stage (samples rate))).passage.edits
-      → played_by free_ways name p table edits (samples rate) ending text ≡ own_run name p table edits (samples rate) ending text
-  whole_free holds name rate d names table p edits ending text g l w =
-      ap (λ (x : Passage). behind x (run_of_by free_ways ending text (start x.stage (samples rate)))) (opens.freely holds name rate d names table p edits g)
-      ∙ ap (λ (r : Run). behind (opened name p table edits) r)
-      (run_free opens.laws ending text (start (opened name p table edits).stage (samples rate))
-      (starts_steady (opened name p table edits).stage rate (opens.steady holds name rate d names table p most_units edits g l)) w)
+  pub whole_free : (holds : Option (List FileRow)) (name : List ℕ) (rate : Rate) (d : Page) (names table : Names) (p : Patch) (base : Base) (edits : List Choice) (ending : Ending) (text : Text)
+      → Grows holds name rate d names p table base → AreLawful (opened name p table base edits).edits
+      → AreFair (run_of ending text (start (opened name p table base edits).stage (samples rate))).passage.edits
+      → played_by free_ways name p table base edits (samples rate) ending text ≡ own_run name p table base edits (samples rate) ending text
+  whole_free holds name rate d names table p base edits ending text g l w =
+      ap (λ (x : Passage). behind x (run_of_by free_ways ending text (start x.stage (samples rate)))) (opens.freely holds name rate d names table p base edits g)
+      ∙ ap (λ (r : Run). behind (opened name p table base edits) r)
+      (run_free opens.laws ending text (start (opened name p table base edits).stage (samples rate))
+      (starts_steady (opened name p table base edits).stage rate (opens.steady holds name rate d names table p base most_units edits g l)) w)
 
   -- a patch that was opened is played by a script
   module _ (saves : AgainLaws) (d : Page) (names : Names) (name : List ℕ) (closing : Stage → List ℕ) (rate : Rate) (status : Status) (left left' : Option (List ℕ)) (read read' : ℕ) (old new : Sinks)
@@ -106,7 +107,7 @@ module _ (opens : Opens) where
     abbrev o : EngineOpens old.held name rate d names h.library h.stage old.lines h.printed
     o = h.opens
 
-    abbrev led : LeadsOn (opened name o.patch o.table) (λ m. still (h.stage m)) (sinks old.lines old.samples old.looks old.held old.faults) (sinks h.printed old.samples old.looks old.held old.faults)
+    abbrev led : LeadsOn (opened name o.patch o.table o.base) (λ m. still (h.stage m)) (sinks old.lines old.samples old.looks old.held old.faults) (sinks h.printed old.samples old.looks old.held old.faults)
     led = o.says old.looks old.samples old.held old.faults
 
     abbrev log : List Taken
@@ -119,15 +120,15 @@ module _ (opens : Opens) where
     run ending = run_at ending text (samples rate) (h.stage (choices_of h.plays.edits))
 
     abbrev own : Ending → Run
-    own ending = own_run name o.patch o.table (choices_of log) (samples rate) ending text
+    own ending = own_run name o.patch o.table o.base (choices_of log) (samples rate) ending text
 
     lawful : AreLawful log
     lawful = lawful_both led.edits h.plays.edits led.lawful h.plays.lawful
 
-    opened_so : opened name o.patch o.table (choices_of log) ≡ after led.items led.edits (still (h.stage (choices_of h.plays.edits)))
-    opened_so = ap (opened name o.patch o.table) (choices-append led.edits h.plays.edits) ∙ led.same (choices_of h.plays.edits)
+    opened_so : opened name o.patch o.table o.base (choices_of log) ≡ after led.items led.edits (still (h.stage (choices_of h.plays.edits)))
+    opened_so = ap (opened name o.patch o.table o.base) (choices-append led.edits h.plays.edits) ∙ led.same (choices_of h.plays.edits)
 
-    opened_lawful : AreLawful (opened name o.patch o.table (choices_of log)).edits
+    opened_lawful : AreLawful (opened name o.patch o.table o.base (choices_of log)).edits
     opened_lawful = subst (λ (p : Passage). AreLawful p.edits) (sym opened_so) (lawful_both led.edits [] led.lawful tt)
 
     own_so : (ending : Ending) → own ending ≡ run_after led.items led.edits (run ending)
@@ -158,12 +159,12 @@ module _ (opens : Opens) where
     own_fair : AreFair (own h.plays.ending).passage.edits
     own_fair =
         played_fair name closing (own h.plays.ending) log status old new lawful
-        (whole_takes name o.patch o.table (choices_of log) h.plays.ending text (start (opened name o.patch o.table (choices_of log)).stage (samples rate)) refl) own_tells
+        (whole_takes name o.patch o.table o.base (choices_of log) h.plays.ending text (start (opened name o.patch o.table o.base (choices_of log)).stage (samples rate)) refl) own_tells
 
-    free_so : (ending : Ending) → AreFair (own ending).passage.edits → played_by free_ways name o.patch o.table (choices_of log) (samples rate) ending text ≡ own ending
+    free_so : (ending : Ending) → AreFair (own ending).passage.edits → played_by free_ways name o.patch o.table o.base (choices_of log) (samples rate) ending text ≡ own ending
     free_so ending w =
-        let p : Passage = opened name o.patch o.table (choices_of log) in
-        whole_free old.held name rate d names o.table o.patch (choices_of log) ending text o.grows opened_lawful
+        let p : Passage = opened name o.patch o.table o.base (choices_of log) in
+        whole_free old.held name rate d names o.table o.patch o.base (choices_of log) ending text o.grows opened_lawful
         (fair_second p.edits (run_of ending text (start p.stage (samples rate))).passage.edits w)
 
     -- where an `end` is met, the run is one
@@ -174,24 +175,25 @@ module _ (opens : Opens) where
         ∙ sym (own_so Broken)
 
     over_free : IsAtEnd left' ⊎ MeetsEnd text (start (h.stage (choices_of h.plays.edits)) (samples rate))
-        → IsAtEnd left' ⊎ ((played_by free_ways name o.patch o.table (choices_of log) (samples rate) Broken text).status ≡ Done)
+        → IsAtEnd left' ⊎ ((played_by free_ways name o.patch o.table o.base (choices_of log) (samples rate) Broken text).status ≡ Done)
     unfolding run_at
     over_free (inl e) = inl e
     over_free (inr e) =
         let fair : AreFair (own Broken).passage.edits = subst (λ (r : Run). AreFair r.passage.edits) (broken_so e) own_fair in
         inr (ap (λ (r : Run). r.status) (free_so Broken fair ∙ own_so Broken) ∙ e)
 
-    log_again : AreAgain o.grows.files.files name rate o.grows.tree.tree log
+    log_again : AreAgain name rate log
     log_again =
-        let p : Passage = opened name o.patch o.table (choices_of log) in
-        told_all (IsAgain o.grows.files.files name rate o.grows.tree.tree) name closing (own h.plays.ending) log status old new own_tells
-        (played_again opens.laws saves old.held name rate d names o.patch o.table o.grows (choices_of log) h.plays.ending text
-        (starts_steady p.stage rate (opens.steady old.held name rate d names o.table o.patch most_units (choices_of log) o.grows opened_lawful)) own_fair)
+        let p : Passage = opened name o.patch o.table o.base (choices_of log) in
+        told_all (IsAgain name rate) name closing (own h.plays.ending) log status old new own_tells
+        (played_again opens.laws saves old.held name rate d names o.patch o.table o.base o.grows (choices_of log) h.plays.ending text
+        (starts_steady p.stage rate (opens.steady old.held name rate d names o.table o.patch o.base most_units (choices_of log) o.grows opened_lawful)) own_fair)
 
     plays_free : PlaysGrown d names name closing rate status left left' read read' old new
     plays_free = record {
       patch = o.patch;
       table = o.table;
+      base = o.base;
       grows = o.grows;
       ending = h.plays.ending;
       bytes = h.plays.bytes;

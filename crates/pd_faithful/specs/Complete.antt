@@ -14,7 +14,7 @@ use Rattle.pd_gather.specs.Gather.{Known}
 use Rattle.pd_patch.specs.Sounds.{sound_of}
 use Rattle.pd_patch.specs.declared.patch.Patch.{Patch}
 use Rattle.pd_words.specs.Grammar.{Asked}
-use Rattle.pd_stage.specs.Choices.{Choice}
+use Rattle.pd_stage.specs.Choices.{Base, Choice}
 use Rattle.pd_stage.specs.Lawful.{AreLawful}
 use Rattle.pd_engine.specs.Opening.{Reads, Grows, GathersAll, growth_of}
 use Rattle.pd_steady.specs.Freely.{free_ways}
@@ -40,9 +40,9 @@ pub record IsPlayable (rows : List FileRow) (name : List ℕ) (rate : Rate) (scr
   pub names : Names
   pub reads : Reads (Some rows) name first_names (Ok (document, names))
   pub within : GrowsWithin rows name rate document names
-  pub commands : (p : Patch) (table : Names) (edits : List Choice) → Grows (Some rows) name rate document names p table
-      → AreLawful (played_by free_ways name p table edits (samples rate) Whole (script_of 0 0 script)).passage.edits
-      → (played_by free_ways name p table edits (samples rate) Whole (script_of 0 0 script)).status ≡ Done
+  pub commands : (p : Patch) (table : Names) (base : Base) (edits : List Choice) → Grows (Some rows) name rate document names p table base
+      → AreLawful (played_by free_ways name p table base edits (samples rate) Whole (script_of 0 0 script)).passage.edits
+      → (played_by free_ways name p table base edits (samples rate) Whole (script_of 0 0 script)).status ≡ Done
 
 -- no count of faults rose in the call
 pub record NoneRose (folder folder' read read' lines lines' pcm pcm' : ℕ) : Type 0 where

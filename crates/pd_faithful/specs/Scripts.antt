@@ -9,7 +9,7 @@ use Rattle.pd_script.specs.Scripts.{command_of}
 use Rattle.pd_script.specs.declared.commands.Script.{Script}
 use Rattle.pd_script.specs.declared.commands.Script.TheVariants as script
 use Rattle.pd_patch.specs.declared.patch.Patch.{Patch}
-use Rattle.pd_stage.specs.Choices.{Choice}
+use Rattle.pd_stage.specs.Choices.{Base, Choice}
 use Rattle.pd_stage.specs.Stages.{Stage, Passage, with_names, followed_by}
 use Rattle.pd_steady.specs.Runs.{Ways, commanded_by, advanced_by, finished_by, opened_by}
 use Rattle.pd_play.specs.Runs.{Point, Run, Ending, Whole, most_time, at_stage, at_time, counted, bad, behind, goes_on, millionths, end_run}
@@ -55,7 +55,8 @@ end_run_by ways ending answer p = end_run ending answer p
 abbrev pub run_of_by : Ways → Ending → Text → Point → Run
 run_of_by ways ending text p = records_run_by ways text.records (end_run_by ways ending text.end) p
 
--- a patch that has grown from a file opens, and then the script runs, where the edits to come lead to this and a second has so many samples
-abbrev pub played_by : Ways → List ℕ → Patch → Names → List Choice → ℕ → Ending → Text → Run
-played_by ways file p names edits rate ending text =
-    behind (opened_by ways file p names edits) (run_of_by ways ending text (start (opened_by ways file p names edits).stage rate))
+-- a patch that has grown from a file opens, and then the script runs, where edits go on from this, the edits to come lead to this and a second has so
+-- many samples
+abbrev pub played_by : Ways → List ℕ → Patch → Names → Base → List Choice → ℕ → Ending → Text → Run
+played_by ways file p names base edits rate ending text =
+    behind (opened_by ways file p names base edits) (run_of_by ways ending text (start (opened_by ways file p names base edits).stage rate))

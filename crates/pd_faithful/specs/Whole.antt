@@ -9,6 +9,7 @@ use Rattle.pd_feed.specs.Feed.{IsAtEnd}
 use Rattle.pd_patch.specs.declared.patch.Patch.{Patch}
 use Rattle.pd_made.specs.Documents.{made_document}
 use Rattle.pd_made.specs.Scripts.{made_script}
+use Rattle.pd_stage.specs.Choices.{Base}
 use Rattle.pd_stage.specs.Stages.{Stage, Taken, choices_of}
 use Rattle.pd_stage.specs.Lawful.{AreLawful}
 use Rattle.pd_stage.specs.Leads.{Sinks}
@@ -32,15 +33,16 @@ use Rattle.pd_faithful.specs.Scripts.{played_by}
 pub record PlaysGrown (document : Page) (names : Names) (name : List ℕ) (closing : Stage → List ℕ) (rate : Rate) (status : Status) (left left' : Option (List ℕ)) (read read' : ℕ) (old new : Sinks) : Type 0 where
   pub patch : Patch
   pub table : Names
-  pub grows : Grows old.held name rate document names patch table
+  pub base : Base
+  pub grows : Grows old.held name rate document names patch table base
   pub ending : Ending
   pub bytes : List ℕ
   pub is_script : IsScript ending bytes left left' read read'
   pub edits : List Taken
   pub lawful : AreLawful edits
-  pub again : AreAgain grows.files.files name rate grows.tree.tree edits
-  pub tells : Tells name closing (played_by free_ways name patch table (choices_of edits) (samples rate) ending (script_of 0 0 bytes)) edits status old new
-  pub over : status ≡ Done → IsAtEnd left' ⊎ ((played_by free_ways name patch table (choices_of edits) (samples rate) Broken (script_of 0 0 bytes)).status ≡ Done)
+  pub again : AreAgain name rate edits
+  pub tells : Tells name closing (played_by free_ways name patch table base (choices_of edits) (samples rate) ending (script_of 0 0 bytes)) edits status old new
+  pub over : status ≡ Done → IsAtEnd left' ⊎ ((played_by free_ways name patch table base (choices_of edits) (samples rate) Broken (script_of 0 0 bytes)).status ≡ Done)
 
 -- the file of the name reads as a document, and this is played so by the script
 pub record PlaysFreely (name : List ℕ) (rate : Rate) (status : Status) (left left' : Option (List ℕ)) (read read' : ℕ) (old new : Sinks) : Type 0 where

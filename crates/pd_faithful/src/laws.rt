@@ -7,7 +7,7 @@ ghost use Rattle.pd_clock.specs.declared.times.Rate.{Rate};
 ghost use Rattle.pd_clock.specs.Rates.{samples};
 ghost use Rattle.pd_feed.specs.Script.{Script as Text};
 ghost use Rattle.pd_patch.specs.declared.patch.Patch.{Patch};
-ghost use Rattle.pd_stage.specs.Choices.{Choice};
+ghost use Rattle.pd_stage.specs.Choices.{Base, Choice};
 ghost use Rattle.pd_stage.specs.Lawful.{AreLawful};
 ghost use Rattle.pd_stage.specs.Leads.{Sinks};
 ghost use Rattle.pd_stage.specs.Stages.{Stage};
@@ -49,10 +49,10 @@ pub fn scripts_pass_nothing_over()
     ensures opens { (holds : Option (List FileRow)) (name : List ℕ) (rate : Rate) (library : Files) (s : List Choice → Stage)
         (lines lines' : Option (List ℕ)) (edits : List Choice) → OpensFile holds name rate library s lines lines' →
         IsSteadyAt (start (s edits) (samples rate)) }
-    ensures whole { (holds : Option (List FileRow)) (name : List ℕ) (rate : Rate) (d : Page) (names table : Names) (p : Patch)
-        (edits : List Choice) (ending : Ending) (text : Text) → Grows holds name rate d names p table →
-        let run = behind (opened name p table edits) (run_of ending text (start (opened name p table edits).stage (samples rate))) in
-        AreLawful run.passage.edits → played_by free_ways name p table edits (samples rate) ending text ≡ run }
+    ensures whole { (holds : Option (List FileRow)) (name : List ℕ) (rate : Rate) (d : Page) (names table : Names) (p : Patch) (base : Base)
+        (edits : List Choice) (ending : Ending) (text : Text) → Grows holds name rate d names p table base →
+        let run = behind (opened name p table base edits) (run_of ending text (start (opened name p table base edits).stage (samples rate))) in
+        AreLawful run.passage.edits → played_by free_ways name p table base edits (samples rate) ending text ≡ run }
 {
     pd_guards::delivery_passes_nothing_over();
     pd_guards::messages_keep_values();
@@ -80,7 +80,6 @@ pub fn play_passes_nothing_over()
     pd_guards::commands_begin_in_order();
     pd_script::tables_go_on();
     pd_steady::opening_is_steady();
-    pd_wiring::rewiring_asks_alike();
     pd_reload_law::documents_tell_trees();
     pd_doc::written_read();
 }

@@ -15,7 +15,7 @@ use Rattle.pd_patch.specs.declared.patch.Patch.{Patch}
 use Rattle.pd_made.specs.Tallies.{nothing, tallied}
 use Rattle.pd_kind.specs.Forming.{cut_atoms}
 use Rattle.pd_stage.specs.Items.{samples_of}
-use Rattle.pd_stage.specs.Choices.{Choice}
+use Rattle.pd_stage.specs.Choices.{Base, Choice}
 use Rattle.pd_stage.specs.Stages.{Stage, Passage, with_names, saying, joined}
 use Rattle.pd_stage.specs.Events.{event, Message, Loading}
 use Rattle.pd_stage.specs.Sums.{AddsUp}
@@ -99,17 +99,17 @@ end_adds Broken fed.TooLong p = bad_adds (counted p)
 pub run_adds : (ending : Ending) (text : Text) (p : Point) → AddsUp p.stage (run_of ending text p).passage
 run_adds ending text p = records_add text.records (end_run ending text.end) (end_adds ending text.end) p
 
-opened_adds : (file : List ℕ) (patch : Patch) (names : Names) (edits : List Choice) → AddsUp (first_stage file patch names edits) (opened file patch names edits)
-opened_adds file patch names edits =
-    let s : Stage = first_stage file patch names edits in
+opened_adds : (file : List ℕ) (patch : Patch) (names : Names) (base : Base) (edits : List Choice) → AddsUp (first_stage file patch names base edits) (opened file patch names base edits)
+opened_adds file patch names base edits =
+    let s : Stage = first_stage file patch names base edits in
     joined_adds s (saying s _) (event s (Loading _)) (saying_adds s _) (event_adds s (Loading _))
 
-pub whole_adds : (file : List ℕ) (patch : Patch) (names : Names) (edits : List Choice) (rate : ℕ) (ending : Ending) (text : Text) →
-    let part = opened file patch names edits in
+pub whole_adds : (file : List ℕ) (patch : Patch) (names : Names) (base : Base) (edits : List Choice) (rate : ℕ) (ending : Ending) (text : Text) →
+    let part = opened file patch names base edits in
     let passage = (behind part (run_of ending text (start part.stage rate))).passage in
     passage.stage.tally ≡ tallied nothing (samples_of passage.items)
-whole_adds file patch names edits rate ending text =
-    let s : Stage = first_stage file patch names edits in
-    let part : Passage = opened file patch names edits in
+whole_adds file patch names base edits rate ending text =
+    let s : Stage = first_stage file patch names base edits in
+    let part : Passage = opened file patch names base edits in
     let rest : Passage = (run_of ending text (start part.stage rate)).passage in
-    joined_adds s part rest (opened_adds file patch names edits) (run_adds ending text (start part.stage rate)) [] refl
+    joined_adds s part rest (opened_adds file patch names base edits) (run_adds ending text (start part.stage rate)) [] refl

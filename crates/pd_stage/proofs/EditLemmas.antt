@@ -5,25 +5,29 @@ use Rattle.std.specs.declared.vec.Vec.{Vec}
 use Rattle.std.specs.declared.alloc.Global.{Global}
 use Rattle.slab.specs.Slab.{get}
 use Rattle.pd_canvas.specs.declared.edits.Edit.{Edit}
+use Rattle.pd_canvas.specs.declared.edits.Edit.TheVariants as edit
 use Rattle.pd_queue.specs.Queue.{Waiting}
 use Rattle.pd_io.specs.Stream.{grown, TookPart}
 use Rattle.pd_io.specs.declared.files.FileRow.{FileRow}
 use Rattle.pd_links.specs.declared.links.Links.{Links}
 use Rattle.pd_order.specs.Listing.{Listing}
 use Rattle.pd_web.specs.declared.web.Web.{Web}
+use Rattle.pd_web.specs.Changes.{wires_told}
+use Rattle.pd_web.proofs.CountLemmas.{same_are_as_many}
 use Rattle.pd_patch.specs.declared.patch.Patch.{Patch}
 use Rattle.pd_wiring.specs.Changes.{CanRewire, AreAlike, SameButRoom, StaysButWire}
 use Rattle.pd_wiring.specs.Plans.{Plan, Attaches, Detaches, IsCarriedOut}
 use Rattle.pd_turns.specs.Turns.{World}
 use Rattle.pd_hearing.specs.Worlds.{Kept, Net, bare, net_of}
 use Rattle.pd_block.specs.Nets as block
-use Rattle.pd_stage.specs.Choices.{Wanted, Edits, Saves, Undoes, Redoes, Made, Choice, Refuses, Lacks, Makes, first_choice, later, text_of_choice, looks_of_choice, faults_of_choice}
+use Rattle.pd_stage.specs.Choices.{Base, Wanted, Edits, Asks, Saves, Undoes, Redoes, Made, Choice, Refuses, Lacks, Makes, first_choice, later, text_of_choice, looks_of_choice, faults_of_choice}
 use Rattle.pd_stage.specs.Stages.{Stage, Taken, still, saying, with_ahead, followed_by}
-use Rattle.pd_stage.specs.Lawful.{StandsAt, IsMade, IsShort, IsSaved, MayCome, AreLawful}
+use Rattle.pd_stage.specs.Lawful.{StandsAt, with_wire_count, IsMade, IsShort, IsRewiringLawful, IsPutIn, IsUnputForRoom, IsPutLawful, IsEditLawful, IsSaved, MayCome, AreLawful}
 use Rattle.pd_stage.specs.Leads.{Sinks, sinks, Took, Leads, Comes, Stops}
 use Rattle.pd_stage.specs.Events.{Beginning, with_net, stage_by, files_put, edit_by, edit_taken, edit_asked, edits_taken, delivered, with_kept, event}
 use Rattle.pd_stage.specs.Times.{with_wires, IsStageOf}
 use Rattle.pd_stage.proofs.FedLemmas.{KeepsFed, none_kept, kept_then, same_kept, edit_kept}
+use Rattle.pd_stage.proofs.CountedLemmas.{StaysCounted, none_counted, counted_then, edit_few}
 use Rattle.pd_stage.proofs.LeadLemmas.{leads_then, broke_after, written_leads, written_breaks, lawful_first, lawful_second}
 use Rattle.pd_stage.proofs.ItemLemmas.{no_lines, no_samples, held-none, kept_same}
 
@@ -108,8 +112,25 @@ rewired_net n web links orders = record {
   end = n.end;
 }
 
-abbrev pub rewired : Stage → Web → Links → Orders → List Choice → Stage
-rewired s web links orders ahead = with_ahead (with_net s (rewired_net s.net web links orders)) ahead
+-- the same where edits go on from this
+abbrev pub with_base : Stage → Base → Stage
+with_base s base = record {
+  file = s.file;
+  net = s.net;
+  states = s.states;
+  clocks = s.clocks;
+  names = s.names;
+  base = base;
+  time = s.time;
+  block_end = s.block_end;
+  fired = s.fired;
+  tally = s.tally;
+  ahead = s.ahead;
+}
+
+-- with other wires, counted anew
+abbrev pub rewired : Stage → Web → Links → Orders → Base → List Choice → Stage
+rewired s web links orders base ahead = with_ahead (with_base (with_net s (rewired_net s.net web links orders)) base) ahead
 
 -- a patch that has other wires alone
 net_rewired : (old new : Patch) → new.grove ≡ old.grove → new.names ≡ old.names → new.timers ≡ old.timers → new.numbers ≡ old.numbers → new.values ≡ old.values → new.rate ≡ old.rate
@@ -124,13 +145,15 @@ pub record IsLeft (s r : Stage) : Type 0 where
 -- the wires are those of a patch of the same boxes, and are sound
 pub record IsRewiredStage (s r : Stage) : Type 0 where
   pub patch : Patch
+  pub base : Base
   pub ahead : List Choice
   pub nodes : (k : ℕ) → bare (get patch.grove.nodes k) ≡ s.net.nodes k
   pub boards : patch.grove.boards ≡ s.net.boards
   pub numbers : patch.numbers ≡ s.net.numbers
   pub rewires : CanRewire patch
   pub kept : KeepsFed s.net.web patch.web
-  pub is : r ≡ rewired s patch.web patch.links patch.orders ahead
+  pub counted : StaysCounted s.base base s.net.web patch.web
+  pub is : r ≡ rewired s patch.web patch.links patch.orders base ahead
 
 abbrev pub Changes : Stage → Stage → Type 0
 Changes s r = IsLeft s r ⊎ IsRewiredStage s r
@@ -140,25 +163,56 @@ pub record ButWires (s r : Stage) : Type 0 where
   pub web : Web
   pub links : Links
   pub orders : Orders
+  pub base : Base
   pub ahead : List Choice
   pub kept : KeepsFed s.net.web web
-  pub is : r ≡ rewired s web links orders ahead
+  pub counted : StaysCounted s.base base s.net.web web
+  pub is : r ≡ rewired s web links orders base ahead
 
 pub but_wires : (s r : Stage) → Changes s r → ButWires s r
-but_wires s r (inl h) = record { web = s.net.web; links = s.net.links; orders = s.net.orders; ahead = h.ahead; kept = none_kept s.net.web; is = h.is }
-but_wires s r (inr h) = record { web = h.patch.web; links = h.patch.links; orders = h.patch.orders; ahead = h.ahead; kept = h.kept; is = h.is }
+but_wires s r (inl h) = record {
+  web = s.net.web;
+  links = s.net.links;
+  orders = s.net.orders;
+  base = s.base;
+  ahead = h.ahead;
+  kept = none_kept s.net.web;
+  counted = none_counted s.base s.net.web;
+  is = h.is;
+}
+but_wires s r (inr h) = record {
+  web = h.patch.web;
+  links = h.patch.links;
+  orders = h.patch.orders;
+  base = h.base;
+  ahead = h.ahead;
+  kept = h.kept;
+  counted = h.counted;
+  is = h.is;
+}
 
 pub but_none : (s : Stage) → ButWires s s
-but_none s = record { web = s.net.web; links = s.net.links; orders = s.net.orders; ahead = s.ahead; kept = none_kept s.net.web; is = refl }
+but_none s = record {
+  web = s.net.web;
+  links = s.net.links;
+  orders = s.net.orders;
+  base = s.base;
+  ahead = s.ahead;
+  kept = none_kept s.net.web;
+  counted = none_counted s.base s.net.web;
+  is = refl;
+}
 
 pub but_then : (s r q : Stage) → ButWires s r → ButWires r q → ButWires s q
 but_then s r q a b = record {
   web = b.web;
   links = b.links;
   orders = b.orders;
+  base = b.base;
   ahead = b.ahead;
   kept = kept_then s.net.web a.web b.web a.kept (subst (λ (x : Stage). KeepsFed x.net.web b.web) a.is b.kept);
-  is = b.is ∙ ap (λ (x : Stage). rewired x b.web b.links b.orders b.ahead) a.is;
+  counted = counted_then s.base a.base b.base s.net.web a.web b.web a.counted (subst (λ (x : Stage). StaysCounted x.base b.base x.net.web b.web) a.is b.counted);
+  is = b.is ∙ ap (λ (x : Stage). rewired x b.web b.links b.orders b.base b.ahead) a.is;
 }
 
 -- what a plan that was carried out leaves
@@ -193,45 +247,74 @@ plan_rewires : (plan : Plan) (p q : Patch) → IsCarriedOut plan p q → CanRewi
 plan_rewires (Attaches c l) p q h = h.rewires
 plan_rewires (Detaches c key l) p q h = h.rewires
 
+-- as many wires are counted as the stage has
+wires_at : (s : Stage) (old : Patch) → StandsAt old s → wires_told s.net.web ≡ wires_told old.web
+wires_at s old at = ap (λ (n : Net). wires_told n.web) at.net
+
+few_at : (s : Stage) (old new : Patch) → StandsAt old s → (wires_told old.web ≤ 65536 → wires_told new.web ≤ 65536)
+    → s.base.counts.wires ≡ wires_told s.net.web → s.base.counts.wires ≤ 65536 → wires_told new.web ≤ 65536
+few_at s old new at few e low = let same = wires_at s old at in few (omega (arith, e, low, same))
+
 -- the stage that an edit of wires makes
-made_stage : (s : Stage) (m : Made) (net : Net) → m.net ≡ net → m.states ≡ s.states → m.clocks ≡ s.clocks → m.names ≡ s.names → stage_by s (Makes m) ≡ with_net s net
-made_stage s m net is states clocks names = rw (is, states, clocks, names) refl
+made_stage : (s : Stage) (m : Made) (net : Net) (base : Base) → m.net ≡ net → m.states ≡ s.states → m.clocks ≡ s.clocks → m.names ≡ s.names → m.base ≡ base
+    → stage_by s (Makes m) ≡ with_base (with_net s net) base
+made_stage s m net base is states clocks names on = rw (is, states, clocks, names, on) refl
 
 edit_made : (s : Stage) (ahead : List Choice) (path : List ℕ) (e : Edit) (m : Made) → IsMade (with_ahead s []) path e m → IsRewiredStage s (stage_by (with_ahead s ahead) (Makes m))
 edit_made s ahead path e m h =
     let r = plan_grove h.rewired.plan h.old h.new h.rewired.done in
+    let base : Base = with_wire_count s.base (wires_told h.new.web) in
     record {
       patch = h.new;
+      base = base;
       ahead = ahead;
       nodes = nodes_at (with_ahead s []) h.old h.new h.stands r.1.grove;
       boards = boards_at (with_ahead s []) h.old h.new h.stands r.1.grove;
       numbers = numbers_at (with_ahead s []) h.old h.new h.stands r.1.numbers;
       rewires = plan_rewires h.rewired.plan h.old h.new h.rewired.done;
       kept = kept_at_stage (with_ahead s []) h.old h.new.web h.stands (edit_kept h.rewired.plan h.old h.new path e h.rewired.is_planned h.rewired.done);
-      is = made_stage (with_ahead s ahead) m (rewired_net s.net h.new.web h.new.links h.new.orders)
-          (h.net ∙ new_net (with_ahead s []) h.old h.new r.0 h.stands r.1) h.states h.clocks h.names;
+      counted = record {
+        files = refl;
+        boxes = refl;
+        sound = refl;
+        zeros = refl;
+        wires = λ x. refl;
+        few = few_at (with_ahead s []) h.old h.new h.stands (edit_few h.rewired.plan h.old h.new path e h.rewired.is_planned h.rewired.done);
+      };
+      is = made_stage (with_ahead s ahead) m (rewired_net s.net h.new.web h.new.links h.new.orders) base
+          (h.net ∙ new_net (with_ahead s []) h.old h.new r.0 h.stands r.1) h.states h.clocks h.names h.base;
     }
 
 edit_short : (s : Stage) (ahead : List Choice) (path : List ℕ) (e : Edit) (net : Net) → IsShort (with_ahead s []) path e net → IsRewiredStage s (with_net (with_ahead s ahead) net)
 edit_short s ahead path e net h =
+    let many : wires_told h.new.web ≡ wires_told h.old.web = same_are_as_many h.old.web h.new.web h.same.web in
     record {
       patch = h.new;
+      base = s.base;
       ahead = ahead;
       nodes = nodes_at (with_ahead s []) h.old h.new h.stands h.same.grove;
       boards = boards_at (with_ahead s []) h.old h.new h.stands h.same.grove;
       numbers = numbers_at (with_ahead s []) h.old h.new h.stands h.same.numbers;
       rewires = h.rewires;
       kept = kept_at_stage (with_ahead s []) h.old h.new.web h.stands (same_kept h.old.web h.new.web h.same.web);
+      counted = record {
+        files = refl;
+        boxes = refl;
+        sound = refl;
+        zeros = refl;
+        wires = λ x. x ∙ wires_at (with_ahead s []) h.old h.stands ∙ sym many;
+        few = λ x low. low;
+      };
       is = ap (λ (n : Net). with_net (with_ahead s ahead) n) (h.net_is ∙ same_net (with_ahead s []) h.old h.new h.stands h.same);
     }
 
 save_made : (s : Stage) (ahead : List Choice) (m : Made) → IsSaved (with_ahead s []) m → IsLeft s (stage_by (with_ahead s ahead) (Makes m))
-save_made s ahead m h = record { ahead = ahead; is = made_stage (with_ahead s ahead) m s.net h.net h.states h.clocks h.names }
+save_made s ahead m h = record { ahead = ahead; is = made_stage (with_ahead s ahead) m s.net s.base h.net h.states h.clocks h.names h.base }
 
-edit_changes : (s : Stage) (ahead : List Choice) (path : List ℕ) (e : Edit) (c : Choice) → MayCome (Edits None path e) (with_ahead s []) c → Changes s (stage_by (with_ahead s ahead) c)
-edit_changes s ahead path e (Refuses why) h = inl (record { ahead = ahead; is = refl })
-edit_changes s ahead path e (Lacks net) h = inr (edit_short s ahead path e net h)
-edit_changes s ahead path e (Makes m) h = inr (edit_made s ahead path e m h)
+wire_changes : (s : Stage) (ahead : List Choice) (path : List ℕ) (e : Edit) (c : Choice) → IsRewiringLawful (with_ahead s []) path e c → Changes s (stage_by (with_ahead s ahead) c)
+wire_changes s ahead path e (Refuses why) h = inl (record { ahead = ahead; is = refl })
+wire_changes s ahead path e (Lacks net) h = inr (edit_short s ahead path e net h)
+wire_changes s ahead path e (Makes m) h = inr (edit_made s ahead path e m h)
 
 save_changes : (s : Stage) (ahead : List Choice) (c : Choice) → MayCome (Saves None) (with_ahead s []) c → Changes s (stage_by (with_ahead s ahead) c)
 save_changes s ahead (Refuses why) h = inl (record { ahead = ahead; is = refl })
@@ -241,21 +324,67 @@ save_changes s ahead (Makes m) h = inl (save_made s ahead m h)
 refused_changes : (s : Stage) (ahead : List Choice) (c : Choice) (why : _) → c ≡ Refuses why → Changes s (stage_by (with_ahead s ahead) c)
 refused_changes s ahead c why h = inl (record { ahead = ahead; is = ap (λ (x : Choice). stage_by (with_ahead s ahead) x) h })
 
+-- a box came
+pub record HasNewBox (s r : Stage) : Type 0 where
+  pub path : List ℕ
+  pub edit : Edit
+  pub made : Made
+  pub ahead : List Choice
+  pub put : IsPutIn (with_ahead s []) path edit made
+  pub is : r ≡ stage_by (with_ahead s ahead) (Makes made)
+
+-- a box could have come, and there may be more room
+pub record HasMoreRoom (s r : Stage) : Type 0 where
+  pub path : List ℕ
+  pub edit : Edit
+  pub net : Net
+  pub ahead : List Choice
+  pub short : IsUnputForRoom (with_ahead s []) path edit net
+  pub is : r ≡ with_net (with_ahead s ahead) net
+
+-- what any edit makes of a stage
+abbrev pub Alters : Stage → Stage → Type 0
+Alters s r = Changes s r ⊎ (HasNewBox s r ⊎ HasMoreRoom s r)
+
+put_alters : (s : Stage) (ahead : List Choice) (path : List ℕ) (e : Edit) (c : Choice) → IsPutLawful (with_ahead s []) path e c → Alters s (stage_by (with_ahead s ahead) c)
+put_alters s ahead path e (Refuses why) h = inl (inl (record { ahead = ahead; is = refl }))
+put_alters s ahead path e (Lacks net) h = inr (inr (record { path = path; edit = e; net = net; ahead = ahead; short = h; is = refl }))
+put_alters s ahead path e (Makes m) h = inr (inl (record { path = path; edit = e; made = m; ahead = ahead; put = h; is = refl }))
+
+edit_alters : (s : Stage) (ahead : List Choice) (path : List ℕ) (e : Edit) (c : Choice) → IsEditLawful (with_ahead s []) path e c → Alters s (stage_by (with_ahead s ahead) c)
+edit_alters s ahead path (edit.Connect v) c h = inl (wire_changes s ahead path (edit.Connect v) c h)
+edit_alters s ahead path (edit.Disconnect v) c h = inl (wire_changes s ahead path (edit.Disconnect v) c h)
+edit_alters s ahead path (edit.Delete number) c h = inl (refused_changes s ahead c _ h)
+edit_alters s ahead path (edit.Retype number text) c h = inl (refused_changes s ahead c _ h)
+edit_alters s ahead path (edit.Move number x y) c h = inl (refused_changes s ahead c _ h)
+edit_alters s ahead path (edit.Obj x y text) c h = put_alters s ahead path (edit.Obj x y text) c h
+edit_alters s ahead path (edit.Msg x y text) c h = put_alters s ahead path (edit.Msg x y text) c h
+edit_alters s ahead path (edit.Comment x y text) c h = put_alters s ahead path (edit.Comment x y text) c h
+edit_alters s ahead path (edit.FloatBox x y text) c h = put_alters s ahead path (edit.FloatBox x y text) c h
+edit_alters s ahead path (edit.SymbolBox x y text) c h = put_alters s ahead path (edit.SymbolBox x y text) c h
+edit_alters s ahead path (edit.Sub x y name) c h = put_alters s ahead path (edit.Sub x y name) c h
+
 -- what an edit that may come to this makes of a stage
-choice_changes : (wanted : Wanted) (s : Stage) (ahead : List Choice) (c : Choice) → MayCome wanted (with_ahead s []) c → Changes s (stage_by (with_ahead s ahead) c)
-choice_changes (Edits None path e) s ahead c h = edit_changes s ahead path e c h
-choice_changes (Edits (Some document) path e) s ahead c h = refused_changes s ahead c _ h
-choice_changes (Saves None) s ahead c h = save_changes s ahead c h
-choice_changes (Saves (Some document)) s ahead c h = refused_changes s ahead c _ h
-choice_changes Undoes s ahead c h = refused_changes s ahead c _ h
-choice_changes Redoes s ahead c h = refused_changes s ahead c _ h
+choice_alters : (wanted : Wanted) (s : Stage) (ahead : List Choice) (c : Choice) → MayCome wanted (with_ahead s []) c → Alters s (stage_by (with_ahead s ahead) c)
+choice_alters (Edits None path e) s ahead c h = edit_alters s ahead path e c h
+choice_alters (Edits (Some document) path e) s ahead c h = inl (refused_changes s ahead c _ h)
+choice_alters (Asks path e) s ahead c h = inl (wire_changes s ahead path e c h)
+choice_alters (Saves None) s ahead c h = inl (save_changes s ahead c h)
+choice_alters (Saves (Some document)) s ahead c h = inl (refused_changes s ahead c _ h)
+choice_alters Undoes s ahead c h = inl (refused_changes s ahead c _ h)
+choice_alters Redoes s ahead c h = inl (refused_changes s ahead c _ h)
 
-pub taken_changes : (wanted : Wanted) (s : Stage) → AreLawful (edit_taken wanted s).edits → Changes s (edit_taken wanted s).stage
+pub taken_alters : (wanted : Wanted) (s : Stage) → AreLawful (edit_taken wanted s).edits → Alters s (edit_taken wanted s).stage
 unfolding edit_taken
-taken_changes wanted s h = choice_changes wanted s (later s.ahead) (first_choice s.ahead) h.0
+taken_alters wanted s h = choice_alters wanted s (later s.ahead) (first_choice s.ahead) h.0
 
-pub taken_rewires : (wanted : Wanted) (s : Stage) → AreLawful (edit_taken wanted s).edits → ButWires s (edit_taken wanted s).stage
-taken_rewires wanted s h = but_wires s (edit_taken wanted s).stage (taken_changes wanted s h)
+-- an edit that a message asked for changes wires alone
+pub asked_changes : (asked : List ℕ × Edit) (s : Stage) → AreLawful (edit_asked asked s).edits → Changes s (edit_asked asked s).stage
+unfolding edit_taken
+asked_changes asked s h = wire_changes s (later s.ahead) asked.0 asked.1 (first_choice s.ahead) h.0
+
+pub asked_rewires : (asked : List ℕ × Edit) (s : Stage) → AreLawful (edit_asked asked s).edits → ButWires s (edit_asked asked s).stage
+asked_rewires asked s h = but_wires s (edit_asked asked s).stage (asked_changes asked s h)
 
 pub edits_rewire : (waiting : Waiting) (s : Stage) → AreLawful (edits_taken waiting s).edits → ButWires s (edits_taken waiting s).stage
 unfolding edits_taken
@@ -263,7 +392,7 @@ edits_rewire [] s h = but_none s
 edits_rewire (asked ∷ waiting) s h =
     let r : Stage = (edit_asked asked s).stage in
     but_then s r (edits_taken waiting r).stage
-    (taken_rewires _ s (lawful_first (edit_asked asked s).edits (edits_taken waiting r).edits h))
+    (asked_rewires asked s (lawful_first (edit_asked asked s).edits (edits_taken waiting r).edits h))
     (edits_rewire waiting r (lawful_second (edit_asked asked s).edits (edits_taken waiting r).edits h))
 
 -- but its wires, an event leaves what its deliveries leave
@@ -314,12 +443,12 @@ rewired_stands asks p s r h at =
       }) h.rewires;
     })
 
-changed_stands : (asks : AsksAlike) (p : Patch) (s r : Stage) → Changes s r → IsStageOf p s → IsStageOf p r
+pub changed_stands : (asks : AsksAlike) (p : Patch) (s r : Stage) → Changes s r → IsStageOf p s → IsStageOf p r
 changed_stands asks p s r (inl h) at = left_stands p s r h at
 changed_stands asks p s r (inr h) at = rewired_stands asks p s r h at
 
-pub taken_stands : (asks : AsksAlike) (p : Patch) (wanted : Wanted) (s : Stage) → AreLawful (edit_taken wanted s).edits → IsStageOf p s → IsStageOf p (edit_taken wanted s).stage
-taken_stands asks p wanted s h at = changed_stands asks p s (edit_taken wanted s).stage (taken_changes wanted s h) at
+pub asked_stands : (asks : AsksAlike) (p : Patch) (asked : List ℕ × Edit) (s : Stage) → AreLawful (edit_asked asked s).edits → IsStageOf p s → IsStageOf p (edit_asked asked s).stage
+asked_stands asks p asked s h at = changed_stands asks p s (edit_asked asked s).stage (asked_changes asked s h) at
 
 pub edits_stand : (asks : AsksAlike) (p : Patch) (waiting : Waiting) (s : Stage) → AreLawful (edits_taken waiting s).edits → IsStageOf p s → IsStageOf p (edits_taken waiting s).stage
 unfolding edits_taken
@@ -327,7 +456,7 @@ edits_stand asks p [] s h at = at
 edits_stand asks p (asked ∷ waiting) s h at =
     let r : Stage = (edit_asked asked s).stage in
     edits_stand asks p waiting r (lawful_second (edit_asked asked s).edits (edits_taken waiting r).edits h)
-    (taken_stands asks p _ s (lawful_first (edit_asked asked s).edits (edits_taken waiting r).edits h) at)
+    (asked_stands asks p asked s (lawful_first (edit_asked asked s).edits (edits_taken waiting r).edits h) at)
 
 -- deliveries change no part of a patch that a stage has of it
 kept_stands : (p : Patch) (s : Stage) (k : Kept) → IsStageOf p s → IsStageOf p (with_kept s k)

@@ -91,7 +91,7 @@ mapped_some : {X Y : Type 0} (f : X → Y) (o : Option X) → is_some (option_ma
 mapped_some f None = refl
 mapped_some f (Some x) = refl
 
-told_some : (w : Web) (key : ℕ) → is_some (line_told w key) ≡ is_some (wire_at w.book key)
+pub told_some : (w : Web) (key : ℕ) → is_some (line_told w key) ≡ is_some (wire_at w.book key)
 told_some w key = mapped_some _ (wire_at w.book key)
 
 -- ---- one wire more or less

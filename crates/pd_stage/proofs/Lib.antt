@@ -1,4 +1,5 @@
 pub mod FedLemmas
+pub mod CountedLemmas
 pub mod ItemLemmas
 pub mod LeadLemmas
 pub mod EditLemmas

@@ -10,12 +10,15 @@ use Rattle.pd_say.specs.declared.refusals.Request.{Request}
 use Rattle.pd_say.specs.declared.refusals.Request.TheVariants as request
 use Rattle.pd_say.specs.declared.refusals.Why.{Why}
 use Rattle.pd_say.specs.declared.refusals.Why.TheVariants.{NoMemory, ShelfFault}
+use Rattle.pd_library.specs.declared.answers.Answer.{Answer}
 use Rattle.pd_hearing.specs.Worlds.{Net}
+use Rattle.pd_adding.specs.declared.counts.Counts.{Counts}
 
--- what is asked for: an edit of the canvas at a path of a document, where no name stands for the root one; that a document is saved; that
--- the last edit is taken back, or made again
+-- what is asked for: an edit of the canvas at a path of a document, where no name stands for the root one; one that a message asked for, of the
+-- canvas at a path of the root document; that a document is saved; that the last edit is taken back, or made again
 pub data Wanted : Type 0 where
   Edits : (document : Option ℕ) → (path : List ℕ) → Edit → Wanted
+  Asks : (path : List ℕ) → Edit → Wanted
   Saves : (document : Option ℕ) → Wanted
   Undoes : Wanted
   Redoes : Wanted
@@ -23,17 +26,27 @@ pub data Wanted : Type 0 where
 -- the word for it in a line
 abbrev pub request_of : Wanted → Request
 request_of (Edits document path edit) = request.Edit
+request_of (Asks path edit) = request.Edit
 request_of (Saves document) = request.Save
 request_of Undoes = request.Undo
 request_of Redoes = request.Redo
 
--- what is made: how the patch stands after it, with its table of names; the lines that tell of it; the files that are put; and at how many
+-- what edits go on from: what is known of files, by the names of abstractions, and the counts of the patch
+pub record Base : Type 0 where
+  pub files : List (ℕ × Answer)
+  pub counts : Counts
+
+abbrev pub base_of : List (ℕ × Answer) → Counts → Base
+base_of files counts = record { files = files; counts = counts }
+
+-- what is made: how the patch stands after it, with its table of names; what later edits go on from; the lines that tell of it; the files that are put; and at how many
 -- signal wires it looks at the most
 pub record Made : Type 0 where
   pub net : Net
   pub states : ℕ → Option State
   pub clocks : List Clock
   pub names : Names
+  pub base : Base
   pub lines : List ℕ
   pub files : List (List ℕ × List ℕ)
   pub looks : ℕ

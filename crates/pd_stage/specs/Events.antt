@@ -1,5 +1,5 @@
 -- What an event leads to: its deliveries, and then the edits that were asked for, one taken after the other.
-use Rattle.std.specs.Prelude.{ℕ, false, List, [], ◌∷◌, ◌++◌, map, None}
+use Rattle.std.specs.Prelude.{ℕ, false, List, [], ◌∷◌, ◌++◌, map}
 use Rattle.pd_atom.specs.declared.Atom.{Atom}
 use Rattle.pd_canvas.specs.declared.edits.Edit.{Edit}
 use Rattle.pd_queue.specs.Queue.{Waiting}
@@ -10,7 +10,7 @@ use Rattle.pd_walk.specs.declared.walker.Start.TheVariants as start
 use Rattle.pd_hearing.specs.Hearing.{fired_at}
 use Rattle.pd_walk.specs.Outcome.{world, ran, told_by, all_loaded, named_tasks}
 use Rattle.pd_stage.specs.Items.{Item, Put, said}
-use Rattle.pd_stage.specs.Choices.{Wanted, Edits, Choice, Refuses, Lacks, Makes, first_choice, later, text_of_choice}
+use Rattle.pd_stage.specs.Choices.{Wanted, Asks, Choice, Refuses, Lacks, Makes, first_choice, later, text_of_choice}
 use Rattle.pd_stage.specs.Stages.{Stage, Passage, with_ahead, kept_at, still, followed_by}
 
 -- what begins deliveries: a message to the receivers of a name, the clock of a box, or that boxes are loaded
@@ -46,6 +46,7 @@ with_kept s k = record {
   states = k.states;
   clocks = k.clocks;
   names = k.names;
+  base = s.base;
   time = s.time;
   block_end = s.block_end;
   fired = s.fired;
@@ -64,6 +65,7 @@ with_net s net = record {
   states = s.states;
   clocks = s.clocks;
   names = s.names;
+  base = s.base;
   time = s.time;
   block_end = s.block_end;
   fired = s.fired;
@@ -81,6 +83,7 @@ stage_by s (Makes m) = record {
   states = m.states;
   clocks = m.clocks;
   names = m.names;
+  base = m.base;
   time = s.time;
   block_end = s.block_end;
   fired = s.fired;
@@ -110,9 +113,9 @@ edit_by wanted s c = record {
 unfoldable pub edit_taken : Wanted → Stage → Passage
 edit_taken wanted s = edit_by wanted s (first_choice s.ahead)
 
--- an edit that a canvas was asked for is one of the root document
+-- an edit that a canvas was asked for by a message
 abbrev pub edit_asked : List ℕ × Edit → Stage → Passage
-edit_asked asked s = edit_taken (Edits None asked.0 asked.1) s
+edit_asked asked s = edit_taken (Asks asked.0 asked.1) s
 
 -- the edits that canvases were asked for, one taken after the other
 unfoldable pub edits_taken : Waiting → Stage → Passage

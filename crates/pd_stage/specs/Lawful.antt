@@ -1,9 +1,12 @@
 -- What an edit may come to.
 use Rattle.std.specs.Prelude.{◌≡◌, ◌⊎◌, ℕ, List, [], ◌∷◌, Some, None, Ok, Err}
 use Rattle.std.specs.List.{AllByRecursion}
-use Rattle.pd_atom.specs.Names.{IsTable}
+use Rattle.pd_atom.specs.Names.{IsTable, Extends}
 use Rattle.pd_canvas.specs.declared.edits.Edit.{Edit}
+use Rattle.pd_canvas.specs.declared.edits.Edit.TheVariants as edit
 use Rattle.pd_doc.specs.Writing.{text_of}
+use Rattle.pd_gather.specs.Gather.{Known, known}
+use Rattle.pd_web.specs.Changes.{wires_told}
 use Rattle.pd_patch.specs.declared.patch.Patch.{Patch}
 use Rattle.pd_patch.specs.Document.{present_document}
 use Rattle.pd_reload_law.specs.Wires.{StandOnce}
@@ -11,12 +14,16 @@ use Rattle.pd_wiring.specs.Changes.{CanRewire, SameButRoom}
 use Rattle.pd_wiring.specs.Plans.{Plan, planned, IsRewired, most_looks}
 use Rattle.pd_wiring.specs.declared.refusals.EditRefusal.{EditRefusal}
 use Rattle.pd_wiring.specs.declared.refusals.EditRefusal.TheVariants as refusal
+use Rattle.pd_boxes.specs.Put.{CanPut}
+use Rattle.pd_adding.specs.Counts.{AreWithin}
+use Rattle.pd_putting.specs.Adds.{AddsBox, IsNotPut, IsShortOfRoom}
+use Rattle.pd_putting.specs.declared.adding.NewBox.{NewBox}
 use Rattle.pd_say.specs.declared.refusals.Why.{Why}
 use Rattle.pd_say.specs.declared.refusals.Why.TheVariants as why
 use Rattle.pd_hearing.specs.Worlds.{Net, net_of, states_of}
-use Rattle.pd_stage.specs.Choices.{Wanted, Edits, Saves, Undoes, Redoes, Made, Choice, Refuses, Lacks, Makes}
+use Rattle.pd_stage.specs.Choices.{Base, base_of, Wanted, Edits, Asks, Saves, Undoes, Redoes, Made, Choice, Refuses, Lacks, Makes}
 use Rattle.pd_stage.specs.Stages.{Stage, Taken}
-use Rattle.pd_stage.specs.Lines.{loops_text}
+use Rattle.pd_stage.specs.Lines.{loops_text, put_text}
 
 -- the reason that a line tells
 abbrev pub why_of : EditRefusal → Why
@@ -35,11 +42,19 @@ why_of refusal.TooManyWires = why.TooManyWires
 why_of refusal.TooMuchSound = why.TooMuchSound
 why_of refusal.NoMemory = why.NoMemory
 
--- A patch stands at a stage: what messages leave as it is, and what its boxes keep. Its wires can be changed.
+-- A patch stands at a stage: what messages leave as it is, and what its boxes keep. Its wires can be changed, and boxes can come.
 pub record StandsAt (p : Patch) (s : Stage) : Type 0 where
   pub net : s.net ≡ net_of p
   pub states : s.states ≡ states_of p
-  pub rewires : CanRewire p
+  pub puts : CanPut p
+
+-- what is known at a stage
+abbrev pub known_at : Stage → Known
+known_at s = known s.base.files s.names
+
+-- the same with another number of wires
+abbrev pub with_wire_count : Base → ℕ → Base
+with_wire_count b wires = base_of b.files (record b.counts { wires = wires })
 
 -- an edit of wires that was planned is made: what the boxes keep, the clocks and the names stay, and a loop of its canvas is told
 pub record IsMade (s : Stage) (path : List ℕ) (e : Edit) (m : Made) : Type 0 where
@@ -52,6 +67,7 @@ pub record IsMade (s : Stage) (path : List ℕ) (e : Edit) (m : Made) : Type 0 w
   pub states : m.states ≡ s.states
   pub clocks : m.clocks ≡ s.clocks
   pub names : m.names ≡ s.names
+  pub base : m.base ≡ with_wire_count s.base (wires_told new.web)
   pub lines : m.lines ≡ loops_text new canvas
   pub files : m.files ≡ []
   pub looks : m.looks ≡ most_looks rewired.plan old new
@@ -75,10 +91,60 @@ pub record IsShort (s : Stage) (path : List ℕ) (e : Edit) (net : Net) : Type 0
   pub rewires : CanRewire new
   pub net_is : net ≡ net_of new
 
+abbrev pub IsRewiringLawful : Stage → List ℕ → Edit → Choice → Type 0
+IsRewiringLawful s path e (Refuses reason) = IsRefusedFor s path e reason
+IsRewiringLawful s path e (Lacks net) = IsShort s path e net
+IsRewiringLawful s path e (Makes m) = IsMade s path e m
+
+-- An edit put a box: all other boxes keep what they kept, the clocks stay, names and files go on, the counts stay within the limits of a patch, and it
+-- is told why the box could not be made, and a loop of its canvas. It looks at no signal wire.
+pub record IsPutIn (s : Stage) (path : List ℕ) (e : Edit) (m : Made) : Type 0 where
+  pub old : Patch
+  pub new : Patch
+  pub after : Known
+  pub box : NewBox
+  pub stands : StandsAt old s
+  pub adds : AddsBox old new s.base.counts s.file path s.time e (known_at s) after box
+  pub net : m.net ≡ net_of new
+  pub states : m.states ≡ states_of new
+  pub clocks : m.clocks ≡ s.clocks
+  pub names : m.names ≡ after.names
+  pub more : Extends s.names m.names
+  pub base : m.base ≡ base_of after.files box.counts
+  pub within : AreWithin m.base.counts
+  pub lines : m.lines ≡ put_text m.names new box.key box.canvas
+  pub files : m.files ≡ []
+  pub looks : m.looks ≡ 0
+
+-- no box is put, for this reason
+pub record IsUnput (s : Stage) (path : List ℕ) (e : Edit) (reason : Why) : Type 0 where
+  pub patch : Patch
+  pub cause : EditRefusal
+  pub stands : StandsAt patch s
+  pub refused : IsNotPut patch s.base.counts s.file path e (known_at s) cause
+  pub reason_is : reason ≡ why_of cause
+
+-- a box could be put, and memory was wanting
+pub record IsUnputForRoom (s : Stage) (path : List ℕ) (e : Edit) (net : Net) : Type 0 where
+  pub old : Patch
+  pub new : Patch
+  pub stands : StandsAt old s
+  pub short : IsShortOfRoom old new s.base.counts s.file path e (known_at s)
+  pub net_is : net ≡ net_of new
+
+abbrev pub IsPutLawful : Stage → List ℕ → Edit → Choice → Type 0
+IsPutLawful s path e (Refuses reason) = IsUnput s path e reason
+IsPutLawful s path e (Lacks net) = IsUnputForRoom s path e net
+IsPutLawful s path e (Makes m) = IsPutIn s path e m
+
+-- an edit of the patch's own document: wires come and go, and boxes come; other edits aren't made yet
 abbrev pub IsEditLawful : Stage → List ℕ → Edit → Choice → Type 0
-IsEditLawful s path e (Refuses reason) = IsRefusedFor s path e reason
-IsEditLawful s path e (Lacks net) = IsShort s path e net
-IsEditLawful s path e (Makes m) = IsMade s path e m
+IsEditLawful s path (edit.Connect v) c = IsRewiringLawful s path (edit.Connect v) c
+IsEditLawful s path (edit.Disconnect v) c = IsRewiringLawful s path (edit.Disconnect v) c
+IsEditLawful s path (edit.Delete number) c = c ≡ Refuses why.NoDocument
+IsEditLawful s path (edit.Retype number text) c = c ≡ Refuses why.NoDocument
+IsEditLawful s path (edit.Move number x y) c = c ≡ Refuses why.NoDocument
+IsEditLawful s path e c = IsPutLawful s path e c
 
 -- The patch's document is put under the name of its file, by a table of names; each wire of the patch stands once; and all else stays.
 pub record IsSaved (s : Stage) (m : Made) : Type 0 where
@@ -90,6 +156,7 @@ pub record IsSaved (s : Stage) (m : Made) : Type 0 where
   pub states : m.states ≡ s.states
   pub clocks : m.clocks ≡ s.clocks
   pub names : m.names ≡ s.names
+  pub base : m.base ≡ s.base
   pub lines : m.lines ≡ []
   pub files : m.files ≡ (s.file, text_of s.names (present_document patch)) ∷ []
   pub looks : m.looks ≡ 0
@@ -99,10 +166,11 @@ IsSaveLawful s (Refuses reason) = (reason ≡ why.ShelfFault) ⊎ (reason ≡ wh
 IsSaveLawful s (Lacks net) = ⊥
 IsSaveLawful s (Makes m) = IsSaved s m
 
--- what is asked for comes to this: there are no drafts of abstractions yet, and nothing to undo or redo
+-- what is asked for comes to this: no message puts a box yet, there are no drafts of abstractions, and nothing to undo or redo
 abbrev pub MayCome : Wanted → Stage → Choice → Type 0
 MayCome (Edits None path e) s c = IsEditLawful s path e c
 MayCome (Edits (Some document) path e) s c = c ≡ Refuses why.NoDocument
+MayCome (Asks path e) s c = IsRewiringLawful s path e c
 MayCome (Saves None) s c = IsSaveLawful s c
 MayCome (Saves (Some document)) s c = c ≡ Refuses why.NoDocument
 MayCome Undoes s c = c ≡ Refuses why.NothingToUndo

@@ -7,3 +7,4 @@ pub mod Leads
 pub mod Events
 pub mod Times
 pub mod Sums
+pub mod Trees

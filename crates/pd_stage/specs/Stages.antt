@@ -6,10 +6,10 @@ use Rattle.pd_kind.specs.declared.states.State.{State}
 use Rattle.pd_made.specs.declared.tally.Tally.{Tally}
 use Rattle.pd_hearing.specs.Worlds.{Net, Kept}
 use Rattle.pd_stage.specs.Items.{Item, said}
-use Rattle.pd_stage.specs.Choices.{Wanted, Choice, looks_of_choice, faults_of_choice}
+use Rattle.pd_stage.specs.Choices.{Base, Wanted, Choice, looks_of_choice, faults_of_choice}
 
 -- A patch between events: the name of its file; what messages leave as it is; what the boxes keep, their clocks, and the table of names;
--- the time; when the block ends that comes next; how many clocks fired since the last block; what the samples so far add up to; and what the
+-- what edits go on from; the time; when the block ends that comes next; how many clocks fired since the last block; what the samples so far add up to; and what the
 -- edits to come lead to, one after the other.
 pub record Stage : Type 0 where
   pub file : List ℕ
@@ -17,6 +17,7 @@ pub record Stage : Type 0 where
   pub states : ℕ → Option State
   pub clocks : List Clock
   pub names : Names
+  pub base : Base
   pub time : ℕ
   pub block_end : ℕ
   pub fired : ℕ
@@ -31,6 +32,7 @@ with_names s names = record {
   states = s.states;
   clocks = s.clocks;
   names = names;
+  base = s.base;
   time = s.time;
   block_end = s.block_end;
   fired = s.fired;
@@ -46,6 +48,7 @@ with_ahead s ahead = record {
   states = s.states;
   clocks = s.clocks;
   names = s.names;
+  base = s.base;
   time = s.time;
   block_end = s.block_end;
   fired = s.fired;

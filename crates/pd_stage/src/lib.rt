@@ -1,8 +1,9 @@
 //! Where a patch stands between events, and what a part of a run leads to. It has no code that runs.
 //!
 //! Between events a patch stands at a stage: what messages leave as it is, what the boxes keep, the clocks, the
-//! table of names, the time, when the next block ends, how many clocks fired since the last one, what the samples so
-//! far add up to, and what the edits to come lead to. Whether an edit is made or refused can hang on memory, and so it is told apart: each edit that is
+//! table of names, what edits go on from (the files that are known and the counts of the patch), the time, when the
+//! next block ends, how many clocks fired since the last one, what the samples so far add up to, and what the edits
+//! to come lead to. Whether an edit is made or refused can hang on memory, and so it is told apart: each edit that is
 //! asked for takes the first of what is ahead, and where none is left it is refused for want of memory. A part of a
 //! run leads to another stage. What happens on the way is one list in its order: each byte of a line, each byte of a
 //! block of samples, and each file that is put under a name. Beside it stands the log of the edits that were taken,
@@ -17,7 +18,10 @@
 //! What an edit may come to is one definition (`IsLawful`). An edit of wires of the patch's own document is planned
 //! by what the patch is (`pd_wiring`'s `planned`), and comes to no other end than that: it is made, and then all
 //! stays but the wires with their links and orders, and a loop of its canvas is told; or it is refused for the reason
-//! of the plan; or memory was wanting. A save of that document puts its text under the name of its file, and nothing
+//! of the plan; or memory was wanting. An edit of a command that puts a box comes to what `pd_putting` tells (`AddsBox`,
+//! `IsNotPut`): the box comes last into its canvas, all other boxes keep what they kept, and it is told why the box
+//! could not be made, and a loop of its canvas; or it is refused for one of those reasons; or memory was wanting.
+//! Edits that messages ask for change wires alone. A save of that document puts its text under the name of its file, and nothing
 //! else changes; or it is refused for a fault of the folder or for want of memory. All other edits and saves are
 //! refused, and there is nothing to undo or redo.
 //!
@@ -35,7 +39,8 @@
 //!
 //! Definitions: `Items` (what happens, and what each sink gets of it), `Choices` (what edits come to), `Stages`
 //! (stages, edits that were taken, parts of a run), `Lines` (lines with the numbers of boxes), `Lawful` (what edits
-//! may come to), `Leads` (what was taken of a part), `Events`, `Times` (clocks and blocks), `Sums`.
+//! may come to), `Leads` (what was taken of a part), `Events`, `Times` (clocks and blocks), `Sums`, `Trees` (the tree
+//! that stands at a stage, and the owners of names).
 #![tactic(auto)]
 
 mod laws;

@@ -1,6 +1,6 @@
 -- An event that begins in order passes nothing over, and leaves the stage steady where its edits are fair.
 use Rattle.std.proofs.Common.{◌≡◌, ◌≤◌, ◌+◌, ◌-◌, ◌^◌, ℕ, List, Option, slice_get, refl, sym, ap, subst, ◌∙◌}
-use Rattle.pd_atom.specs.Names.{Names}
+use Rattle.pd_atom.specs.Names.{Names, Extends}
 use Rattle.pd_atom.specs.declared.Atom.{Atom}
 use Rattle.pd_kind.specs.declared.states.State.{State}
 use Rattle.pd_kind.specs.Forming.{cut_atoms}
@@ -37,9 +37,12 @@ use Rattle.pd_stage.specs.Events as engine
 use Rattle.pd_stage.specs.Events.{Beginning, Message, Firing, Loading, begun, delivered, with_kept, event_after, event}
 use Rattle.pd_stage.proofs.EditLemmas.{ButWires}
 use Rattle.pd_steady.specs.Freely.{deliveries, event_freely}
-use Rattle.pd_steady.specs.Steady.{HasTree, IsSteady}
+use Rattle.pd_steady.specs.Steady.{IsSteady}
 use Rattle.pd_steady.proofs.FairLemmas.{AreFair, edits_left}
-use Rattle.pd_steady.proofs.TreeLemmas.{tree_on, edits_tree}
+use Rattle.pd_steady.proofs.ExtendLemmas.{outcome_extends}
+use Rattle.pd_engine.proofs.TreeLemmas.{HasBoth}
+use Rattle.pd_engine.proofs.WholeLemmas.{both_on}
+use Rattle.pd_steady.proofs.TreeLemmas.{edits_owned}
 
 -- what the laws of pd_guards say
 pub record Guards : Type 0 where
@@ -85,20 +88,22 @@ module _ (net : Net) (now : ℕ) (w : World Kept) where
   free_is (Firing owner) = refl
   free_is (Loading boxes) = refl
 
--- deliveries come to this world, freely too, all is in order in it, and what boxes keep is of the same objects
-record IsDelivered (net : Net) (now : ℕ) (states : ℕ → Option State) (v u : World Kept) : Type 0 where
+-- deliveries come to this world, freely too, all is in order in it, the table of names goes on, and what boxes keep is of the same objects
+record IsDelivered (net : Net) (now : ℕ) (names : Names) (states : ℕ → Option State) (v u : World Kept) : Type 0 where
   same : u ≡ v
   order : IsInOrder net now v.kept
+  more : Extends names v.kept.names
   values : HaveValues v.kept.states
   sizes : HaveSizes v.kept.states
   objects : AreAlike states v.kept.states
   ends : (t : ℕ) → AreOpen t states → AreOpen t v.kept.states
 
 deliver : (g : Guards) (net : Net) (now : ℕ) (w v u : World Kept) (st : Start) → outcome net now w st ≡ v → free_outcome net now w st ≡ u → AreNear net → IsInOrder net now w.kept
-    → HaveValues w.kept.states → HaveSizes w.kept.states → KeepsOfKind (kinds_in net) w.kept.states → IsStart w.kept.names st → IsDelivered net now w.kept.states v u
+    → HaveValues w.kept.states → HaveSizes w.kept.states → KeepsOfKind (kinds_in net) w.kept.states → IsStart w.kept.names st → IsDelivered net now w.kept.names w.kept.states v u
 deliver g net now w v u st is free near h a z kinds k = record {
   same = sym free ∙ sym (g.freely net now w st near h k) ∙ is;
   order = subst (λ (x : World Kept). IsInOrder net now x.kept) is (g.order net now w st h k);
+  more = subst (λ (x : World Kept). Extends w.kept.names x.kept.names) is (outcome_extends net now w st);
   values = subst (λ (x : World Kept). HaveValues x.kept.states) is (g.values net now w st h k a);
   sizes = subst (λ (x : World Kept). HaveSizes x.kept.states) is (g.sizes net now w st z);
   objects = subst (λ (x : World Kept). AreAlike w.kept.states x.kept.states) is (outcome_alike net now w st);
@@ -115,9 +120,9 @@ blocks_stay : (w v : Web) (blocks : Blocks) → KeepsPorts w v → HasBlocks w b
 blocks_stay w v blocks kept h k o sounds = h k o (ap (λ (js : List Jack). signal_in (slice_get js o)) (sym (kept.ports Outlets k)) ∙ sounds)
 
 -- other wires leave a stage steady
-pub wires_steady : (most : ℕ) (s r : Stage) → IsSteady most s → ButWires s r → HasTree r → IsSteady most r
+pub wires_steady : (most : ℕ) (s r : Stage) → IsSteady most s → ButWires s r → HasBoth r → IsSteady most r
 wires_steady most s r h e tree =
-    subst (λ (x : Stage). HasTree x → IsSteady most x) (sym e.is)
+    subst (λ (x : Stage). HasBoth x → IsSteady most x) (sym e.is)
     (λ t. record {
       time = h.time;
       near = h.near;
@@ -134,10 +139,18 @@ wires_steady most s r h e tree =
       };
       block = h.block;
       ends = h.ends;
-      tree = t;
+      tree = t.tree;
+      owners = t.owners;
     }) tree
 
-kept_steady : (most : ℕ) (s : Stage) (v u : World Kept) → IsSteady most s → IsDelivered s.net s.time s.states v u → IsSteady most (with_kept s v.kept)
+-- what deliveries leave
+pub owned_at : (most : ℕ) (s : Stage) → IsSteady most s → HasBoth s
+owned_at most s h = record { tree = h.tree; owners = h.owners }
+
+kept_owned : (most : ℕ) (s : Stage) (v u : World Kept) → IsSteady most s → IsDelivered s.net s.time s.names s.states v u → HasBoth (with_kept s v.kept)
+kept_owned most s v u h d = both_on s (with_kept s v.kept) refl refl refl d.more (owned_at most s h)
+
+kept_steady : (most : ℕ) (s : Stage) (v u : World Kept) → IsSteady most s → IsDelivered s.net s.time s.names s.states v u → IsSteady most (with_kept s v.kept)
 kept_steady most s v u h d = record {
   time = h.time;
   near = h.near;
@@ -148,15 +161,16 @@ kept_steady most s v u h d = record {
       record { kinds = r.kinds; whole = record { states = r.whole.states; blocks = r.whole.blocks }; owners = r.owners; channels = r.channels; keys = r.keys; fed = r.fed; blocks = r.blocks };
   block = h.block;
   ends = d.ends (s.block_end - block_units) h.ends;
-  tree = tree_on s (with_kept s v.kept) refl h.tree;
+  tree = (kept_owned most s v u h d).tree;
+  owners = (kept_owned most s v u h d).owners;
 }
 
 -- an event that comes to this world, and freely to that one
-after_free : (most : ℕ) (s : Stage) (v u : World Kept) → IsSteady most s → IsDelivered s.net s.time s.states v u → IsFree most (event_after s v) (event_after s u)
+after_free : (most : ℕ) (s : Stage) (v u : World Kept) → IsSteady most s → IsDelivered s.net s.time s.names s.states v u → IsFree most (event_after s v) (event_after s u)
 after_free most s v u h d = record {
   same = ap (λ (w : World Kept). event_after s w) d.same;
   steady = λ l. wires_steady most (with_kept s v.kept) (event_after s v).stage (kept_steady most s v u h d) (edits_left v.kept.queue (with_kept s v.kept) l)
-      (edits_tree v.kept.queue (with_kept s v.kept) l (tree_on s (with_kept s v.kept) refl h.tree));
+      (edits_owned v.kept.queue (with_kept s v.kept) l (kept_owned most s v u h d));
 }
 
 pub event_free : (g : Guards) (most : ℕ) (s : Stage) (b : Beginning) → IsSteady most s → Begins s.names b → IsFree most (event s b) (event_freely s b)

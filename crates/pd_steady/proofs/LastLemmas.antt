@@ -1,47 +1,57 @@
--- In a run in which each edit is lawful what boxes keep stays of the same objects, and so the owners of names go on serving.
-use Rattle.std.proofs.Common.{◌≡◌, ◌+◌, ◌-◌, ℕ, zero, suc, Bool, true, false, nat_lt, nat_le, if◌then◌else◌, List, [], ◌∷◌, Option, Some, None, refl, sym, ap, subst, ◌∙◌}
+-- In a run in which each edit is lawful the boxes that were there go on keeping what is of the same objects.
+use Rattle.std.proofs.Common.{◌≡◌, inl, inr, ◌+◌, ◌-◌, ℕ, zero, suc, Bool, true, false, nat_le, if◌then◌else◌, List, [], ◌∷◌, Option, Some, None, IsSome, option_map, refl, sym, ap, subst, ◌∙◌}
+use Rattle.std.proofs.lemmas.Option.{none-some}
 use Rattle.pd_atom.specs.Names.{Names}
+use Rattle.pd_canvas.specs.declared.edits.Edit.{Edit}
 use Rattle.pd_clock.specs.Queue.{Clock}
 use Rattle.pd_script.specs.declared.commands.Command.{Command}
 use Rattle.pd_script.specs.declared.commands.Command.TheVariants as command
+use Rattle.pd_kind.specs.declared.states.State.{State}
+use Rattle.pd_kind.specs.Fit.{blank}
+use Rattle.pd_grove.specs.declared.nodes.Node.{Node}
 use Rattle.pd_turns.specs.Turns.{World}
-use Rattle.pd_hearing.specs.Worlds.{Kept}
+use Rattle.pd_hearing.specs.Worlds.{Kept, states_of}
 use Rattle.pd_patch.specs.declared.patch.Patch.{Patch}
-use Rattle.pd_block.specs.Blocks.{owner_of}
+use Rattle.pd_putting.specs.Adds.{last_place}
+use Rattle.pd_boxes.specs.Put.{node_of}
 use Rattle.pd_sized.specs.Alike.{AreAlike}
-use Rattle.pd_sized.proofs.AlikeRunLemmas.{onward, outcome_alike}
+use Rattle.pd_sized.proofs.AlikeRunLemmas.{outcome_alike}
 use Rattle.pd_sized.proofs.AlikeBlockLemmas.{block_alike}
-use Rattle.pd_sized.proofs.ServeLemmas.{goes_on}
-use Rattle.pd_stage.specs.Choices.{Choice}
-use Rattle.pd_stage.specs.Lawful.{AreLawful}
+use Rattle.pd_stage.specs.Choices.{Base, Made, Choice}
+use Rattle.pd_stage.specs.Lawful.{IsPutIn, AreLawful}
 use Rattle.pd_stage.proofs.LeadLemmas.{lawful_first, lawful_second}
-use Rattle.pd_stage.proofs.EditLemmas.{ButWires, taken_rewires, event_rewires}
-use Rattle.pd_stage.specs.Stages.{Stage, Passage, still, followed_by}
+use Rattle.pd_stage.proofs.EditLemmas.{ButWires, but_wires, Alters, taken_alters, event_rewires}
+use Rattle.pd_stage.specs.Stages.{Stage, Passage, with_ahead, still, followed_by}
 use Rattle.pd_stage.specs.Events.{Beginning, Firing, begun, delivered, with_kept, event}
-use Rattle.pd_stage.specs.Times.{block_units, most_fired, next_clock, taken_off, with_taken, with_fired, fires, fires_or_not, fires_below, clocks_fire, block_net, sound_at, block_sounds, block_runs, blocks_run, time_is, comes_to, advanced, finished}
+use Rattle.pd_stage.specs.Times.{block_units, most_fired, next_clock, taken_off, with_taken, with_fired, fires, fires_or_not, fires_below, clocks_fire, block_net, sound_at, block_sounds, block_runs, blocks_run, time_is, comes_to, advanced}
 use Rattle.pd_engine.specs.Commands.{commanded}
 use Rattle.pd_engine.specs.Opening.{first_stage, opened}
-use Rattle.pd_steady.specs.Runs.{own_ways, finished_by}
-use Rattle.pd_steady.specs.Steps.{Step, Does, Learns, Comes, step_by, steps_by, run_by}
-use Rattle.pd_steady.specs.Serving.{OwnersServe}
+use Rattle.pd_steady.specs.Runs.{own_ways}
+use Rattle.pd_steady.specs.Steps.{Step, Does, Learns, Comes, step_by, steps_by}
+use Rattle.pd_steady.specs.Serving.{StayAlike}
 use Rattle.pd_steady.proofs.EventLemmas.{start_of, outcome_is}
-use Rattle.pd_steady.proofs.OwnLemmas.{commanded_own, advanced_own, finished_own}
-
--- what boxes keep is of the same objects, and who owns the names stays
-pub record Lasts (old new : Stage) : Type 0 where
-  pub owners : new.net.owners ≡ old.net.owners
-  pub states : AreAlike old.states new.states
+use Rattle.pd_steady.proofs.KeyLemmas.{HasOneMore, one_more, more_alike}
+use Rattle.pd_steady.proofs.OwnLemmas.{commanded_own, advanced_own}
 
 -- so it is along a part of a run whose edits are lawful
 abbrev Leads : Stage → Passage → Type 0
-Leads s p = AreLawful p.edits → Lasts s p.stage
+Leads s p = AreLawful p.edits → StayAlike s.states p.stage.states
 
-itself_lasts : (s : Stage) → Lasts s s
-itself_lasts s = record { owners = refl; states = λ k. refl }
+-- where no box comes
+alike_lasts : (s r : Stage) → AreAlike s.states r.states → StayAlike s.states r.states
+alike_lasts s r alike k there = alike k
+
+itself_lasts : (s : Stage) → StayAlike s.states s.states
+itself_lasts s k there = refl
 
 -- one stage after another
-then_lasts : (s r t : Stage) → Lasts s r → Lasts r t → Lasts s t
-then_lasts s r t a b = record { owners = b.owners ∙ a.owners; states = onward s.states r.states t.states a.states b.states }
+still_there : (old new : Option State) → option_map blank new ≡ option_map blank old → IsSome old → IsSome new
+still_there old (Some t) e h = refl
+still_there None None e h = h
+still_there (Some s) None e h = absurd (none-some (blank s) e)
+
+then_lasts : (s r t : Stage) → StayAlike s.states r.states → StayAlike r.states t.states → StayAlike s.states t.states
+then_lasts s r t a b k there = b k (still_there (s.states k) (r.states k) (a k there) there) ∙ a k there
 
 -- one part after another
 followed_lasts : (s : Stage) (p : Passage) (next : Stage → Passage) → Leads s p → Leads p.stage (next p.stage) → Leads s (followed_by p next)
@@ -53,14 +63,30 @@ if_lasts true s p q f g = f
 if_lasts false s p q f g = g
 
 -- other wires
-wires_last : (s r : Stage) → ButWires s r → Lasts s r
-wires_last s r e = subst (λ (x : Stage). Lasts s x) (sym e.is) (record { owners = refl; states = λ k. refl })
+wires_last : (s r : Stage) → ButWires s r → StayAlike s.states r.states
+wires_last s r e = subst (λ (x : Stage). StayAlike s.states x.states) (sym e.is) (itself_lasts s)
 
-kept_lasts : (s : Stage) (b : Beginning) → Lasts s (with_kept s (delivered s b).kept)
-kept_lasts s b = record {
-  owners = refl;
-  states = subst (λ (w : World Kept). AreAlike s.states w.kept.states) (outcome_is s.net s.time (begun s) b) (outcome_alike s.net s.time (begun s) (start_of b));
-}
+-- a box that was put
+put_lasts : (s : Stage) (path : List ℕ) (e : Edit) (m : Made) → IsPutIn (with_ahead s []) path e m → StayAlike s.states m.states
+put_lasts s path e m put =
+    let p = put.old in
+    let q = put.new in
+    let a = put.adds.added in
+    let b = put.adds.put in
+    let n : Node = node_of a.canvas b.seed in
+    let more : HasOneMore p q put.box.key n = one_more p b.ready q a.known.names (last_place p a.canvas) b.seed put.box.key b.room b.put in
+    subst (λ (x : ℕ → Option State). StayAlike s.states x) (sym put.states)
+    (subst (λ (x : ℕ → Option State). StayAlike x (states_of q)) (sym put.stands.states) (more_alike p q put.box.key n more))
+
+altered_lasts : (s r : Stage) → Alters s r → StayAlike s.states r.states
+altered_lasts s r (inl a) = wires_last s r (but_wires s r a)
+altered_lasts s r (inr (inl a)) = subst (λ (x : Stage). StayAlike s.states x.states) (sym a.is) (put_lasts s a.path a.edit a.made a.put)
+altered_lasts s r (inr (inr a)) = subst (λ (x : Stage). StayAlike s.states x.states) (sym a.is) (itself_lasts s)
+
+kept_lasts : (s : Stage) (b : Beginning) → StayAlike s.states (delivered s b).kept.states
+kept_lasts s b =
+    alike_lasts s (with_kept s (delivered s b).kept)
+    (subst (λ (w : World Kept). AreAlike s.states w.kept.states) (outcome_is s.net s.time (begun s) b) (outcome_alike s.net s.time (begun s) (start_of b)))
 
 event_lasts : (s : Stage) (b : Beginning) → Leads s (event s b)
 event_lasts s b = λ l.
@@ -70,8 +96,7 @@ event_lasts s b = λ l.
 -- clocks
 fires_lasts : (s : Stage) (c : Clock) → Leads s (fires s c)
 fires_lasts s c = λ l.
-    let e : Lasts (with_fired (with_taken s (taken_off s.clocks)) c.time) (fires s c).stage = event_lasts (with_fired (with_taken s (taken_off s.clocks)) c.time) (Firing c.owner) l in
-    record { owners = e.owners; states = e.states }
+    event_lasts (with_fired (with_taken s (taken_off s.clocks)) c.time) (Firing c.owner) l
 
 clock_lasts : (s : Stage) (rest : Stage → Passage) (o : Option Clock) → ((r : Stage) → Leads r (rest r)) → Leads s (fires_or_not s rest o)
 clock_lasts s rest None f = λ l. itself_lasts s
@@ -85,7 +110,7 @@ clocks_last (suc n) limit s = clock_lasts s (fires_below n limit) (next_clock li
 -- blocks
 sounds_last : (s : Stage) → Leads s (block_sounds s)
 unfolding block_sounds
-sounds_last s = λ l. record { owners = refl; states = block_alike (block_net s) (s.block_end - block_units) (sound_at s) }
+sounds_last s = λ l. alike_lasts s (block_sounds s).stage (block_alike (block_net s) (s.block_end - block_units) (sound_at s))
 
 block_lasts : (s : Stage) → Leads s (block_runs s)
 block_lasts s = followed_lasts s (clocks_fire s.block_end s) block_sounds (clocks_last (most_fired - s.fired) s.block_end s) (sounds_last (clocks_fire s.block_end s).stage)
@@ -97,9 +122,9 @@ blocks_last (suc n) to s =
     if_lasts (nat_le s.block_end to) s (followed_by (block_runs s) (blocks_run n to)) (still s)
     (followed_lasts s (block_runs s) (blocks_run n to) (block_lasts s) (blocks_last n to (block_runs s).stage)) (λ l. itself_lasts s)
 
--- to a time, and to the end
+-- to a time
 time_lasts : (to : ℕ) (s : Stage) → Leads s (time_is to s)
-time_lasts to s = λ l. record { owners = refl; states = λ k. refl }
+time_lasts to s = λ l. itself_lasts s
 
 comes_last : (to : ℕ) (s : Stage) → Leads s (comes_to to s)
 comes_last to s = followed_lasts s (clocks_fire to s) (time_is to) (clocks_last (most_fired - s.fired) to s) (time_lasts to (clocks_fire to s).stage)
@@ -107,18 +132,15 @@ comes_last to s = followed_lasts s (clocks_fire to s) (time_is to) (clocks_last 
 advanced_lasts : (to : ℕ) (s : Stage) → Leads s (advanced to s)
 advanced_lasts to s = followed_lasts s (blocks_run (to + 1) to s) (comes_to to) (blocks_last (to + 1) to s) (comes_last to (blocks_run (to + 1) to s).stage)
 
-finished_lasts : (s : Stage) → Leads s (finished s)
-finished_lasts s = if_lasts (nat_lt s.block_end (s.time + block_units)) s (block_runs s) (still s) (block_lasts s) (λ l. itself_lasts s)
-
 -- commands
 commanded_lasts : (c : Command) (s : Stage) → Leads s (commanded c s)
 unfolding commanded
 commanded_lasts (command.Send name atoms) s = event_lasts s _
-commanded_lasts (command.Edit place edit) s = λ l. wires_last s (commanded (command.Edit place edit) s).stage (taken_rewires _ s l)
-commanded_lasts (command.Save document) s = λ l. wires_last s (commanded (command.Save document) s).stage (taken_rewires _ s l)
+commanded_lasts (command.Edit place edit) s = λ l. altered_lasts s (commanded (command.Edit place edit) s).stage (taken_alters _ s l)
+commanded_lasts (command.Save document) s = λ l. altered_lasts s (commanded (command.Save document) s).stage (taken_alters _ s l)
 commanded_lasts (command.Show path) s = λ l. itself_lasts s
-commanded_lasts command.Undo s = λ l. wires_last s (commanded command.Undo s).stage (taken_rewires _ s l)
-commanded_lasts command.Redo s = λ l. wires_last s (commanded command.Redo s).stage (taken_rewires _ s l)
+commanded_lasts command.Undo s = λ l. altered_lasts s (commanded command.Undo s).stage (taken_alters _ s l)
+commanded_lasts command.Redo s = λ l. altered_lasts s (commanded command.Redo s).stage (taken_alters _ s l)
 
 -- steps
 by_same : (s : Stage) (p q : Passage) → p ≡ q → Leads s q → Leads s p
@@ -126,7 +148,7 @@ by_same s p q e h = subst (λ (x : Passage). Leads s x) (sym e) h
 
 step_lasts : (x : Step) (s : Stage) → Leads s (step_by own_ways x s)
 step_lasts (Does c) s = by_same s (step_by own_ways (Does c) s) (commanded c s) (commanded_own c s) (commanded_lasts c s)
-step_lasts (Learns names) s = λ l. record { owners = refl; states = λ k. refl }
+step_lasts (Learns names) s = λ l. itself_lasts s
 step_lasts (Comes to) s = by_same s (step_by own_ways (Comes to) s) (advanced to s) (advanced_own to s) (advanced_lasts to s)
 
 steps_last : (xs : List Step) (s : Stage) → Leads s (steps_by own_ways xs s)
@@ -134,22 +156,11 @@ steps_last [] s = λ l. itself_lasts s
 steps_last (x ∷ xs) s = followed_lasts s (step_by own_ways x s) (steps_by own_ways xs) (step_lasts x s) (steps_last xs (step_by own_ways x s).stage)
 
 -- whole runs, from what a patch that has grown keeps at first
-opened_lasts : (file : List ℕ) (p : Patch) (names : Names) (ahead : List Choice) → Leads (first_stage file p names ahead) (opened file p names ahead)
-opened_lasts file p names ahead = event_lasts (first_stage file p names ahead) _
+opened_lasts : (file : List ℕ) (p : Patch) (names : Names) (base : Base) (ahead : List Choice) → Leads (first_stage file p names base ahead) (opened file p names base ahead)
+opened_lasts file p names base ahead = event_lasts (first_stage file p names base ahead) _
 
-pub begun_lasts : (file : List ℕ) (p : Patch) (names : Names) (ahead : List Choice) (xs : List Step)
-    → Leads (first_stage file p names ahead) (followed_by (opened file p names ahead) (steps_by own_ways xs))
-begun_lasts file p names ahead xs =
-    let o : Passage = opened file p names ahead in
-    followed_lasts (first_stage file p names ahead) o (steps_by own_ways xs) (opened_lasts file p names ahead) (steps_last xs o.stage)
-
-pub run_lasts : (file : List ℕ) (p : Patch) (names : Names) (ahead : List Choice) (xs : List Step) → Leads (first_stage file p names ahead) (run_by own_ways file p names ahead xs)
-run_lasts file p names ahead xs =
-    let b : Passage = followed_by (opened file p names ahead) (steps_by own_ways xs) in
-    let r : Stage = b.stage in
-    followed_lasts (first_stage file p names ahead) b (finished_by own_ways) (begun_lasts file p names ahead xs)
-    (by_same r (finished_by own_ways r) (finished r) (finished_own r) (finished_lasts r))
-
--- who serves goes on serving
-pub serves_on : (s t : Stage) → Lasts s t → OwnersServe s → OwnersServe t
-serves_on s t l h k o e = goes_on k s.states t.states o l.states (h k o (sym (ap (λ x. owner_of x k) l.owners) ∙ e))
+pub begun_lasts : (file : List ℕ) (p : Patch) (names : Names) (base : Base) (ahead : List Choice) (xs : List Step)
+    → Leads (first_stage file p names base ahead) (followed_by (opened file p names base ahead) (steps_by own_ways xs))
+begun_lasts file p names base ahead xs =
+    let o : Passage = opened file p names base ahead in
+    followed_lasts (first_stage file p names base ahead) o (steps_by own_ways xs) (opened_lasts file p names base ahead) (steps_last xs o.stage)

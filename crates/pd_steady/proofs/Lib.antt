@@ -1,3 +1,15 @@
+pub mod NumberLemmas
+pub mod BornLemmas
+pub mod AddedLemmas
+pub mod ServeLemmas
+pub mod NearLemmas
+pub mod ShortLemmas
+pub mod StartLemmas
+pub mod NetLemmas
+pub mod KeyLemmas
+pub mod StandLemmas
+pub mod ExtendLemmas
+pub mod PutLemmas
 pub mod OwnLemmas
 pub mod FairLemmas
 pub mod TreeLemmas
@@ -8,3 +20,4 @@ mod ToldLemmas
 mod LoopLemmas
 mod MadeLemmas
 mod LastLemmas
+mod OwnersLemmas

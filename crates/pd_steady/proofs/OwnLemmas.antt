@@ -5,7 +5,7 @@ use Rattle.pd_atom.specs.Names.{Names}
 use Rattle.pd_patch.specs.declared.patch.Patch.{Patch}
 use Rattle.pd_script.specs.declared.commands.Command.{Command}
 use Rattle.pd_script.specs.declared.commands.Command.TheVariants as command
-use Rattle.pd_stage.specs.Choices.{Choice}
+use Rattle.pd_stage.specs.Choices.{Base, Choice}
 use Rattle.pd_stage.specs.Stages.{Stage, Passage, still, joined, followed_by}
 use Rattle.pd_stage.specs.Times.{block_units, most_fired, next_clock, fires, fires_or_not, fires_below, block_sounds, block_runs, blocks_run, time_is, comes_to, advanced, finished}
 use Rattle.pd_engine.specs.Commands.{commanded}
@@ -58,5 +58,5 @@ commanded_own (command.Show path) s = refl
 commanded_own command.Undo s = refl
 commanded_own command.Redo s = refl
 
-pub opened_own : (file : List ℕ) (p : Patch) (names : Names) (ahead : List Choice) → opened_by own_ways file p names ahead ≡ opened file p names ahead
-opened_own file p names ahead = refl
+pub opened_own : (file : List ℕ) (p : Patch) (names : Names) (base : Base) (ahead : List Choice) → opened_by own_ways file p names base ahead ≡ opened file p names base ahead
+opened_own file p names base ahead = refl

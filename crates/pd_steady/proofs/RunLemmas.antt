@@ -1,5 +1,5 @@
 -- Commands, names, opening and whole runs: nothing is passed over, and the stage stays steady where each edit is fair.
-use Rattle.std.proofs.Common.{◌≡◌, ◌≤◌, ◌+◌, ◌^◌, ℕ, List, [], ◌∷◌, length, take, refl, sym, ap, subst, ◌∙◌, arith}
+use Rattle.std.proofs.Common.{◌≡◌, inl, inr, ◌≤◌, ◌+◌, ◌^◌, ℕ, List, [], ◌∷◌, length, take, refl, sym, ap, subst, ◌∙◌, arith}
 use Rattle.std.proofs.lemmas.List.{length-take}
 use Rattle.pd_atom.specs.Names.{Names, IsTable, Extends}
 use Rattle.pd_kind.specs.Forming.{cut_atoms}
@@ -20,9 +20,10 @@ use Rattle.pd_ends_law.specs.Ends.{AreOpen}
 use Rattle.pd_sound_law.specs.Ready.{IsReady}
 use Rattle.pd_guards.proofs.FactLemmas.{some-weaker}
 use Rattle.pd_guards.proofs.MoreLemmas.{longer, first_more, kind_more, kept_more}
-use Rattle.pd_stage.specs.Choices.{Choice}
+use Rattle.pd_stage.specs.Choices.{Base, Choice}
 use Rattle.pd_stage.specs.Stages.{Stage, Passage, with_names, saying, joined, followed_by}
 use Rattle.pd_stage.specs.Events.{Beginning, Message, Loading, event}
+use Rattle.pd_stage.proofs.EditLemmas.{Alters, but_wires}
 use Rattle.pd_engine.specs.Messages.{message_in}
 use Rattle.pd_stage.specs.Times.{block_units, advanced, finished}
 use Rattle.pd_engine.specs.Commands.{cut_text, commanded}
@@ -30,11 +31,14 @@ use Rattle.pd_engine.specs.Remarks.{remarks_text}
 use Rattle.pd_engine.specs.Opening.{first_stage, opened}
 use Rattle.pd_steady.specs.Runs.{own_ways, commanded_by, advanced_by, finished_by, opened_by}
 use Rattle.pd_steady.specs.Freely.{event_freely, free_ways}
-use Rattle.pd_steady.specs.Steady.{HasTree, IsSteady, IsCommand}
+use Rattle.pd_steady.specs.Steady.{IsSteady, IsCommand}
 use Rattle.pd_steady.specs.Steps.{Step, Does, Learns, Comes, IsStep, AreSteps, step_by, steps_by, run_by}
 use Rattle.pd_steady.proofs.FairLemmas.{AreFair, fair_first, fair_second, taken_left}
-use Rattle.pd_steady.proofs.TreeLemmas.{tree_on, taken_tree}
-use Rattle.pd_steady.proofs.EventLemmas.{Guards, IsFree, event_free, wires_steady}
+use Rattle.pd_engine.proofs.TreeLemmas.{HasBoth}
+use Rattle.pd_engine.proofs.WholeLemmas.{both_on}
+use Rattle.pd_steady.proofs.TreeLemmas.{taken_owned}
+use Rattle.pd_steady.proofs.PutLemmas.{put_steady, room_steady}
+use Rattle.pd_steady.proofs.EventLemmas.{Guards, IsFree, owned_at, event_free, wires_steady}
 use Rattle.pd_steady.proofs.TimeLemmas.{followed, advanced_free, finished_free}
 use Rattle.pd_steady.proofs.OwnLemmas.{commanded_own, advanced_own, finished_own}
 
@@ -52,17 +56,25 @@ room_left most l = omega arith
 said_free : (most : ℕ) (s : Stage) (lines : List ℕ) (p free : Passage) → IsFree most p free → IsFree most (joined (saying s lines) p) (joined (saying s lines) free)
 said_free most s lines p free a = record { same = ap (λ (x : Passage). joined (saying s lines) x) a.same; steady = a.steady }
 
+-- whatever a lawful edit makes of a steady stage, it is steady where a tree and its owners stand
+pub altered_steady : (most : ℕ) (s r : Stage) → IsSteady most s → Alters s r → HasBoth r → IsSteady most r
+altered_steady most s r h (inl a) tree = wires_steady most s r h (but_wires s r a) tree
+altered_steady most s r h (inr (inl a)) tree =
+    subst (IsSteady most) (sym a.is) (put_steady most s a.ahead a.path a.edit a.made h a.put (subst HasBoth a.is tree))
+altered_steady most s r h (inr (inr a)) tree =
+    subst (IsSteady most) (sym a.is) (room_steady most s a.ahead a.path a.edit a.net h a.short (subst HasBoth a.is tree))
+
 -- commands
 pub commanded_free : (g : Guards) (most : ℕ) (c : Command) (s : Stage) → IsSteady most s → IsCommand s.names c → IsFree most (commanded c s) (commanded_by free_ways c s)
 unfolding commanded commanded_by
 commanded_free g most (command.Send name atoms) s h k =
     let b : Beginning = Message name (message_in atoms).selector (cut_atoms (message_in atoms).atoms) in
     said_free most s (cut_text (message_in atoms).atoms) (event s b) (event_freely s b) (event_free g most s b h (g.begins s.names name atoms h.order.first k.0 k.1))
-commanded_free g most (command.Edit place edit) s h k = record { same = refl; steady = λ l. wires_steady most s (commanded (command.Edit place edit) s).stage h (taken_left _ s l) (taken_tree _ s l h.tree) }
-commanded_free g most (command.Save document) s h k = record { same = refl; steady = λ l. wires_steady most s (commanded (command.Save document) s).stage h (taken_left _ s l) (taken_tree _ s l h.tree) }
+commanded_free g most (command.Edit place edit) s h k = record { same = refl; steady = λ l. altered_steady most s (commanded (command.Edit place edit) s).stage h (taken_left _ s l) (taken_owned _ s l (owned_at most s h)) }
+commanded_free g most (command.Save document) s h k = record { same = refl; steady = λ l. altered_steady most s (commanded (command.Save document) s).stage h (taken_left _ s l) (taken_owned _ s l (owned_at most s h)) }
 commanded_free g most (command.Show path) s h k = record { same = refl; steady = λ l. h }
-commanded_free g most command.Undo s h k = record { same = refl; steady = λ l. wires_steady most s (commanded command.Undo s).stage h (taken_left _ s l) (taken_tree _ s l h.tree) }
-commanded_free g most command.Redo s h k = record { same = refl; steady = λ l. wires_steady most s (commanded command.Redo s).stage h (taken_left _ s l) (taken_tree _ s l h.tree) }
+commanded_free g most command.Undo s h k = record { same = refl; steady = λ l. altered_steady most s (commanded command.Undo s).stage h (taken_left _ s l) (taken_owned _ s l (owned_at most s h)) }
+commanded_free g most command.Redo s h k = record { same = refl; steady = λ l. altered_steady most s (commanded command.Redo s).stage h (taken_left _ s l) (taken_owned _ s l (owned_at most s h)) }
 
 -- names
 pub named_steady : (most : ℕ) (s : Stage) (names : Names) → IsSteady most s → Extends s.names names → IsSteady most (with_names s names)
@@ -81,13 +93,14 @@ named_steady most s names h e =
       ready = h.ready;
       block = h.block;
       ends = h.ends;
-      tree = tree_on s (with_names s names) refl h.tree;
+      tree = (both_on s (with_names s names) refl refl refl e (owned_at most s h)).tree;
+      owners = (both_on s (with_names s names) refl refl refl e (owned_at most s h)).owners;
     }
 
 -- where a patch opens, at first
-pub first_steady : (most : ℕ) (file : List ℕ) (p : Patch) (table : Names) (ahead : List Choice) → AreNear (net_of p) → IsInOrder (net_of p) 0 (kept_of p table []) → IsSounding (sound_with (net_of p) (kept_of p table [])) → IsReady (nets.net_of p) (sound_of p)
-    → AreOpen 0 (states_of p) → HasTree (first_stage file p table ahead) → IsSteady most (first_stage file p table ahead)
-first_steady most file p table ahead near o v w ended tree = record {
+pub first_steady : (most : ℕ) (file : List ℕ) (p : Patch) (table : Names) (base : Base) (ahead : List Choice) → AreNear (net_of p) → IsInOrder (net_of p) 0 (kept_of p table []) → IsSounding (sound_with (net_of p) (kept_of p table [])) → IsReady (nets.net_of p) (sound_of p)
+    → AreOpen 0 (states_of p) → HasBoth (first_stage file p table base ahead) → IsSteady most (first_stage file p table base ahead)
+first_steady most file p table base ahead near o v w ended tree = record {
   time = early most;
   near = near;
   order = record { time = o.time; first = o.first; kinds = o.kinds; states = o.states };
@@ -95,15 +108,16 @@ first_steady most file p table ahead near o v w ended tree = record {
   ready = record { kinds = w.kinds; whole = record { states = w.whole.states; blocks = w.whole.blocks }; owners = w.owners; channels = w.channels; keys = w.keys; fed = w.fed; blocks = w.blocks };
   block = first_end;
   ends = ended;
-  tree = tree;
+  tree = tree.tree;
+  owners = tree.owners;
 }
 
-pub opened_free : (g : Guards) (most : ℕ) (file : List ℕ) (p : Patch) (table : Names) (ahead : List Choice) → AreNear (net_of p) → IsInOrder (net_of p) 0 (kept_of p table []) → IsSounding (sound_with (net_of p) (kept_of p table [])) → IsReady (nets.net_of p) (sound_of p)
-    → AreOpen 0 (states_of p) → HasTree (first_stage file p table ahead) → IsFree most (opened file p table ahead) (opened_by free_ways file p table ahead)
-opened_free g most file p table ahead near o v w ended tree =
-    let s : Stage = first_stage file p table ahead in
+pub opened_free : (g : Guards) (most : ℕ) (file : List ℕ) (p : Patch) (table : Names) (base : Base) (ahead : List Choice) → AreNear (net_of p) → IsInOrder (net_of p) 0 (kept_of p table []) → IsSounding (sound_with (net_of p) (kept_of p table [])) → IsReady (nets.net_of p) (sound_of p)
+    → AreOpen 0 (states_of p) → HasBoth (first_stage file p table base ahead) → IsFree most (opened file p table base ahead) (opened_by free_ways file p table base ahead)
+opened_free g most file p table base ahead near o v w ended tree =
+    let s : Stage = first_stage file p table base ahead in
     let b : Beginning = Loading (loads_among p.grove (keys_in_order p.grove)) in
-    said_free most s (remarks_text table p (notices_in p.grove p.web p.orders.items)) (event s b) (event_freely s b) (event_free g most s b (first_steady most file p table ahead near o v w ended tree) tt)
+    said_free most s (remarks_text table p (notices_in p.grove p.web p.orders.items)) (event s b) (event_freely s b) (event_free g most s b (first_steady most file p table base ahead near o v w ended tree) tt)
 
 pub at_first : 0 ≤ 2 ^ 101
 at_first = early (2 ^ 101)
@@ -135,20 +149,40 @@ module _ (g : Guards) (most : ℕ) (top : most ≤ 2 ^ 101) where
       followed most p (step_by free_ways x s) (steps_by own_ways xs) (steps_by free_ways xs) a (λ y v. steps_free xs p.stage y k.1 v) l
 
 -- whole runs
-pub run_free : (g : Guards) (file : List ℕ) (p : Patch) (table : Names) (most : ℕ) (xs : List Step) (ahead : List Choice) → AreNear (net_of p) → IsInOrder (net_of p) 0 (kept_of p table []) → IsSounding (sound_with (net_of p) (kept_of p table [])) → IsReady (nets.net_of p) (sound_of p)
-    → AreOpen 0 (states_of p) → HasTree (first_stage file p table ahead) → most + block_units ≤ 2 ^ 101 → AreSteps most xs (opened file p table ahead).stage → AreFair (run_by own_ways file p table ahead xs).edits
-    → run_by free_ways file p table ahead xs ≡ run_by own_ways file p table ahead xs
-run_free g file p table most xs ahead near first sounds ready ended tree top k l =
-    let o : Passage = opened file p table ahead in
-    let free : Passage = opened_by free_ways file p table ahead in
-    let s : Stage = o.stage in
-    let b : Passage = followed_by o (steps_by own_ways xs) in
-    let r : Stage = b.stage in
-    let up_to : AreFair b.edits = fair_first b.edits (finished_by own_ways r).edits l in
-    let end : AreFair (finished r).edits = subst (λ (x : Passage). AreFair x.edits) (finished_own r) (fair_second b.edits (finished_by own_ways r).edits l) in
-    let a : IsFree most b (followed_by free (steps_by free_ways xs)) =
-    followed most o free (steps_by own_ways xs) (steps_by free_ways xs) (opened_free g most file p table ahead near first sounds ready ended tree)
-    (λ h v. steps_free g most (room_left most top) xs s h k v) up_to in
-    let c : IsFree (most + block_units) (finished r) (finished_by free_ways r) = finished_free g most r top (a.steady up_to) end in
-    let e : finished_by free_ways r ≡ finished_by own_ways r = c.same ∙ sym (finished_own r) in
-    ap (λ (x : Passage). followed_by x (finished_by free_ways)) a.same ∙ ap (λ (x : Passage). joined b x) e
+module _ (g : Guards) (file : List ℕ) (p : Patch) (table : Names) (base : Base) (ahead : List Choice) (near : AreNear (net_of p)) (first : IsInOrder (net_of p) 0 (kept_of p table []))
+    (sounds : IsSounding (sound_with (net_of p) (kept_of p table []))) (ready : IsReady (nets.net_of p) (sound_of p)) (ended : AreOpen 0 (states_of p)) (tree : HasBoth (first_stage file p table base ahead)) where
+  abbrev begun : List Step → Passage
+  begun xs = followed_by (opened file p table base ahead) (steps_by own_ways xs)
+
+  begun_free : (most : ℕ) (xs : List Step) → most ≤ 2 ^ 101 → AreSteps most xs (opened file p table base ahead).stage → AreFair (begun xs).edits
+      → IsFree most (begun xs) (followed_by (opened_by free_ways file p table base ahead) (steps_by free_ways xs))
+  begun_free most xs top k l =
+      followed most (opened file p table base ahead) (opened_by free_ways file p table base ahead) (steps_by own_ways xs) (steps_by free_ways xs)
+      (opened_free g most file p table base ahead near first sounds ready ended tree) (λ h v. steps_free g most top xs (opened file p table base ahead).stage h k v) l
+
+  pub begun_steady : (most : ℕ) (xs : List Step) → most ≤ 2 ^ 101 → AreSteps most xs (opened file p table base ahead).stage → AreFair (begun xs).edits → IsSteady most (begun xs).stage
+  begun_steady most xs top k l = (begun_free most xs top k l).steady l
+
+  run_parts : (xs : List Step) → AreFair (run_by own_ways file p table base ahead xs).edits → AreFair (begun xs).edits × AreFair (finished (begun xs).stage).edits
+  run_parts xs l =
+      let r : Stage = (begun xs).stage in (
+        fair_first (begun xs).edits (finished_by own_ways r).edits l,
+        subst (λ (x : Passage). AreFair x.edits) (finished_own r) (fair_second (begun xs).edits (finished_by own_ways r).edits l),
+      )
+
+  ended_free : (most : ℕ) (xs : List Step) → most + block_units ≤ 2 ^ 101 → AreSteps most xs (opened file p table base ahead).stage → AreFair (run_by own_ways file p table base ahead xs).edits
+      → IsFree (most + block_units) (finished (begun xs).stage) (finished_by free_ways (begun xs).stage)
+  ended_free most xs top k l =
+      finished_free g most (begun xs).stage top (begun_steady most xs (room_left most top) k (run_parts xs l).0) (run_parts xs l).1
+
+  pub run_steady : (most : ℕ) (xs : List Step) → most + block_units ≤ 2 ^ 101 → AreSteps most xs (opened file p table base ahead).stage → AreFair (run_by own_ways file p table base ahead xs).edits
+      → IsSteady (most + block_units) (run_by own_ways file p table base ahead xs).stage
+  run_steady most xs top k l =
+      subst (λ (x : Passage). IsSteady (most + block_units) x.stage) (sym (finished_own (begun xs).stage)) ((ended_free most xs top k l).steady (run_parts xs l).1)
+
+  pub run_free : (most : ℕ) (xs : List Step) → most + block_units ≤ 2 ^ 101 → AreSteps most xs (opened file p table base ahead).stage → AreFair (run_by own_ways file p table base ahead xs).edits
+      → run_by free_ways file p table base ahead xs ≡ run_by own_ways file p table base ahead xs
+  run_free most xs top k l =
+      let b : Passage = begun xs in
+      let e : finished_by free_ways b.stage ≡ finished_by own_ways b.stage = (ended_free most xs top k l).same ∙ sym (finished_own b.stage) in
+      ap (λ (x : Passage). followed_by x (finished_by free_ways)) (begun_free most xs (room_left most top) k (run_parts xs l).0).same ∙ ap (λ (x : Passage). joined b x) e

@@ -2,6 +2,7 @@
 use Rattle.std.proofs.Common.{◌≡◌, ◌<◌, ◌≤◌, ◌+◌, ◌-◌, ◌^◌, ℕ, zero, suc, max, min, Bool, true, false, nat_lt, nat_le, if◌then◌else◌, Option, Some, None, IfSome, refl, sym, ap, ◌∙◌, arith}
 use Rattle.std.proofs.lemmas.Bool.{leb-true, ltb-true}
 use Rattle.pd_clock.specs.Queue.{Clock}
+use Rattle.pd_regrowth_law.proofs.StepLemmas.{extends_same}
 use Rattle.pd_guards.specs.Worlds.{IsInOrder}
 use Rattle.pd_guards.specs.Sounds.{IsSounding}
 use Rattle.pd_guards.proofs.FactLemmas.{either_by}
@@ -18,8 +19,9 @@ use Rattle.pd_steady.specs.Runs.{fires_by, fires_or_not_by, fires_below_by, cloc
 use Rattle.pd_steady.specs.Freely.{block_freely, free_ways}
 use Rattle.pd_steady.specs.Steady.{IsSteady}
 use Rattle.pd_steady.proofs.FairLemmas.{AreFair, fair_first, fair_second}
-use Rattle.pd_steady.proofs.TreeLemmas.{tree_on, tree_once}
-use Rattle.pd_steady.proofs.EventLemmas.{Guards, IsFree, event_free}
+use Rattle.pd_engine.proofs.WholeLemmas.{both_on}
+use Rattle.pd_steady.proofs.TreeLemmas.{tree_once}
+use Rattle.pd_steady.proofs.EventLemmas.{Guards, IsFree, owned_at, event_free}
 
 -- a clock that is next is below the limit
 pub below_limit : (limit : ℕ) (o : Option Clock) → IfSome (if_below limit o) (λ (c : Clock). c.time < limit)
@@ -75,7 +77,7 @@ early_start : (end most : ℕ) → end ≤ most → most ≤ 2 ^ 101 → end - b
 early_start end most l top = omega arith
 
 pub steady_longer : (most more : ℕ) (s : Stage) → most ≤ more → IsSteady most s → IsSteady more s
-steady_longer most more s l h = record { time = within s.time most more h.time l; near = h.near; order = h.order; values = h.values; ready = h.ready; block = h.block; ends = h.ends; tree = h.tree }
+steady_longer most more s l h = record { time = within s.time most more h.time l; near = h.near; order = h.order; values = h.values; ready = h.ready; block = h.block; ends = h.ends; tree = h.tree; owners = h.owners }
 
 -- the block that comes next passes nothing over
 sounds_freely : (most : ℕ) (s : Stage) → IsSteady most s → s.block_end - block_units ≤ 2 ^ 101 → block_freely s ≡ block_sounds s
@@ -111,7 +113,8 @@ module _ (g : Guards) (most : ℕ) (top : most ≤ 2 ^ 101) where
         ready = record { kinds = h.ready.kinds; whole = h.ready.whole; owners = h.ready.owners; channels = h.ready.channels; keys = h.ready.keys; fed = h.ready.fed; blocks = h.ready.blocks };
         block = h.block;
         ends = h.ends;
-        tree = tree_on s (with_fired (with_taken s (taken_off s.clocks)) c.time) refl h.tree;
+        tree = (both_on s (with_fired (with_taken s (taken_off s.clocks)) c.time) refl refl refl (extends_same s.names) (owned_at most s h)).tree;
+        owners = (both_on s (with_fired (with_taken s (taken_off s.clocks)) c.time) refl refl refl (extends_same s.names) (owned_at most s h)).owners;
       }
 
   pub timed_steady : (s : Stage) (to : ℕ) → to ≤ most → IsSteady most s → IsSteady most (with_time to s)
@@ -125,7 +128,8 @@ module _ (g : Guards) (most : ℕ) (top : most ≤ 2 ^ 101) where
         ready = record { kinds = h.ready.kinds; whole = h.ready.whole; owners = h.ready.owners; channels = h.ready.channels; keys = h.ready.keys; fed = h.ready.fed; blocks = h.ready.blocks };
         block = h.block;
         ends = h.ends;
-        tree = tree_on s (with_time to s) refl h.tree;
+        tree = (both_on s (with_time to s) refl refl refl (extends_same s.names) (owned_at most s h)).tree;
+        owners = (both_on s (with_time to s) refl refl refl (extends_same s.names) (owned_at most s h)).owners;
       }
 
   here : (s : Stage) → IsSteady most s → IsFree most (still s) (still s)
@@ -170,7 +174,8 @@ module _ (g : Guards) (most : ℕ) (top : most ≤ 2 ^ 101) where
             record { kinds = r.kinds; whole = record { states = r.whole.states; blocks = r.whole.blocks }; owners = r.owners; channels = r.channels; keys = r.keys; fed = r.fed; blocks = r.blocks };
         block = later_end s.block_end h.block;
         ends = record { each = block_open (block_net s) start next (sound_at s) h.ready.kinds soon (open_later start next s.states (no_earlier start next soon) h.ends.each) };
-        tree = tree_on s (with_played s (played_at s)) refl h.tree;
+        tree = (both_on s (with_played s (played_at s)) refl refl refl (extends_same s.names) (owned_at most s h)).tree;
+        owners = (both_on s (with_played s (played_at s)) refl refl refl (extends_same s.names) (owned_at most s h)).owners;
       }
 
   pub block_free : (s : Stage) → s.block_end ≤ most → IsSteady most s → AreFair (block_runs s).edits → IsFree most (block_runs s) (block_runs_by free_ways s)

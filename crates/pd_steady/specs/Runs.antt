@@ -9,7 +9,7 @@ use Rattle.pd_script.specs.declared.commands.Command.TheVariants as command
 use Rattle.pd_grove.specs.TextOrder.{keys_in_order}
 use Rattle.pd_patch.specs.declared.patch.Patch.{Patch}
 use Rattle.pd_patch.specs.Report.{notices_in, loads_among}
-use Rattle.pd_stage.specs.Choices.{Choice}
+use Rattle.pd_stage.specs.Choices.{Base, Choice}
 use Rattle.pd_stage.specs.Stages.{Stage, Passage, still, saying, joined, followed_by}
 use Rattle.pd_stage.specs.Events.{Beginning, Message, Firing, Loading, event}
 use Rattle.pd_engine.specs.Messages.{message_in}
@@ -76,7 +76,7 @@ commanded_by ways (command.Send name atoms) s = sent_by ways name atoms s
 commanded_by ways c s = commanded c s
 
 -- a patch that has grown from a file opens, with these names: its lines are said, and its load boxes are loaded
-abbrev pub opened_by : Ways → List ℕ → Patch → Names → List Choice → Passage
-opened_by ways file p names ahead =
-    joined (saying (first_stage file p names ahead) (remarks_text names p (notices_in p.grove p.web p.orders.items)))
-    (ways.event (first_stage file p names ahead) (Loading (loads_among p.grove (keys_in_order p.grove))))
+abbrev pub opened_by : Ways → List ℕ → Patch → Names → Base → List Choice → Passage
+opened_by ways file p names base ahead =
+    joined (saying (first_stage file p names base ahead) (remarks_text names p (notices_in p.grove p.web p.orders.items)))
+    (ways.event (first_stage file p names base ahead) (Loading (loads_among p.grove (keys_in_order p.grove))))

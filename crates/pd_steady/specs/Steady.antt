@@ -3,9 +3,6 @@ use Rattle.std.specs.Prelude.{ℕ, ◌≤◌, ◌-◌}
 use Rattle.pd_atom.specs.Names.{Names}
 use Rattle.pd_script.specs.declared.commands.Command.{Command}
 use Rattle.pd_script.specs.declared.commands.Command.TheVariants as command
-use Rattle.pd_tree.specs.Trees.{Tree}
-use Rattle.pd_grove.specs.Standing.{GroveStands}
-use Rattle.pd_patch.specs.declared.patch.Patch.{Patch}
 use Rattle.pd_guards.specs.Order.{IsName, AreAtoms}
 use Rattle.pd_guards.specs.Near.{AreNear}
 use Rattle.pd_guards.specs.Worlds.{IsInOrder}
@@ -13,18 +10,12 @@ use Rattle.pd_guards.specs.Sounds.{IsSounding}
 use Rattle.pd_ends_law.specs.Ends.{AreOpen}
 use Rattle.pd_sound_law.specs.Ready.{IsReady}
 use Rattle.pd_stage.specs.Stages.{Stage, kept_at}
-use Rattle.pd_stage.specs.Times.{block_units, block_net, sound_at, IsStageOf}
-
--- A patch of which a tree stands is as it is at a stage, but for its wires, its clocks and what its boxes keep.
-pub record HasTree (s : Stage) : Type 0 where
-  pub patch : Patch
-  pub tree : Tree
-  pub stands : GroveStands patch.grove tree.sheet tree.boxes
-  pub of : IsStageOf patch s
+use Rattle.pd_stage.specs.Times.{block_units, block_net, sound_at}
+use Rattle.pd_stage.specs.Trees.{HasTree, HasOwners}
 
 -- The time is at most so much; the canvases that own names are near; the patch is in order at that time; the values of signals are in
 -- their range, and all is ready for the next block; this ends no earlier than the first one, and no `vline~` has run a block that ends after
--- its start; and a tree stands.
+-- its start; and a tree stands, and under each name its owners.
 pub record IsSteady (most : ℕ) (s : Stage) : Type 0 where
   pub time : s.time ≤ most
   pub near : AreNear s.net
@@ -34,6 +25,7 @@ pub record IsSteady (most : ℕ) (s : Stage) : Type 0 where
   pub block : block_units ≤ s.block_end
   pub ends : AreOpen (s.block_end - block_units) s.states
   pub tree : HasTree s
+  pub owners : HasOwners s tree.patch tree.tree
 
 -- the name and the atoms of a message that is sent are of the table, and its numbers in their range
 abbrev pub IsCommand : Names → Command → Type 0

@@ -3,7 +3,7 @@ use Rattle.std.specs.Prelude.{ℕ, ◌≤◌, List, [], ◌∷◌}
 use Rattle.pd_atom.specs.Names.{Names, Extends}
 use Rattle.pd_script.specs.declared.commands.Command.{Command}
 use Rattle.pd_patch.specs.declared.patch.Patch.{Patch}
-use Rattle.pd_stage.specs.Choices.{Choice}
+use Rattle.pd_stage.specs.Choices.{Base, Choice}
 use Rattle.pd_stage.specs.Stages.{Stage, Passage, with_names, still, followed_by}
 use Rattle.pd_steady.specs.Runs.{Ways, own_ways, commanded_by, advanced_by, finished_by, opened_by}
 use Rattle.pd_steady.specs.Steady.{IsCommand}
@@ -34,6 +34,15 @@ abbrev pub AreSteps : ℕ → List Step → Stage → Type 0
 AreSteps most [] s = Unit {0}
 AreSteps most (x ∷ xs) s = IsStep most x s × AreSteps most xs (step_by own_ways x s).stage
 
+-- each table of names that is read goes on where the run has come to
+abbrev pub LearnsOn : Step → Stage → Type 0
+LearnsOn (Learns names) s = Extends s.names names
+LearnsOn x s = Unit {0}
+
+abbrev pub NamesGoOn : List Step → Stage → Type 0
+NamesGoOn [] s = Unit {0}
+NamesGoOn (x ∷ xs) s = LearnsOn x s × NamesGoOn xs (step_by own_ways x s).stage
+
 -- a run from where a patch opens to its end
-abbrev pub run_by : Ways → List ℕ → Patch → Names → List Choice → List Step → Passage
-run_by ways file p names ahead steps = followed_by (followed_by (opened_by ways file p names ahead) (steps_by ways steps)) (finished_by ways)
+abbrev pub run_by : Ways → List ℕ → Patch → Names → Base → List Choice → List Step → Passage
+run_by ways file p names base ahead steps = followed_by (followed_by (opened_by ways file p names base ahead) (steps_by ways steps)) (finished_by ways)

@@ -13,26 +13,27 @@ ghost use Rattle.pd_patch.specs.Report.{notices_in};
 ghost use Rattle.pd_patch.specs.Telling.{order_in};
 ghost use Rattle.pd_script.specs.declared.commands.Command.{Command};
 ghost use Rattle.pd_hearing.specs.Worlds.{states_of};
-ghost use Rattle.pd_sized.specs.Alike.{AreAlike};
-ghost use Rattle.pd_stage.specs.Choices.{Made, Choice};
-ghost use Rattle.pd_stage.specs.Lawful.{IsMade, AreLawful};
+ghost use Rattle.pd_stage.specs.Choices.{Base, Made, Choice};
+ghost use Rattle.pd_stage.specs.Lawful.{IsMade, IsPutIn, AreLawful};
 ghost use Rattle.pd_stage.specs.Stages.{Stage, with_names, followed_by};
-ghost use Rattle.pd_stage.specs.Times.{IsStageOf, block_units, advanced, finished};
+ghost use Rattle.pd_stage.specs.Trees.{HasTree};
+ghost use Rattle.pd_stage.specs.Times.{block_units, advanced, finished};
 ghost use Rattle.pd_engine.specs.Commands.{commanded, led_to};
 ghost use Rattle.pd_engine.specs.Opening.{Grows, first_stage, opened};
 ghost use Rattle.pd_steady.specs.Runs.{own_ways, commanded_by, advanced_by, finished_by, opened_by};
 ghost use Rattle.pd_steady.specs.Freely.{free_ways};
 ghost use Rattle.pd_steady.specs.Steady.{IsSteady, IsCommand};
-ghost use Rattle.pd_steady.specs.Serving.{OwnersServe};
+ghost use Rattle.pd_steady.specs.Serving.{OwnersServe, StayAlike};
 ghost use Rattle.pd_steady.specs.Told.{TellsAll, TellsLoop};
-ghost use Rattle.pd_steady.specs.Steps.{Step, AreSteps, steps_by, run_by};
+ghost use Rattle.pd_steady.specs.Steps.{Step, AreSteps, NamesGoOn, steps_by, run_by};
 
 /// With pd_engine's own events and blocks the definitions of a run are pd_engine's.
 pub fn runs_are_by_events()
     ensures commanded { (c : Command) (s : Stage) → commanded_by own_ways c s ≡ commanded c s }
     ensures advanced { (to : ℕ) (s : Stage) → advanced_by own_ways to s ≡ advanced to s }
     ensures finished { (s : Stage) → finished_by own_ways s ≡ finished s }
-    ensures opened { (file : List ℕ) (p : Patch) (names : Names) (ahead : List Choice) → opened_by own_ways file p names ahead ≡ opened file p names ahead }
+    ensures opened { (file : List ℕ) (p : Patch) (names : Names) (base : Base)
+        (ahead : List Choice) → opened_by own_ways file p names base ahead ≡ opened file p names base ahead }
 {}
 
 /// From a steady stage a command in order leads to a steady stage, where its edits are lawful, and nothing is passed over in it.
@@ -78,13 +79,13 @@ pub fn names_stay_steady()
 /// Where a patch opens, the stage is steady, at first and, where the edits of its load event are lawful, after it, and nothing is passed over in
 /// that event.
 pub fn opening_is_steady()
-    ensures first { (holds : Option (List FileRow)) (name : List ℕ) (rate : Rate) (d : Page) (names table : Names) (p : Patch) (most : ℕ)
-        (ahead : List Choice) → Grows holds name rate d names p table → IsSteady most (first_stage name p table ahead) }
-    ensures steady { (holds : Option (List FileRow)) (name : List ℕ) (rate : Rate) (d : Page) (names table : Names) (p : Patch) (most : ℕ)
-        (ahead : List Choice) → Grows holds name rate d names p table → AreLawful (opened name p table ahead).edits →
-        IsSteady most (opened name p table ahead).stage }
-    ensures freely { (holds : Option (List FileRow)) (name : List ℕ) (rate : Rate) (d : Page) (names table : Names) (p : Patch)
-        (ahead : List Choice) → Grows holds name rate d names p table → opened_by free_ways name p table ahead ≡ opened name p table ahead }
+    ensures first { (holds : Option (List FileRow)) (name : List ℕ) (rate : Rate) (d : Page) (names table : Names) (p : Patch) (base : Base)
+        (most : ℕ) (ahead : List Choice) → Grows holds name rate d names p table base → IsSteady most (first_stage name p table base ahead) }
+    ensures steady { (holds : Option (List FileRow)) (name : List ℕ) (rate : Rate) (d : Page) (names table : Names) (p : Patch) (base : Base)
+        (most : ℕ) (ahead : List Choice) → Grows holds name rate d names p table base → AreLawful (opened name p table base ahead).edits →
+        IsSteady most (opened name p table base ahead).stage }
+    ensures freely { (holds : Option (List FileRow)) (name : List ℕ) (rate : Rate) (d : Page) (names table : Names) (p : Patch) (base : Base)
+        (ahead : List Choice) → Grows holds name rate d names p table base → opened_by free_ways name p table base ahead ≡ opened name p table base ahead }
 {
     pd_guards::delivery_passes_nothing_over();
     pd_guards::messages_keep_values();
@@ -104,10 +105,10 @@ pub fn runs_pass_nothing_over()
         AreLawful (steps_by own_ways steps s).edits → IsSteady most (steps_by own_ways steps s).stage }
     ensures freely { (most : ℕ) (steps : List Step) (s : Stage) → most ≤ 2 ^ 101 → IsSteady most s → AreSteps most steps s →
         AreLawful (steps_by own_ways steps s).edits → steps_by free_ways steps s ≡ steps_by own_ways steps s }
-    ensures whole { (holds : Option (List FileRow)) (name : List ℕ) (rate : Rate) (d : Page) (names table : Names) (p : Patch) (most : ℕ)
-        (steps : List Step) (ahead : List Choice) → Grows holds name rate d names p table → most + block_units ≤ 2 ^ 101 →
-        AreSteps most steps (opened name p table ahead).stage → AreLawful (run_by own_ways name p table ahead steps).edits →
-        run_by free_ways name p table ahead steps ≡ run_by own_ways name p table ahead steps }
+    ensures whole { (holds : Option (List FileRow)) (name : List ℕ) (rate : Rate) (d : Page) (names table : Names) (p : Patch) (base : Base)
+        (most : ℕ) (steps : List Step) (ahead : List Choice) → Grows holds name rate d names p table base → most + block_units ≤ 2 ^ 101 →
+        AreSteps most steps (opened name p table base ahead).stage → AreLawful (run_by own_ways name p table base ahead steps).edits →
+        run_by free_ways name p table base ahead steps ≡ run_by own_ways name p table base ahead steps }
 {
     pd_guards::delivery_passes_nothing_over();
     pd_guards::messages_keep_values();
@@ -120,47 +121,39 @@ pub fn runs_pass_nothing_over()
     pd_sized::what_is_made_has_sizes();
 }
 
-/// In a run the two lines of a canvas's order tell all its boxes, whatever wires were made and cut: there are never more than a line has
-/// room for.
+/// In a run the two lines of a canvas's order tell all its boxes, whatever wires were made and cut and whatever boxes came: there are never more
+/// than a line has room for.
 pub fn lines_tell_all_boxes()
-    ensures { (holds : Option (List FileRow)) (name : List ℕ) (rate : Rate) (d : Page) (names table : Names) (p : Patch) (s : Stage)
-        (path : List ℕ) (o : Listing) → Grows holds name rate d names p table → IsStageOf p s →
+    ensures { (s : Stage) (path : List ℕ) (o : Listing) → HasTree s →
         option_and_then (λ c. order_in s.net.orders.items c) (led_to s.net (Some s.net.root) path) ≡ Some o → TellsAll s.net o }
-{
-    pd_guards::built_orders_are_short();
-    pd_patch::what_grows_is_built();
-    pd_regrowth_law::patches_are_small();
-}
+{}
 
-/// Where a patch opens, the line of each signal loop tells all boxes of the loop, and so does the line that an edit of wires tells of one: there
+/// Where a patch opens, the line of each signal loop tells all boxes of the loop, and so does the line that an edit tells of one: there
 /// are never more than a line has room for.
 pub fn loops_tell_all_boxes()
-    ensures opened { (holds : Option (List FileRow)) (name : List ℕ) (rate : Rate) (d : Page) (names table : Names) (p : Patch) →
-        Grows holds name rate d names p table → AllByRecursion (TellsLoop p) (notices_in p.grove p.web p.orders.items) }
-    ensures edited { (holds : Option (List FileRow)) (name : List ℕ) (rate : Rate) (d : Page) (names table : Names) (p : Patch) (s : Stage)
-        (path : List ℕ) (e : Edit) (m : Made) → Grows holds name rate d names p table → IsStageOf p s → (made : IsMade s path e m) →
-        TellsLoop made.new (Loop made.canvas) }
+    ensures opened { (holds : Option (List FileRow)) (name : List ℕ) (rate : Rate) (d : Page) (names table : Names) (p : Patch) (base : Base) →
+        Grows holds name rate d names p table base → AllByRecursion (TellsLoop p) (notices_in p.grove p.web p.orders.items) }
+    ensures edited { (s : Stage) (path : List ℕ) (e : Edit) (m : Made) → HasTree s → (made : IsMade s path e m) → TellsLoop made.new (Loop made.canvas) }
+    ensures put { (s : Stage) (path : List ℕ) (e : Edit) (m : Made) → HasTree s → (made : IsPutIn s path e m) → TellsLoop made.new (Loop made.box.canvas) }
 {
     pd_guards::orders_are_short();
-    pd_guards::built_orders_are_short();
-    pd_patch::what_grows_is_built();
-    pd_regrowth_law::patches_are_small();
     pd_wiring::rewiring_asks_alike();
 }
 
-/// In a run in which each edit is lawful, from where a patch opens through any commands, names and times, and to its end, each box keeps what
-/// is of the same objects as what it kept at first. So the first owner of the name that a box looks for always keeps what that box looks for.
+/// In a run in which each edit is lawful, from where a patch opens through any commands, names and times, each box that was there keeps what is of
+/// the same objects as what it kept at first. And where each table of names that is read goes on, the first owner of the name that a box looks for
+/// always keeps what that box looks for, also at the end.
 pub fn owners_go_on()
-    ensures alike { (file : List ℕ) (p : Patch) (names : Names) (steps : List Step) (ahead : List Choice) →
-        let run = followed_by (opened file p names ahead) (steps_by own_ways steps) in
-        AreLawful run.edits → AreAlike (states_of p) run.stage.states }
-    ensures steps { (holds : Option (List FileRow)) (name : List ℕ) (rate : Rate) (d : Page) (names table : Names) (p : Patch) (steps : List Step)
-        (ahead : List Choice) → Grows holds name rate d names p table →
-        let run = followed_by (opened name p table ahead) (steps_by own_ways steps) in
+    ensures alike { (file : List ℕ) (p : Patch) (names : Names) (base : Base) (steps : List Step) (ahead : List Choice) →
+        let run = followed_by (opened file p names base ahead) (steps_by own_ways steps) in
+        AreLawful run.edits → StayAlike (states_of p) run.stage.states }
+    ensures steps { (holds : Option (List FileRow)) (name : List ℕ) (rate : Rate) (d : Page) (names table : Names) (p : Patch) (base : Base)
+        (steps : List Step) (ahead : List Choice) → Grows holds name rate d names p table base →
+        NamesGoOn steps (opened name p table base ahead).stage →
+        let run = followed_by (opened name p table base ahead) (steps_by own_ways steps) in
         AreLawful run.edits → OwnersServe run.stage }
-    ensures end { (holds : Option (List FileRow)) (name : List ℕ) (rate : Rate) (d : Page) (names table : Names) (p : Patch) (steps : List Step)
-        (ahead : List Choice) → Grows holds name rate d names p table → AreLawful (run_by own_ways name p table ahead steps).edits →
-        OwnersServe (run_by own_ways name p table ahead steps).stage }
-{
-    pd_sized::owners_serve();
-}
+    ensures end { (holds : Option (List FileRow)) (name : List ℕ) (rate : Rate) (d : Page) (names table : Names) (p : Patch) (base : Base)
+        (steps : List Step) (ahead : List Choice) → Grows holds name rate d names p table base →
+        NamesGoOn steps (opened name p table base ahead).stage → AreLawful (run_by own_ways name p table base ahead steps).edits →
+        OwnersServe (run_by own_ways name p table base ahead steps).stage }
+{}

@@ -7,7 +7,8 @@
 //! runs twice in a block. Where a patch opens the stage is steady
 //! (`opening_is_steady`); it stays so through commands whose names are of the table (`commands_stay_steady`), names
 //! that records bring (`names_stay_steady`) and time (`time_stays_steady`), in a run in which each edit is lawful:
-//! edits of wires and saves leave all that steadiness speaks of.
+//! edits of wires and saves leave all that steadiness speaks of, and a box that an edit puts is of a kind in order
+//! and keeps what its kind keeps at first.
 //!
 //! So a whole run in which each edit is lawful, from where a patch opens to its end, is the one in which each event
 //! is the depth-first recursion over the objects' own definitions, and in each block each box runs its own row
@@ -15,11 +16,11 @@
 //! passed over in it, in lines, samples, files that are put, edits and where it leads (`runs_pass_nothing_over`).
 //! With pd_engine's own events and blocks these runs are pd_engine's (`runs_are_by_events`). In a run the lines of a
 //! canvas's order tell all its boxes (`lines_tell_all_boxes`), and so does the line of each signal loop, where a
-//! patch opens and where an edit of wires makes one (`loops_tell_all_boxes`).
+//! patch opens and where an edit makes one (`loops_tell_all_boxes`).
 //!
-//! Where each edit is lawful, what each box keeps is always of the objects of what it kept at first, so that a box
-//! that looks for a bus, a sum or a delay line finds one in the first owner of its name, wherever a run has come to
-//! (`owners_go_on`).
+//! Where each edit is lawful, what each box keeps is always of the objects of what it kept at first. And a box that
+//! looks for a bus, a sum or a delay line finds one in the first owner of its name, wherever a run has come to in
+//! which each table of names that is read goes on (`owners_go_on`).
 //!
 //! Definitions: `Steady`, `Runs` and `Steps` (a run where it is given what events and blocks come to), `Freely`
 //! (events and blocks where nothing is passed over), `Told`, `Serving`.

@@ -5,11 +5,11 @@ use Rattle.pd_steady.specs.Steps.{run_by}
 use Rattle.pd_steady.proofs.EventLemmas.{Guards}
 use Rattle.pd_steady.proofs.FairLemmas.{lawful_fair}
 use Rattle.pd_again_law.proofs.FoundLemmas.{run_found}
-use Rattle.pd_again_law.proofs.AgainLemmas.{keys, six, shallow, first_good, all_again}
+use Rattle.pd_again_law.proofs.AgainLemmas.{first_good, all_again}
 use Rattle.pd_again_law.proofs.laws.saves_open_again.Goals as goal
 
 pub returns : goal.returns
-returns c = λ holds name rate d names table p most steps ahead x top k l.
+returns c = λ holds name rate d names table p base most steps ahead x top k l.
     let guards : Guards = record {
       freely = c.delivery_passes_nothing_over.ensures.freely;
       order = c.delivery_passes_nothing_over.ensures.order;
@@ -20,7 +20,7 @@ returns c = λ holds name rate d names table p most steps ahead x top k l.
       sounds = c.blocks_stay_in_order.ensures.sounds;
       begins = λ names name atoms first n h. c.commands_begin_in_order.ensures.message names name atoms first n h;
     } in
-    all_again holds name rate d names p table x c.documents_tell_trees.ensures.document c.written_read.ensures (most + block_units) (run_by own_ways name p table ahead steps).edits
-    (run_found p table (keys holds name rate d names p table x) x.tree.tree (shallow holds name rate d names p table x) guards c.rewiring_asks_alike.ensures (six holds name rate d names p table x) name ahead steps most top
-    (first_good holds name rate d names p table x most ahead (c.opening_is_steady.ensures.first holds name rate d names table p most ahead x))
+    all_again c.documents_tell_trees.ensures.document c.written_read.ensures rate name (most + block_units) (run_by own_ways name p table base ahead steps).edits
+    (run_found rate name guards name p table base ahead steps most top
+    (first_good holds name rate d names p table base x most ahead (c.opening_is_steady.ensures.first holds name rate d names table p base most ahead x))
     k (lawful_fair _ l))

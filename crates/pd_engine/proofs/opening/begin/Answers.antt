@@ -1,5 +1,5 @@
 use Rattle.std.proofs.Common.{rules, arith, ℕ, List, Option, subst}
-use Rattle.pd_stage.specs.Choices.{Choice}
+use Rattle.pd_stage.specs.Choices.{Choice, base_of}
 use Rattle.pd_stage.specs.Stages.{Stage, Passage}
 use Rattle.pd_stage.specs.Leads.{Says, SaysPart}
 use Rattle.pd_engine.specs.Opening.{loaded}
@@ -22,7 +22,7 @@ returns-in-Ok-clause-ok g c =
     let t : Option (List ℕ) = g.L.Sink.taken c.args.lines.now in
     let t' : Option (List ℕ) = g.L.Sink.taken c.load_whole.new.lines in
     subst (λ (from : List Choice → Stage). (looks : ℕ) → Says part from (stage_at c.load_whole.new.self) t t' looks looks)
-    (begins_at c.args.room.file.items c.args.patch c.args.symbols c.of_units.result c.of_units-2.result c.new-tally.result c.of_units.ensures c.of_units-2.ensures c.new-tally.ensures) c.in-Ok.ensures.ok
+    (begins_at c.args.room.file.items c.args.patch c.args.symbols (base_of c.args.library c.args.counts) c.of_units.result c.of_units-2.result c.new-tally.result c.of_units.ensures c.of_units-2.ensures c.new-tally.ensures) c.in-Ok.ensures.ok
 
 pub returns-clause-err : goal.returns-clause-err
 returns-clause-err g c =
@@ -30,18 +30,13 @@ returns-clause-err g c =
     let t : Option (List ℕ) = g.L.Sink.taken c.args.lines.now in
     let t' : Option (List ℕ) = g.L.Sink.taken c.load_whole.new.lines in
     subst (λ (from : List Choice → Stage). (looks : ℕ) → SaysPart part from t t' looks looks)
-    (begins_at c.args.room.file.items c.args.patch c.args.symbols c.of_units.result c.of_units-2.result c.new-tally.result c.of_units.ensures c.of_units-2.ensures c.new-tally.ensures) c.in-Err.ensures.err
+    (begins_at c.args.room.file.items c.args.patch c.args.symbols (base_of c.args.library c.args.counts) c.of_units.result c.of_units-2.result c.new-tally.result c.of_units.ensures c.of_units-2.ensures c.new-tally.ensures) c.in-Err.ensures.err
 
-pub invariant_of-engine-clause-rewires : goal.invariant_of-engine-clause-rewires
-invariant_of-engine-clause-rewires g c =
-    ∣ record {
-      own = c.requires.own;
-      ports = c.requires.ports;
-      inside = c.requires.inside;
-      linked = c.requires.linked;
-      orders = c.requires.orders;
-      numbers = c.requires.numbers;
-    } ∣₁
+pub invariant_of-engine-clause-puts : goal.invariant_of-engine-clause-puts
+invariant_of-engine-clause-puts g c = ∣ c.requires.can ∣₁
 
-pub invariant_of-engine-clause-counted : goal.invariant_of-engine-clause-counted
-invariant_of-engine-clause-counted g c = c.wire_count-wires.ensures
+pub invariant_of-engine-clause-within : goal.invariant_of-engine-clause-within
+invariant_of-engine-clause-within g c = ∣ c.requires.within ∣₁
+
+pub invariant_of-engine-clause-found : goal.invariant_of-engine-clause-found
+invariant_of-engine-clause-found g c = ∣ c.requires.found ∣₁

@@ -21,7 +21,6 @@ returns-clause-opened c = opened_free (record {
   freely = c.opening_is_steady.ensures.freely;
 }) (record {
   first = c.opening_is_steady.ensures.first;
-  asks = c.rewiring_asks_alike.ensures;
   tells = c.documents_tell_trees.ensures.document;
   reads = c.written_read.ensures;
 })
@@ -46,7 +45,6 @@ returns-clause-made c = made_free (record {
   freely = c.opening_is_steady.ensures.freely;
 }) (record {
   first = c.opening_is_steady.ensures.first;
-  asks = c.rewiring_asks_alike.ensures;
   tells = c.documents_tell_trees.ensures.document;
   reads = c.written_read.ensures;
 })

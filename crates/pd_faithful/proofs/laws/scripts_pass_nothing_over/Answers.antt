@@ -46,8 +46,8 @@ returns-clause-opens c = opens_steady (record {
 })
 
 pub returns-clause-whole : goal.returns-clause-whole
-returns-clause-whole c = λ holds name rate d names table p edits ending text g l.
-    let o : Passage = opened name p table edits in
+returns-clause-whole c = λ holds name rate d names table p base edits ending text g l.
+    let o : Passage = opened name p table base edits in
     let run : Run = run_of ending text (start o.stage (samples rate)) in
     whole_free (record {
       laws = record {
@@ -67,4 +67,4 @@ returns-clause-whole c = λ holds name rate d names table p edits ending text g 
       steady = c.opening_is_steady.ensures.steady;
       freely = c.opening_is_steady.ensures.freely;
     })
-    holds name rate d names table p edits ending text g (lawful_first o.edits run.passage.edits l) (lawful_fair run.passage.edits (lawful_second o.edits run.passage.edits l))
+    holds name rate d names table p base edits ending text g (lawful_first o.edits run.passage.edits l) (lawful_fair run.passage.edits (lawful_second o.edits run.passage.edits l))

@@ -29,8 +29,8 @@ pub returns-in-Edit-clause-ok : goal.returns-in-Edit-clause-ok
 unfolding commanded
 returns-in-Edit-clause-ok g c =
     taken_carried c.edit_at.result c.args.cmd.now (Edits c.in-Edit.place.document c.in-Edit.place.path c.in-Edit.edit) (stage_at c.args.self.now) (stage_at c.edit_at.new.self) (λ samples. sinks (g.L.Sink.taken c.args.lines.now) samples c.args.steps.now (g.H.Shelf.holds c.args.shelf.now) (g.H.Shelf.faults c.args.shelf.now))
-    (λ samples. sinks (g.L.Sink.taken c.edit_at.new.lines) samples c.edit_at.new.steps (g.H.Shelf.holds c.args.shelf.now) (g.H.Shelf.faults c.args.shelf.now)) (λ s. ap (λ (x : Command). commanded x s) c.in-Edit.is)
-    (λ edits. ap (λ (x : Command). answered x edits) c.in-Edit.is) (if_ok_weaker c.edit_at.result (λ o so samples. so samples (g.H.Shelf.holds c.args.shelf.now) (g.H.Shelf.faults c.args.shelf.now)) c.edit_at.ensures.ok)
+    (λ samples. sinks (g.L.Sink.taken c.edit_at.new.lines) samples c.edit_at.new.steps (g.H.Shelf.holds c.edit_at.new.shelf) (g.H.Shelf.faults c.edit_at.new.shelf)) (λ s. ap (λ (x : Command). commanded x s) c.in-Edit.is)
+    (λ edits. ap (λ (x : Command). answered x edits) c.in-Edit.is) c.edit_at.ensures.ok
 
 pub returns-in-Save-clause-ok : goal.returns-in-Save-clause-ok
 unfolding commanded
@@ -81,8 +81,8 @@ returns-in-Show-clause-err g c =
 pub returns-in-Edit-clause-err : goal.returns-in-Edit-clause-err
 unfolding commanded
 returns-in-Edit-clause-err g c =
-    part_stops c.edit_at.result c.args.cmd.now (edit_taken (Edits c.in-Edit.place.document c.in-Edit.place.path c.in-Edit.edit)) (stage_at c.args.self.now) (g.L.Sink.taken c.args.lines.now) (g.L.Sink.taken c.edit_at.new.lines) c.args.steps.now c.edit_at.new.steps
-    (g.H.Shelf.holds c.args.shelf.now) (g.H.Shelf.faults c.args.shelf.now) (λ s. ap (λ (x : Command). commanded x s) c.in-Edit.is) c.edit_at.ensures.err
+    taken_stops c.edit_at.result c.args.cmd.now (edit_taken (Edits c.in-Edit.place.document c.in-Edit.place.path c.in-Edit.edit)) (stage_at c.args.self.now) (λ samples. sinks (g.L.Sink.taken c.args.lines.now) samples c.args.steps.now (g.H.Shelf.holds c.args.shelf.now) (g.H.Shelf.faults c.args.shelf.now))
+    (λ samples. sinks (g.L.Sink.taken c.edit_at.new.lines) samples c.edit_at.new.steps (g.H.Shelf.holds c.edit_at.new.shelf) (g.H.Shelf.faults c.edit_at.new.shelf)) (λ s. ap (λ (x : Command). commanded x s) c.in-Edit.is) c.edit_at.ensures.err
 
 pub returns-in-Save-clause-err : goal.returns-in-Save-clause-err
 unfolding commanded

@@ -1,22 +1,50 @@
-use Rattle.std.proofs.Common.{sym}
+use Rattle.std.proofs.Common.{◌≡◌, false, sym, ◌∙◌}
+use Rattle.std.specs.Prelude.{None}
+use Rattle.std.proofs.lemmas.Result.{on_err_weaker}
+use Rattle.pd_script.specs.Edits.{puts_box}
+use Rattle.pd_stage.specs.Choices.{base_of, Edits}
 use Rattle.pd_engine.specs.Stages.{stage_at}
-use Rattle.pd_engine.proofs.RewireLemmas.{rewires_sure}
-use Rattle.pd_engine.proofs.MakingLemmas.{edited_so, edited_part}
+use Rattle.pd_engine.proofs.CommandLemmas.{if_ok_weaker}
+use Rattle.pd_engine.proofs.RewireLemmas.{IsKept, puts_sure}
+use Rattle.pd_engine.proofs.MakingLemmas.{edits, edited_so, edited_part, edits_kept, edits_within}
 use Rattle.pd_engine.proofs.engine.Engine.edit_own.Goals as goal
 
+pub put_own-requires : goal.put_own-requires
+put_own-requires g c = sym c.puts_box.ensures ∙ c.if-puts_box.true
+
 pub make-done-requires-clause-rewires : goal.make-done-requires-clause-rewires
-make-done-requires-clause-rewires g c = rewires_sure c.args.self.now.patch c.args.self.now.rewires
+make-done-requires-clause-rewires g c = (puts_sure c.args.self.now.patch c.args.self.now.puts).runs
+
+pub invariant_of-self : goal.invariant_of-self
+invariant_of-self g c =
+    let e = c.args.self.now in
+    let d = c.make-done.ensures.edits c.args.edit.now (sym c.wire_edit.ensures) in
+    let k : IsKept c.make-done.new.patch (record e.counts { wires = c.make-done.new.wires }) =
+    edits_kept e.patch c.make-done.new.patch e.counts c.make-done.new.wires c.args.path.now c.args.edit.now c.make-done.result c.args.steps.now c.make-done.new.steps d c.make-done.ensures.rewires
+    c.make-done.ensures.counted (record { puts = e.puts; counted = e.counted; zero = e.zero }) in
+    record {
+      puts = k.puts;
+      counted = k.counted;
+      within = edits_within e.patch c.make-done.new.patch e.counts c.make-done.new.wires c.args.path.now c.args.edit.now c.make-done.result c.args.steps.now c.make-done.new.steps d e.counted
+          c.make-done.ensures.counted e.within;
+      zero = k.zero;
+      found = e.found;
+    }
 
 pub returns-clause-ok : goal.returns-clause-ok
 returns-clause-ok g c =
     let e = c.args.self.now in
-    edited_so c.tell.result c.args.path.now c.args.edit.now e.file.items e.symbols e.time e.block_end e.fired e.tally e.patch c.make-done.new.patch (stage_at c.tell.new.self)
-    c.make-done.result (g.L.Sink.taken c.args.lines.now) (g.L.Sink.taken c.tell.new.lines) c.args.steps.now c.make-done.new.steps
-    (rewires_sure e.patch e.rewires) c.make-done.ensures.rewires (c.make-done.ensures.edits c.args.edit.now (sym c.wire_edit.ensures)) c.tell.ensures.stage c.tell.ensures.ok c.tell.ensures.answer
+    let none : puts_box c.args.edit.now ≡ false = sym c.puts_box.ensures ∙ c.if-puts_box.false in
+    if_ok_weaker c.tell.result (λ o so samples. so samples (g.H.Shelf.holds c.args.shelf.now) (g.H.Shelf.faults c.args.shelf.now))
+    (edited_so c.tell.result (Edits None c.args.path.now c.args.edit.now) c.args.path.now c.args.edit.now (edits c.args.path.now c.args.edit.now none) e.file.items e.symbols (base_of e.library e.counts) e.time e.block_end e.fired e.tally
+    e.patch c.make-done.new.patch c.make-done.new.wires e.counted c.make-done.ensures.counted (stage_at c.tell.new.self) c.make-done.result (g.L.Sink.taken c.args.lines.now) (g.L.Sink.taken c.tell.new.lines) c.args.steps.now c.make-done.new.steps
+    (puts_sure e.patch e.puts) c.make-done.ensures.rewires (c.make-done.ensures.edits c.args.edit.now (sym c.wire_edit.ensures)) c.tell.ensures.stage c.tell.ensures.ok c.tell.ensures.answer)
 
 pub returns-clause-err : goal.returns-clause-err
 returns-clause-err g c =
     let e = c.args.self.now in
-    edited_part c.tell.result c.args.path.now c.args.edit.now e.file.items e.symbols e.time e.block_end e.fired e.tally e.patch c.make-done.new.patch (stage_at c.tell.new.self)
-    c.make-done.result (g.L.Sink.taken c.args.lines.now) (g.L.Sink.taken c.tell.new.lines) c.args.steps.now c.make-done.new.steps
-    (rewires_sure e.patch e.rewires) c.make-done.ensures.rewires (c.make-done.ensures.edits c.args.edit.now (sym c.wire_edit.ensures)) c.tell.ensures.stage c.tell.ensures.err
+    let none : puts_box c.args.edit.now ≡ false = sym c.puts_box.ensures ∙ c.if-puts_box.false in
+    on_err_weaker c.tell.result (λ so samples. so samples (g.H.Shelf.holds c.args.shelf.now) (g.H.Shelf.faults c.args.shelf.now))
+    (edited_part c.tell.result (Edits None c.args.path.now c.args.edit.now) c.args.path.now c.args.edit.now (edits c.args.path.now c.args.edit.now none) e.file.items e.symbols (base_of e.library e.counts) e.time e.block_end e.fired e.tally
+    e.patch c.make-done.new.patch c.make-done.new.wires e.counted c.make-done.ensures.counted (stage_at c.tell.new.self) c.make-done.result (g.L.Sink.taken c.args.lines.now) (g.L.Sink.taken c.tell.new.lines) c.args.steps.now c.make-done.new.steps
+    (puts_sure e.patch e.puts) c.make-done.ensures.rewires (c.make-done.ensures.edits c.args.edit.now (sym c.wire_edit.ensures)) c.tell.ensures.stage c.tell.ensures.err)

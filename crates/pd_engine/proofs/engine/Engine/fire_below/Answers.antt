@@ -1,3 +1,4 @@
+use Rattle.pd_stage.specs.Choices.{base_of}
 use Rattle.std.proofs.Common.{◌≡◌, ◌+◌, refl, ◌∙◌, ap, [], arith}
 use Rattle.std.specs.Prelude.{None}
 use Rattle.std.proofs.lemmas.Result.{err_from_is_err_and}
@@ -6,15 +7,15 @@ use Rattle.pd_engine.specs.Stages.{stage_at}
 use Rattle.pd_stage.specs.Times.{clocks_fire}
 use Rattle.pd_stage.proofs.LeadLemmas.{leads_begin}
 use Rattle.pd_engine.proofs.ClockLemmas.{next_is, left_is, none_is, fires_none, fires_no_more, clocks_taken, clock_goes_on, clock_breaks, clocks_end, fired_more}
-use Rattle.pd_engine.proofs.RewireLemmas.{IsCounted, clock_counted}
+use Rattle.pd_engine.proofs.RewireLemmas.{IsKept, clock_kept}
 use Rattle.pd_engine.proofs.engine.Engine.fire_below.Goals as goal
 
 pub invariant_of-self : goal.invariant_of-self
 invariant_of-self g c =
     let e = c.loop-self.self in
-    let k : IsCounted c.next_clock.new.self e.wires =
-    clock_counted c.rewiring_asks_alike.ensures e.patch c.next_clock.new.self e.wires c.next_clock.ensures.tree c.next_clock.ensures.rest (record { rewires = e.rewires; counted = e.counted }) in
-    record { rewires = k.rewires; counted = k.counted }
+    let k : IsKept c.next_clock.new.self e.counts =
+    clock_kept e.patch c.next_clock.new.self e.counts c.next_clock.ensures.tree c.next_clock.ensures.rest (record { puts = e.puts; counted = e.counted; zero = e.zero }) in
+    record { puts = k.puts; counted = k.counted; within = e.within; zero = k.zero; found = e.found }
 
 pub loop-self-init : goal.loop-self-init
 loop-self-init g c = record {
@@ -28,7 +29,7 @@ pub returns-in_default-clause-ok : goal.returns-in_default-clause-ok
 returns-in_default-clause-ok g c = λ samples held faults.
     let e = c.loop-self.self in
     clocks_end c.args.limit _ _ (stage_at e) _ _ _
-    (λ m. clocks_taken e.patch c.next_clock.new.self e.file.items e.symbols e.time e.block_end e.fired e.tally m e.patch.timers.clocks.clocks c.next_clock.ensures.tree c.next_clock.ensures.rest c.next_clock.ensures.end
+    (λ m. clocks_taken e.patch c.next_clock.new.self e.file.items e.symbols (base_of e.library e.counts) e.time e.block_end e.fired e.tally m e.patch.timers.clocks.clocks c.next_clock.ensures.tree c.next_clock.ensures.rest c.next_clock.ensures.end
     (ap (λ (q : ClockList). q.clocks) c.in_default.ensures.none.0))
     (λ m. fires_none _ c.args.limit (stage_at e m) (none_is c.args.limit e.patch.timers.clocks.clocks c.in_default.ensures.none.1))
     (c.loop-self.invariant.way samples held faults)
@@ -37,7 +38,7 @@ pub loop-self-smaller : goal.loop-self-smaller
 loop-self-smaller g c =
     let e = c.loop-self.self in
     let more : c.fire.new.self.fired ≡ e.fired + 1 = fired_more (stage_at e []) _ (record { time = _; owner = _ }) (stage_at c.fire.new.self) _ _
-    (clocks_taken e.patch c.next_clock.new.self e.file.items e.symbols e.time e.block_end e.fired e.tally [] _ c.next_clock.ensures.tree c.next_clock.ensures.rest c.next_clock.ensures.end
+    (clocks_taken e.patch c.next_clock.new.self e.file.items e.symbols (base_of e.library e.counts) e.time e.block_end e.fired e.tally [] _ c.next_clock.ensures.tree c.next_clock.ensures.rest c.next_clock.ensures.end
     (left_is e.patch.timers.clocks.clocks _ (record { time = _; owner = _ }) c.in-Some.ensures.some.1)) (c.in_ok-fire.ensures.ok None None 0) in
     omega arith
 
@@ -45,12 +46,12 @@ pub loop-self-preserved : goal.loop-self-preserved
 loop-self-preserved g c =
     let e = c.loop-self.self in
     let more : c.fire.new.self.fired ≡ e.fired + 1 = fired_more (stage_at e []) _ (record { time = _; owner = _ }) (stage_at c.fire.new.self) _ _
-    (clocks_taken e.patch c.next_clock.new.self e.file.items e.symbols e.time e.block_end e.fired e.tally [] _ c.next_clock.ensures.tree c.next_clock.ensures.rest c.next_clock.ensures.end
+    (clocks_taken e.patch c.next_clock.new.self e.file.items e.symbols (base_of e.library e.counts) e.time e.block_end e.fired e.tally [] _ c.next_clock.ensures.tree c.next_clock.ensures.rest c.next_clock.ensures.end
     (left_is e.patch.timers.clocks.clocks _ (record { time = _; owner = _ }) c.in-Some.ensures.some.1)) (c.in_ok-fire.ensures.ok None None 0) in
     record {
       way = λ samples held faults. clock_goes_on c.args.limit _ (stage_at e []) _ (record { time = _; owner = _ }) _ _ _ (omega arith)
           (next_is c.args.limit e.patch.timers.clocks.clocks _ (record { time = _; owner = _ }) c.in-Some.ensures.some.0 c.in-Some.ensures.some.1)
-          (clocks_taken e.patch c.next_clock.new.self e.file.items e.symbols e.time e.block_end e.fired e.tally [] _ c.next_clock.ensures.tree c.next_clock.ensures.rest c.next_clock.ensures.end
+          (clocks_taken e.patch c.next_clock.new.self e.file.items e.symbols (base_of e.library e.counts) e.time e.block_end e.fired e.tally [] _ c.next_clock.ensures.tree c.next_clock.ensures.rest c.next_clock.ensures.end
           (left_is e.patch.timers.clocks.clocks _ (record { time = _; owner = _ }) c.in-Some.ensures.some.1))
           (c.loop-self.invariant.way samples held faults) (stage_at c.fire.new.self) c.fire.new.self.fired more (c.in_ok-fire.ensures.ok samples held faults);
       counted = omega arith;
@@ -65,7 +66,7 @@ returns-in_err-fire-clause-err g c =
     rw p.1
     (λ samples held faults. clock_breaks c.args.limit _ (stage_at e []) _ (record { time = _; owner = _ }) _ _ _ (omega arith)
     (next_is c.args.limit e.patch.timers.clocks.clocks _ (record { time = _; owner = _ }) c.in-Some.ensures.some.0 c.in-Some.ensures.some.1)
-    (clocks_taken e.patch c.next_clock.new.self e.file.items e.symbols e.time e.block_end e.fired e.tally [] _ c.next_clock.ensures.tree c.next_clock.ensures.rest c.next_clock.ensures.end
+    (clocks_taken e.patch c.next_clock.new.self e.file.items e.symbols (base_of e.library e.counts) e.time e.block_end e.fired e.tally [] _ c.next_clock.ensures.tree c.next_clock.ensures.rest c.next_clock.ensures.end
     (left_is e.patch.timers.clocks.clocks _ (record { time = _; owner = _ }) c.in-Some.ensures.some.1))
     (c.loop-self.invariant.way samples held faults) (c.in_err-fire.ensures.err samples held faults))
 

@@ -8,14 +8,14 @@ use Rattle.pd_block.specs.Blocks.{Played, played, block_of}
 use Rattle.pd_engine.specs.Stages.{stage_at}
 use Rattle.pd_stage.specs.Times.{played_at}
 use Rattle.pd_engine.proofs.BlockLemmas.{played_net, played_stage, block_comes, block_breaks}
-use Rattle.pd_engine.proofs.RewireLemmas.{IsCounted, block_counted}
+use Rattle.pd_engine.proofs.RewireLemmas.{IsKept, block_kept}
 use Rattle.pd_engine.proofs.engine.Engine.sound_block.Goals as goal
 
 pub invariant_of-self : goal.invariant_of-self
 invariant_of-self g c =
     let e = c.args.self.now in
-    let k : IsCounted c.run_block.new.patch e.wires = block_counted c.rewiring_asks_alike.ensures e.patch c.run_block.new.patch e.wires c.run_block.ensures.net (record { rewires = e.rewires; counted = e.counted }) in
-    record { rewires = k.rewires; counted = k.counted }
+    let k : IsKept c.run_block.new.patch e.counts = block_kept e.patch c.run_block.new.patch e.counts c.run_block.ensures.net (record { puts = e.puts; counted = e.counted; zero = e.zero }) in
+    record { puts = k.puts; counted = k.counted; within = e.within; zero = k.zero; found = e.found }
 
 pub returns-clause-ok : goal.returns-clause-ok
 returns-clause-ok g c =
@@ -27,7 +27,7 @@ returns-clause-ok g c =
     on_ok_weaker c.write_whole.result
     (λ e lines looks held faults. block_comes s _ lines _ _ looks held faults
     (played_stage s _ (played_at s) refl (played_net before c.run_block.new.patch (played_at s) c.run_block.ensures.net (ap (λ (x : Played). x.sound.blocks) ran))
-    (ap (λ (x : Played). x.sound.states) ran) (ap (λ (n : block.Net). n.clocks) c.run_block.ensures.net) refl c.later-self.ensures
+    (ap (λ (x : Played). x.sound.states) ran) (ap (λ (n : block.Net). n.clocks) c.run_block.ensures.net) refl refl c.later-self.ensures
     (omega (arith, c.of_units-self.ensures, c.saturating_add.ensures, c.units-end.ensures)) refl
     (c.add.ensures ∙ ap (λ (x : List ℕ). tallied c.args.self.now.tally x) (c.write_samples.ensures ∙ ap (λ (x : Played). block_bytes x.out) ran)) refl)
     (e ∙ ap (λ (x : List ℕ). grown (g.P.Sink.taken c.args.pcm.now) x) (c.write_samples.ensures ∙ ap (λ (x : Played). block_bytes x.out) ran)))

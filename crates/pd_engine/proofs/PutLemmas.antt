@@ -1,0 +1,123 @@
+-- A tree with one box more, which holds no canvas.
+use Rattle.std.proofs.Common.{◌≡◌, ℕ, zero, suc, ◌+◌, max, Bool, true, false, ◌&&◌, List, [], ◌∷◌, ◌++◌, Some, refl, ap, arith}
+use Rattle.std.specs.Prelude.{option_and_then}
+use Rattle.std.specs.List.{AllByRecursion}
+use Rattle.std.proofs.lemmas.Option.{none-some}
+use Rattle.pd_atom.specs.Names.{Names}
+use Rattle.pd_canvas.specs.Pages.{Shape, Obj, Msg, Comment, FloatBox, SymbolBox, Sub, Array, Other}
+use Rattle.pd_object.specs.declared.kinds.Kind.{Kind}
+use Rattle.pd_object.specs.declared.kinds.Kind.TheVariants as kind
+use Rattle.pd_tree.specs.declared.rows.Sheet.{Sheet}
+use Rattle.pd_tree.specs.Trees.{Cell, Trees, Done, Leaf, Holder, Tree, join, weight}
+use Rattle.pd_grove.specs.TextOrder.{deep, is_sub, Placed, placed, placed_in_order}
+use Rattle.pd_bind.specs.Naming.{owned_by_kind, owned_by}
+use Rattle.pd_regrowth_law.specs.Canvases.{canvas_with, sub_canvas, own_in_box, own_along}
+use Rattle.pd_putting_law.specs.Puts.{change_inside, change_at, with_boxes, put_at}
+
+module _ (c : Cell) where
+  -- no canvas lies deeper
+  deep_join : (t : Trees) → deep (join t (Leaf c Done)) ≡ deep t
+  deep_join Done = refl
+  deep_join (Leaf d t) = deep_join t
+  deep_join (Holder d s inner t) = ap (λ (n : ℕ). max (deep inner + 1) n) (deep_join t)
+
+  deep_inside : (n : ℕ) (f : Tree → Tree) → ((u : Tree) → deep (f u).boxes ≡ deep u.boxes) → (t : Trees) → deep (change_inside n f t) ≡ deep t
+  deep_inside n f h Done = refl
+  deep_inside zero f h (Leaf d rest) = refl
+  deep_inside zero f h (Holder d s inner rest) = ap (λ (m : ℕ). max (m + 1) (deep rest)) (h (canvas_with s inner))
+  deep_inside (suc n) f h (Leaf d rest) = deep_inside n f h rest
+  deep_inside (suc n) f h (Holder d s inner rest) = ap (λ (m : ℕ). max (deep inner + 1) m) (deep_inside n f h rest)
+
+  pub deep_put : (path : List ℕ) (t : Tree) → deep (put_at path (Leaf c Done) t).boxes ≡ deep t.boxes
+  deep_put [] t = deep_join t.boxes
+  deep_put (n ∷ path) t = deep_inside n (change_at path (with_boxes (Leaf c Done))) (λ u. deep_put path u) t.boxes
+
+  -- there is one box more, where the path leads to a canvas
+  weight_join : (t : Trees) → weight (join t (Leaf c Done)) ≡ weight t + 1
+  weight_join Done = refl
+  weight_join (Leaf d t) = ap (λ (n : ℕ). n + 1) (weight_join t)
+  weight_join (Holder d s inner t) = let e : weight (join t (Leaf c Done)) ≡ weight t + 1 = weight_join t in omega (arith, e)
+
+  sub_there : (form : Shape) (path : List ℕ) (s : Sheet) (inner : Trees) (u : Tree) → option_and_then (own_along path) (sub_canvas form s inner) ≡ Some u
+      → own_along path (canvas_with s inner) ≡ Some u
+  sub_there Obj path s inner u h = absurd (none-some u h)
+  sub_there Msg path s inner u h = absurd (none-some u h)
+  sub_there Comment path s inner u h = absurd (none-some u h)
+  sub_there FloatBox path s inner u h = absurd (none-some u h)
+  sub_there SymbolBox path s inner u h = absurd (none-some u h)
+  sub_there Sub path s inner u h = h
+  sub_there (Array values) path s inner u h = absurd (none-some u h)
+  sub_there (Other x) path s inner u h = absurd (none-some u h)
+
+  weight_inside : (n : ℕ) (path : List ℕ) (f : Tree → Tree) (u : Tree) → ((v : Tree) → own_along path v ≡ Some u → weight (f v).boxes ≡ weight v.boxes + 1) → (t : Trees)
+      → option_and_then (own_along path) (own_in_box n t) ≡ Some u → weight (change_inside n f t) ≡ weight t + 1
+  weight_inside n path f u h Done on = absurd (none-some u on)
+  weight_inside zero path f u h (Leaf d rest) on = absurd (none-some u on)
+  weight_inside zero path f u h (Holder d s inner rest) on =
+      let e : weight (f (canvas_with s inner)).boxes ≡ weight inner + 1 = h (canvas_with s inner) (sub_there d.head.form path s inner u on) in
+      omega (arith, e)
+  weight_inside (suc n) path f u h (Leaf d rest) on = let e : weight (change_inside n f rest) ≡ weight rest + 1 = weight_inside n path f u h rest on in omega (arith, e)
+  weight_inside (suc n) path f u h (Holder d s inner rest) on = let e : weight (change_inside n f rest) ≡ weight rest + 1 = weight_inside n path f u h rest on in omega (arith, e)
+
+  pub weight_put : (path : List ℕ) (t u : Tree) → own_along path t ≡ Some u → weight (put_at path (Leaf c Done) t).boxes ≡ weight t.boxes + 1
+  weight_put [] t u on = weight_join t.boxes
+  weight_put (n ∷ path) t u on = weight_inside n path (change_at path (with_boxes (Leaf c Done))) u (λ v h. weight_put path v u h) t.boxes on
+
+-- ---- what holds of all boxes and of the new one
+
+all_append : {X : Type 0} (P : X → Type 0) (xs ys : List X) → AllByRecursion P xs → AllByRecursion P ys → AllByRecursion P (xs ++ ys)
+all_append P [] ys h k = k
+all_append P (x ∷ xs) ys h k = (h.0, all_append P xs ys h.1 k)
+
+all_split : {X : Type 0} (P : X → Type 0) (xs ys : List X) → AllByRecursion P (xs ++ ys) → AllByRecursion P xs × AllByRecursion P ys
+all_split P [] ys h = (tt, h)
+all_split P (x ∷ xs) ys h = let k : AllByRecursion P xs × AllByRecursion P ys = all_split P xs ys h.1 in ((h.0, k.0), k.1)
+
+pub all_both : {X : Type 0} (P Q R : X → Type 0) → ((x : X) → P x → Q x → R x) → (xs : List X) → AllByRecursion P xs → AllByRecursion Q xs → AllByRecursion R xs
+all_both P Q R f [] h k = tt
+all_both P Q R f (x ∷ xs) h k = (f x h.0 k.0, all_both P Q R f xs h.1 k.1)
+
+module _ (P : Placed → Type 0) (c : Cell) (own : (top : Bool) → P (placed top c)) where
+  -- it holds of all boxes of a tree, in the patch's own document or not
+  abbrev AllOf : Bool → Trees → Type 0
+  AllOf top t = AllByRecursion P (placed_in_order top t)
+
+  all_join : (top : Bool) (t : Trees) → AllOf top t → AllOf top (join t (Leaf c Done))
+  all_join top Done h = (own top, tt)
+  all_join top (Leaf d t) h = (h.0, all_join top t h.1)
+  all_join top (Holder d s inner t) h =
+      let within : Bool = top && is_sub d.head.form in
+      let parts : AllOf within inner × AllOf top t = all_split P (placed_in_order within inner) (placed_in_order top t) h.1 in
+      (h.0, all_append P (placed_in_order within inner) (placed_in_order top (join t (Leaf c Done))) parts.0 (all_join top t parts.1))
+
+  all_inside : (n : ℕ) (f : Tree → Tree) → ((top : Bool) (u : Tree) → AllOf top u.boxes → AllOf top (f u).boxes) → (top : Bool) (t : Trees) → AllOf top t → AllOf top (change_inside n f t)
+  all_inside n f k top Done h = h
+  all_inside zero f k top (Leaf d rest) h = h
+  all_inside zero f k top (Holder d s inner rest) h =
+      let within : Bool = top && is_sub d.head.form in
+      let parts : AllOf within inner × AllOf top rest = all_split P (placed_in_order within inner) (placed_in_order top rest) h.1 in
+      (h.0, all_append P (placed_in_order within (f (canvas_with s inner)).boxes) (placed_in_order top rest) (k within (canvas_with s inner) parts.0) parts.1)
+  all_inside (suc n) f k top (Leaf d rest) h = (h.0, all_inside n f k top rest h.1)
+  all_inside (suc n) f k top (Holder d s inner rest) h =
+      let within : Bool = top && is_sub d.head.form in
+      let parts : AllOf within inner × AllOf top rest = all_split P (placed_in_order within inner) (placed_in_order top rest) h.1 in
+      (h.0, all_append P (placed_in_order within inner) (placed_in_order top (change_inside n f rest)) parts.0 (all_inside n f k top rest parts.1))
+
+  pub all_put : (path : List ℕ) (top : Bool) (t : Tree) → AllOf top t.boxes → AllOf top (put_at path (Leaf c Done) t).boxes
+  all_put [] top t h = all_join top t.boxes h
+  all_put (n ∷ path) top t h = all_inside n (change_at path (with_boxes (Leaf c Done))) (λ b u k. all_put path b u k) top t.boxes h
+
+-- a box that owns the same in the patch's own document owns the same anywhere
+kind_anywhere : (names more : Names) (c : Cell) (k : Kind) → owned_by_kind more true c k ≡ owned_by_kind names true c k → (top : Bool) → owned_by_kind more top c k ≡ owned_by_kind names top c k
+kind_anywhere names more c k h true = h
+kind_anywhere names more c (kind.Glue g) h false = h
+kind_anywhere names more c (kind.Signal s) h false = h
+kind_anywhere names more c (kind.Panel p) h false = h
+kind_anywhere names more c kind.Canvas h false = refl
+kind_anywhere names more c (kind.Arith a) h false = refl
+kind_anywhere names more c (kind.Tone t) h false = refl
+kind_anywhere names more c kind.Vline h false = refl
+kind_anywhere names more c kind.Unmade h false = refl
+
+pub owned_anywhere : (names more : Names) (c : Cell) → owned_by more true c ≡ owned_by names true c → (top : Bool) → owned_by more top c ≡ owned_by names top c
+owned_anywhere names more c h top = kind_anywhere names more c c.kind h top

@@ -1,0 +1,176 @@
+-- What is told of a box that an edit puts, or of why none is put.
+use Rattle.std.proofs.Common.{◌≡◌, ◌≤◌, ◌+◌, arith, true, ℕ, List, [], ◌∷◌, refl, sym, ◌∙◌, ap, subst, inl, inr, Option, None, Result, Err, OnErr, OnOk, IfOk}
+use Rattle.std.proofs.lemmas.Result.{on_err_weaker}
+use Rattle.pd_io.specs.Faults.{Rose}
+use Rattle.pd_io.specs.Rows.{KeptOrUntold}
+use Rattle.pd_io.specs.Stream.{grown, TookPart}
+use Rattle.pd_io.specs.declared.files.FileRow.{FileRow}
+use Rattle.pd_atom.specs.Names.{Names, Extends}
+use Rattle.pd_canvas.specs.declared.edits.Edit.{Edit}
+use Rattle.pd_library.specs.declared.answers.Answer.{Answer}
+use Rattle.pd_made.specs.declared.tally.Tally.{Tally}
+use Rattle.pd_patch.specs.declared.patch.Patch.{Patch}
+use Rattle.pd_say.specs.Lines.{refusal_text}
+use Rattle.pd_say.specs.declared.refusals.Request.TheVariants as request
+use Rattle.pd_script.specs.Edits.{puts_box}
+use Rattle.pd_wiring.specs.declared.refusals.EditRefusal.{EditRefusal}
+use Rattle.pd_wiring.specs.declared.refusals.EditRefusal.TheVariants as refusal
+use Rattle.pd_boxes.specs.Put.{CanPut}
+use Rattle.pd_adding.specs.declared.counts.Counts.{Counts}
+use Rattle.pd_adding.specs.Counts.{AreWithin}
+use Rattle.pd_gather.specs.Gather.{known}
+use Rattle.pd_putting.specs.Adds.{AddsBox, IsNotAdded}
+use Rattle.pd_putting.specs.declared.adding.NewBox.{NewBox}
+use Rattle.pd_hearing.specs.Worlds.{net_of}
+use Rattle.pd_stage.specs.Choices.{base_of, Wanted, Edits, Choice, Refuses, Lacks}
+use Rattle.pd_stage.specs.Stages.{Stage, faults_of}
+use Rattle.pd_stage.specs.Lawful.{why_of}
+use Rattle.pd_stage.specs.Lines.{put_text}
+use Rattle.pd_stage.specs.Leads.{RoseBy, sinks, Took, Stops}
+use Rattle.pd_stage.specs.Events.{edit_taken, files_put}
+use Rattle.pd_stage.proofs.EditLemmas.{taken_at}
+use Rattle.pd_stage.proofs.ItemLemmas.{no_lines, no_samples, held-none}
+use Rattle.pd_engine.specs.declared.refusals.Outcome.{Outcome}
+use Rattle.pd_engine.specs.declared.refusals.Outcome.TheVariants.{Done}
+use Rattle.pd_engine.specs.Edits.{edit_outcome, IsTakenSo}
+use Rattle.pd_engine.proofs.ClockLemmas.{stage_with}
+use Rattle.pd_engine.proofs.MakingLemmas.{Came, came_so, came_part, both_ok, put_came, refused_came, short_came}
+
+-- want of memory is no fault of the folder
+pub no_fault : refusal.NoMemory ≡ refusal.ShelfFault → ⊥
+no_fault is = cc
+
+-- no file is put, and the folder holds what it held
+quiet_took : (wanted : Wanted) (s : Stage) (c : Choice) (t u : Option (List ℕ)) (k : ℕ) (h h' : Option (List FileRow)) (f f' : ℕ) → files_put c ≡ [] → h' ≡ h
+    → RoseBy (faults_of (taken_at wanted s c ∷ [])) f f' → Took (sinks t u k h f) (sinks t u k h' f') (files_put c) (taken_at wanted s c ∷ [])
+quiet_took wanted s c t u k h h' f f' none same rose =
+    subst (λ i. Took (sinks t u k h f) (sinks t u k h' f') i (taken_at wanted s c ∷ [])) (sym none) (record {
+      lines_are = no_lines t;
+      samples_are = no_samples u;
+      few_looks = omega arith;
+      held_are = subst (λ (o : Option (List FileRow)). KeptOrUntold o h') (sym (held-none h)) (inl same);
+      few_faults = rose;
+    })
+
+one_rose : (f f' : ℕ) → Rose f f' → RoseBy (1 + 0) f f'
+one_rose f f' (inl more) = inl (omega (arith, more))
+one_rose f f' (inr most) = inr (omega (arith, most))
+
+-- a refusal for a fault of the folder raised its count
+refusal_rose : (wanted : Wanted) (s : Stage) (cause : EditRefusal) (f f' : ℕ) → (cause ≡ refusal.ShelfFault → Rose f f') → f ≤ f'
+    → RoseBy (faults_of (taken_at wanted s (Refuses (why_of cause)) ∷ [])) f f'
+refusal_rose wanted s refusal.ShelfFault f f' rose low = one_rose f f' (rose refl)
+refusal_rose wanted s refusal.NoDocument f f' rose low = inl (omega (arith, low))
+refusal_rose wanted s refusal.NoCanvas f f' rose low = inl (omega (arith, low))
+refusal_rose wanted s (refusal.NoBox n) f f' rose low = inl (omega (arith, low))
+refusal_rose wanted s (refusal.NoPort n p o) f f' rose low = inl (omega (arith, low))
+refusal_rose wanted s refusal.NoWire f f' rose low = inl (omega (arith, low))
+refusal_rose wanted s refusal.SignalIntoControl f f' rose low = inl (omega (arith, low))
+refusal_rose wanted s refusal.TextTooLong f f' rose low = inl (omega (arith, low))
+refusal_rose wanted s refusal.TooDeep f f' rose low = inl (omega (arith, low))
+refusal_rose wanted s refusal.SymbolsFull f f' rose low = inl (omega (arith, low))
+refusal_rose wanted s refusal.TooManyBoxes f f' rose low = inl (omega (arith, low))
+refusal_rose wanted s refusal.TooManyWires f f' rose low = inl (omega (arith, low))
+refusal_rose wanted s refusal.TooMuchSound f f' rose low = inl (omega (arith, low))
+refusal_rose wanted s refusal.NoMemory f f' rose low = inl (omega (arith, low))
+
+module _ (path : List ℕ) (e : Edit) (one : puts_box e ≡ true) (file : List ℕ) (names : Names) (files : List (ℕ × Answer)) (counts : Counts) (time block_end fired : ℕ) (tally : Tally) (old new : Patch)
+    (puts : CanPut old) (t u : Option (List ℕ)) (k : ℕ) (h h' : Option (List FileRow)) (f f' : ℕ) (same : h' ≡ h) (low : f ≤ f') where
+  abbrev from : List Choice → Stage
+  from = stage_with file old names (base_of files counts) time block_end fired tally
+
+  -- it was put
+  module _ (more : Names) (learned : List (ℕ × Answer)) (b : NewBox) (d : AddsBox old new counts file path time e (known files names) (known learned more) b) (onward : Extends names more)
+      (within : AreWithin b.counts) where
+    abbrev to : List Choice → Stage
+    to = stage_with file new more (base_of learned b.counts) time block_end fired tally
+
+    abbrev came : Came (Edits None path e) (from []) to (put_text more new b.key b.canvas) Done
+    came = put_came path e one file names files counts time block_end fired tally old new more learned b puts d onward within
+
+    took : Took (sinks t u k h f) (sinks t u k h' f') (files_put came.choice) (taken_at (Edits None path e) (from []) came.choice ∷ [])
+    took = quiet_took (Edits None path e) (from []) came.choice t u k h h' f f' refl same (inl (omega (arith, low)))
+
+    pub put_so : (t' : Option (List ℕ)) → t' ≡ grown t (put_text more new b.key b.canvas) → IsTakenSo (Edits None path e) Done from to (sinks t u k h f) (sinks t' u k h' f')
+    put_so t' said = came_so (Edits None path e) (from []) to (put_text more new b.key b.canvas) Done came (sinks t u k h f) t t' u k h' f' took said
+
+    pub put_part : (t' : Option (List ℕ)) → TookPart t t' (put_text more new b.key b.canvas) → Stops (edit_taken (Edits None path e)) from (sinks t u k h f) (sinks t' u k h' f')
+    put_part t' part = came_part (Edits None path e) (from []) to (put_text more new b.key b.canvas) Done came (sinks t u k h f) t t' u k h' f' took part
+
+  -- it was refused
+  module _ (cause : EditRefusal) (rose : cause ≡ refusal.ShelfFault → Rose f f') where
+    abbrev left : List Choice → Stage
+    left = stage_with file new names (base_of files counts) time block_end fired tally
+
+    abbrev text : List ℕ
+    text = refusal_text request.Edit (why_of cause)
+
+    unput_by : (d : IsNotAdded old new counts file path e (known files names) cause)
+        → (c : Came (Edits None path e) (from []) left text (edit_outcome (Err cause))) × Took (sinks t u k h f) (sinks t u k h' f') (files_put c.choice) (taken_at (Edits None path e) (from []) c.choice ∷ [])
+    unput_by (inl (is, d)) = (
+      refused_came path e one file names files counts time block_end fired tally old new cause puts is d,
+      quiet_took (Edits None path e) (from []) (Refuses (why_of cause)) t u k h h' f f' refl same (refusal_rose (Edits None path e) (from []) cause f f' rose low),
+    )
+    unput_by (inr (short, d)) = (
+      short_came path e one file names files counts time block_end fired tally old new cause puts short d,
+      quiet_took (Edits None path e) (from []) (Lacks (net_of new)) t u k h h' f f' refl same (inl (omega (arith, low))),
+    )
+
+    pub unput_so : (t' : Option (List ℕ)) → IsNotAdded old new counts file path e (known files names) cause → t' ≡ grown t text
+        → IsTakenSo (Edits None path e) (edit_outcome (Err cause)) from left (sinks t u k h f) (sinks t' u k h' f')
+    unput_so t' d said = let x = unput_by d in came_so (Edits None path e) (from []) left text (edit_outcome (Err cause)) x.0 (sinks t u k h f) t t' u k h' f' x.1 said
+
+    pub unput_part : (t' : Option (List ℕ)) → IsNotAdded old new counts file path e (known files names) cause → TookPart t t' text
+        → Stops (edit_taken (Edits None path e)) from (sinks t u k h f) (sinks t' u k h' f')
+    unput_part t' d part = let x = unput_by d in came_part (Edits None path e) (from []) left text (edit_outcome (Err cause)) x.0 (sinks t u k h f) t t' u k h' f' x.1 part
+
+-- it was told, and this is answered
+module _ {E : Type 0} (r : Result Outcome E) (path : List ℕ) (e : Edit) (one : puts_box e ≡ true) (file : List ℕ) (names : Names) (files : List (ℕ × Answer)) (counts : Counts) (time block_end fired : ℕ) (tally : Tally)
+    (old new : Patch) (puts : CanPut old) (t t' : Option (List ℕ)) (k k' : ℕ) (looks : k' ≡ k) (h h' : Option (List FileRow)) (f f' : ℕ) (same : h' ≡ h) (low : f ≤ f') (to : List Choice → Stage) where
+  abbrev start : List Choice → Stage
+  start = stage_with file old names (base_of files counts) time block_end fired tally
+
+  abbrev Answered : Outcome → Type 0
+  Answered o = (samples : Option (List ℕ)) → IsTakenSo (Edits None path e) o start to (sinks t samples k h f) (sinks t' samples k' h' f')
+
+  abbrev Torn : Type 0
+  Torn = (samples : Option (List ℕ)) → Stops (edit_taken (Edits None path e)) start (sinks t samples k h f) (sinks t' samples k' h' f')
+
+  ends_so : (o o' : Outcome) (there : List Choice → Stage) → to ≡ there → o ≡ o' → ((u : Option (List ℕ)) → IsTakenSo (Edits None path e) o' start there (sinks t u k h f) (sinks t' u k h' f'))
+      → Answered o
+  ends_so o o' there stands answer so samples =
+      subst (λ (x : List Choice → Stage). IsTakenSo (Edits None path e) o start x (sinks t samples k h f) (sinks t' samples k' h' f')) (sym stands)
+      (subst (λ (x : Outcome). IsTakenSo (Edits None path e) x start there (sinks t samples k h f) (sinks t' samples k' h' f')) (sym answer)
+      (subst (λ (n : ℕ). IsTakenSo (Edits None path e) o' start there (sinks t samples k h f) (sinks t' samples n h' f')) (sym looks) (so samples)))
+
+  torn_so : ((u : Option (List ℕ)) → Stops (edit_taken (Edits None path e)) start (sinks t u k h f) (sinks t' u k h' f')) → Torn
+  torn_so so samples = subst (λ (n : ℕ). Stops (edit_taken (Edits None path e)) start (sinks t samples k h f) (sinks t' samples n h' f')) (sym looks) (so samples)
+
+  -- a box was put
+  module _ (more : Names) (learned : List (ℕ × Answer)) (b : NewBox) (d : AddsBox old new counts file path time e (known files names) (known learned more) b) (onward : Extends names more)
+      (within : AreWithin b.counts) where
+    pub put_answered : to ≡ stage_with file new more (base_of learned b.counts) time block_end fired tally → OnOk r (t' ≡ grown t (put_text more new b.key b.canvas)) → IfOk r (λ o. o ≡ Done)
+        → IfOk r Answered
+    put_answered stands said is =
+        both_ok r
+        (λ o a x. ends_so o Done (stage_with file new more (base_of learned b.counts) time block_end fired tally) stands x
+        (λ u. put_so path e one file names files counts time block_end fired tally old new puts t u k h h' f f' same low more learned b d onward within t' a)) said is
+
+    pub put_torn : OnErr r (TookPart t t' (put_text more new b.key b.canvas)) → OnErr r Torn
+    put_torn part =
+        on_err_weaker r (λ a. torn_so (λ u. put_part path e one file names files counts time block_end fired tally old new puts t u k h h' f f' same low more learned b d onward within t' a)) part
+
+  -- it was refused, and names and files are as before
+  module _ (cause : EditRefusal) (rose : cause ≡ refusal.ShelfFault → Rose f f') (d : IsNotAdded old new counts file path e (known files names) cause) where
+    pub unput_answered : (names' : Names) (files' : List (ℕ × Answer)) → names' ≡ names → files' ≡ files → to ≡ stage_with file new names' (base_of files' counts) time block_end fired tally
+        → OnOk r (t' ≡ grown t (refusal_text request.Edit (why_of cause))) → IfOk r (λ o. o ≡ edit_outcome (Err cause)) → IfOk r Answered
+    unput_answered names' files' named known_are stands said is =
+        let there : to ≡ stage_with file new names (base_of files counts) time block_end fired tally =
+        stands ∙ ap (λ (n : Names). stage_with file new n (base_of files' counts) time block_end fired tally) named
+        ∙ ap (λ (x : List (ℕ × Answer)). stage_with file new names (base_of x counts) time block_end fired tally) known_are in
+        both_ok r
+        (λ o a x. ends_so o (edit_outcome (Err cause)) (stage_with file new names (base_of files counts) time block_end fired tally) there x
+        (λ u. unput_so path e one file names files counts time block_end fired tally old new puts t u k h h' f f' same low cause rose t' d a)) said is
+
+    pub unput_torn : OnErr r (TookPart t t' (refusal_text request.Edit (why_of cause))) → OnErr r Torn
+    unput_torn part = on_err_weaker r (λ a. torn_so (λ u. unput_part path e one file names files counts time block_end fired tally old new puts t u k h h' f f' same low cause rose t' d a)) part

@@ -1,0 +1,422 @@
+-- The tree that stands at a stage goes on to stand, and each name keeps its owners in text order.
+use Rattle.std.proofs.Common.{◌≡◌, ◌≤◌, ◌+◌, ℕ, suc, true, List, [], ◌∷◌, drop, take, length, slice_get, Option, Some, None, inl, inr, refl, sym, ap, ◌∙◌, subst, arith}
+use Rattle.std.proofs.Math.Seq.{take-length, drop-length}
+use Rattle.std.specs.Prelude.{◌-◌, is_some, option_map, option_and_then}
+use Rattle.std.specs.List.{All, AllByRecursion}
+use Rattle.slab.specs.Slab.{get}
+use Rattle.pd_atom.specs.Names.{Names, Extends}
+use Rattle.pd_atom.specs.Atoms.{IsOf}
+use Rattle.pd_canvas.specs.declared.edits.Edit.{Edit}
+use Rattle.pd_clock.specs.Queue.{Clock}
+use Rattle.pd_library.specs.Files.{answer_in}
+use Rattle.pd_name.specs.declared.Class.{Class}
+use Rattle.pd_name.specs.Rows.{Row, owners_of}
+use Rattle.pd_fit.specs.Fitting.{wires_inside}
+use Rattle.pd_tree.specs.declared.rows.Sheet.{Sheet}
+use Rattle.pd_tree.specs.Trees.{Cell, Trees, Done, Leaf, Holder, Tree, Stand, weight}
+use Rattle.pd_growth.specs.Growth.{around_root, without_ending}
+use Rattle.pd_growth.specs.Growing.{inside_grown}
+use Rattle.pd_growth.specs.Steps.{Stock, gives}
+use Rattle.pd_grove.specs.declared.grove.Grove.{Grove}
+use Rattle.pd_grove.specs.Forest.{IsForest}
+use Rattle.pd_grove.specs.Grafts.{HasPartMore}
+use Rattle.pd_grove.specs.OwnPaths.{sub_in, sub_step_in, sub_reached}
+use Rattle.pd_grove.specs.Room.{IsSameButRoom}
+use Rattle.pd_grove.specs.Standing.{node_seen, board_seen, Stands, GroveStands}
+use Rattle.pd_grove.specs.TextOrder.{deep, Placed, placed_in_order}
+use Rattle.pd_grove.proofs.ComeLemmas.{part_more}
+use Rattle.pd_grove.proofs.GraftLemmas.{forest_more}
+use Rattle.pd_bind.specs.Naming.{owned_by}
+use Rattle.pd_bind.specs.Owning.{owners_in}
+use Rattle.pd_web.specs.declared.web.Web.{Web}
+use Rattle.pd_web.specs.Canvases.{keys_at}
+use Rattle.pd_web.specs.Changes.{line_told, wires_told}
+use Rattle.pd_web.proofs.CountLemmas.{held_alike, same_are_as_many}
+use Rattle.pd_patch.specs.declared.patch.Patch.{Patch}
+use Rattle.pd_reload_law.proofs.StayLemmas.{grove_stays}
+use Rattle.pd_regrowth_law.proofs.StepLemmas.{extends_on, extends_same}
+use Rattle.pd_putting_law.specs.Puts.{put_at}
+use Rattle.pd_putting_law.specs.Putting.{HasBoxLast}
+use Rattle.pd_putting_law.proofs.StandLemmas.{grove_put, path_along}
+use Rattle.pd_wiring.specs.Changes.{CanRewire}
+use Rattle.pd_wiring.proofs.AlikeLemmas.{rewires_alike}
+use Rattle.pd_boxes.specs.declared.room.Place.{Place}
+use Rattle.pd_boxes.specs.Put.{CanPut, HasOwners as OwnersStand, ComesIn, node_of, keys_before, keys_behind}
+use Rattle.pd_boxes.specs.Room.{SameButRoom}
+use Rattle.pd_boxes.proofs.RoomLemmas.{keys_same, owners_same, room_put}
+use Rattle.pd_gather.specs.Gather.{Known}
+use Rattle.pd_adding.specs.declared.counts.Counts.{Counts}
+use Rattle.pd_adding.specs.Counts.{AreWithin, stock_by, with_boxes}
+use Rattle.pd_adding.specs.Coming.{own_zero}
+use Rattle.pd_adding.specs.Growing.{Added}
+use Rattle.pd_adding.specs.Adding.{growth_at}
+use Rattle.pd_adding.proofs.GrowLemmas.{growth_is}
+use Rattle.pd_putting.specs.Adds.{last_place, IsBoxPut}
+use Rattle.pd_alike_law.specs.Alike.{OwnAlike}
+use Rattle.pd_alike_law.proofs.NameLemmas.{leaf_steady}
+use Rattle.pd_alike_law.proofs.OwnedLemmas.{owners_same as owners_bare}
+use Rattle.pd_alike_law.proofs.OwnerLemmas.{owners_alike}
+use Rattle.pd_block.specs.Nets as block
+use Rattle.pd_hearing.specs.Worlds.{Net, bare, net_of}
+use Rattle.pd_stage.specs.Choices.{Base, Made, Choice, Makes}
+use Rattle.pd_stage.specs.Stages.{Stage, with_ahead}
+use Rattle.pd_stage.specs.Lawful.{StandsAt, known_at, IsPutIn, IsUnputForRoom}
+use Rattle.pd_stage.specs.Events.{stage_by, with_net}
+use Rattle.pd_stage.specs.Times.{IsStageOf}
+use Rattle.pd_stage.specs.Trees.{HasTree, HasOwners}
+use Rattle.pd_stage.proofs.FedLemmas.{told_some}
+use Rattle.pd_stage.proofs.EditLemmas.{Changes, ButWires, but_wires, changed_stands, Alters}
+use Rattle.pd_engine.proofs.ComingLemmas.{WentTo, went_to}
+use Rattle.pd_engine.proofs.PutLemmas.{deep_put, weight_put, all_both, all_put, owned_anywhere}
+
+-- ---- where room was set aside, each box and each canvas is seen as it was
+
+module _ (g h : Grove) (S : IsSameButRoom g h) where
+  stands_room : (b d : ℕ) (keys : List ℕ) (t : Trees) → Stands (get g.nodes) (get g.boards) b d keys t → Stands (get h.nodes) (get h.boards) b d keys t
+  stands_room b d [] Done x = tt
+  stands_room b d (k ∷ ks) Done x = absurd x
+  stands_room b d [] (Leaf c rest) x = absurd x
+  stands_room b d (k ∷ ks) (Leaf c rest) x = (ap (option_map node_seen) (S.nodes k) ∙ x.0, stands_room b d ks rest x.1)
+  stands_room b d [] (Holder c s inner rest) x = absurd x
+  stands_room b d (k ∷ ks) (Holder c s inner rest) x =
+      (x.0, x.1, ap (option_map node_seen) (S.nodes k) ∙ x.2, S.boards x.0 ∙ x.3, stands_room x.0 (d + 1) x.1 inner x.4, stands_room b d ks rest x.5)
+
+  grove_room : (s : Sheet) (t : Trees) → GroveStands g s t → GroveStands h s t
+  grove_room s t G = record {
+    keys = G.keys;
+    root = S.boards h.root ∙ ap (λ (x : ℕ). option_map board_seen (get g.boards x)) S.root ∙ G.root;
+    stands = subst (λ (x : ℕ). Stands (get h.nodes) (get h.boards) x 0 G.keys t) (sym S.root) (stands_room g.root 0 G.keys t G.stands);
+  }
+
+  sub_box : (o : Option ℕ) → option_and_then (λ k. sub_in (get h.nodes k)) o ≡ option_and_then (λ k. sub_in (get g.nodes k)) o
+  sub_box None = refl
+  sub_box (Some k) = ap sub_in (S.nodes k)
+
+  sub_step : (n : ℕ) (o : Option ℕ) → option_and_then (λ c. sub_step_in h c n) o ≡ option_and_then (λ c. sub_step_in g c n) o
+  sub_step n None = refl
+  sub_step n (Some c) = ap (λ (ks : List ℕ). option_and_then (λ k. sub_in (get h.nodes k)) (slice_get ks n)) (keys_same g h S c) ∙ sub_box (slice_get (keys_at g c) n)
+
+  sub_stays : (path : List ℕ) (o : Option ℕ) → sub_reached h o path ≡ sub_reached g o path
+  sub_stays [] o = refl
+  sub_stays (n ∷ path) o = ap (λ (x : Option ℕ). sub_reached h x path) (sub_step n o) ∙ sub_stays path (option_and_then (λ c. sub_step_in g c n) o)
+
+-- ---- as many wires
+
+lines_as_many : (w w' : Web) → ((k : ℕ) → line_told w' k ≡ line_told w k) → wires_told w' ≡ wires_told w
+lines_as_many w w' same = held_alike w.book.wires w'.book.wires (λ k. sym (told_some w' k) ∙ ap is_some (same k) ∙ told_some w k)
+
+-- ---- what a block finds
+
+abbrev block_by : Net → List Clock → block.Net
+block_by n clocks = record {
+  nodes = n.nodes;
+  boards = n.boards;
+  root = n.root;
+  web = n.web;
+  links = n.links;
+  owners = n.owners;
+  orders = n.orders;
+  numbers = n.numbers;
+  rate = n.rate;
+  clocks = clocks;
+  end = n.end;
+}
+
+-- a patch that stands at a stage is as it is there
+stage_of : (p : Patch) (s : Stage) → s.net ≡ net_of p → CanRewire p → IsStageOf p s
+stage_of p s e rewires = record { web = p.web; links = p.links; orders = p.orders; net = ap (λ (n : Net). block_by n s.clocks) e; rewires = rewires }
+
+-- ---- wires that come and go
+
+pub changed_tree : (s r : Stage) → Changes s r → HasTree s → HasTree r
+changed_tree s r c t =
+    let b : ButWires s r = but_wires s r c in
+    record {
+      patch = t.patch;
+      tree = t.tree;
+      stands = t.stands;
+      of = changed_stands rewires_alike t.patch s r c t.of;
+      shallow = t.shallow;
+      boxes = subst (λ (x : Stage). x.base.counts.boxes ≡ weight t.tree.boxes) (sym b.is) (b.counted.boxes ∙ t.boxes);
+      wires = subst (λ (x : Stage). x.base.counts.wires ≡ wires_told x.net.web) (sym b.is) (b.counted.wires t.wires);
+      within = subst (λ (x : Stage). AreWithin x.base.counts) (sym b.is) (record {
+        boxes = subst (λ (n : ℕ). n ≤ 16384) (sym b.counted.boxes) t.within.boxes;
+        wires = b.counted.few t.wires t.within.wires;
+        sound = subst (λ (n : ℕ). n ≤ 16777216) (sym b.counted.sound) t.within.sound;
+        zeros = subst (λ (n : ℕ). n ≤ 1000000001) (sym b.counted.zeros) t.within.zeros;
+      });
+      own = t.own;
+      apart = t.apart;
+    }
+
+pub changed_owners : (s r : Stage) (p : Patch) (t : Tree) → Changes s r → HasOwners s p t → HasOwners r p t
+changed_owners s r p t c o =
+    let b : ButWires s r = but_wires s r c in
+    subst (λ (x : Stage). HasOwners x p t) (sym b.is) (record { table = o.table; goes_on = o.goes_on; owners = o.owners; alike = o.alike })
+
+-- names that come change no owner
+pub named_owners : (s r : Stage) (p : Patch) (t : Tree) → r.file ≡ s.file → Extends s.names r.names → HasOwners s p t → HasOwners r p t
+named_owners s r p t file more o = record {
+  table = o.table;
+  goes_on = extends_on o.table s.names r.names o.goes_on more;
+  owners = subst (λ (f : List ℕ). (class : Class) (name : ℕ) → owners_of p.names class name ≡ owners_in o.table f p.grove class name) (sym file) o.owners;
+  alike = subst (λ (f : List ℕ). (names : Names) → Extends o.table names → OwnAlike o.table names f t.boxes) (sym file) o.alike;
+}
+
+-- ---- the patch that stands at the stage is another one than the one whose tree is known, with the same boxes
+
+module _ (s : Stage) (t : HasTree s) (old : Patch) (at : StandsAt old s) where
+  abbrev T : Tree
+  T = t.tree
+
+  at_nodes : (k : ℕ) → bare (get old.grove.nodes k) ≡ bare (get t.patch.grove.nodes k)
+  at_nodes k = sym (ap (λ (n : Net). n.nodes k) at.net) ∙ ap (λ (n : block.Net). n.nodes k) t.of.net
+
+  at_boards : old.grove.boards ≡ t.patch.grove.boards
+  at_boards = sym (ap (λ (n : Net). n.boards) at.net) ∙ ap (λ (n : block.Net). n.boards) t.of.net
+
+  at_root : old.grove.root ≡ t.patch.grove.root
+  at_root = sym (ap (λ (n : Net). n.root) at.net) ∙ ap (λ (n : block.Net). n.root) t.of.net
+
+  at_names : old.names ≡ t.patch.names
+  at_names = sym (ap (λ (n : Net). n.owners) at.net) ∙ ap (λ (n : block.Net). n.owners) t.of.net
+
+  pub at_stands : GroveStands old.grove T.sheet T.boxes
+  at_stands = grove_stays t.patch.grove old.grove T.sheet T.boxes at_nodes at_boards at_root t.stands
+
+  pub at_wires : s.base.counts.wires ≡ wires_told old.web
+  at_wires = t.wires ∙ ap (λ (n : Net). wires_told n.web) at.net
+
+  pub at_owners : HasOwners s t.patch T → HasOwners s old T
+  at_owners o = record {
+    table = o.table;
+    goes_on = o.goes_on;
+    owners = λ class name. ap (λ (rows : List Row). owners_of rows class name) at_names ∙ o.owners class name
+        ∙ sym (owners_bare o.table s.file t.patch.grove old.grove class name at_nodes at_boards at_root);
+    alike = o.alike;
+  }
+
+  -- room was set aside
+  module _ (new : Patch) (S : SameButRoom old new) where
+    room_stands : GroveStands new.grove T.sheet T.boxes
+    room_stands = grove_room old.grove new.grove S.grove T.sheet T.boxes at_stands
+
+    room_wires : s.base.counts.wires ≡ wires_told new.web
+    room_wires = at_wires ∙ sym (same_are_as_many old.web new.web S.web)
+
+    room_owners : HasOwners s t.patch T → HasOwners s new T
+    room_owners o =
+        let q : HasOwners s old T = at_owners o in
+        record {
+          table = q.table;
+          goes_on = q.goes_on;
+          owners = λ class name. S.names class name ∙ q.owners class name ∙ sym (owners_same old.grove new.grove S.grove q.table s.file class name);
+          alike = q.alike;
+        }
+
+-- a box could have come, and there may be more room
+module _ (s : Stage) (t : HasTree s) (path : List ℕ) (e : Edit) (net : Net) (ahead : List Choice) (h : IsUnputForRoom (with_ahead s []) path e net) where
+  stands_there : StandsAt h.old s
+  stands_there = record { net = h.stands.net; states = h.stands.states; puts = h.stands.puts }
+
+  roomy : Stage
+  roomy = with_net (with_ahead s ahead) net
+
+  pub roomy_tree : HasTree (with_net (with_ahead s ahead) net)
+  roomy_tree = record {
+    patch = h.new;
+    tree = t.tree;
+    stands = room_stands s t h.old stands_there h.new h.short.room;
+    of = stage_of h.new (with_net (with_ahead s ahead) net) h.net_is h.short.goes_on.runs;
+    shallow = t.shallow;
+    boxes = t.boxes;
+    wires = room_wires s t h.old stands_there h.new h.short.room ∙ sym (ap (λ (n : Net). wires_told n.web) h.net_is);
+    within = t.within;
+    own = h.short.goes_on.forest.own;
+    apart = h.short.goes_on.apart;
+  }
+
+  pub roomy_owners : HasOwners s t.patch t.tree → HasOwners (with_net (with_ahead s ahead) net) h.new t.tree
+  roomy_owners o =
+      let q : HasOwners s h.new t.tree = room_owners s t h.old stands_there h.new h.short.room o in
+      record { table = q.table; goes_on = q.goes_on; owners = q.owners; alike = q.alike }
+
+-- ---- a box came
+
+all_by : {X : Type 0} (P : X → Type 0) (xs : List X) → All P xs → AllByRecursion P xs
+all_by P [] h = tt
+all_by P (x ∷ xs) h = (h 0 x (omega arith), all_by P xs (λ k d lt. h (suc k) d (omega (arith, lt))))
+
+module _ (s : Stage) (t : HasTree s) (path : List ℕ) (e : Edit) (m : Made) (ahead : List Choice) (h : IsPutIn (with_ahead s []) path e m) where
+  abbrev a : Added
+  a = h.adds.added
+
+  abbrev b : IsBoxPut h.old h.new s.time a h.box.key
+  b = h.adds.put
+
+  abbrev ready : Patch
+  ready = b.ready
+
+  abbrev place : Place
+  place = last_place h.old a.canvas
+
+  abbrev cell : Cell
+  cell = b.plain.cell
+
+  abbrev C : ComesIn ready h.new a.known.names place b.seed h.box.key
+  C = b.put.comes
+
+  stands_at : StandsAt h.old s
+  stands_at = record { net = h.stands.net; states = h.stands.states; puts = h.stands.puts }
+
+  ready_stands : GroveStands ready.grove t.tree.sheet t.tree.boxes
+  ready_stands = room_stands s t h.old stands_at ready b.room
+
+  ready_can : CanPut ready
+  ready_can = room_put h.old ready b.room h.stands.puts
+
+  went : WentTo h.old s.base.counts s.file path e (known_at s) a
+  went = went_to h.old s.base.counts s.file path e (known_at s) h.adds.comes.fetches a h.adds.comes.comes
+
+  is_leaf : a.boxes ≡ Leaf cell Done
+  is_leaf = b.plain.single
+
+  -- it is the last box of its canvas
+  keys_ready : keys_at ready.grove a.canvas ≡ keys_at h.old.grove a.canvas
+  keys_ready = keys_same h.old.grove ready.grove b.room.grove a.canvas
+
+  before_is : keys_before ready place ≡ keys_at ready.grove a.canvas
+  before_is = ap (λ (ks : List ℕ). take (length ks) (keys_at ready.grove a.canvas)) (sym keys_ready) ∙ take-length (keys_at ready.grove a.canvas)
+
+  behind_is : keys_behind ready place ≡ []
+  behind_is = ap (λ (ks : List ℕ). drop (length ks) (keys_at ready.grove a.canvas)) (sym keys_ready) ∙ drop-length (keys_at ready.grove a.canvas)
+
+  part : HasPartMore (get ready.grove.nodes) (get h.new.grove.nodes) (get ready.grove.boards) (get h.new.grove.boards) a.canvas h.box.key (keys_before ready place) (keys_behind ready place)
+  part =
+      let F : IsForest (get ready.grove.nodes) (get ready.grove.boards) ready.grove.root = ready_can.forest in
+      let G : IsForest (get h.new.grove.nodes) (get h.new.grove.boards) ready.grove.root =
+      forest_more (get ready.grove.nodes) (get h.new.grove.nodes) (get ready.grove.boards) (get h.new.grove.boards) ready.grove.root a.canvas h.box.key (node_of a.canvas b.seed)
+      (keys_before ready place) (keys_behind ready place) C.grove F in
+      part_more (get ready.grove.nodes) (get h.new.grove.nodes) (get h.new.grove.nodes) (get ready.grove.boards) (get h.new.grove.boards) (get h.new.grove.boards) ready.grove.root a.canvas h.box.key
+      (node_of a.canvas b.seed) (keys_before ready place) (keys_behind ready place) C.grove (λ l d live. refl) (λ x live. refl) refl F G
+
+  last : HasBoxLast ready.grove h.new.grove path a.canvas h.box.key
+  last = record {
+    forest = ready_can.forest;
+    leads = sub_stays h.old.grove ready.grove b.room.grove path (Some ready.grove.root) ∙ ap (λ (r : ℕ). sub_reached h.old.grove (Some r) path) b.room.grove.root ∙ went.leads;
+    part = subst (λ (ks : List ℕ). HasPartMore (get ready.grove.nodes) (get h.new.grove.nodes) (get ready.grove.boards) (get h.new.grove.boards) a.canvas h.box.key ks []) before_is
+        (subst (λ (ks : List ℕ). HasPartMore (get ready.grove.nodes) (get h.new.grove.nodes) (get ready.grove.boards) (get h.new.grove.boards) a.canvas h.box.key (keys_before ready place) ks) behind_is part);
+    root = C.root;
+  }
+
+  -- the tree with it
+  abbrev pub more_tree : Tree
+  more_tree = put_at path (Leaf cell Done) t.tree
+
+  seen : option_map node_seen (get h.new.grove.nodes h.box.key) ≡ Some (record { board = a.canvas; cell = cell; inner = None })
+  seen = ap (option_map node_seen) C.grove.is ∙ ap (λ (x : Stand). Some (record { board = a.canvas; cell = x.cell; inner = None })) b.is_row
+
+  stands_more : GroveStands h.new.grove more_tree.sheet more_tree.boxes
+  stands_more = grove_put ready.grove h.new.grove path a.canvas h.box.key t.tree (Leaf cell Done) last ready_stands (seen, tt)
+
+  counted_more : m.base.counts ≡ with_boxes h.old.rate a.boxes s.base.counts
+  counted_more = ap (λ (x : Base). x.counts) h.base ∙ h.adds.counts ∙ went.counts
+
+  boxes_more : m.base.counts.boxes ≡ weight more_tree.boxes
+  boxes_more =
+      let along = path_along ready.grove path a.canvas t.tree ready_can.forest ready_stands last.leads in
+      let one : m.base.counts.boxes ≡ s.base.counts.boxes + weight (Leaf cell Done) = ap (λ (n : Counts). n.boxes) counted_more ∙ ap (λ (x : Trees). s.base.counts.boxes + weight x) is_leaf in
+      let more : weight more_tree.boxes ≡ weight t.tree.boxes + 1 = weight_put cell path t.tree along.0 along.1 in
+      let was : s.base.counts.boxes ≡ weight t.tree.boxes = t.boxes in
+      let first : weight (Leaf cell Done) ≡ 1 = refl in
+      omega (arith, one, more, was, first)
+
+  wires_more : m.base.counts.wires ≡ wires_told m.net.web
+  wires_more =
+      let was : s.base.counts.wires ≡ wires_told ready.web = room_wires s t h.old stands_at ready b.room in
+      let same : wires_told h.new.web ≡ wires_told ready.web = lines_as_many ready.web h.new.web C.ports.lines in
+      let none : m.base.counts.wires ≡ s.base.counts.wires + 0 = ap (λ (n : Counts). n.wires) counted_more ∙ ap (λ (x : Trees). s.base.counts.wires + wires_inside x) is_leaf in
+      let net : wires_told m.net.web ≡ wires_told h.new.web = ap (λ (n : Net). wires_told n.web) h.net in
+      omega (arith, was, same, none, net)
+
+  pub new_tree : HasTree (stage_by (with_ahead s ahead) (Makes m))
+  new_tree = record {
+    patch = h.new;
+    tree = more_tree;
+    stands = stands_more;
+    of = stage_of h.new (stage_by (with_ahead s ahead) (Makes m)) h.net b.goes_on.runs;
+    shallow = subst (λ (n : ℕ). n ≤ 255) (sym (deep_put cell path t.tree)) t.shallow;
+    boxes = boxes_more;
+    wires = wires_more;
+    within = h.within;
+    own = b.goes_on.forest.own;
+    apart = b.goes_on.apart;
+  }
+
+  -- the names of the table after it
+  names_are : m.names ≡ a.known.names
+  names_are = h.names ∙ ap (λ (k : Known). k.names) h.adds.known_is
+
+  abbrev Same : Names → Names → Placed → Type 0
+  Same names more p = owned_by more p.is_top p.cell ≡ owned_by names p.is_top p.cell
+
+  steady : (more : Names) → Extends a.known.names more → owned_by more true cell ≡ owned_by a.known.names true cell
+  steady =
+      let last : Stock = (growth_at h.old s.base.counts s.file path went.entry went.last).stock in
+      let grew = growth_is (own_zero h.old) s.base.counts s.file (255 - length path) went.entry went.last in
+      let leaf = sym grew ∙ went.grew ∙ ap (λ (x : Trees). gives x last) is_leaf in
+      let row : AllByRecursion (IsOf a.known.names) b.seed.row.text = all_by (IsOf a.known.names) b.seed.row.text b.suits.0.0 in
+      let text : AllByRecursion (IsOf a.known.names) cell.text = subst (λ (x : Stand). AllByRecursion (IsOf a.known.names) x.cell.text) b.is_row row in
+      let own : AllByRecursion (IsOf last.names) cell.text = subst (λ (n : Names). AllByRecursion (IsOf n) cell.text) went.names text in
+      subst (λ (n : Names). (more : Names) → Extends n more → owned_by more true cell ≡ owned_by n true cell) (sym went.names)
+      (leaf_steady (answer_in went.last.files) (without_ending s.file) (255 - length path) (inside_grown (answer_in went.last.files) (without_ending s.file) (255 - length path))
+      (around_root (own_zero h.old)) went.entry (stock_by went.last.names s.base.counts) last cell own leaf)
+
+  pub new_owners : HasOwners s t.patch t.tree → HasOwners (stage_by (with_ahead s ahead) (Makes m)) h.new more_tree
+  new_owners o =
+      let q : HasOwners s ready t.tree = room_owners s t h.old stands_at ready b.room o in
+      let on : Extends q.table m.names = extends_on q.table s.names m.names q.goes_on h.more in
+      let onward : Extends q.table a.known.names = subst (λ (n : Names). Extends q.table n) names_are on in
+      let low : deep t.tree.boxes ≤ 256 = (let l = t.shallow in omega (arith, l)) in
+      let before : OwnersStand ready a.known.names s.file = λ class name.
+      q.owners class name ∙ sym (owners_alike q.table a.known.names s.file ready.grove t.tree.sheet t.tree.boxes class name ready_stands low (q.alike a.known.names onward)) in
+      let after : OwnersStand h.new a.known.names s.file = C.owners s.file before in
+      record {
+        table = m.names;
+        goes_on = extends_same m.names;
+        owners = subst (λ (n : Names). OwnersStand h.new n s.file) (sym names_are) after;
+        alike = subst (λ (n : Names). (more : Names) → Extends n more → OwnAlike n more s.file more_tree.boxes) (sym names_are) (λ more x.
+            let first : OwnAlike q.table a.known.names s.file t.tree.boxes = q.alike a.known.names onward in
+            let further : OwnAlike q.table more s.file t.tree.boxes = q.alike more (extends_on q.table a.known.names more onward x) in
+            record {
+              root = further.root ∙ sym first.root;
+              boxes = all_put (Same a.known.names more) cell (owned_anywhere a.known.names more cell (steady more x)) path true t.tree
+                  (all_both (Same q.table a.known.names) (Same q.table more) (Same a.known.names more) (λ p f g. g ∙ sym f) (placed_in_order true t.tree.boxes) first.boxes further.boxes);
+            });
+      }
+
+-- ---- any edit
+
+pub altered_tree : (s r : Stage) → Alters s r → HasTree s → HasTree r
+altered_tree s r (inl c) t = changed_tree s r c t
+altered_tree s r (inr (inl b)) t = subst HasTree (sym b.is) (new_tree s t b.path b.edit b.made b.ahead b.put)
+altered_tree s r (inr (inr l)) t = subst HasTree (sym l.is) (roomy_tree s t l.path l.edit l.net l.ahead l.short)
+
+-- a tree that stands, with the owners of names
+pub record HasBoth (s : Stage) : Type 0 where
+  pub tree : HasTree s
+  pub owners : HasOwners s tree.patch tree.tree
+
+pub altered_both : (s r : Stage) → Alters s r → HasBoth s → HasBoth r
+unfolding changed_tree new_tree roomy_tree
+altered_both s r (inl c) t = record { tree = changed_tree s r c t.tree; owners = changed_owners s r t.tree.patch t.tree.tree c t.owners }
+altered_both s r (inr (inl n)) t =
+    subst HasBoth (sym n.is) (record {
+      tree = new_tree s t.tree n.path n.edit n.made n.ahead n.put;
+      owners = new_owners s t.tree n.path n.edit n.made n.ahead n.put t.owners;
+    })
+altered_both s r (inr (inr l)) t =
+    subst HasBoth (sym l.is) (record {
+      tree = roomy_tree s t.tree l.path l.edit l.net l.ahead l.short;
+      owners = roomy_owners s t.tree l.path l.edit l.net l.ahead l.short t.owners;
+    })

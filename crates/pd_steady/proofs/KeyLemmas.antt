@@ -1,0 +1,169 @@
+-- A patch with one box more: what holds of all boxes of the old one and of the new box holds of all.
+use Rattle.std.proofs.Common.{arith, ◌≡◌, ◌≢◌, ℕ, ℤ, zero, suc, ◌+◌, ◌<◌, ◌≤◌, ◌^◌, ◌==◌, Bool, true, false, List, [], ◌∷◌, ◌++◌, length, replicate, slice_get, Option, Some, None, IfSome, IsSome, is_some, option_map, refl, sym, ap, subst, ◌∙◌, true≢false}
+use Rattle.std.specs.Prelude.{option_and_then}
+use Rattle.std.specs.List.{AllByRecursion}
+use Rattle.std.proofs.lemmas.Option.{none-some, slice_get-get_or}
+use Rattle.std.proofs.lemmas.List.{length-replicate}
+use Rattle.slab.specs.Slab.{get}
+use Rattle.pd_kind.specs.declared.states.State.{State}
+use Rattle.pd_kind.specs.Fit.{blank}
+use Rattle.pd_kind.specs.States.{silent_block}
+use Rattle.pd_order.specs.Graph.{tally}
+use Rattle.pd_order.proofs.Basics.{by_test, same_node, other_node}
+use Rattle.pd_grove.specs.declared.nodes.Node.{Node}
+use Rattle.pd_grove.specs.declared.ports.Side.TheVariants.{Outlets}
+use Rattle.pd_grove.specs.Telling.{kind_in, state_in}
+use Rattle.pd_web.specs.declared.jacks.Jack.{Jack}
+use Rattle.pd_web.specs.declared.web.Hop.{Hop}
+use Rattle.pd_web.specs.declared.web.Web.{Web}
+use Rattle.pd_web.specs.declared.lines.Line.{Line}
+use Rattle.pd_web.specs.Hops.{ports_told, jack_told, signal_in, feed_hops}
+use Rattle.pd_web.specs.Changes.{line_told}
+use Rattle.pd_patch.specs.declared.patch.Patch.{Patch}
+use Rattle.pd_patch.specs.Fed.{keys_of, AreFed}
+use Rattle.pd_patch.specs.Values.{Blocks, block_count, block_at, blocks_told, first_blocks}
+use Rattle.pd_patch.proofs.BlockLemmas.{blocks_some}
+use Rattle.pd_hearing.specs.Worlds.{bare, net_of, states_of}
+use Rattle.pd_boxes.specs.declared.room.Place.{Place}
+use Rattle.pd_boxes.specs.Rows.{IsLonger, PutsUnder}
+use Rattle.pd_boxes.specs.Room.{SameButRoom}
+use Rattle.pd_boxes.specs.Put.{node_of, IsPut}
+use Rattle.pd_grove.specs.declared.seeds.Seed.{Seed}
+use Rattle.pd_guards.proofs.FactLemmas.{all-append, all-at, all-from}
+use Rattle.pd_guards.specs.Sounds.{AreValues}
+use Rattle.pd_guards.proofs.SignalLemmas.{all-same, silent_values}
+use Rattle.pd_sized.specs.Sizes.{IsBlock}
+use Rattle.pd_sized.proofs.StartLemmas.{silent_count}
+use Rattle.pd_sized.specs.Kinds.{blank_of, KeepsOfKind}
+use Rattle.pd_sound_law.specs.Ready.{HasBlocks}
+use Rattle.pd_steady.specs.Serving.{StayAlike}
+use Rattle.pd_atom.specs.Names.{Names}
+
+-- what holds at one key and at all others holds at all
+pub by_key : (P : ℕ → Type 0) (key : ℕ) → P key → ((k : ℕ) → k ≢ key → P k) → (k : ℕ) → P k
+by_key P key here others k = by_test (k == key) (λ e. subst P (sym (same_node k key e)) here) (λ e. others k (other_node k key e))
+
+-- ---- lists by key that are longer
+
+cut_short : {X : Type 0} (xs ys : List X) (k : ℕ) (x : X) → slice_get xs k ≡ Some x → slice_get (xs ++ ys) k ≡ Some x
+cut_short [] ys k x e = absurd (none-some x e)
+cut_short (y ∷ xs) ys zero x e = e
+cut_short (y ∷ xs) ys (suc k) x e = cut_short xs ys k x e
+
+-- each of them is as the others where what comes behind is so
+pub longer_all : {X : Type 0} (P : X → Type 0) (x : X) (old new : List X) → IsLonger x old new → P x → AllByRecursion P old → AllByRecursion P new
+longer_all {X} P x old new l h all = subst (AllByRecursion P) (sym l.1) (all-append P old (replicate l.0 x) all (all-same P l.0 x h))
+
+pub put_all : {X : Type 0} (P : X → Type 0) (old new : List X) (key : ℕ) (x : X) → PutsUnder old new key x → P x → AllByRecursion P old → AllByRecursion P new
+put_all {X} P old new key x p h all =
+    all-from P new
+    (by_key (λ k. IfSome (slice_get new k) P) key (subst (λ (o : Option X). IfSome o P) (sym p.is) h)
+    (λ k other. subst (λ (o : Option X). IfSome o P) (sym (p.others k other)) (all-at P old k all)))
+
+-- ---- the blocks of outlets
+
+row_some : (row : Option (List (List ℤ))) (old new : Blocks) (k o : ℕ) → slice_get old k ≡ row → ((own : List (List ℤ)) → row ≡ Some own → slice_get new k ≡ Some own)
+    → IsSome (option_and_then (λ (own : List (List ℤ)). slice_get own o) row) → IsSome (block_at new k o)
+row_some None old new k o e f h = absurd (true≢false (sym h))
+row_some (Some own) old new k o e f h = subst (λ (r : Option (List (List ℤ))). IsSome (option_and_then (λ (x : List (List ℤ)). slice_get x o) r)) (sym (f own refl)) h
+
+-- a block that is there stays there
+pub longer_block : (old new : Blocks) → IsLonger [] old new → (k o : ℕ) → IsSome (block_at old k o) → IsSome (block_at new k o)
+longer_block old new l k o h =
+    row_some (slice_get old k) old new k o refl (λ own e. ap (λ (xs : Blocks). slice_get xs k) l.1 ∙ cut_short old (replicate l.0 []) k own e) h
+
+below_all : (ports : List Jack) (o : ℕ) → signal_in (slice_get ports o) ≡ true → o < length ports
+below_all [] o h = absurd (true≢false (sym h))
+below_all (j ∷ ports) zero h = omega arith
+below_all (j ∷ ports) (suc o) h = let rest : o < length ports = below_all ports o h in omega (arith, rest)
+
+silent_there : (n o : ℕ) → o < n → IsSome (slice_get (replicate n silent_block) o)
+silent_there n o l = let all = length-replicate n silent_block in ap is_some (slice_get-get_or (replicate n silent_block) o silent_block (omega (arith, all, l)))
+
+-- a new box has a block for each outlet that carries signals
+pub first_there : (w : Web) (key o : ℕ) → signal_in (slice_get (ports_told w Outlets key) o) ≡ true → IsSome (slice_get (first_blocks w key) o)
+first_there w key o sounds =
+    let js : List Jack = ports_told w Outlets key in
+    silent_there (block_count js) o (subst (λ (n : ℕ). o < n) (blocks_some js o sounds) (below_all js o sounds))
+
+-- ---- two webs with the same wires
+
+pub fed_same : (w v : Web) → ((k : ℕ) → line_told v k ≡ line_told w k) → ((node inlet : ℕ) → feed_hops v node inlet ≡ feed_hops w node inlet) → AreFed w → AreFed v
+fed_same w v lines feeds h = record {
+  live = λ node inlet key l. subst (λ (o : Option Line). IsSome o) (sym (lines key)) (h.live node inlet key (subst (λ (hops : List Hop). 0 < tally key (keys_of hops)) (feeds node inlet) l));
+  once = λ node inlet key. subst (λ (hops : List Hop). tally key (keys_of hops) ≤ 1) (sym (feeds node inlet)) (h.once node inlet key);
+  few = λ node inlet. subst (λ (hops : List Hop). length hops ≤ 65536) (sym (feeds node inlet)) (h.few node inlet);
+}
+
+-- ---- a patch with a box more, where room was set aside for it before
+
+-- all that is said of outlets and their blocks
+abbrev HasBlock : Patch → ℕ → Type 0
+HasBlock p k = (o : ℕ) → signal_in (jack_told p.web Outlets k o) ≡ true → IsSome (block_at (blocks_told p) k o)
+
+pub record HasOneMore (p q : Patch) (key : ℕ) (n : Node) : Type 0 where
+  pub is : get q.grove.nodes key ≡ Some n
+  pub vacant : get p.grove.nodes key ≡ None
+  pub others : (k : ℕ) → k ≢ key → get q.grove.nodes k ≡ get p.grove.nodes k
+  pub low : key < 2 ^ 32
+  pub fed : AreFed p.web → AreFed q.web
+  pub blocks : HasBlocks p.web (blocks_told p) → HasBlocks q.web (blocks_told q)
+  pub values : AllByRecursion (AllByRecursion AreValues) (blocks_told p) → AllByRecursion (AllByRecursion AreValues) (blocks_told q)
+  pub sizes : AllByRecursion (AllByRecursion IsBlock) (blocks_told p) → AllByRecursion (AllByRecursion IsBlock) (blocks_told q)
+
+-- where room was set aside the blocks are there
+pub room_blocks : (p r : Patch) → SameButRoom p r → HasBlocks p.web (blocks_told p) → HasBlocks r.web (blocks_told r)
+room_blocks p r room h k o sounds =
+    longer_block (blocks_told p) (blocks_told r) room.values k o (h k o (ap (λ (js : List Jack). signal_in (slice_get js o)) (sym (room.web.kept.ports Outlets k)) ∙ sounds))
+
+pub room_fed : (p r : Patch) → SameButRoom p r → AreFed p.web → AreFed r.web
+room_fed p r room h = fed_same p.web r.web room.web.lines room.web.feeds h
+
+pub room_all : (p r : Patch) (P : List (List ℤ) → Type 0) → SameButRoom p r → P [] → AllByRecursion P (blocks_told p) → AllByRecursion P (blocks_told r)
+room_all p r P room none h = longer_all P [] (blocks_told p) (blocks_told r) room.values none h
+
+low_key : (key : ℕ) → key < 4294967295 → key < 2 ^ 32
+low_key key l = omega arith
+
+put_blocks : (r q : Patch) (table : Names) (place : Place) (seed : Seed) (key : ℕ) → IsPut r q table place seed key → HasBlocks r.web (blocks_told r) → HasBlocks q.web (blocks_told q)
+put_blocks r q table place seed key put h =
+    by_key (HasBlock q) key
+    (λ o sounds. subst (λ (row : Option (List (List ℤ))). IsSome (option_and_then (λ (own : List (List ℤ)). slice_get own o) row)) (sym put.comes.blocks.is) (first_there q.web key o sounds))
+    (λ k other o sounds. subst (λ (row : Option (List (List ℤ))). IsSome (option_and_then (λ (own : List (List ℤ)). slice_get own o) row)) (sym (put.comes.blocks.others k other))
+    (h k o (ap (λ (js : List Jack). signal_in (slice_get js o)) (sym (put.comes.ports.other_ports Outlets k other)) ∙ sounds)))
+
+-- what holds of the blocks of all boxes, and of those of the new one
+all_put : (p r q : Patch) (table : Names) (place : Place) (seed : Seed) (key : ℕ) → SameButRoom p r → IsPut r q table place seed key → (P : List (List ℤ) → Type 0) → P [] → P (first_blocks q.web key)
+    → AllByRecursion P (blocks_told p) → AllByRecursion P (blocks_told q)
+all_put p r q table place seed key room put P none first h = put_all P (blocks_told r) (blocks_told q) key (first_blocks q.web key) put.comes.blocks first (room_all p r P room none h)
+
+-- the first blocks of a box are silent
+first_silent : (P : List ℤ → Type 0) (q : Patch) (key : ℕ) → P silent_block → AllByRecursion P (first_blocks q.web key)
+first_silent P q key h = all-same P (block_count (ports_told q.web Outlets key)) silent_block h
+
+pub one_more : (p r q : Patch) (table : Names) (place : Place) (seed : Seed) (key : ℕ) → SameButRoom p r → IsPut r q table place seed key → HasOneMore p q key (node_of place.canvas seed)
+one_more p r q table place seed key room put = record {
+  is = put.comes.grove.is;
+  vacant = sym (room.grove.nodes key) ∙ put.comes.grove.vacant;
+  others = λ k other. put.comes.grove.others k other ∙ room.grove.nodes k;
+  low = low_key key put.comes.low;
+  fed = λ h. fed_same r.web q.web put.comes.ports.lines put.comes.ports.feeds (room_fed p r room h);
+  blocks = λ h. put_blocks r q table place seed key put (room_blocks p r room h);
+  values = λ h. all_put p r q table place seed key room put (AllByRecursion AreValues) tt (first_silent AreValues q key silent_values) h;
+  sizes = λ h. all_put p r q table place seed key room put (AllByRecursion IsBlock) tt (first_silent IsBlock q key silent_count) h;
+}
+
+-- what boxes keep is of their kinds, where what the new box keeps is of its kind
+pub more_objects : (p q : Patch) (key : ℕ) (n : Node) → HasOneMore p q key n → option_map blank n.state ≡ Some (blank_of n.kind) → KeepsOfKind (λ k. kind_in ((net_of p).nodes k)) (states_of p)
+    → KeepsOfKind (λ k. kind_in ((net_of q).nodes k)) (states_of q)
+more_objects p q key n more objects old =
+    by_key (λ k. option_map blank (states_of q k) ≡ option_map blank_of (kind_in ((net_of q).nodes k))) key
+    (subst (λ (o : Option Node). option_map blank (state_in o) ≡ option_map blank_of (kind_in (bare o))) (sym more.is) objects)
+    (λ k other. subst (λ (o : Option Node). option_map blank (state_in o) ≡ option_map blank_of (kind_in (bare o))) (sym (more.others k other)) (old k))
+
+-- each box that was there keeps what it kept
+pub more_alike : (p q : Patch) (key : ℕ) (n : Node) → HasOneMore p q key n → StayAlike (states_of p) (states_of q)
+more_alike p q key n more =
+    by_key (λ k. IsSome (states_of p k) → option_map blank (states_of q k) ≡ option_map blank (states_of p k)) key
+    (λ there. absurd (true≢false (sym there ∙ ap (λ (o : Option Node). is_some (state_in o)) more.vacant)))
+    (λ k other there. ap (λ (o : Option Node). option_map blank (state_in o)) (more.others k other))
