@@ -32,18 +32,8 @@ edits_of() {
   }'
 }
 
-# Runs of the two programs, over the patch and the edits of the moment.
-ours() { "$program" made.pd; }
-theirs() { pd -nogui -noprefs -batch -open made.pd -open drive.pd; }
-none() { :; }
-
-cat >drive.pd <<'END'
-#N canvas 0 0 400 300 12; #X obj 0 0 loadbang; #X obj 0 0 t b b; #X msg 0 0 \; pd dsp 1; #X msg 0 0 read list \, bang; #X obj 0 0 qlist;
-#X msg 0 0 \; pd quit; #X connect 0 0 1 0; #X connect 1 1 2 0; #X connect 1 0 3 0; #X connect 3 0 4 0; #X connect 4 1 5 0;
-END
-
-other=none
-command -v pd >/dev/null && other=theirs
+# shellcheck source=bench/beside-pd.sh
+. "$top/bench/beside-pd.sh"
 printf '%-16s %-7s %12s %12s %8s %8s\n' box boxes pdplay pd times middle
 for words in "obj 10 10 f" "msg 10 10 1 2" "obj 10 10 osc~ 220"; do
   for voices in 50 500 1500 5500; do
