@@ -1,5 +1,5 @@
 -- Deliveries ask canvases for edits of wires and for boxes alone.
-use Rattle.std.proofs.Common.{◌≡◌, ℕ, zero, suc, Bool, true, false, ℤ, List, [], ◌∷◌, ◌++◌, refl, sym, ap, subst, Option, Some, None, slice_get, option_map, if◌then◌else◌}
+use Rattle.std.proofs.Common.{◌≡◌, ℕ, zero, suc, Bool, true, false, ℤ, List, [], ◌∷◌, ◌++◌, refl, sym, subst, Option, Some, None, slice_get, option_map, if◌then◌else◌}
 use Rattle.std.specs.Prelude.{IfSome}
 use Rattle.pd_atom.specs.declared.Atom.{Atom}
 use Rattle.pd_atom.specs.declared.Atom.TheVariants as atom
@@ -15,7 +15,7 @@ use Rattle.pd_queue.specs.declared.asking.Verb.{Verb}
 use Rattle.pd_queue.specs.declared.asking.Verb.TheVariants as verb
 use Rattle.pd_queue.specs.Asking.{box_edit, new_box, wire_of, asked}
 use Rattle.pd_queue.specs.Queue.{Waiting, after_asking}
-use Rattle.pd_turns.specs.Turns.{World, acted, cut_off, causes, by_budget, if_allowed, each, performed, finished}
+use Rattle.pd_turns.specs.Turns.{World, acted, cut_off, causes, by_budget, each, performed, finished}
 use Rattle.pd_hearing.specs.Worlds.{Net, Kept}
 use Rattle.pd_hearing.specs.Hearing.{Reply, heard_at, resumed_at, fired_at, loaded_at}
 use Rattle.pd_hearing.specs.Deeds.{done, replied}

@@ -35,7 +35,6 @@ use Rattle.pd_grove.specs.TextOrder.{keys_in_order}
 use Rattle.pd_engine.specs.declared.engine.Engine.{Engine}
 use Rattle.pd_engine.specs.declared.refusals.OpenRefusal.{OpenRefusal}
 use Rattle.pd_engine.specs.declared.refusals.OpenRefusal.TheVariants.{Absent, Bad, ShelfFault, WriteFault, NoMemory}
-use Rattle.pd_engine.specs.Causes.{HasOpeningCauses}
 use Rattle.pd_engine.specs.Refusals.{unread, ungathered, ungrown}
 use Rattle.pd_stage.specs.Choices.{Base, Choice}
 use Rattle.pd_stage.specs.Items.{Item, held_after}
@@ -218,11 +217,6 @@ module _ (holds : Option (List FileRow)) (name : List ℕ) (rate : Rate) (d : Pa
       }))
 
 -- memory was wanting
-pub short_refused : (holds : Option (List FileRow)) (name : List ℕ) (rate : Rate) (d : Page) (names : Names) (t t' : Option (List ℕ)) (f f' : ℕ) (r : Result Engine OpenRefusal)
-    → IsErrAnd r (λ e. e ≡ NoMemory) → IfErr r (IsRefused holds name rate d names t t' f f')
-short_refused holds name rate d names t t' f f' (Ok e) h = absurd h
-short_refused holds name rate d names t t' f f' (Err e) h = inl (subst (λ (x : OpenRefusal). IsUngathered holds name d names x) (sym h) tt)
-
-pub short_causes : (folder folder' lines : ℕ) (r : Result Engine OpenRefusal) → IsErrAnd r (λ e. e ≡ NoMemory) → folder ≤ folder' → HasOpeningCauses folder folder' lines lines r
-short_causes folder folder' lines (Ok e) h le = absurd h
-short_causes folder folder' lines (Err e) h le = record { shelf = λ k. cc; write = λ k. cc; folder_counted = le; lines_counted = omega arith }
+pub short_ungrown : {T : Type 0} (s : Step Tree) (rate : Rate) (r : Result T OpenRefusal) → IsErrAnd r (λ e. e ≡ NoMemory) → IfErr r (IsUngrown s rate)
+short_ungrown s rate (Ok e) h = absurd h
+short_ungrown s rate (Err e) h = subst (λ (x : OpenRefusal). IsUngrown s rate x) (sym h) tt

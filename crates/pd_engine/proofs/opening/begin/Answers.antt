@@ -1,4 +1,4 @@
-use Rattle.std.proofs.Common.{rules, arith, ℕ, List, Option, subst}
+use Rattle.std.proofs.Common.{rules, ℕ, List, Option, subst}
 use Rattle.pd_stage.specs.Choices.{Choice, base_of}
 use Rattle.pd_stage.specs.Stages.{Stage, Passage}
 use Rattle.pd_stage.specs.Leads.{sinks, Comes, Stops}

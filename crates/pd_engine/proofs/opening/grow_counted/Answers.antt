@@ -1,4 +1,3 @@
-use Rattle.std.proofs.Common.{◌≡◌}
 use Rattle.pd_gather.specs.Gather.{Known, known}
 use Rattle.pd_library.specs.Files.{answer_in}
 use Rattle.pd_patch.specs.declared.patch.Patch.{Patch}
@@ -6,6 +5,7 @@ use Rattle.pd_patch.specs.Grown.{IsTree}
 use Rattle.pd_adding.specs.Counted.{IsLimited}
 use Rattle.pd_engine.specs.Opening.{growth_of}
 use Rattle.pd_engine.proofs.FreshLemmas.{within_first, counted_first}
+use Rattle.pd_engine.proofs.OpeningLemmas.{short_ungrown}
 use Rattle.pd_engine.proofs.opening.grow_counted.Goals as goal
 
 pub returns-clause-counted : goal.returns-clause-counted
@@ -29,3 +29,7 @@ pub returns-clause-zero : goal.returns-clause-zero
 returns-clause-zero c =
     let k : Known = known c.args.library.now c.args.symbols.now in
     c.grown_patches_are_limited.ensures.zero c.in_ok-patch.patch c.grow_all.new.symbols k.names c.args.rate (answer_in k.files) c.args.name.now c.args.doc.root 1001 c.in_ok-patch.ensures.tree
+
+pub returns-in_err-counts-clause-refused : goal.returns-in_err-counts-clause-refused
+returns-in_err-counts-clause-refused c =
+    short_ungrown (growth_of c.args.name.now c.args.doc.root (known c.args.library.now c.args.symbols.now)) c.args.rate c.from_residual-in_err-counts.result c.from_residual-in_err-counts.ensures.1
