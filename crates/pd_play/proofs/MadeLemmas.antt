@@ -1,5 +1,5 @@
 -- A made patch: why its run ends, and what it leads to.
-use Rattle.std.proofs.Common.{◌≡◌, ◌≢◌, ◌<◌, ◌≤◌, ◌⊎◌, inl, inr, ℕ, Bool, true, false, List, [], length, Option, Some, None, Result, Ok, Err, refl, sym, ap, subst, ◌∙◌, arith}
+use Rattle.std.proofs.Common.{◌≡◌, ◌≢◌, ◌≤◌, ◌⊎◌, inl, inr, ℕ, Bool, true, false, List, length, Option, Some, Result, Ok, Err, refl, sym, ap, subst, ◌∙◌, arith}
 use Rattle.std.specs.Prelude.{nat_lt}
 use Rattle.std.proofs.lemmas.Bool.{ltb-true, ltb-false}
 use Rattle.pd_io.specs.Faults.{Rose}
@@ -11,7 +11,7 @@ use Rattle.pd_clock.specs.Rates.{samples}
 use Rattle.pd_stage.specs.Choices.{Choice}
 use Rattle.pd_stage.specs.Stages.{Stage}
 use Rattle.pd_stage.specs.Leads.{Sinks}
-use Rattle.pd_engine.specs.Opening.{Files, Opens, IsRefused}
+use Rattle.pd_engine.specs.Opening.{Opens, IsRefused}
 use Rattle.pd_engine.specs.declared.refusals.OpenRefusal.{OpenRefusal}
 use Rattle.pd_engine.specs.declared.refusals.OpenRefusal.TheVariants as opening
 use Rattle.pd_made.specs.Documents.{made_document}
@@ -22,7 +22,7 @@ use Rattle.pd_play.specs.Causes.{HasOpenCauses, HasRunCauses, HasMadeCauses, Has
 use Rattle.pd_play.specs.Ending.{is_end, last_line, opened_as}
 use Rattle.pd_play.specs.Made.{made_names, summary_at, summary_line}
 use Rattle.pd_play.specs.Refusing.{IsMadeRefusal}
-use Rattle.pd_play.specs.Patches.{started, once_open, OpensMade, PlaysScript, PlaysMade}
+use Rattle.pd_play.specs.Patches.{started, OpensMade, PlaysScript}
 use Rattle.pd_play.specs.Telling.{Outcome, told, done_with, ends_with, Answers}
 use Rattle.pd_play.specs.declared.status.Status.{Status}
 use Rattle.pd_play.specs.declared.status.Status.TheVariants.{Done, Usage, PatchAbsent, PatchBad, ScriptBad, ReadFault, WriteFault, ShelfFault, NoMemory}
@@ -144,18 +144,18 @@ opened_well s folder folder' lines lines' a b = record {
 }
 
 -- a document opens as the made patch that it is
-pub opens_made : (n : ℕ) (holds : Option (List FileRow)) (name : List ℕ) (rate : Rate) (d : Page) (names : Names) (library : Files) (s : List Choice → Stage) (t t' : Option (List ℕ))
-    → d ≡ made_document made_names n → names ≡ made_names → Opens holds name rate d names library s t t' → OpensMade n holds name rate library s t t'
-opens_made n holds name rate d names library s t t' is brought h =
-    subst (λ (m : Names). Opens holds name rate (made_document made_names n) m library s t t') brought (subst (λ (p : Page). Opens holds name rate p names library s t t') is h)
+pub opens_made : (n : ℕ) (holds : Option (List FileRow)) (name : List ℕ) (rate : Rate) (d : Page) (names : Names) (s : List Choice → Stage) (t t' : Option (List ℕ)) (f f' : ℕ)
+    → d ≡ made_document made_names n → names ≡ made_names → Opens holds name rate d names s t t' f f' → OpensMade n holds name rate s t t' f f'
+opens_made n holds name rate d names s t t' f f' is brought h =
+    subst (λ (m : Names). Opens holds name rate (made_document made_names n) m s t t' f f') brought (subst (λ (p : Page). Opens holds name rate p names s t t' f f') is h)
 
-pub refuses_made : (n : ℕ) (holds : Option (List FileRow)) (name : List ℕ) (rate : Rate) (d : Page) (names : Names) (t t' : Option (List ℕ)) (e : OpenRefusal) (status : Status)
-    → d ≡ made_document made_names n → names ≡ made_names → status ≡ opened_as e → IsRefused holds name rate d names t t' e → (e ≢ opening.WriteFault → t' ≡ t)
-    → IsMadeRefusal n holds name rate t t' status
-refuses_made n holds name rate d names t t' e status is brought so h quiet = record {
+pub refuses_made : (n : ℕ) (holds : Option (List FileRow)) (name : List ℕ) (rate : Rate) (d : Page) (names : Names) (t t' : Option (List ℕ)) (f f' : ℕ) (e : OpenRefusal) (status : Status)
+    → d ≡ made_document made_names n → names ≡ made_names → status ≡ opened_as e → IsRefused holds name rate d names t t' f f' e → (e ≢ opening.WriteFault → t' ≡ t)
+    → IsMadeRefusal n holds name rate t t' f f' status
+refuses_made n holds name rate d names t t' f f' e status is brought so h quiet = record {
   refusal = e;
   status_is = so;
-  refused = subst (λ (m : Names). IsRefused holds name rate (made_document made_names n) m t t' e) brought (subst (λ (p : Page). IsRefused holds name rate p names t t' e) is h);
+  refused = subst (λ (m : Names). IsRefused holds name rate (made_document made_names n) m t t' f f' e) brought (subst (λ (p : Page). IsRefused holds name rate p names t t' f f' e) is h);
   quiet = quiet;
 }
 
