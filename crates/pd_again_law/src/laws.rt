@@ -19,9 +19,9 @@ ghost use Rattle.pd_again_law.specs.Again.{Reopens, AreAgain};
 /// as the patch that was saved.
 pub fn saves_open_again()
     ensures { (holds : Option (List FileRow)) (name : List ℕ) (rate : Rate) (d : Page) (names table : Names) (p : Patch) (base : Base) (most : ℕ)
-        (steps : List Step) (ahead : List Choice) → Grows holds name rate d names p table base → most + block_units ≤ 2 ^ 101 →
+        (steps : List Step) (ahead : List Choice) → (grows : Grows holds name rate d names p table base) → most + block_units ≤ 2 ^ 101 →
         AreSteps most steps (opened name p table base ahead).stage → AreLawful (run_by own_ways name p table base ahead steps).edits →
-        AreAgain name rate (run_by own_ways name p table base ahead steps).edits }
+        AreAgain grows.files.files name rate (run_by own_ways name p table base ahead steps).edits }
 {
     pd_guards::delivery_passes_nothing_over();
     pd_guards::messages_keep_values();
@@ -37,10 +37,11 @@ pub fn saves_open_again()
 /// In such a run a patch that stands anywhere between two steps has a text that opens again as that patch, also where nothing is saved.
 pub fn stages_open_again()
     ensures { (holds : Option (List FileRow)) (name : List ℕ) (rate : Rate) (d : Page) (names table : Names) (p : Patch) (base : Base) (most : ℕ)
-        (steps : List Step) (ahead : List Choice) → Grows holds name rate d names p table base → most ≤ 2 ^ 101 →
+        (steps : List Step) (ahead : List Choice) → (grows : Grows holds name rate d names p table base) → most ≤ 2 ^ 101 →
         AreSteps most steps (opened name p table base ahead).stage →
         let run = followed_by (opened name p table base ahead) (steps_by own_ways steps) in
-        AreLawful run.edits → (q : Patch) → StandsAt q run.stage → IsTable run.stage.names → StandOnce q.web → Reopens name rate run.stage q }
+        AreLawful run.edits → (q : Patch) → StandsAt q run.stage → IsTable run.stage.names → StandOnce q.web →
+        Reopens grows.files.files name rate run.stage q }
 {
     pd_guards::delivery_passes_nothing_over();
     pd_guards::messages_keep_values();

@@ -182,10 +182,10 @@ module _ (opens : Opens) where
         let fair : AreFair (own Broken).passage.edits = subst (λ (r : Run). AreFair r.passage.edits) (broken_so e) own_fair in
         inr (ap (λ (r : Run). r.status) (free_so Broken fair ∙ own_so Broken) ∙ e)
 
-    log_again : AreAgain name rate log
+    log_again : AreAgain o.grows.files.files name rate log
     log_again =
         let p : Passage = opened name o.patch o.table o.base (choices_of log) in
-        told_all (IsAgain name rate) name closing (own h.plays.ending) log status old new own_tells
+        told_all (IsAgain o.grows.files.files name rate) name closing (own h.plays.ending) log status old new own_tells
         (played_again opens.laws saves old.held name rate d names o.patch o.table o.base o.grows (choices_of log) h.plays.ending text
         (starts_steady p.stage rate (opens.steady old.held name rate d names o.table o.patch o.base most_units (choices_of log) o.grows opened_lawful)) own_fair)
 
