@@ -368,7 +368,7 @@ edit_alters s ahead path (edit.Sub x y name) c h = put_alters s ahead path (edit
 choice_alters : (wanted : Wanted) (s : Stage) (ahead : List Choice) (c : Choice) → MayCome wanted (with_ahead s []) c → Alters s (stage_by (with_ahead s ahead) c)
 choice_alters (Edits None path e) s ahead c h = edit_alters s ahead path e c h
 choice_alters (Edits (Some document) path e) s ahead c h = inl (refused_changes s ahead c _ h)
-choice_alters (Asks path e) s ahead c h = inl (wire_changes s ahead path e c h)
+choice_alters (Asks path e) s ahead c h = edit_alters s ahead path e c h
 choice_alters (Saves None) s ahead c h = inl (save_changes s ahead c h)
 choice_alters (Saves (Some document)) s ahead c h = inl (refused_changes s ahead c _ h)
 choice_alters Undoes s ahead c h = inl (refused_changes s ahead c _ h)
@@ -378,27 +378,31 @@ pub taken_alters : (wanted : Wanted) (s : Stage) → AreLawful (edit_taken wante
 unfolding edit_taken
 taken_alters wanted s h = choice_alters wanted s (later s.ahead) (first_choice s.ahead) h.0
 
--- an edit that a message asked for changes wires alone
-pub asked_changes : (asked : List ℕ × Edit) (s : Stage) → AreLawful (edit_asked asked s).edits → Changes s (edit_asked asked s).stage
-unfolding edit_taken
-asked_changes asked s h = wire_changes s (later s.ahead) asked.0 asked.1 (first_choice s.ahead) h.0
-
-pub asked_rewires : (asked : List ℕ × Edit) (s : Stage) → AreLawful (edit_asked asked s).edits → ButWires s (edit_asked asked s).stage
-asked_rewires asked s h = but_wires s (edit_asked asked s).stage (asked_changes asked s h)
-
-pub edits_rewire : (waiting : Waiting) (s : Stage) → AreLawful (edits_taken waiting s).edits → ButWires s (edits_taken waiting s).stage
+-- a fact that no edit ends lasts through those that wait
+pub edits_keep : (P : Stage → Type 0) → ((s r : Stage) → Alters s r → P s → P r) → (waiting : Waiting) (s : Stage) → AreLawful (edits_taken waiting s).edits
+    → P s → P (edits_taken waiting s).stage
 unfolding edits_taken
-edits_rewire [] s h = but_none s
-edits_rewire (asked ∷ waiting) s h =
+edits_keep P each [] s h p = p
+edits_keep P each (asked ∷ waiting) s h p =
     let r : Stage = (edit_asked asked s).stage in
-    but_then s r (edits_taken waiting r).stage
-    (asked_rewires asked s (lawful_first (edit_asked asked s).edits (edits_taken waiting r).edits h))
-    (edits_rewire waiting r (lawful_second (edit_asked asked s).edits (edits_taken waiting r).edits h))
+    edits_keep P each waiting r (lawful_second (edit_asked asked s).edits (edits_taken waiting r).edits h)
+    (each s r (taken_alters (Asks asked.0 asked.1) s (lawful_first (edit_asked asked s).edits (edits_taken waiting r).edits h)) p)
 
--- but its wires, an event leaves what its deliveries leave
-pub event_rewires : (s : Stage) (b : Beginning) → AreLawful (event s b).edits → ButWires (with_kept s (delivered s b).kept) (event s b).stage
+-- what holds of two stages with one edit between them, and goes on from one to the next, holds with those that wait between them
+pub edits_lead : (R : Stage → Stage → Type 0) → ((s : Stage) → R s s) → ((s r q : Stage) → R s r → R r q → R s q) → ((s r : Stage) → Alters s r → R s r)
+    → (waiting : Waiting) (s : Stage) → AreLawful (edits_taken waiting s).edits → R s (edits_taken waiting s).stage
+edits_lead R none on each waiting s h = edits_keep (λ (r : Stage). R s r) (λ q r a k. on s q r k (each q r a)) waiting s h (none s)
+
+-- the same of an event: its deliveries come first
+pub event_keeps : (P : Stage → Type 0) → ((s r : Stage) → Alters s r → P s → P r) → (s : Stage) (b : Beginning) → AreLawful (event s b).edits
+    → P (with_kept s (delivered s b).kept) → P (event s b).stage
 unfolding event
-event_rewires s b h = let w : World Kept = delivered s b in edits_rewire w.kept.queue (with_kept s w.kept) h
+event_keeps P each s b h p = let w : World Kept = delivered s b in edits_keep P each w.kept.queue (with_kept s w.kept) h p
+
+pub event_leads : (R : Stage → Stage → Type 0) → ((s : Stage) → R s s) → ((s r q : Stage) → R s r → R r q → R s q) → ((s r : Stage) → Alters s r → R s r)
+    → (s : Stage) (b : Beginning) → AreLawful (event s b).edits → R (with_kept s (delivered s b).kept) (event s b).stage
+unfolding event
+event_leads R none on each s b h = let w : World Kept = delivered s b in edits_lead R none on each w.kept.queue (with_kept s w.kept) h
 
 -- ---- a stage of a patch
 
@@ -447,26 +451,9 @@ pub changed_stands : (asks : AsksAlike) (p : Patch) (s r : Stage) → Changes s 
 changed_stands asks p s r (inl h) at = left_stands p s r h at
 changed_stands asks p s r (inr h) at = rewired_stands asks p s r h at
 
-pub asked_stands : (asks : AsksAlike) (p : Patch) (asked : List ℕ × Edit) (s : Stage) → AreLawful (edit_asked asked s).edits → IsStageOf p s → IsStageOf p (edit_asked asked s).stage
-asked_stands asks p asked s h at = changed_stands asks p s (edit_asked asked s).stage (asked_changes asked s h) at
-
-pub edits_stand : (asks : AsksAlike) (p : Patch) (waiting : Waiting) (s : Stage) → AreLawful (edits_taken waiting s).edits → IsStageOf p s → IsStageOf p (edits_taken waiting s).stage
-unfolding edits_taken
-edits_stand asks p [] s h at = at
-edits_stand asks p (asked ∷ waiting) s h at =
-    let r : Stage = (edit_asked asked s).stage in
-    edits_stand asks p waiting r (lawful_second (edit_asked asked s).edits (edits_taken waiting r).edits h)
-    (asked_stands asks p asked s (lawful_first (edit_asked asked s).edits (edits_taken waiting r).edits h) at)
-
 -- deliveries change no part of a patch that a stage has of it
-kept_stands : (p : Patch) (s : Stage) (k : Kept) → IsStageOf p s → IsStageOf p (with_kept s k)
+pub kept_stands : (p : Patch) (s : Stage) (k : Kept) → IsStageOf p s → IsStageOf p (with_kept s k)
 kept_stands p s k at = record { web = at.web; links = at.links; orders = at.orders; net = ap (λ (n : block.Net). block.with_clocks n k.clocks) at.net; rewires = at.rewires }
-
-pub event_stands : (asks : AsksAlike) (p : Patch) (s : Stage) (b : Beginning) → AreLawful (event s b).edits → IsStageOf p s → IsStageOf p (event s b).stage
-unfolding event
-event_stands asks p s b h at =
-    let w : World Kept = delivered s b in
-    edits_stand asks p w.kept.queue (with_kept s w.kept) h (kept_stands p s w.kept at)
 
 -- ---- what no event changes
 

@@ -166,11 +166,12 @@ IsSaveLawful s (Refuses reason) = (reason ≡ why.ShelfFault) ⊎ (reason ≡ wh
 IsSaveLawful s (Lacks net) = ⊥
 IsSaveLawful s (Makes m) = IsSaved s m
 
--- what is asked for comes to this: no message puts a box yet, there are no drafts of abstractions, and nothing to undo or redo
+-- what is asked for comes to this: an edit that a message asked for comes to the same as one of a command; there are no drafts of abstractions, and
+-- nothing to undo or redo
 abbrev pub MayCome : Wanted → Stage → Choice → Type 0
 MayCome (Edits None path e) s c = IsEditLawful s path e c
 MayCome (Edits (Some document) path e) s c = c ≡ Refuses why.NoDocument
-MayCome (Asks path e) s c = IsRewiringLawful s path e c
+MayCome (Asks path e) s c = IsEditLawful s path e c
 MayCome (Saves None) s c = IsSaveLawful s c
 MayCome (Saves (Some document)) s c = c ≡ Refuses why.NoDocument
 MayCome Undoes s c = c ≡ Refuses why.NothingToUndo

@@ -18,12 +18,12 @@
 //! What an edit may come to is one definition (`IsLawful`). An edit of wires of the patch's own document is planned
 //! by what the patch is (`pd_wiring`'s `planned`), and comes to no other end than that: it is made, and then all
 //! stays but the wires with their links and orders, and a loop of its canvas is told; or it is refused for the reason
-//! of the plan; or memory was wanting. An edit of a command that puts a box comes to what `pd_putting` tells (`AddsBox`,
+//! of the plan; or memory was wanting. An edit that puts a box comes to what `pd_putting` tells (`AddsBox`,
 //! `IsNotPut`): the box comes last into its canvas, all other boxes keep what they kept, and it is told why the box
 //! could not be made, and a loop of its canvas; or it is refused for one of those reasons; or memory was wanting.
-//! Edits that messages ask for change wires alone. A save of that document puts its text under the name of its file, and nothing
-//! else changes; or it is refused for a fault of the folder or for want of memory. All other edits and saves are
-//! refused, and there is nothing to undo or redo.
+//! It makes no difference whether a command or a message asks for an edit. A save of that document puts its text under
+//! the name of its file, and nothing else changes; or it is refused for a fault of the folder or for want of memory.
+//! All other edits and saves are refused, and there is nothing to undo or redo.
 //!
 //! What code has come to is said by two relations, both of whose sides are functions of what the edits to come lead
 //! to. `Leads`: whatever more follows, the whole is these items and edits and then this rest; the sinks took the
