@@ -1,6 +1,5 @@
 -- A patch that was saved opens again.
-use Rattle.std.proofs.Common.{◌≡◌, ◌≤◌, ◌+◌, ◌-◌, ◌++◌, inl, ℕ, List, [], ◌∷◌, length, Option, Some, None, Ok, IfSome, refl, sym, ap, ◌∙◌, subst, arith, append-nil}
-use Rattle.std.specs.Prelude.{option_map}
+use Rattle.std.proofs.Common.{◌≡◌, ◌≤◌, ◌+◌, ◌-◌, inl, ℕ, List, [], ◌∷◌, length, Option, Some, None, Ok, IfSome, refl, sym, ap, ◌∙◌, subst, arith, append-nil}
 use Rattle.slab.specs.Slab.{get}
 use Rattle.pd_io.specs.declared.files.FileRow.{FileRow}
 use Rattle.pd_atom.specs.Names.{Names, Extends, IsTable}
@@ -8,8 +7,6 @@ use Rattle.pd_atom.proofs.NameLemmas.{six_names}
 use Rattle.pd_canvas.specs.Pages.{Page}
 use Rattle.pd_canvas.specs.Proper.{IsProper, AreBoxes, count_wires}
 use Rattle.pd_clock.specs.declared.times.Rate.{Rate}
-use Rattle.pd_name.specs.declared.Class.{Class}
-use Rattle.pd_name.specs.Rows.{owners_of}
 use Rattle.pd_doc.specs.Reading.{document_of}
 use Rattle.pd_doc.specs.Writing.{text_of}
 use Rattle.pd_doc.proofs.GrowLaws.{proper_grows}
@@ -19,10 +16,9 @@ use Rattle.pd_object.specs.declared.kinds.Kind.TheVariants as kind
 use Rattle.pd_object.specs.declared.kinds.Glue.{Glue}
 use Rattle.pd_object.specs.declared.kinds.Glue.TheVariants as glue
 use Rattle.pd_kind.specs.declared.states.State.{State}
-use Rattle.pd_kind.specs.Fit.{blank}
 use Rattle.pd_library.specs.Files.{answer_in}
 use Rattle.pd_library.specs.declared.answers.Answer.{Answer}
-use Rattle.pd_tree.specs.Trees.{Tree, weight, document_in, zeros_of}
+use Rattle.pd_tree.specs.Trees.{Tree, weight, document_in}
 use Rattle.pd_growth.specs.Steps.{Stock, Step, beginning, gives}
 use Rattle.pd_growth.specs.Growth.{grown}
 use Rattle.pd_gather.specs.Gather.{GoesOn, known}
@@ -43,13 +39,11 @@ use Rattle.pd_patch.specs.Sounds.{sound_of}
 use Rattle.pd_patch.specs.Wired.{IsWired}
 use Rattle.pd_patch.proofs.BuiltLemmas.{is_built}
 use Rattle.pd_wiring.proofs.BuiltLemmas.{runs_rewire}
-use Rattle.pd_adding.specs.Counts.{AreWithin}
-use Rattle.pd_adding.specs.Counted.{AreCounted}
 use Rattle.pd_hearing.specs.Worlds.{Net, net_of, states_of}
 use Rattle.pd_regrowth_law.specs.Regrowth.{stock}
 use Rattle.pd_regrowth_law.proofs.DocumentLemmas.{patch_stays}
 use Rattle.pd_regrowth_law.proofs.StepLemmas.{extends_same, gives_same, gives_stock}
-use Rattle.pd_regrowth_law.proofs.TakeLemmas.{patch_takes, patch_small}
+use Rattle.pd_regrowth_law.proofs.TakeLemmas.{patch_takes}
 use Rattle.pd_reload_law.specs.Reloading.{HasGrown, RunsAs}
 use Rattle.pd_reload_law.specs.Saving.{tree_now, AreMade}
 use Rattle.pd_reload_law.specs.Wires.{StandOnce}
@@ -79,14 +73,14 @@ use Rattle.pd_proper_law.proofs.DocumentCounts.{all_keys, document_count, dist_k
 use Rattle.pd_proper_law.proofs.LawLemmas.{tree_proper}
 use Rattle.pd_proper_law.proofs.OwnLemmas.{written_settled}
 use Rattle.pd_proper_law.proofs.SavableLemmas.{contents_save}
-use Rattle.pd_stage.specs.Choices.{Base, Wanted, Edits, Asks, Saves, Undoes, Redoes, Made, Choice, Refuses, Lacks, Makes}
-use Rattle.pd_stage.specs.Lawful.{IsSaved, StandsAt}
+use Rattle.pd_stage.specs.Choices.{Base, Wanted, Edits, Asks, Saves, Undoes, Redoes, Choice, Refuses, Lacks, Makes}
+use Rattle.pd_stage.specs.Lawful.{StandsAt}
 use Rattle.pd_stage.specs.Stages.{Stage, Taken}
 use Rattle.pd_engine.specs.Opening.{Grows, first_stage, growth_of}
 use Rattle.pd_steady.specs.Steady.{IsSteady}
-use Rattle.pd_again_law.specs.Again.{IsSamePatch, grown_alike, GrowsAgain, OpensAgain, Reopens, SavedOpensAgain, AreAgain}
+use Rattle.pd_again_law.specs.Again.{IsSamePatch, grown_alike, GrowsAgain, Reopens, SavedOpensAgain, AreAgain}
 use Rattle.pd_again_law.proofs.NumberLemmas.{HasFirstNumbers, as_opened}
-use Rattle.pd_again_law.proofs.FoundLemmas.{six_more, HasCounted, StaysProper, IsStanding, IsGood, AreFound, runs_at}
+use Rattle.pd_again_law.proofs.FoundLemmas.{six_more, HasCounted, StaysProper, IsGood, AreFound, runs_at}
 use Rattle.pd_again_law.proofs.HeldLemmas.{IsHeld, Settled, bare_kind, told, held_in}
 
 -- ---- small kinds

@@ -30,13 +30,10 @@ use Rattle.pd_wiring.specs.Plans.{Plan, Attaches, Detaches, IsCarriedOut}
 use Rattle.pd_hearing.specs.Worlds.{Net, Kept, net_of, states_of}
 use Rattle.pd_regrowth_law.proofs.StepLemmas.{extends_same}
 use Rattle.pd_regrowth_law.proofs.AgainLemmas.{library_more}
-use Rattle.pd_regrowth_law.specs.Suits.{AnswersAlike}
 use Rattle.pd_reload_law.specs.Reloading.{RunsAs}
 use Rattle.pd_putting_law.specs.Again.{StandsAgain}
 use Rattle.pd_putting_law.proofs.AgainLemmas.{stands_on}
 use Rattle.pd_boxes.specs.Put.{CanPut}
-use Rattle.pd_putting.specs.Adds.{AddsBox}
-use Rattle.pd_putting.specs.declared.adding.NewBox.{NewBox}
 use Rattle.pd_put_law.specs.Coming.{with_leaf}
 use Rattle.pd_put_law.proofs.ComeLemmas.{goes_on, known_files, box_runs, box_again}
 use Rattle.pd_put_law.proofs.OwnerLemmas.{own_more, room_own, box_owners}
@@ -53,9 +50,9 @@ use Rattle.pd_contents_law.proofs.BlockLemmas.{block_kept}
 use Rattle.pd_proper_law.specs.Saves.{IsWritten}
 use Rattle.pd_proper_law.proofs.SavableLemmas.{kinds_savable}
 use Rattle.pd_stage.specs.Choices.{Base, base_of, Wanted, Edits, Asks, Saves, Undoes, Redoes, Made, Choice, Refuses, Lacks, Makes, first_choice, later}
-use Rattle.pd_stage.specs.Lawful.{StandsAt, with_wire_count, known_at, IsMade, IsShort, IsRewiringLawful, IsPutIn, IsUnputForRoom, IsPutLawful, IsEditLawful, IsSaved, MayCome, AreLawful}
+use Rattle.pd_stage.specs.Lawful.{StandsAt, known_at, IsMade, IsShort, IsRewiringLawful, IsPutIn, IsUnputForRoom, IsPutLawful, IsEditLawful, IsSaved, MayCome}
 use Rattle.pd_stage.specs.Stages.{Stage, Taken, Passage, with_names, with_ahead, still, followed_by}
-use Rattle.pd_stage.specs.Events.{Beginning, Message, Firing, Loading, with_net, stage_by, edit_by, edit_taken, edit_asked, edits_taken, begun, delivered, with_kept, event}
+use Rattle.pd_stage.specs.Events.{Beginning, Message, Firing, Loading, with_net, stage_by, edit_taken, edit_asked, edits_taken, begun, delivered, with_kept, event}
 use Rattle.pd_stage.specs.Times.{block_units, most_fired, first_clock, next_clock, taken_off, with_taken, with_fired, fires, fires_or_not, fires_below, clocks_fire, block_net, sound_at, block_sounds, block_runs, blocks_run, time_is, comes_to, advanced, finished}
 use Rattle.pd_engine.specs.Messages.{message_in}
 use Rattle.pd_engine.specs.Commands.{commanded}
@@ -64,11 +61,11 @@ use Rattle.pd_engine.proofs.WholeLemmas.{both_on}
 use Rattle.pd_steady.specs.Runs.{own_ways, finished_by}
 use Rattle.pd_steady.specs.Steady.{IsSteady, IsCommand}
 use Rattle.pd_steady.specs.Steps.{Step, Does, Learns, Comes, AreSteps, step_by, steps_by, run_by}
-use Rattle.pd_steady.proofs.EventLemmas.{Guards, Begins, start_of, starts, outcome_is, owned_at, delivered_steady}
+use Rattle.pd_steady.proofs.EventLemmas.{Guards, Begins, start_of, starts, outcome_is, owned_at, altered_steady, delivered_steady}
 use Rattle.pd_steady.proofs.ExtendLemmas.{outcome_extends}
 use Rattle.pd_steady.proofs.FairLemmas.{IsRefusal, IsFair, AreFair, fair_first, fair_second, taken_left}
 use Rattle.pd_steady.proofs.OwnLemmas.{commanded_own, advanced_own, finished_own}
-use Rattle.pd_steady.proofs.RunLemmas.{altered_steady, named_steady}
+use Rattle.pd_steady.proofs.RunLemmas.{named_steady}
 use Rattle.pd_steady.proofs.TreeLemmas.{taken_owned}
 use Rattle.pd_steady.proofs.TimeLemmas.{below_limit, fires_end, within, below, same_end, ends_soon, steady_longer, fired_steady, timed_steady, sounds_steady}
 use Rattle.pd_again_law.proofs.NumberLemmas.{HasFirstNumbers, leaf_first, goes_behind}
@@ -357,7 +354,7 @@ module _ (library : List (ℕ × Answer)) (rate : Rate) (name : List ℕ) where
     choice_stands : (wanted : Wanted) (c : Choice) → MayCome wanted (with_ahead s []) c → IsStanding (stage_by (with_ahead s ahead) c)
     choice_stands (Edits None path e) c x = edit_stands path e c x
     choice_stands (Edits (Some document) path e) c x = none_stands c _ x
-    choice_stands (Asks path e) c x = wire_stands path e c x
+    choice_stands (Asks path e) c x = edit_stands path e c x
     choice_stands (Saves None) c x = save_stands c x
     choice_stands (Saves (Some document)) c x = none_stands c _ x
     choice_stands Undoes c x = none_stands c _ x
