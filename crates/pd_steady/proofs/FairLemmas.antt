@@ -1,14 +1,16 @@
 -- Edits that are lawful, or refused for whatever reason: what each leaves, and what an event leaves with those that messages ask for.
-use Rattle.std.proofs.Common.{◌⊎◌, inl, inr, ℕ, List, [], ◌∷◌, ◌++◌, refl}
+use Rattle.std.proofs.Common.{◌⊎◌, inl, inr, ℕ, List, [], ◌∷◌, ◌++◌, refl, sym, subst}
 use Rattle.std.specs.List.{AllByRecursion}
+use Rattle.pd_atom.specs.Names.{Extends}
 use Rattle.pd_canvas.specs.declared.edits.Edit.{Edit}
+use Rattle.pd_regrowth_law.proofs.StepLemmas.{extends_same}
 use Rattle.pd_turns.specs.Turns.{World}
 use Rattle.pd_hearing.specs.Worlds.{Kept}
 use Rattle.pd_stage.specs.Choices.{Wanted, Asks, Choice, Refuses, Lacks, Makes, first_choice, later}
 use Rattle.pd_stage.specs.Stages.{Stage, Taken, with_ahead}
 use Rattle.pd_stage.specs.Lawful.{IsLawful, AreLawful}
 use Rattle.pd_stage.specs.Events.{Beginning, with_kept, edit_by, edit_taken, edit_asked, edits_taken, delivered, event}
-use Rattle.pd_stage.proofs.EditLemmas.{Alters, taken_alters}
+use Rattle.pd_stage.proofs.EditLemmas.{but_wires, Alters, taken_alters}
 
 -- it is refused, and nothing changes
 abbrev pub IsRefusal : Choice → Type 0
@@ -49,6 +51,12 @@ either_alters wanted s (inr h) = refused_alters wanted s (first_choice s.ahead) 
 pub taken_left : (wanted : Wanted) (s : Stage) → AreFair (edit_taken wanted s).edits → Alters s (edit_taken wanted s).stage
 unfolding edit_taken
 taken_left wanted s h = either_alters wanted s h.0
+
+-- its table of names goes on
+pub altered_extends : (s r : Stage) → Alters s r → Extends s.names r.names
+altered_extends s r (inl a) = subst (λ (x : Stage). Extends s.names x.names) (sym (but_wires s r a).is) (extends_same s.names)
+altered_extends s r (inr (inl a)) = subst (λ (x : Stage). Extends s.names x.names) (sym a.is) a.put.more
+altered_extends s r (inr (inr a)) = subst (λ (x : Stage). Extends s.names x.names) (sym a.is) (extends_same s.names)
 
 -- a fact that no edit ends lasts through those that wait
 pub edits_keep : (P : Stage → Type 0) → ((s r : Stage) → Alters s r → P s → P r) → (waiting : List (List ℕ × Edit)) (s : Stage) → AreFair (edits_taken waiting s).edits
