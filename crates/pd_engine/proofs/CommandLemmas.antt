@@ -1,5 +1,6 @@
 -- Commands.
 use Rattle.std.proofs.Common.{◌≡◌, ℕ, Bool, List, ◌++◌, length, nat_lt, sym, ◌∙◌, ap, subst, Option, Result, Ok, Err, OnOk, OnErr, IfOk}
+use Rattle.std.proofs.lemmas.Result.{on_ok_weaker}
 use Rattle.pd_io.specs.Stream.{grown, TookPart}
 use Rattle.pd_io.specs.declared.files.FileRow.{FileRow}
 use Rattle.pd_atom.specs.declared.Atom.{Atom}
@@ -64,14 +65,22 @@ carried cmd o part from to x y e c is = record {
   answer = is;
 }
 
+-- it comes to something, and is done
+pub comes_carried : {E : Type 0} (r : Result Outcome E) (cmd : Command) (part : Stage → Passage) (from to : List Choice → Stage) (x y : Option (List ℕ) → Sinks)
+    → ((s : Stage) → commanded cmd s ≡ part s) → ((edits : List Taken) → answered cmd edits ≡ Done)
+    → OnOk r ((samples : Option (List ℕ)) → Comes part from to (x samples) (y samples)) → IfOk r (λ o. o ≡ Done)
+    → IfOk r (λ o. (samples : Option (List ℕ)) → IsCarriedOut cmd o from to (x samples) (y samples))
+comes_carried (Ok o) cmd part from to x y e done says is = λ samples.
+    let c : Comes part from to (x samples) (y samples) = says samples in
+    carried cmd o part from to (x samples) (y samples) e c (is ∙ sym (done c.edits))
+comes_carried (Err z) cmd part from to x y e done says is = tt
+
 -- it says lines, and is done
 pub says_carried : {E : Type 0} (r : Result Outcome E) (cmd : Command) (part : Stage → Passage) (from to : List Choice → Stage) (t t' : Option (List ℕ)) (k k' : ℕ) (h : Option (List FileRow)) (f : ℕ)
     → ((s : Stage) → commanded cmd s ≡ part s) → ((edits : List Taken) → answered cmd edits ≡ Done) → OnOk r (Says part from to t t' k k') → IfOk r (λ o. o ≡ Done)
     → IfOk r (λ o. (samples : Option (List ℕ)) → IsCarriedOut cmd o from to (sinks t samples k h f) (sinks t' samples k' h f))
-says_carried (Ok o) cmd part from to t t' k k' h f e done says is = λ samples.
-    let c : Comes part from to (sinks t samples k h f) (sinks t' samples k' h f) = says samples h f in
-    carried cmd o part from to (sinks t samples k h f) (sinks t' samples k' h f) e c (is ∙ sym (done c.edits))
-says_carried (Err x) cmd part from to t t' k k' h f e done says is = tt
+says_carried r cmd part from to t t' k k' h f e done says is =
+    comes_carried r cmd part from to (λ samples. sinks t samples k h f) (λ samples. sinks t' samples k' h f) e done (on_ok_weaker r (λ x samples. x samples h f) says) is
 
 -- it is one edit that is taken, and answers what that came to
 pub taken_carried : {E : Type 0} (r : Result Outcome E) (cmd : Command) (wanted : Wanted) (from to : List Choice → Stage) (x y : Option (List ℕ) → Sinks)
@@ -86,6 +95,10 @@ taken_carried (Err z) cmd wanted from to x y e answers so = tt
 pub if_ok_weaker : {A E : Type 0} {P Q : A → Type 0} (r : Result A E) → ((a : A) → P a → Q a) → IfOk r P → IfOk r Q
 if_ok_weaker (Ok a) f h = f a h
 if_ok_weaker (Err e) f h = tt
+
+pub if_ok_both : {A E : Type 0} (P Q : A → Type 0) (r : Result A E) → IfOk r P → IfOk r Q → IfOk r (λ a. P a × Q a)
+if_ok_both P Q (Ok a) p q = (p, q)
+if_ok_both P Q (Err e) p q = tt
 
 -- a part broke off
 pub part_stops : {A E : Type 0} (r : Result A E) (cmd : Command) (part : Stage → Passage) (from : List Choice → Stage) (t t' : Option (List ℕ)) (k k' : ℕ) (h : Option (List FileRow)) (f : ℕ)

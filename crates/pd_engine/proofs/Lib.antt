@@ -1,6 +1,7 @@
 pub mod BlockLemmas
 pub mod ClockLemmas
 pub mod CommandLemmas
+pub mod AskedLemmas
 pub mod EventLemmas
 pub mod MakingLemmas
 pub mod OpeningLemmas

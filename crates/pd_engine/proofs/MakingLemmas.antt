@@ -43,7 +43,7 @@ use Rattle.pd_hearing.specs.Worlds.{net_of, states_of}
 use Rattle.pd_stage.specs.Choices.{Base, base_of, Wanted, Edits, Asks, Saves, Undoes, Redoes, Made, Choice, text_of_choice, looks_of_choice, faults_of_choice, faults_of_why, request_of}
 use Rattle.pd_stage.specs.Choices as stage
 use Rattle.pd_stage.specs.Stages.{Stage, Passage, still, with_ahead, after}
-use Rattle.pd_stage.specs.Lawful.{why_of, StandsAt, with_wire_count, IsMade, IsRewiringLawful, IsPutIn, IsPutLawful, MayCome}
+use Rattle.pd_stage.specs.Lawful.{why_of, StandsAt, with_wire_count, IsMade, IsRewiringLawful, IsPutIn, IsPutLawful, IsEditLawful, MayCome}
 use Rattle.pd_stage.specs.Lines.{loops_text, put_text}
 use Rattle.pd_stage.specs.Leads.{Sinks, sinks, Took, Comes, Stops, Says, SaysPart}
 use Rattle.pd_stage.specs.Events.{edit_taken, stage_by, files_put, with_net}
@@ -51,7 +51,7 @@ use Rattle.pd_stage.proofs.EditLemmas.{taken_at, took_looks, edit_logged_by, edi
 use Rattle.pd_engine.specs.declared.refusals.Outcome.{Outcome}
 use Rattle.pd_engine.specs.declared.refusals.Outcome.TheVariants.{Done}
 use Rattle.pd_engine.specs.Commands.{outcome_of, refused_as, first_outcome}
-use Rattle.pd_engine.specs.Edits.{Makes, Lacks, Refuses, EditsTo, edit_text, edit_outcome, IsTakenSo, IsAlwaysRefused}
+use Rattle.pd_engine.specs.Edits.{Makes, Lacks, Refuses, EditsTo, edit_text, edit_outcome, IsTakenSo, IsOwn, IsAlwaysRefused}
 use mathlib.Core.Logic.{∥∥₁_map}
 use Rattle.pd_adding.specs.declared.counts.Counts.{Counts}
 use Rattle.pd_adding.specs.Counts.{AreWithin}
@@ -217,7 +217,7 @@ unmade s path e (stage.Refuses reason) none h =
 unmade s path e (stage.Lacks net) none h = absurd (no_edit refusal.NoDocument h.plan (sym (none h.old) ∙ h.is_planned))
 unmade s path e (stage.Makes m) none h = absurd (no_edit refusal.NoDocument h.rewired.plan (sym (none h.old) ∙ h.rewired.is_planned))
 
-pub edit_may : (s : Stage) (path : List ℕ) (e : Edit) (c : Choice) → puts_box e ≡ false → IsRewiringLawful s path e c → MayCome (Edits None path e) s c
+edit_may : (s : Stage) (path : List ℕ) (e : Edit) (c : Choice) → puts_box e ≡ false → IsRewiringLawful s path e c → IsEditLawful s path e c
 edit_may s path (edit.Connect v) c none h = h
 edit_may s path (edit.Disconnect v) c none h = h
 edit_may s path (edit.Delete n) c none h = unmade s path (edit.Delete n) c (λ p. refl) h
@@ -229,6 +229,43 @@ edit_may s path (edit.Comment x y text) c none h = cc
 edit_may s path (edit.FloatBox x y text) c none h = cc
 edit_may s path (edit.SymbolBox x y text) c none h = cc
 edit_may s path (edit.Sub x y name) c none h = cc
+
+-- where the edit puts a box, what may come is what may come of that
+put_may : (s : Stage) (path : List ℕ) (e : Edit) (c : Choice) → puts_box e ≡ true → IsPutLawful s path e c → IsEditLawful s path e c
+put_may s path (edit.Connect v) c one h = cc
+put_may s path (edit.Disconnect v) c one h = cc
+put_may s path (edit.Delete n) c one h = cc
+put_may s path (edit.Retype n text) c one h = cc
+put_may s path (edit.Move n x y) c one h = cc
+put_may s path (edit.Obj x y text) c one h = h
+put_may s path (edit.Msg x y text) c one h = h
+put_may s path (edit.Comment x y text) c one h = h
+put_may s path (edit.FloatBox x y text) c one h = h
+put_may s path (edit.SymbolBox x y text) c one h = h
+put_may s path (edit.Sub x y name) c one h = h
+
+-- it makes no difference whether a command or a message asks for it
+own_may : (wanted : Wanted) (s : Stage) (path : List ℕ) (e : Edit) (c : Choice) → IsOwn wanted path e → IsEditLawful s path e c → MayCome wanted s c
+own_may wanted s path e c (inl is) h = subst (λ (w : Wanted). MayCome w s c) (sym is) h
+own_may wanted s path e c (inr is) h = subst (λ (w : Wanted). MayCome w s c) (sym is) h
+
+own_request : (wanted : Wanted) (path : List ℕ) (e : Edit) → IsOwn wanted path e → request_of wanted ≡ request.Edit
+own_request wanted path e (inl is) = ap request_of is
+own_request wanted path e (inr is) = ap request_of is
+
+-- a wire edit puts no box
+pub wire_puts_none : (e f : Edit) → wire_edit e ≡ Some f → puts_box e ≡ false
+wire_puts_none (edit.Connect v) f some = refl
+wire_puts_none (edit.Disconnect v) f some = refl
+wire_puts_none (edit.Delete n) f some = refl
+wire_puts_none (edit.Retype n text) f some = refl
+wire_puts_none (edit.Move n x y) f some = refl
+wire_puts_none (edit.Obj x y text) f some = cc
+wire_puts_none (edit.Msg x y text) f some = cc
+wire_puts_none (edit.Comment x y text) f some = cc
+wire_puts_none (edit.FloatBox x y text) f some = cc
+wire_puts_none (edit.SymbolBox x y text) f some = cc
+wire_puts_none (edit.Sub x y name) f some = cc
 
 pub outcome_by : (c : EditRefusal) → refused_as (why_of c) ≡ edit_outcome (Err c)
 outcome_by refusal.NoDocument = refl
@@ -251,11 +288,16 @@ pub record IsWireEdit (wanted : Wanted) (path : List ℕ) (e : Edit) : Type 0 wh
   pub may : (s : Stage) (c : Choice) → IsRewiringLawful s path e c → MayCome wanted s c
   pub request : request_of wanted ≡ request.Edit
 
-pub asks : (path : List ℕ) (e : Edit) → IsWireEdit (Asks path e) path e
-asks path e = record { may = λ s c h. h; request = refl }
+pub own_wire : (wanted : Wanted) (path : List ℕ) (e : Edit) → IsOwn wanted path e → puts_box e ≡ false → IsWireEdit wanted path e
+own_wire wanted path e own none = record { may = λ s c h. own_may wanted s path e c own (edit_may s path e c none h); request = own_request wanted path e own }
 
-pub edits : (path : List ℕ) (e : Edit) → puts_box e ≡ false → IsWireEdit (Edits None path e) path e
-edits path e none = record { may = λ s c h. edit_may s path e c none h; request = refl }
+-- an edit that puts a box, and which is told as an edit
+pub record IsBoxEdit (wanted : Wanted) (path : List ℕ) (e : Edit) : Type 0 where
+  pub may : (s : Stage) (c : Choice) → IsPutLawful s path e c → MayCome wanted s c
+  pub request : request_of wanted ≡ request.Edit
+
+pub own_box : (wanted : Wanted) (path : List ℕ) (e : Edit) → IsOwn wanted path e → puts_box e ≡ true → IsBoxEdit wanted path e
+own_box wanted path e own one = record { may = λ s c h. own_may wanted s path e c own (put_may s path e c one h); request = own_request wanted path e own }
 
 module _ (wanted : Wanted) (path : List ℕ) (e : Edit) (is : IsWireEdit wanted path e) (file : List ℕ) (names : Names) (base : Base) (time block_end fired : ℕ) (tally : Tally)
     (old new : Patch) (wires : ℕ) (was : base.counts.wires ≡ wires_told old.web) (now_is : wires ≡ wires_told new.web) where
@@ -486,25 +528,11 @@ always_told wanted reason s o looks h is = record {
 
 -- ---- a box that an edit puts
 
--- where the edit puts a box, what may come is what may come of that
-pub put_may : (s : Stage) (path : List ℕ) (e : Edit) (c : Choice) → puts_box e ≡ true → IsPutLawful s path e c → MayCome (Edits None path e) s c
-put_may s path (edit.Connect v) c one h = cc
-put_may s path (edit.Disconnect v) c one h = cc
-put_may s path (edit.Delete n) c one h = cc
-put_may s path (edit.Retype n text) c one h = cc
-put_may s path (edit.Move n x y) c one h = cc
-put_may s path (edit.Obj x y text) c one h = h
-put_may s path (edit.Msg x y text) c one h = h
-put_may s path (edit.Comment x y text) c one h = h
-put_may s path (edit.FloatBox x y text) c one h = h
-put_may s path (edit.SymbolBox x y text) c one h = h
-put_may s path (edit.Sub x y name) c one h = h
-
 -- a box more leaves the clocks of messages
 pub put_clocks : (p q : Patch) (a : Added) (now key : ℕ) → IsBoxPut p q now a key → q.timers.clocks.clocks ≡ p.timers.clocks.clocks
 put_clocks p q a now key b = ap (λ x. x.clocks.clocks) b.put.comes.clocks ∙ b.room.clocks
 
-module _ (path : List ℕ) (e : Edit) (one : puts_box e ≡ true) (file : List ℕ) (names : Names) (files : List (ℕ × Answer)) (counts : Counts) (time block_end fired : ℕ) (tally : Tally) (old new : Patch) where
+module _ (wanted : Wanted) (path : List ℕ) (e : Edit) (is : IsBoxEdit wanted path e) (file : List ℕ) (names : Names) (files : List (ℕ × Answer)) (counts : Counts) (time block_end fired : ℕ) (tally : Tally) (old new : Patch) where
   abbrev before : List Choice → Stage
   before = stage_with file old names (base_of files counts) time block_end fired tally
 
@@ -546,38 +574,41 @@ module _ (path : List ℕ) (e : Edit) (one : puts_box e ≡ true) (file : List �
       looks = refl;
     }
 
-    abbrev pub put_came : Came (Edits None path e) (before []) (stage_with file new more (base_of learned b.counts) time block_end fired tally) (put_text more new b.key b.canvas) Done
+    abbrev pub put_came : Came wanted (before []) (stage_with file new more (base_of learned b.counts) time block_end fired tally) (put_text more new b.key b.canvas) Done
     put_came = record {
       choice = stage.Makes put_made;
-      may = put_may (before []) path e (stage.Makes put_made) one put_is;
+      may = is.may (before []) (stage.Makes put_made) put_is;
       text_is = refl;
       stage = λ m. ap (λ (c : List Clock). record (stage_with file new more (base_of learned b.counts) time block_end fired tally m) { clocks = c }) (sym (put_clocks old new d.added time b.key d.put));
       answer = refl;
     }
 
   -- it was refused
+  pub request_is : (c : EditRefusal) → refusal_text (request_of wanted) (why_of c) ≡ refusal_text request.Edit (why_of c)
+  request_is c = ap (λ (r : Request). refusal_text r (why_of c)) is.request
+
   pub room_clocks : RoomSet old new → (m : List Choice) → with_net (before m) (net_of new) ≡ stage_with file new names (base_of files counts) time block_end fired tally m
   room_clocks room m =
       ap (λ (f : ℕ → Option State). record (with_net (before m) (net_of new)) { states = f }) (λ i k. state_in (sym (room.grove.nodes k) i))
       ∙ ap (λ (c : List Clock). record (stage_with file new names (base_of files counts) time block_end fired tally m) { clocks = c }) (sym room.clocks)
 
   abbrev pub refused_came : (cause : EditRefusal) → CanPut old → new ≡ old → IsNotPut old counts file path e (known files names) cause
-      → Came (Edits None path e) (before []) (stage_with file new names (base_of files counts) time block_end fired tally) (refusal_text request.Edit (why_of cause)) (edit_outcome (Err cause))
+      → Came wanted (before []) (stage_with file new names (base_of files counts) time block_end fired tally) (refusal_text request.Edit (why_of cause)) (edit_outcome (Err cause))
   refused_came cause puts same d = record {
     choice = stage.Refuses (why_of cause);
-    may = put_may (before []) path e (stage.Refuses (why_of cause)) one (record { patch = old; cause = cause; stands = stands_before puts; refused = d; reason_is = refl });
-    text_is = refl;
+    may = is.may (before []) (stage.Refuses (why_of cause)) (record { patch = old; cause = cause; stands = stands_before puts; refused = d; reason_is = refl });
+    text_is = request_is cause;
     stage = λ m. ap (λ (p : Patch). stage_with file p names (base_of files counts) time block_end fired tally m) (sym same);
     answer = outcome_by cause;
   }
 
   -- memory was wanting to put it
   abbrev pub short_came : (cause : EditRefusal) → CanPut old → cause ≡ refusal.NoMemory → IsShortOfRoom old new counts file path e (known files names)
-      → Came (Edits None path e) (before []) (stage_with file new names (base_of files counts) time block_end fired tally) (refusal_text request.Edit (why_of cause)) (edit_outcome (Err cause))
+      → Came wanted (before []) (stage_with file new names (base_of files counts) time block_end fired tally) (refusal_text request.Edit (why_of cause)) (edit_outcome (Err cause))
   short_came cause puts short d = record {
     choice = stage.Lacks (net_of new);
-    may = put_may (before []) path e (stage.Lacks (net_of new)) one (record { old = old; new = new; stands = stands_before puts; short = d; net_is = refl });
-    text_is = ap (λ (c : EditRefusal). refusal_text request.Edit (why_of c)) (sym short);
+    may = is.may (before []) (stage.Lacks (net_of new)) (record { old = old; new = new; stands = stands_before puts; short = d; net_is = refl });
+    text_is = ap (λ (c : EditRefusal). refusal_text (request_of wanted) (why_of c)) (sym short) ∙ request_is cause;
     stage = λ m. room_clocks d.room m;
     answer = ap (λ (c : EditRefusal). edit_outcome (Err c)) (sym short);
   }

@@ -1,7 +1,7 @@
 -- How files are read, documents refused, and patches opened.
 use Rattle.std.proofs.Common.{◌≡◌, arith, ℕ, Bool, true, false, List, [], length, nat_le, refl, sym, ◌∙◌, ap, subst, Option, Some, None, Result, Ok, Err, IfSome, IfOk, IfErr, OnErr, inl, inr, if◌then◌else◌}
 use Rattle.std.specs.Prelude.{◌≤◌, IsErrAnd}
-use Rattle.pd_io.specs.Rows.{held_at, answer_of, handed_out}
+use Rattle.pd_io.specs.Rows.{held_at, answer_of, handed_out, KeptOrUntold}
 use Rattle.pd_io.specs.Stream.{TookPart, grown as lines_grown}
 use Rattle.pd_io.specs.declared.files.FileRow.{FileRow}
 use Rattle.pd_io.specs.declared.shelves.Fetched.{Fetched}
@@ -35,12 +35,11 @@ use Rattle.pd_grove.specs.TextOrder.{keys_in_order}
 use Rattle.pd_engine.specs.declared.engine.Engine.{Engine}
 use Rattle.pd_engine.specs.declared.refusals.OpenRefusal.{OpenRefusal}
 use Rattle.pd_engine.specs.declared.refusals.OpenRefusal.TheVariants.{Absent, Bad, ShelfFault, WriteFault, NoMemory}
-use Rattle.pd_engine.specs.Causes.{HasOpeningCauses}
 use Rattle.pd_engine.specs.Refusals.{unread, ungathered, ungrown}
 use Rattle.pd_stage.specs.Choices.{Base, Choice}
-use Rattle.pd_stage.specs.Items.{Item}
-use Rattle.pd_stage.specs.Stages.{Stage, Taken, Passage, still, saying}
-use Rattle.pd_stage.specs.Leads.{sinks, Took, Comes, Stops, Says, SaysPart}
+use Rattle.pd_stage.specs.Items.{Item, held_after}
+use Rattle.pd_stage.specs.Stages.{Stage, Taken, faults_of, Passage, still, saying}
+use Rattle.pd_stage.specs.Leads.{RoseBy, Sinks, sinks, Took, Comes, Stops}
 use Rattle.pd_engine.specs.Stages.{stage_at}
 use Rattle.pd_stage.specs.Events.{event, Loading}
 use Rattle.pd_stage.specs.Times.{block_units}
@@ -125,66 +124,83 @@ begins_at file p names base time end tally zero one none =
     ap (λ (t : ℕ). stage_with file p names base t end 0 tally) zero ∙ ap (λ (t : ℕ). stage_with file p names base 0 t 0 tally) one ∙ ap (λ (t : Tally). stage_with file p names base 0 block_units 0 t) none
 
 -- nobody reads how many looks there were
-took_unlooked : (t t' u : Option (List ℕ)) (k k' n : ℕ) (h : Option (List FileRow)) (f : ℕ) (items : List Item) (edits : List Taken) → Took (sinks t u k h f) (sinks t' u k' h f) items edits
-    → Took (sinks t u n h f) (sinks t' u n h f) items edits
-took_unlooked t t' u k k' n h f items edits a =
+took_unlooked : (t t' u : Option (List ℕ)) (k k' n : ℕ) (h h' : Option (List FileRow)) (f f' : ℕ) (items : List Item) (edits : List Taken) → Took (sinks t u k h f) (sinks t' u k' h' f') items edits
+    → Took (sinks t u n h f) (sinks t' u n h' f') items edits
+took_unlooked t t' u k k' n h h' f f' items edits a =
     record { lines_are = a.lines_are; samples_are = a.samples_are; few_looks = omega arith; held_are = a.held_are; few_faults = a.few_faults }
 
-pub says_unlooked : (part : Stage → Passage) (from to : List Choice → Stage) (t t' : Option (List ℕ)) (k k' : ℕ) → Says part from to t t' k k' → (n : ℕ) → Says part from to t t' n n
-says_unlooked part from to t t' k k' says n = λ samples held faults.
-    let a : Comes part from to (sinks t samples k held faults) (sinks t' samples k' held faults) = says samples held faults in
-    record { items = a.items; edits = a.edits; same = a.same; took = took_unlooked t t' samples k k' n held faults a.items a.edits a.took; lawful = a.lawful }
+module _ (t t' u : Option (List ℕ)) (k k' n : ℕ) (h h' : Option (List FileRow)) (f f' : ℕ) where
+  pub comes_unlooked : (part : Stage → Passage) (from to : List Choice → Stage) → Comes part from to (sinks t u k h f) (sinks t' u k' h' f') → Comes part from to (sinks t u n h f) (sinks t' u n h' f')
+  comes_unlooked part from to a =
+      record { items = a.items; edits = a.edits; same = a.same; took = took_unlooked t t' u k k' n h h' f f' a.items a.edits a.took; lawful = a.lawful }
 
-pub part_unlooked : (part : Stage → Passage) (from : List Choice → Stage) (t t' : Option (List ℕ)) (k k' : ℕ) → SaysPart part from t t' k k' → (n : ℕ) → SaysPart part from t t' n n
-part_unlooked part from t t' k k' says n = λ samples held faults.
-    let a : Stops part from (sinks t samples k held faults) (sinks t' samples k' held faults) = says samples held faults in
-    record { items = a.items; edits = a.edits; begins = a.begins; took = took_unlooked t t' samples k k' n held faults a.items a.edits a.took; lawful = a.lawful }
+  pub stops_unlooked : (part : Stage → Passage) (from : List Choice → Stage) → Stops part from (sinks t u k h f) (sinks t' u k' h' f') → Stops part from (sinks t u n h f) (sinks t' u n h' f')
+  stops_unlooked part from a =
+      record { items = a.items; edits = a.edits; begins = a.begins; took = took_unlooked t t' u k k' n h h' f f' a.items a.edits a.took; lawful = a.lawful }
 
 -- lines are said, and then boxes are loaded
-module _ (s s₂ : List Choice → Stage) (text boxes told : List ℕ) (t₁ t₂ t₃ u : Option (List ℕ)) (k : ℕ) (h : Option (List FileRow)) (f : ℕ) where
+module _ (s s₂ : List Choice → Stage) (text boxes told : List ℕ) (t₁ t₂ u : Option (List ℕ)) (k : ℕ) (h : Option (List FileRow)) (f : ℕ) where
   abbrev loads : Stage → Passage
   loads x = event x (Loading boxes)
 
-  module _ (is : t₂ ≡ lines_grown t₁ text) (same : told ≡ boxes) where
-    pub loads_after : Comes (λ x. event x (Loading told)) s s₂ (sinks t₂ u k h f) (sinks t₃ u k h f) → Comes (λ x. loaded x text boxes) s s₂ (sinks t₁ u k h f) (sinks t₃ u k h f)
+  module _ (z : Sinks) (is : t₂ ≡ lines_grown t₁ text) (same : told ≡ boxes) where
+    pub loads_after : Comes (λ x. event x (Loading told)) s s₂ (sinks t₂ u k h f) z → Comes (λ x. loaded x text boxes) s s₂ (sinks t₁ u k h f) z
     loads_after c =
-        comes_then (λ x. saying x text) loads s s s₂ (sinks t₁ u k h f) (sinks t₂ u k h f) (sinks t₃ u k h f) (written_leads s text t₁ t₂ u k h f is)
-        (subst (λ (b : List ℕ). Comes (λ x. event x (Loading b)) s s₂ (sinks t₂ u k h f) (sinks t₃ u k h f)) same c)
+        comes_then (λ x. saying x text) loads s s s₂ (sinks t₁ u k h f) (sinks t₂ u k h f) z (written_leads s text t₁ t₂ u k h f is)
+        (subst (λ (b : List ℕ). Comes (λ x. event x (Loading b)) s s₂ (sinks t₂ u k h f) z) same c)
 
-    pub loads_torn : Stops (λ x. event x (Loading told)) s (sinks t₂ u k h f) (sinks t₃ u k h f) → Stops (λ x. loaded x text boxes) s (sinks t₁ u k h f) (sinks t₃ u k h f)
+    pub loads_torn : Stops (λ x. event x (Loading told)) s (sinks t₂ u k h f) z → Stops (λ x. loaded x text boxes) s (sinks t₁ u k h f) z
     loads_torn c =
-        stops_then (λ x. saying x text) loads s s (sinks t₁ u k h f) (sinks t₂ u k h f) (sinks t₃ u k h f) (written_leads s text t₁ t₂ u k h f is)
-        (subst (λ (b : List ℕ). Stops (λ x. event x (Loading b)) s (sinks t₂ u k h f) (sinks t₃ u k h f)) same c)
+        stops_then (λ x. saying x text) loads s s (sinks t₁ u k h f) (sinks t₂ u k h f) z (written_leads s text t₁ t₂ u k h f is)
+        (subst (λ (b : List ℕ). Stops (λ x. event x (Loading b)) s (sinks t₂ u k h f) z) same c)
 
   pub loads_broken : TookPart t₁ t₂ text → Stops (λ x. loaded x text boxes) s (sinks t₁ u k h f) (sinks t₂ u k h f)
   loads_broken took = stops_first (λ x. saying x text) loads s (sinks t₁ u k h f) (sinks t₂ u k h f) (written_breaks s text t₁ t₂ u k h f took)
 
+-- a count that rose from a greater number rose from a smaller one
+rose_from : (n x y z : ℕ) → x ≤ y → RoseBy n y z → RoseBy n x z
+rose_from n x y z low (inl k) = inl (omega (arith, low, k))
+rose_from n x y z low (inr k) = inr k
+
 -- a patch that has grown opens
 module _ (holds : Option (List FileRow)) (name : List ℕ) (rate : Rate) (d : Page) (names : Names) (p : Patch) (table : Names) (base : Base) (remarks : List Remark) (boxes : List ℕ)
-    (t t' : Option (List ℕ)) (grows : Grows holds name rate d names p table base) (notes : remarks ≡ notices_in p.grove p.web p.orders.items)
+    (t t' : Option (List ℕ)) (h h' : Option (List FileRow)) (f g f' : ℕ) (same_folder : h ≡ holds) (still_same : h' ≡ h) (counted : f ≤ g)
+    (grows : Grows holds name rate d names p table base) (notes : remarks ≡ notices_in p.grove p.web p.orders.items)
     (loads : boxes ≡ loads_among p.grove (keys_in_order p.grove)) where
   same : (s : Stage) → loaded s (remarks_text table p remarks) boxes ≡ opening p table s
   same s =
       ap (λ (x : List Remark). loaded s (remarks_text table p x) boxes) notes
       ∙ ap (λ (x : List ℕ). loaded s (remarks_text table p (notices_in p.grove p.web p.orders.items)) x) loads
 
-  pub opens_so : (r : Result Engine OpenRefusal) → IfOk r (λ e. e.library ≡ grows.files.files)
-      → IfOk r (λ e. (looks : ℕ) → Says (λ s. loaded s (remarks_text table p remarks) boxes) (first_stage name p table base) (stage_at e) t t' looks looks)
-      → IfOk r (λ e. Opens holds name rate d names e.library (stage_at e) t t')
-  opens_so (Ok e) keeps says = record {
+  took_all : (samples : Option (List ℕ)) (looks : ℕ) (items : List Item) (edits : List Taken) → Took (sinks t samples looks h g) (sinks t' samples looks h' f') items edits
+      → Took (sinks t samples looks holds f) (sinks t' samples looks holds f') items edits
+  took_all samples looks items edits a = record {
+    lines_are = a.lines_are;
+    samples_are = a.samples_are;
+    few_looks = a.few_looks;
+    held_are = subst (λ (o : Option (List FileRow)). KeptOrUntold (held_after items o) o) same_folder (subst (λ (o : Option (List FileRow)). KeptOrUntold (held_after items h) o) still_same a.held_are);
+    few_faults = rose_from (faults_of edits) f g f' counted a.few_faults;
+  }
+
+  pub opens_so : (r : Result Engine OpenRefusal)
+      → IfOk r (λ e. (looks : ℕ) (samples : Option (List ℕ)) → Comes (λ s. loaded s (remarks_text table p remarks) boxes) (first_stage name p table base) (stage_at e) (sinks t samples looks h g) (sinks t' samples looks h' f'))
+      → IfOk r (λ e. Opens holds name rate d names (stage_at e) t t' f f')
+  opens_so (Ok e) says = record {
     patch = p;
     table = table;
     base = base;
     grows = grows;
-    keeps = keeps;
-    says = λ looks samples held faults. leads_same (λ m. loaded (first_stage name p table base m) (remarks_text table p remarks) boxes) (λ m. opening p table (first_stage name p table base m)) (λ m. still (stage_at e m)) _ _
-        (λ m. sym (same (first_stage name p table base m))) (says looks samples held faults);
+    says = λ looks samples.
+        let a : Comes (λ s. loaded s (remarks_text table p remarks) boxes) (first_stage name p table base) (stage_at e) (sinks t samples looks h g) (sinks t' samples looks h' f') = says looks samples in
+        leads_same (λ m. loaded (first_stage name p table base m) (remarks_text table p remarks) boxes) (λ m. opening p table (first_stage name p table base m)) (λ m. still (stage_at e m)) _ _
+        (λ m. sym (same (first_stage name p table base m)))
+        (record { items = a.items; edits = a.edits; same = a.same; took = took_all samples looks a.items a.edits a.took; lawful = a.lawful });
   }
-  opens_so (Err e) keeps says = tt
+  opens_so (Err e) says = tt
 
   pub breaks_so : (r : Result Engine OpenRefusal)
-      → OnErr r ((looks : ℕ) → SaysPart (λ s. loaded s (remarks_text table p remarks) boxes) (first_stage name p table base) t t' looks looks)
-      → IfErr r (λ e. e ≡ WriteFault) → IfErr r (IsRefused holds name rate d names t t')
+      → OnErr r ((looks : ℕ) (samples : Option (List ℕ)) → Stops (λ s. loaded s (remarks_text table p remarks) boxes) (first_stage name p table base) (sinks t samples looks h g) (sinks t' samples looks h' f'))
+      → IfErr r (λ e. e ≡ WriteFault) → IfErr r (IsRefused holds name rate d names t t' f f')
   breaks_so (Ok e) took is = tt
   breaks_so (Err e) took is =
       inr (inr (record {
@@ -192,17 +208,15 @@ module _ (holds : Option (List FileRow)) (name : List ℕ) (rate : Rate) (d : Pa
         table = table;
         base = base;
         grows = grows;
-        took = λ looks samples held faults. broke_same (λ m. loaded (first_stage name p table base m) (remarks_text table p remarks) boxes) (λ m. opening p table (first_stage name p table base m)) _ _
-            (λ m. sym (same (first_stage name p table base m))) (took looks samples held faults);
+        took = λ looks samples.
+            let a : Stops (λ s. loaded s (remarks_text table p remarks) boxes) (first_stage name p table base) (sinks t samples looks h g) (sinks t' samples looks h' f') = took looks samples in
+            broke_same (λ m. loaded (first_stage name p table base m) (remarks_text table p remarks) boxes) (λ m. opening p table (first_stage name p table base m)) _ _
+            (λ m. sym (same (first_stage name p table base m)))
+            (record { items = a.items; edits = a.edits; begins = a.begins; took = took_all samples looks a.items a.edits a.took; lawful = a.lawful });
         is = is;
       }))
 
 -- memory was wanting
-pub short_refused : (holds : Option (List FileRow)) (name : List ℕ) (rate : Rate) (d : Page) (names : Names) (t t' : Option (List ℕ)) (r : Result Engine OpenRefusal)
-    → IsErrAnd r (λ e. e ≡ NoMemory) → IfErr r (IsRefused holds name rate d names t t')
-short_refused holds name rate d names t t' (Ok e) h = absurd h
-short_refused holds name rate d names t t' (Err e) h = inl (subst (λ (x : OpenRefusal). IsUngathered holds name d names x) (sym h) tt)
-
-pub short_causes : (folder folder' lines : ℕ) (r : Result Engine OpenRefusal) → IsErrAnd r (λ e. e ≡ NoMemory) → folder ≤ folder' → HasOpeningCauses folder folder' lines lines r
-short_causes folder folder' lines (Ok e) h le = absurd h
-short_causes folder folder' lines (Err e) h le = record { shelf = λ k. cc; write = λ k. cc; folder_counted = le; lines_counted = omega arith }
+pub short_ungrown : {T : Type 0} (s : Step Tree) (rate : Rate) (r : Result T OpenRefusal) → IsErrAnd r (λ e. e ≡ NoMemory) → IfErr r (IsUngrown s rate)
+short_ungrown s rate (Ok e) h = absurd h
+short_ungrown s rate (Err e) h = subst (λ (x : OpenRefusal). IsUngrown s rate x) (sym h) tt

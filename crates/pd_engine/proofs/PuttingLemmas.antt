@@ -1,5 +1,5 @@
 -- What is told of a box that an edit puts, or of why none is put.
-use Rattle.std.proofs.Common.{◌≡◌, ◌≤◌, ◌+◌, arith, true, ℕ, List, [], ◌∷◌, refl, sym, ◌∙◌, ap, subst, inl, inr, Option, None, Result, Err, OnErr, OnOk, IfOk}
+use Rattle.std.proofs.Common.{◌≡◌, ◌≤◌, ◌+◌, arith, true, ℕ, List, [], ◌∷◌, refl, sym, ◌∙◌, ap, subst, inl, inr, Option, Result, Ok, Err, OnErr, OnOk, IfOk}
 use Rattle.std.proofs.lemmas.Result.{on_err_weaker}
 use Rattle.pd_io.specs.Faults.{Rose}
 use Rattle.pd_io.specs.Rows.{KeptOrUntold}
@@ -22,19 +22,19 @@ use Rattle.pd_gather.specs.Gather.{known}
 use Rattle.pd_putting.specs.Adds.{AddsBox, IsNotAdded}
 use Rattle.pd_putting.specs.declared.adding.NewBox.{NewBox}
 use Rattle.pd_hearing.specs.Worlds.{net_of}
-use Rattle.pd_stage.specs.Choices.{base_of, Wanted, Edits, Choice, Refuses, Lacks}
+use Rattle.pd_stage.specs.Choices.{base_of, Wanted, Asks, Choice, Refuses, Lacks}
 use Rattle.pd_stage.specs.Stages.{Stage, faults_of}
 use Rattle.pd_stage.specs.Lawful.{why_of}
 use Rattle.pd_stage.specs.Lines.{put_text}
-use Rattle.pd_stage.specs.Leads.{RoseBy, sinks, Took, Stops}
+use Rattle.pd_stage.specs.Leads.{RoseBy, Sinks, sinks, Took, Comes, Stops}
 use Rattle.pd_stage.specs.Events.{edit_taken, files_put}
 use Rattle.pd_stage.proofs.EditLemmas.{taken_at}
 use Rattle.pd_stage.proofs.ItemLemmas.{no_lines, no_samples, held-none}
 use Rattle.pd_engine.specs.declared.refusals.Outcome.{Outcome}
 use Rattle.pd_engine.specs.declared.refusals.Outcome.TheVariants.{Done}
-use Rattle.pd_engine.specs.Edits.{edit_outcome, IsTakenSo}
+use Rattle.pd_engine.specs.Edits.{edit_outcome, IsTakenSo, IsOwn}
 use Rattle.pd_engine.proofs.ClockLemmas.{stage_with}
-use Rattle.pd_engine.proofs.MakingLemmas.{Came, came_so, came_part, both_ok, put_came, refused_came, short_came}
+use Rattle.pd_engine.proofs.MakingLemmas.{IsBoxEdit, own_box, Came, came_so, came_part, both_ok, put_came, refused_came, short_came}
 
 -- want of memory is no fault of the folder
 pub no_fault : refusal.NoMemory ≡ refusal.ShelfFault → ⊥
@@ -74,7 +74,7 @@ refusal_rose wanted s refusal.TooManyWires f f' rose low = inl (omega (arith, lo
 refusal_rose wanted s refusal.TooMuchSound f f' rose low = inl (omega (arith, low))
 refusal_rose wanted s refusal.NoMemory f f' rose low = inl (omega (arith, low))
 
-module _ (path : List ℕ) (e : Edit) (one : puts_box e ≡ true) (file : List ℕ) (names : Names) (files : List (ℕ × Answer)) (counts : Counts) (time block_end fired : ℕ) (tally : Tally) (old new : Patch)
+module _ (wanted : Wanted) (path : List ℕ) (e : Edit) (one : IsBoxEdit wanted path e) (file : List ℕ) (names : Names) (files : List (ℕ × Answer)) (counts : Counts) (time block_end fired : ℕ) (tally : Tally) (old new : Patch)
     (puts : CanPut old) (t u : Option (List ℕ)) (k : ℕ) (h h' : Option (List FileRow)) (f f' : ℕ) (same : h' ≡ h) (low : f ≤ f') where
   abbrev from : List Choice → Stage
   from = stage_with file old names (base_of files counts) time block_end fired tally
@@ -85,17 +85,17 @@ module _ (path : List ℕ) (e : Edit) (one : puts_box e ≡ true) (file : List �
     abbrev to : List Choice → Stage
     to = stage_with file new more (base_of learned b.counts) time block_end fired tally
 
-    abbrev came : Came (Edits None path e) (from []) to (put_text more new b.key b.canvas) Done
-    came = put_came path e one file names files counts time block_end fired tally old new more learned b puts d onward within
+    abbrev came : Came wanted (from []) to (put_text more new b.key b.canvas) Done
+    came = put_came wanted path e one file names files counts time block_end fired tally old new more learned b puts d onward within
 
-    took : Took (sinks t u k h f) (sinks t u k h' f') (files_put came.choice) (taken_at (Edits None path e) (from []) came.choice ∷ [])
-    took = quiet_took (Edits None path e) (from []) came.choice t u k h h' f f' refl same (inl (omega (arith, low)))
+    took : Took (sinks t u k h f) (sinks t u k h' f') (files_put came.choice) (taken_at wanted (from []) came.choice ∷ [])
+    took = quiet_took wanted (from []) came.choice t u k h h' f f' refl same (inl (omega (arith, low)))
 
-    pub put_so : (t' : Option (List ℕ)) → t' ≡ grown t (put_text more new b.key b.canvas) → IsTakenSo (Edits None path e) Done from to (sinks t u k h f) (sinks t' u k h' f')
-    put_so t' said = came_so (Edits None path e) (from []) to (put_text more new b.key b.canvas) Done came (sinks t u k h f) t t' u k h' f' took said
+    pub put_so : (t' : Option (List ℕ)) → t' ≡ grown t (put_text more new b.key b.canvas) → IsTakenSo wanted Done from to (sinks t u k h f) (sinks t' u k h' f')
+    put_so t' said = came_so wanted (from []) to (put_text more new b.key b.canvas) Done came (sinks t u k h f) t t' u k h' f' took said
 
-    pub put_part : (t' : Option (List ℕ)) → TookPart t t' (put_text more new b.key b.canvas) → Stops (edit_taken (Edits None path e)) from (sinks t u k h f) (sinks t' u k h' f')
-    put_part t' part = came_part (Edits None path e) (from []) to (put_text more new b.key b.canvas) Done came (sinks t u k h f) t t' u k h' f' took part
+    pub put_part : (t' : Option (List ℕ)) → TookPart t t' (put_text more new b.key b.canvas) → Stops (edit_taken wanted) from (sinks t u k h f) (sinks t' u k h' f')
+    put_part t' part = came_part wanted (from []) to (put_text more new b.key b.canvas) Done came (sinks t u k h f) t t' u k h' f' took part
 
   -- it was refused
   module _ (cause : EditRefusal) (rose : cause ≡ refusal.ShelfFault → Rose f f') where
@@ -106,23 +106,23 @@ module _ (path : List ℕ) (e : Edit) (one : puts_box e ≡ true) (file : List �
     text = refusal_text request.Edit (why_of cause)
 
     unput_by : (d : IsNotAdded old new counts file path e (known files names) cause)
-        → (c : Came (Edits None path e) (from []) left text (edit_outcome (Err cause))) × Took (sinks t u k h f) (sinks t u k h' f') (files_put c.choice) (taken_at (Edits None path e) (from []) c.choice ∷ [])
+        → (c : Came wanted (from []) left text (edit_outcome (Err cause))) × Took (sinks t u k h f) (sinks t u k h' f') (files_put c.choice) (taken_at wanted (from []) c.choice ∷ [])
     unput_by (inl (is, d)) = (
-      refused_came path e one file names files counts time block_end fired tally old new cause puts is d,
-      quiet_took (Edits None path e) (from []) (Refuses (why_of cause)) t u k h h' f f' refl same (refusal_rose (Edits None path e) (from []) cause f f' rose low),
+      refused_came wanted path e one file names files counts time block_end fired tally old new cause puts is d,
+      quiet_took wanted (from []) (Refuses (why_of cause)) t u k h h' f f' refl same (refusal_rose wanted (from []) cause f f' rose low),
     )
     unput_by (inr (short, d)) = (
-      short_came path e one file names files counts time block_end fired tally old new cause puts short d,
-      quiet_took (Edits None path e) (from []) (Lacks (net_of new)) t u k h h' f f' refl same (inl (omega (arith, low))),
+      short_came wanted path e one file names files counts time block_end fired tally old new cause puts short d,
+      quiet_took wanted (from []) (Lacks (net_of new)) t u k h h' f f' refl same (inl (omega (arith, low))),
     )
 
     pub unput_so : (t' : Option (List ℕ)) → IsNotAdded old new counts file path e (known files names) cause → t' ≡ grown t text
-        → IsTakenSo (Edits None path e) (edit_outcome (Err cause)) from left (sinks t u k h f) (sinks t' u k h' f')
-    unput_so t' d said = let x = unput_by d in came_so (Edits None path e) (from []) left text (edit_outcome (Err cause)) x.0 (sinks t u k h f) t t' u k h' f' x.1 said
+        → IsTakenSo wanted (edit_outcome (Err cause)) from left (sinks t u k h f) (sinks t' u k h' f')
+    unput_so t' d said = let x = unput_by d in came_so wanted (from []) left text (edit_outcome (Err cause)) x.0 (sinks t u k h f) t t' u k h' f' x.1 said
 
     pub unput_part : (t' : Option (List ℕ)) → IsNotAdded old new counts file path e (known files names) cause → TookPart t t' text
-        → Stops (edit_taken (Edits None path e)) from (sinks t u k h f) (sinks t' u k h' f')
-    unput_part t' d part = let x = unput_by d in came_part (Edits None path e) (from []) left text (edit_outcome (Err cause)) x.0 (sinks t u k h f) t t' u k h' f' x.1 part
+        → Stops (edit_taken wanted) from (sinks t u k h f) (sinks t' u k h' f')
+    unput_part t' d part = let x = unput_by d in came_part wanted (from []) left text (edit_outcome (Err cause)) x.0 (sinks t u k h f) t t' u k h' f' x.1 part
 
 -- it was told, and this is answered
 module _ {E : Type 0} (r : Result Outcome E) (path : List ℕ) (e : Edit) (one : puts_box e ≡ true) (file : List ℕ) (names : Names) (files : List (ℕ × Answer)) (counts : Counts) (time block_end fired : ℕ) (tally : Tally)
@@ -131,20 +131,20 @@ module _ {E : Type 0} (r : Result Outcome E) (path : List ℕ) (e : Edit) (one :
   start = stage_with file old names (base_of files counts) time block_end fired tally
 
   abbrev Answered : Outcome → Type 0
-  Answered o = (samples : Option (List ℕ)) → IsTakenSo (Edits None path e) o start to (sinks t samples k h f) (sinks t' samples k' h' f')
+  Answered o = (wanted : Wanted) → IsOwn wanted path e → (samples : Option (List ℕ)) → IsTakenSo wanted o start to (sinks t samples k h f) (sinks t' samples k' h' f')
 
   abbrev Torn : Type 0
-  Torn = (samples : Option (List ℕ)) → Stops (edit_taken (Edits None path e)) start (sinks t samples k h f) (sinks t' samples k' h' f')
+  Torn = (wanted : Wanted) → IsOwn wanted path e → (samples : Option (List ℕ)) → Stops (edit_taken wanted) start (sinks t samples k h f) (sinks t' samples k' h' f')
 
-  ends_so : (o o' : Outcome) (there : List Choice → Stage) → to ≡ there → o ≡ o' → ((u : Option (List ℕ)) → IsTakenSo (Edits None path e) o' start there (sinks t u k h f) (sinks t' u k h' f'))
-      → Answered o
-  ends_so o o' there stands answer so samples =
-      subst (λ (x : List Choice → Stage). IsTakenSo (Edits None path e) o start x (sinks t samples k h f) (sinks t' samples k' h' f')) (sym stands)
-      (subst (λ (x : Outcome). IsTakenSo (Edits None path e) x start there (sinks t samples k h f) (sinks t' samples k' h' f')) (sym answer)
-      (subst (λ (n : ℕ). IsTakenSo (Edits None path e) o' start there (sinks t samples k h f) (sinks t' samples n h' f')) (sym looks) (so samples)))
+  ends_so : (o o' : Outcome) (there : List Choice → Stage) → to ≡ there → o ≡ o'
+      → ((wanted : Wanted) → IsOwn wanted path e → (u : Option (List ℕ)) → IsTakenSo wanted o' start there (sinks t u k h f) (sinks t' u k h' f')) → Answered o
+  ends_so o o' there stands answer so wanted own samples =
+      subst (λ (x : List Choice → Stage). IsTakenSo wanted o start x (sinks t samples k h f) (sinks t' samples k' h' f')) (sym stands)
+      (subst (λ (x : Outcome). IsTakenSo wanted x start there (sinks t samples k h f) (sinks t' samples k' h' f')) (sym answer)
+      (subst (λ (n : ℕ). IsTakenSo wanted o' start there (sinks t samples k h f) (sinks t' samples n h' f')) (sym looks) (so wanted own samples)))
 
-  torn_so : ((u : Option (List ℕ)) → Stops (edit_taken (Edits None path e)) start (sinks t u k h f) (sinks t' u k h' f')) → Torn
-  torn_so so samples = subst (λ (n : ℕ). Stops (edit_taken (Edits None path e)) start (sinks t samples k h f) (sinks t' samples n h' f')) (sym looks) (so samples)
+  torn_so : ((wanted : Wanted) → IsOwn wanted path e → (u : Option (List ℕ)) → Stops (edit_taken wanted) start (sinks t u k h f) (sinks t' u k h' f')) → Torn
+  torn_so so wanted own samples = subst (λ (n : ℕ). Stops (edit_taken wanted) start (sinks t samples k h f) (sinks t' samples n h' f')) (sym looks) (so wanted own samples)
 
   -- a box was put
   module _ (more : Names) (learned : List (ℕ × Answer)) (b : NewBox) (d : AddsBox old new counts file path time e (known files names) (known learned more) b) (onward : Extends names more)
@@ -154,11 +154,11 @@ module _ {E : Type 0} (r : Result Outcome E) (path : List ℕ) (e : Edit) (one :
     put_answered stands said is =
         both_ok r
         (λ o a x. ends_so o Done (stage_with file new more (base_of learned b.counts) time block_end fired tally) stands x
-        (λ u. put_so path e one file names files counts time block_end fired tally old new puts t u k h h' f f' same low more learned b d onward within t' a)) said is
+        (λ wanted own u. put_so wanted path e (own_box wanted path e own one) file names files counts time block_end fired tally old new puts t u k h h' f f' same low more learned b d onward within t' a)) said is
 
     pub put_torn : OnErr r (TookPart t t' (put_text more new b.key b.canvas)) → OnErr r Torn
     put_torn part =
-        on_err_weaker r (λ a. torn_so (λ u. put_part path e one file names files counts time block_end fired tally old new puts t u k h h' f f' same low more learned b d onward within t' a)) part
+        on_err_weaker r (λ a. torn_so (λ wanted own u. put_part wanted path e (own_box wanted path e own one) file names files counts time block_end fired tally old new puts t u k h h' f f' same low more learned b d onward within t' a)) part
 
   -- it was refused, and names and files are as before
   module _ (cause : EditRefusal) (rose : cause ≡ refusal.ShelfFault → Rose f f') (d : IsNotAdded old new counts file path e (known files names) cause) where
@@ -170,7 +170,43 @@ module _ {E : Type 0} (r : Result Outcome E) (path : List ℕ) (e : Edit) (one :
         ∙ ap (λ (x : List (ℕ × Answer)). stage_with file new names (base_of x counts) time block_end fired tally) known_are in
         both_ok r
         (λ o a x. ends_so o (edit_outcome (Err cause)) (stage_with file new names (base_of files counts) time block_end fired tally) there x
-        (λ u. unput_so path e one file names files counts time block_end fired tally old new puts t u k h h' f f' same low cause rose t' d a)) said is
+        (λ wanted own u. unput_so wanted path e (own_box wanted path e own one) file names files counts time block_end fired tally old new puts t u k h h' f f' same low cause rose t' d a)) said is
 
     pub unput_torn : OnErr r (TookPart t t' (refusal_text request.Edit (why_of cause))) → OnErr r Torn
-    unput_torn part = on_err_weaker r (λ a. torn_so (λ u. unput_part path e one file names files counts time block_end fired tally old new puts t u k h h' f f' same low cause rose t' d a)) part
+    unput_torn part = on_err_weaker r (λ a. torn_so (λ wanted own u. unput_part wanted path e (own_box wanted path e own one) file names files counts time block_end fired tally old new puts t u k h h' f f' same low cause rose t' d a)) part
+
+-- a message asked for it: what holds whoever asks holds of that
+pub asked_so : {E : Type 0} (r : Result Outcome E) (from to : List Choice → Stage) (x y : Option (List ℕ) → Sinks) (p : List ℕ) (d : Edit) (Is : List ℕ → Edit → Type 0)
+    → ((path : List ℕ) (e : Edit) → Is path e → (p ≡ path) × (d ≡ e))
+    → IfOk r (λ o. (wanted : Wanted) → IsOwn wanted p d → (samples : Option (List ℕ)) → IsTakenSo wanted o from to (x samples) (y samples))
+    → OnOk r ((path : List ℕ) (e : Edit) → puts_box e ≡ true → Is path e → (samples : Option (List ℕ)) → Comes (edit_taken (Asks path e)) from to (x samples) (y samples))
+asked_so (Ok o) from to x y p d Is are h = λ path e one is samples.
+    let same = are path e is in
+    subst (λ (l : List ℕ). Comes (edit_taken (Asks l e)) from to (x samples) (y samples)) same.0
+    (subst (λ (f : Edit). Comes (edit_taken (Asks p f)) from to (x samples) (y samples)) same.1 (h (Asks p d) (inr refl) samples).comes)
+asked_so (Err z) from to x y p d Is are h = tt
+
+pub asked_torn : {E : Type 0} (r : Result Outcome E) (from : List Choice → Stage) (x y : Option (List ℕ) → Sinks) (p : List ℕ) (d : Edit) (Is : List ℕ → Edit → Type 0)
+    → ((path : List ℕ) (e : Edit) → Is path e → (p ≡ path) × (d ≡ e))
+    → OnErr r ((wanted : Wanted) → IsOwn wanted p d → (samples : Option (List ℕ)) → Stops (edit_taken wanted) from (x samples) (y samples))
+    → OnErr r ((path : List ℕ) (e : Edit) → puts_box e ≡ true → Is path e → (samples : Option (List ℕ)) → Stops (edit_taken (Asks path e)) from (x samples) (y samples))
+asked_torn (Ok o) from x y p d Is are h = tt
+asked_torn (Err z) from x y p d Is are h = λ path e one is samples.
+    let same = are path e is in
+    subst (λ (l : List ℕ). Stops (edit_taken (Asks l e)) from (x samples) (y samples)) same.0
+    (subst (λ (f : Edit). Stops (edit_taken (Asks p f)) from (x samples) (y samples)) same.1 (h (Asks p d) (inr refl) samples))
+
+-- the same where it holds of any edit that puts a box
+pub any_asked_so : {E : Type 0} (r : Result Outcome E) (from to : List Choice → Stage) (x y : Option (List ℕ) → Sinks) (Is : List ℕ → Edit → Type 0)
+    → ((path : List ℕ) (e : Edit) → puts_box e ≡ true
+    → IfOk r (λ o. (wanted : Wanted) → IsOwn wanted path e → (samples : Option (List ℕ)) → IsTakenSo wanted o from to (x samples) (y samples)))
+    → OnOk r ((path : List ℕ) (e : Edit) → puts_box e ≡ true → Is path e → (samples : Option (List ℕ)) → Comes (edit_taken (Asks path e)) from to (x samples) (y samples))
+any_asked_so (Ok o) from to x y Is h = λ path e one is samples. (h path e one (Asks path e) (inr refl) samples).comes
+any_asked_so (Err z) from to x y Is h = tt
+
+pub any_asked_torn : {E : Type 0} (r : Result Outcome E) (from : List Choice → Stage) (x y : Option (List ℕ) → Sinks) (Is : List ℕ → Edit → Type 0)
+    → ((path : List ℕ) (e : Edit) → puts_box e ≡ true
+    → OnErr r ((wanted : Wanted) → IsOwn wanted path e → (samples : Option (List ℕ)) → Stops (edit_taken wanted) from (x samples) (y samples)))
+    → OnErr r ((path : List ℕ) (e : Edit) → puts_box e ≡ true → Is path e → (samples : Option (List ℕ)) → Stops (edit_taken (Asks path e)) from (x samples) (y samples))
+any_asked_torn (Ok o) from x y Is h = tt
+any_asked_torn (Err z) from x y Is h = λ path e one is samples. h path e one (Asks path e) (inr refl) samples

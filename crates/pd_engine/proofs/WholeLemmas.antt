@@ -1,8 +1,6 @@
 -- A tree stands in a run, and so its blocks are whole.
-use Rattle.std.proofs.Common.{inl, ◌≡◌, ℕ, zero, suc, ◌+◌, ◌-◌, ◌<◌, ◌≤◌, arith, Bool, true, false, if◌then◌else◌, nat_le, nat_lt, List, [], ◌∷◌, Option, refl, sym, ap, ◌∙◌, subst}
-use Rattle.std.specs.Prelude.{Some, None, option_map}
-use Rattle.std.proofs.lemmas.Option.{none-some, same_Some}
-use Rattle.slab.specs.Slab.{get}
+use Rattle.std.proofs.Common.{◌≡◌, ℕ, zero, suc, ◌+◌, ◌-◌, ◌<◌, ◌≤◌, arith, Bool, true, false, if◌then◌else◌, nat_le, nat_lt, List, [], ◌∷◌, Option, refl, sym, ap, ◌∙◌, subst}
+use Rattle.std.specs.Prelude.{Some, None}
 use Rattle.pd_io.specs.declared.files.FileRow.{FileRow}
 use Rattle.pd_atom.specs.Names.{Names, Extends}
 use Rattle.pd_library.specs.Files.{answer_in}
@@ -16,14 +14,12 @@ use Rattle.pd_canvas.specs.Pages.{Page}
 use Rattle.pd_clock.specs.declared.times.Rate.{Rate}
 use Rattle.pd_clock.specs.Queue.{Clock}
 use Rattle.pd_tree.specs.declared.rows.Sheet.{Sheet}
-use Rattle.pd_tree.specs.Trees.{Trees, Done, Leaf, Holder, Tree, weight}
+use Rattle.pd_tree.specs.Trees.{Trees, Tree, weight}
 use Rattle.pd_queue.specs.Queue.{Waiting}
 use Rattle.pd_turns.specs.Turns.{World}
 use Rattle.pd_hearing.specs.Worlds.{Kept}
 use Rattle.pd_canvas.specs.declared.edits.Edit.{Edit}
-use Rattle.pd_grove.specs.declared.boards.Board.{Board}
-use Rattle.pd_grove.specs.declared.nodes.Node.{Node}
-use Rattle.pd_grove.specs.Standing.{NodeSeen, BoardSeen, node_seen, board_seen, Stands, GroveStands}
+use Rattle.pd_grove.specs.Standing.{GroveStands}
 use Rattle.pd_grove.specs.TextOrder.{deep, keys_in_order}
 use Rattle.pd_patch.specs.declared.patch.Patch.{Patch}
 use Rattle.pd_patch.specs.Orders.{AreOrdered}
@@ -35,7 +31,7 @@ use Rattle.pd_block.specs.Nets as block
 use Rattle.pd_block.specs.Blocks.{block_within, block_of}
 use Rattle.pd_patch.proofs.BuiltLemmas.{is_built}
 use Rattle.pd_wiring.proofs.BuiltLemmas.{runs_rewire}
-use Rattle.pd_stage.specs.Choices.{Base, Wanted, Choice}
+use Rattle.pd_stage.specs.Choices.{Base, Wanted, Asks, Choice}
 use Rattle.pd_stage.specs.Lawful.{AreLawful}
 use Rattle.pd_stage.specs.Stages.{Stage, Taken, Passage, still, followed_by}
 use Rattle.pd_stage.specs.Events.{Beginning, Message, Loading, Firing, with_kept, delivered, edit_taken, edit_asked, edits_taken, event}
@@ -44,11 +40,11 @@ use Rattle.pd_adding.specs.Counts.{AreWithin}
 use Rattle.pd_stage.specs.Times.{with_wires, with_played, with_time, block_units, block_net, sound_at, played_at, taken_off, with_taken, with_fired, fires, fires_or_not, fires_below, next_clock, most_fired, clocks_fire, block_sounds, block_runs, blocks_run, comes_to, advanced, finished}
 use Rattle.pd_stage.proofs.LeadLemmas.{lawful_first, lawful_second}
 use Rattle.pd_stage.specs.Trees.{HasTree, HasOwners}
-use Rattle.pd_stage.proofs.EditLemmas.{asked_changes, taken_alters}
+use Rattle.pd_stage.proofs.EditLemmas.{taken_alters, edits_keep}
 use Rattle.pd_engine.specs.Messages.{message_in}
 use Rattle.pd_engine.specs.Commands.{commanded}
 use Rattle.pd_engine.specs.Opening.{Grows, opened, first_stage}
-use Rattle.pd_engine.proofs.TreeLemmas.{changed_tree, altered_tree, HasBoth, altered_both, named_owners}
+use Rattle.pd_engine.proofs.TreeLemmas.{altered_tree, HasBoth, altered_both, named_owners}
 
 -- where only clocks, times, names, blocks of outlets and what boxes keep are others
 pub tree_on : (s r : Stage) → block_net r ≡ block.with_clocks (block_net s) r.clocks → r.base ≡ s.base → HasTree s → HasTree r
@@ -95,7 +91,7 @@ pub taken_of : (wanted : Wanted) (s : Stage) → Stays s (edit_taken wanted s)
 taken_of wanted s h lawful = altered_tree s (edit_taken wanted s).stage (taken_alters wanted s lawful) h
 
 pub asked_of : (asked : List ℕ × Edit) (s : Stage) → Stays s (edit_asked asked s)
-asked_of asked s h lawful = changed_tree s (edit_asked asked s).stage (asked_changes asked s lawful) h
+asked_of asked s h lawful = taken_of (Asks asked.0 asked.1) s h lawful
 
 pub edits_of : (waiting : Waiting) (s : Stage) → Stays s (edits_taken waiting s)
 unfolding edits_taken
@@ -114,12 +110,7 @@ pub taken_both : (wanted : Wanted) (s : Stage) → AreLawful (edit_taken wanted 
 taken_both wanted s lawful t = altered_both s (edit_taken wanted s).stage (taken_alters wanted s lawful) t
 
 pub edits_both : (waiting : Waiting) (s : Stage) → AreLawful (edits_taken waiting s).edits → HasBoth s → HasBoth (edits_taken waiting s).stage
-unfolding edits_taken
-edits_both [] s lawful t = t
-edits_both (asked ∷ waiting) s lawful t =
-    let r : Stage = (edit_asked asked s).stage in
-    edits_both waiting r (lawful_second (edit_asked asked s).edits (edits_taken waiting r).edits lawful)
-    (altered_both s r (inl (asked_changes asked s (lawful_first (edit_asked asked s).edits (edits_taken waiting r).edits lawful))) t)
+edits_both waiting s lawful t = edits_keep HasBoth (λ r q a h. altered_both r q a h) waiting s lawful t
 
 pub event_both : (s : Stage) (b : Beginning) → Extends s.names (delivered s b).kept.names → AreLawful (event s b).edits → HasBoth s → HasBoth (event s b).stage
 unfolding event

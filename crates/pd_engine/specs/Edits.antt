@@ -1,6 +1,10 @@
 -- What an edit of the patch's own document comes to.
-use Rattle.std.specs.Prelude.{◌≡◌, ◌≤◌, ◌+◌, ◌⊎◌, ℕ, List, Some, None, Result, Ok, Err}
+use Rattle.std.specs.Prelude.{◌≡◌, ◌≤◌, ◌+◌, ◌⊎◌, ℕ, true, List, Some, None, Result, Ok, Err}
+use Rattle.std.specs.List.{AllByRecursion}
 use Rattle.pd_canvas.specs.declared.edits.Edit.{Edit}
+use Rattle.pd_queue.specs.Entries.{wire_edit}
+use Rattle.pd_queue.specs.Queue.{Waiting}
+use Rattle.pd_script.specs.Edits.{puts_box}
 use Rattle.pd_patch.specs.declared.patch.Patch.{Patch}
 use Rattle.pd_say.specs.Lines.{refusal_text}
 use Rattle.pd_say.specs.declared.refusals.Request.TheVariants as request
@@ -60,6 +64,17 @@ pub record IsTakenSo (wanted : Wanted) (outcome : Outcome) (from to : List Choic
 -- an edit of the patch's own document was taken, and this is answered
 abbrev pub IsEdited : List ℕ → Edit → Outcome → (List Choice → Stage) → (List Choice → Stage) → Sinks → Sinks → Type 0
 IsEdited path e outcome from to old new = IsTakenSo (Edits None path e) outcome from to old new
+
+-- an edit of the canvas at a path of the patch's own document, which a command or a message asks for
+abbrev pub IsOwn : Wanted → List ℕ → Edit → Type 0
+IsOwn wanted path e = (wanted ≡ Edits None path e) ⊎ (wanted ≡ Asks path e)
+
+-- what a message can ask a canvas for: where it is no edit of wires, it puts a box
+abbrev pub CanBeAsked : Edit → Type 0
+CanBeAsked e = wire_edit e ≡ None → puts_box e ≡ true
+
+abbrev pub AreAskedFor : Waiting → Type 0
+AreAskedFor waiting = AllByRecursion (λ asked. CanBeAsked asked.1) waiting
 
 -- the patch's own document was saved, or not, and this is answered
 abbrev pub IsSavedSo : Outcome → (List Choice → Stage) → (List Choice → Stage) → Sinks → Sinks → Type 0

@@ -33,7 +33,7 @@ use Rattle.pd_adding.specs.Counts.{AreWithin}
 use Rattle.pd_adding.specs.Counted.{AreCounted}
 use Rattle.pd_stage.specs.Choices.{Base, Choice}
 use Rattle.pd_stage.specs.Stages.{Stage, Passage, saying, joined}
-use Rattle.pd_stage.specs.Leads.{Says, SaysPart}
+use Rattle.pd_stage.specs.Leads.{sinks, Comes, Stops as PartStops}
 use Rattle.pd_stage.specs.Events.{event, Loading}
 use Rattle.pd_engine.specs.Refusals.{unread}
 use Rattle.pd_engine.specs.Remarks.{remarks_text}
@@ -98,14 +98,14 @@ pub record Grows (holds : Option (List FileRow)) (name : List ℕ) (rate : Rate)
   pub fresh : IsFresh p names' name rate
   pub first : IsFirst base files.files p tree.tree
 
--- A document with its names opens as an engine that keeps the files that were gathered and stands at this stage, and its lines were taken.
-pub record Opens (holds : Option (List FileRow)) (name : List ℕ) (rate : Rate) (d : Page) (names : Names) (library : Files) (s : List Choice → Stage) (lines lines' : Option (List ℕ)) : Type 0 where
+-- A document with its names opens as an engine that stands at this stage. Its lines were taken; the folder holds what it held, and counts so many faults.
+pub record Opens (holds : Option (List FileRow)) (name : List ℕ) (rate : Rate) (d : Page) (names : Names) (s : List Choice → Stage) (lines lines' : Option (List ℕ)) (faults faults' : ℕ) : Type 0 where
   pub patch : Patch
   pub table : Names
   pub base : Base
   pub grows : Grows holds name rate d names patch table base
-  pub keeps : library ≡ grows.files.files
-  pub says : (looks : ℕ) → Says (opening patch table) (first_stage name patch table base) s lines lines' looks looks
+  pub says : (looks : ℕ) (samples : Option (List ℕ)) →
+      Comes (opening patch table) (first_stage name patch table base) s (sinks lines samples looks holds faults) (sinks lines' samples looks holds faults')
 
 -- The table of names is full while the files are gathered, or the folder failed, or memory was wanting.
 abbrev pub IsUngathered : Option (List FileRow) → List ℕ → Page → Names → OpenRefusal → Type 0
@@ -142,18 +142,19 @@ pub record StopsGrowing (holds : Option (List FileRow)) (name : List ℕ) (rate 
   pub ungrown : IsUngrown (growth_of name d files) rate e
 
 -- the document grows, and only a first part of the lines is taken
-pub record BreaksOff (holds : Option (List FileRow)) (name : List ℕ) (rate : Rate) (d : Page) (names : Names) (lines lines' : Option (List ℕ)) (e : OpenRefusal) : Type 0 where
+pub record BreaksOff (holds : Option (List FileRow)) (name : List ℕ) (rate : Rate) (d : Page) (names : Names) (lines lines' : Option (List ℕ)) (faults faults' : ℕ) (e : OpenRefusal) : Type 0 where
   pub patch : Patch
   pub table : Names
   pub base : Base
   pub grows : Grows holds name rate d names patch table base
-  pub took : (looks : ℕ) → SaysPart (opening patch table) (first_stage name patch table base) lines lines' looks looks
+  pub took : (looks : ℕ) (samples : Option (List ℕ)) →
+      PartStops (opening patch table) (first_stage name patch table base) (sinks lines samples looks holds faults) (sinks lines' samples looks holds faults')
   pub is : e ≡ WriteFault
 
 -- why a document with its names doesn't open
-abbrev pub IsRefused : Option (List FileRow) → List ℕ → Rate → Page → Names → (lines lines' : Option (List ℕ)) → OpenRefusal → Type 0
-IsRefused holds name rate d names lines lines' e =
-    IsUngathered holds name d names e ⊎ (StopsGrowing holds name rate d names e ⊎ BreaksOff holds name rate d names lines lines' e)
+abbrev pub IsRefused : Option (List FileRow) → List ℕ → Rate → Page → Names → (lines lines' : Option (List ℕ)) → (faults faults' : ℕ) → OpenRefusal → Type 0
+IsRefused holds name rate d names lines lines' faults faults' e =
+    IsUngathered holds name d names e ⊎ (StopsGrowing holds name rate d names e ⊎ BreaksOff holds name rate d names lines lines' faults faults' e)
 
 -- the document of a text and its names, or why the patch doesn't open
 abbrev pub text_read : Result (Page × Names) DocRefusal → Result (Page × Names) OpenRefusal
@@ -188,20 +189,20 @@ IsUnread holds name names ShelfFault = Unit {0}
 IsUnread holds name names WriteFault = ⊥
 IsUnread holds name names NoMemory = Unit {0}
 
--- the file of a name is read, and opens as an engine that keeps these files and stands at this stage
-pub record OpensFile (holds : Option (List FileRow)) (name : List ℕ) (rate : Rate) (library : Files) (s : List Choice → Stage) (lines lines' : Option (List ℕ)) : Type 0 where
+-- the file of a name is read, and opens as an engine that stands at this stage
+pub record OpensFile (holds : Option (List FileRow)) (name : List ℕ) (rate : Rate) (s : List Choice → Stage) (lines lines' : Option (List ℕ)) (faults faults' : ℕ) : Type 0 where
   pub document : Page
   pub names : Names
   pub reads : Reads holds name first_names (Ok (document, names))
-  pub opens : Opens holds name rate document names library s lines lines'
+  pub opens : Opens holds name rate document names s lines lines' faults faults'
 
 -- the file of a name is read, and its document doesn't open
-pub record IsReadRefused (holds : Option (List FileRow)) (name : List ℕ) (rate : Rate) (lines lines' : Option (List ℕ)) (e : OpenRefusal) : Type 0 where
+pub record IsReadRefused (holds : Option (List FileRow)) (name : List ℕ) (rate : Rate) (lines lines' : Option (List ℕ)) (faults faults' : ℕ) (e : OpenRefusal) : Type 0 where
   pub document : Page
   pub names : Names
   pub reads : Reads holds name first_names (Ok (document, names))
-  pub refused : IsRefused holds name rate document names lines lines' e
+  pub refused : IsRefused holds name rate document names lines lines' faults faults' e
 
 -- why the file of a name doesn't open
-abbrev pub IsFileRefused : Option (List FileRow) → List ℕ → Rate → (lines lines' : Option (List ℕ)) → OpenRefusal → Type 0
-IsFileRefused holds name rate lines lines' e = IsUnread holds name first_names e ⊎ IsReadRefused holds name rate lines lines' e
+abbrev pub IsFileRefused : Option (List FileRow) → List ℕ → Rate → (lines lines' : Option (List ℕ)) → (faults faults' : ℕ) → OpenRefusal → Type 0
+IsFileRefused holds name rate lines lines' faults faults' e = IsUnread holds name first_names e ⊎ IsReadRefused holds name rate lines lines' faults faults' e

@@ -7,7 +7,7 @@ ghost use Rattle.pd_say.specs.Gathering.{HasCause};
 ghost use Rattle.pd_stage.specs.Choices.{Wanted, Edits, Saves, request_of};
 ghost use Rattle.pd_stage.specs.Stages.{saying};
 ghost use Rattle.pd_stage.specs.Events.{edit_taken};
-ghost use Rattle.pd_stage.specs.Leads.{sinks, Stops, Says, SaysPart};
+ghost use Rattle.pd_stage.specs.Leads.{sinks, Comes, Stops, Says, SaysPart};
 ghost use Rattle.pd_engine.specs.Stages.{stage_at};
 ghost use Rattle.pd_engine.specs.Edits.{IsTakenSo, IsAlwaysRefused};
 ghost use Rattle.pd_engine.specs.Commands.{commanded, sent, shown, cut_line, refused_as, IsCarriedOut};
@@ -44,7 +44,13 @@ impl Engine {
         ensures stays { self.new.stopped ≡ self.old.stopped }
     {
         match cmd {
-            Command::Send { name, atoms } => self.send(*name, atoms.as_slice(), lines, steps),
+            Command::Send { name, atoms } => self.send(
+                *name,
+                atoms.as_slice(),
+                shelf,
+                lines,
+                steps,
+            ),
             Command::Show { path } => self.show_at(path.as_slice(), lines),
             Command::Edit { place, edit } => self.edit_at(place, edit, shelf, lines, steps),
             Command::Save { document } => self.save_at(*document, shelf, lines),
@@ -109,19 +115,21 @@ impl Engine {
     }
 
     /// Sends the message of atoms to the receivers of a name.
-    fn send<L: Sink, K: Ledger>(
+    fn send<H: Shelf, L: Sink, K: Ledger>(
         &mut self,
         name: Sym,
         atoms: &[Atom],
+        shelf: &mut H,
         lines: &mut L,
         steps: &mut Steps<K>,
     ) -> Result<Outcome, SinkFailed>
-        ensures ok { OnOk result (Says (sent name atoms.now) (stage_at self.old) (stage_at self.new) (L.taken lines.old) (L.taken lines.new) steps.old steps.new) }
+        ensures ok { OnOk result ((samples : Option (List ℕ)) → Comes (sent name atoms.now) (stage_at self.old) (stage_at self.new) (sinks (L.taken lines.old) samples steps.old (H.holds shelf.old) (H.faults shelf.old)) (sinks (L.taken lines.new) samples steps.new (H.holds shelf.new) (H.faults shelf.new))) }
         ensures answer { IfOk result (λ outcome. outcome ≡ Outcome.Done) }
-        ensures err { OnErr result (SaysPart (sent name atoms.now) (stage_at self.old) (L.taken lines.old) (L.taken lines.new) steps.old steps.new) }
+        ensures err { OnErr result ((samples : Option (List ℕ)) → Stops (sent name atoms.now) (stage_at self.old) (sinks (L.taken lines.old) samples steps.old (H.holds shelf.old) (H.faults shelf.old)) (sinks (L.taken lines.new) samples steps.new (H.holds shelf.new) (H.faults shelf.new))) }
         ensures cause { HasCause (L.faults lines.old) (L.faults lines.new) result }
+        ensures counted { H.faults shelf.old ≤ H.faults shelf.new }
+        ensures kept { H.holds shelf.new ≡ H.holds shelf.old }
         ensures stays { self.new.stopped ≡ self.old.stopped }
-        ensures library { self.new.library ≡ self.old.library }
     {
         let one = [one_atom(atoms)];
         let formed = message_of(atoms, &one);
@@ -130,7 +138,7 @@ impl Engine {
             atoms: formed.atoms,
         };
         self.say_cut(formed.is_cut, lines)?;
-        self.run_event(&Start::Name { name, message }, lines, steps)?;
+        self.run_event(&Start::Name { name, message }, shelf, lines, steps)?;
         Ok(Outcome::Done)
     }
 

@@ -8,19 +8,19 @@ ghost use Rattle.pd_script.specs.Edits.{puts_box};
 ghost use Rattle.pd_say.specs.Gathering.{HasCause};
 ghost use Rattle.pd_web.specs.Changes.{wires_told};
 ghost use Rattle.pd_wiring.specs.Changes.{CanRewire};
-ghost use Rattle.pd_stage.specs.Choices.{Edits, Saves};
+ghost use Rattle.pd_stage.specs.Choices.{Wanted, Edits, Asks, Saves};
 ghost use Rattle.pd_stage.specs.Events.{edit_asked, edit_taken};
 ghost use Rattle.pd_stage.specs.Lawful.{why_of as why_so};
-ghost use Rattle.pd_stage.specs.Leads.{sinks, Stops, Says, SaysPart};
+ghost use Rattle.pd_stage.specs.Leads.{sinks, Comes, Stops};
 ghost use Rattle.pd_stage.specs.Lines.{put_text};
 ghost use Rattle.pd_engine.specs.Stages.{stage_at};
-ghost use Rattle.pd_engine.specs.Edits.{EditsTo, edit_text, edit_outcome, IsEdited, IsSavedSo};
+ghost use Rattle.pd_engine.specs.Edits.{EditsTo, edit_text, edit_outcome, IsTakenSo, IsEdited, IsSavedSo, IsOwn, AreAskedFor};
 
 use crate::engine::Engine;
 use crate::printing::print_refusal;
 use crate::refusals::{Outcome, unsaved};
 use crate::remarks::{print_loop, print_unmade};
-use pd_canvas::Edit;
+use pd_canvas::{Edit, Place};
 use pd_edit::{EditRefusal, rewire};
 use pd_io::{Shelf, Sink, SinkFailed};
 use pd_order::Steps;
@@ -29,39 +29,71 @@ use pd_putting::{NewBox, Site, add_box};
 use pd_save::put_document;
 use pd_say::{Request, Why};
 use pd_script::CommandEdit;
-use std::alloc::Global;
+use std::alloc::{AllocError, Global};
 use std::sync::ledger::Ledger;
 
 impl Engine {
     /// Takes the edit of a place of the queue.
-    pub(crate) fn take_asked<L: Sink, K: Ledger>(
+    pub(crate) fn take_asked<H: Shelf, L: Sink, K: Ledger>(
         &mut self,
         i: u32,
+        shelf: &mut H,
         lines: &mut L,
         steps: &mut Steps<K>,
     ) -> Result<(), SinkFailed>
-        requires { i < length self.old.queue }
-        ensures ok { OnOk result ((d : List ℕ × EditSeen) → Says (edit_asked (slice_index_or self.old.queue i d)) (stage_at self.old) (stage_at self.new) (L.taken lines.old) (L.taken lines.new) steps.old steps.new) }
-        ensures err { OnErr result ((d : List ℕ × EditSeen) → SaysPart (edit_asked (slice_index_or self.old.queue i d)) (stage_at self.old) (L.taken lines.old) (L.taken lines.new) steps.old steps.new) }
+        requires place { i < length self.old.queue }
+        requires asked { AreAskedFor self.old.queue }
+        ensures ok { OnOk result ((d : List ℕ × EditSeen) (samples : Option (List ℕ)) → Comes (edit_asked (slice_index_or self.old.queue i d)) (stage_at self.old) (stage_at self.new) (sinks (L.taken lines.old) samples steps.old (H.holds shelf.old) (H.faults shelf.old)) (sinks (L.taken lines.new) samples steps.new (H.holds shelf.new) (H.faults shelf.new))) }
+        ensures err { OnErr result ((d : List ℕ × EditSeen) (samples : Option (List ℕ)) → Stops (edit_asked (slice_index_or self.old.queue i d)) (stage_at self.old) (sinks (L.taken lines.old) samples steps.old (H.holds shelf.old) (H.faults shelf.old)) (sinks (L.taken lines.new) samples steps.new (H.holds shelf.new) (H.faults shelf.new))) }
         ensures cause { HasCause (L.faults lines.old) (L.faults lines.new) result }
+        ensures counted { H.faults shelf.old ≤ H.faults shelf.new }
+        ensures kept { H.holds shelf.new ≡ H.holds shelf.old }
         ensures stays { self.new.stopped ≡ self.old.stopped }
-        ensures library { self.new.library ≡ self.old.library }
         ensures queue { self.new.queue ≡ self.old.queue }
     {
         let Some(asked) = self.queue.get(i) else {
             return Ok(());
         };
-        let edit = asked.wire_edit();
+        let Some(edit) = asked.wire_edit() else {
+            let copied = asked.copy(self.alloc);
+            self.put_asked(copied, shelf, lines, steps)?;
+            return Ok(());
+        };
         let done = make(
             self.alloc,
             &mut self.patch,
             &mut self.counts.wires,
             asked.path(),
-            edit,
+            Some(edit),
             steps,
         );
         self.tell(done, lines)?;
         Ok(())
+    }
+
+    /// Puts the box of an edit that a message asked for, or refuses it, also where it couldn't be copied with its place.
+    fn put_asked<H: Shelf, L: Sink, K: Ledger>(
+        &mut self,
+        copied: Result<(Place, Edit), AllocError>,
+        shelf: &mut H,
+        lines: &mut L,
+        steps: &mut Steps<K>,
+    ) -> Result<Outcome, SinkFailed>
+        requires { IfOk copied (λ c. puts_box c.1 ≡ true) }
+        ensures ok { OnOk result ((path : List ℕ) (e : EditSeen) → puts_box e ≡ true → IfOk copied (λ c. (c.0.path ≡ path) × (c.1 ≡ e)) → (samples : Option (List ℕ)) → Comes (edit_taken (Asks path e)) (stage_at self.old) (stage_at self.new) (sinks (L.taken lines.old) samples steps.old (H.holds shelf.old) (H.faults shelf.old)) (sinks (L.taken lines.new) samples steps.new (H.holds shelf.new) (H.faults shelf.new))) }
+        ensures err { OnErr result ((path : List ℕ) (e : EditSeen) → puts_box e ≡ true → IfOk copied (λ c. (c.0.path ≡ path) × (c.1 ≡ e)) → (samples : Option (List ℕ)) → Stops (edit_taken (Asks path e)) (stage_at self.old) (sinks (L.taken lines.old) samples steps.old (H.holds shelf.old) (H.faults shelf.old)) (sinks (L.taken lines.new) samples steps.new (H.holds shelf.new) (H.faults shelf.new))) }
+        ensures cause { HasCause (L.faults lines.old) (L.faults lines.new) result }
+        ensures counted { H.faults shelf.old ≤ H.faults shelf.new }
+        ensures kept { H.holds shelf.new ≡ H.holds shelf.old }
+        ensures stays { self.new.stopped ≡ self.old.stopped }
+        ensures queue { self.new.queue ≡ self.old.queue }
+    {
+        match copied {
+            Ok((place, edit)) => {
+                self.put_copied(place.path.as_slice(), &edit, shelf, lines, steps)
+            }
+            Err(_) => self.tell(Err(EditRefusal::NoMemory), lines),
+        }
     }
 
     /// Makes an edit of the canvas at a path of the patch's own document, or refuses it.
@@ -125,11 +157,13 @@ impl Engine {
         steps: &mut Steps<K>,
     ) -> Result<Outcome, SinkFailed>
         requires { puts_box edit.now ≡ true }
-        ensures ok { IfOk result (λ outcome. (samples : Option (List ℕ)) → IsEdited path.now edit.now outcome (stage_at self.old) (stage_at self.new) (sinks (L.taken lines.old) samples steps.old (H.holds shelf.old) (H.faults shelf.old)) (sinks (L.taken lines.new) samples steps.new (H.holds shelf.new) (H.faults shelf.new))) }
-        ensures err { OnErr result ((samples : Option (List ℕ)) → Stops (edit_taken (Edits None path.now edit.now)) (stage_at self.old) (sinks (L.taken lines.old) samples steps.old (H.holds shelf.old) (H.faults shelf.old)) (sinks (L.taken lines.new) samples steps.new (H.holds shelf.new) (H.faults shelf.new))) }
+        ensures ok { IfOk result (λ outcome. (wanted : Wanted) → IsOwn wanted path.now edit.now → (samples : Option (List ℕ)) → IsTakenSo wanted outcome (stage_at self.old) (stage_at self.new) (sinks (L.taken lines.old) samples steps.old (H.holds shelf.old) (H.faults shelf.old)) (sinks (L.taken lines.new) samples steps.new (H.holds shelf.new) (H.faults shelf.new))) }
+        ensures err { OnErr result ((wanted : Wanted) → IsOwn wanted path.now edit.now → (samples : Option (List ℕ)) → Stops (edit_taken wanted) (stage_at self.old) (sinks (L.taken lines.old) samples steps.old (H.holds shelf.old) (H.faults shelf.old)) (sinks (L.taken lines.new) samples steps.new (H.holds shelf.new) (H.faults shelf.new))) }
         ensures cause { HasCause (L.faults lines.old) (L.faults lines.new) result }
         ensures counted { H.faults shelf.old ≤ H.faults shelf.new }
+        ensures kept { H.holds shelf.new ≡ H.holds shelf.old }
         ensures stays { self.new.stopped ≡ self.old.stopped }
+        ensures queue { self.new.queue ≡ self.old.queue }
     {
         let site = Site {
             name: self.file.as_slice(),
@@ -164,6 +198,7 @@ impl Engine {
         ensures err { OnErr result (TookPart (L.taken lines.old) (L.taken lines.new) (put_text self.old.symbols self.old.patch added.key added.canvas)) }
         ensures cause { HasCause (L.faults lines.old) (L.faults lines.new) result }
         ensures stays { self.new.stopped ≡ self.old.stopped }
+        ensures queue { self.new.queue ≡ self.old.queue }
     {
         print_unmade(&self.patch, added.key, &self.symbols, &mut self.held, lines)?;
         print_loop(

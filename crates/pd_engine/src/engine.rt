@@ -11,7 +11,7 @@ ghost use Rattle.pd_script.specs.Tables.{ScriptOf};
 ghost use Rattle.pd_script.specs.Scripts.{command_of};
 ghost use Rattle.pd_stage.specs.Choices.{Choice};
 ghost use Rattle.pd_stage.specs.Stages.{with_names};
-ghost use Rattle.pd_stage.specs.Leads.{sinks, Stops, Sounds, SoundsPart};
+ghost use Rattle.pd_stage.specs.Leads.{sinks, Comes, Stops};
 ghost use Rattle.pd_stage.specs.Times.{advanced, finished};
 ghost use Rattle.pd_engine.specs.Commands.{commanded, IsCarriedOut};
 ghost use Rattle.pd_web.specs.Changes.{wires_told};
@@ -110,7 +110,8 @@ impl Engine {
     }
 
     /// Carries out a command at the present time, and prints what it has to print. Edits of wires, edits that put a box without a canvas
-    /// inside, and saves of the patch's own document are made; others are refused, and there is nothing to undo or redo.
+    /// inside, and saves of the patch's own document are made, also the edits that its messages ask for; others are refused, and there is
+    /// nothing to undo or redo.
     ///
     /// # Errors
     ///
@@ -143,7 +144,8 @@ impl Engine {
         }
     }
 
-    /// Runs each block that ends by a time and each clock below it, and then raises the time to it where it is below.
+    /// Runs each block that ends by a time and each clock below it, with the edits that messages ask for, and then raises the time to it
+    /// where it is below.
     ///
     /// # Errors
     ///
@@ -157,15 +159,16 @@ impl Engine {
         steps: &mut Steps<K>,
     ) -> Result<(), EngineFault>
         requires { to ≤ 2 ^ 100 }
-        ensures passed { OnOk result (Sounds (advanced to) (stage_at self.old) (stage_at self.new) (L.taken lines.old) (L.taken lines.new) (P.taken pcm.old) (P.taken pcm.new) steps.old steps.new) }
-        ensures part { OnErr result (SoundsPart (advanced to) (stage_at self.old) (L.taken lines.old) (L.taken lines.new) (P.taken pcm.old) (P.taken pcm.new) steps.old steps.new) }
+        ensures passed { OnOk result (Comes (advanced to) (stage_at self.old) (stage_at self.new) (sinks (L.taken lines.old) (P.taken pcm.old) steps.old (H.holds shelf.old) (H.faults shelf.old)) (sinks (L.taken lines.new) (P.taken pcm.new) steps.new (H.holds shelf.new) (H.faults shelf.new))) }
+        ensures part { OnErr result (Stops (advanced to) (stage_at self.old) (sinks (L.taken lines.old) (P.taken pcm.old) steps.old (H.holds shelf.old) (H.faults shelf.old)) (sinks (L.taken lines.new) (P.taken pcm.new) steps.new (H.holds shelf.new) (H.faults shelf.new))) }
         ensures stopped { self.old.stopped ≡ true → IsErrOf result EngineFault.Stopped }
         ensures stopped_before { IsErrOf result EngineFault.Stopped → self.old.stopped ≡ true }
         ensures nothing { self.old.stopped ≡ true → (self.new ≡ self.old) × (L.taken lines.new ≡ L.taken lines.old) × (P.taken pcm.new ≡ P.taken pcm.old) }
         ensures after { OnErr result (self.new.stopped ≡ true) }
         ensures goes_on { OnOk result (self.new.stopped ≡ false) }
-        ensures library { self.new.library ≡ self.old.library }
-        ensures shelf { shelf.new ≡ shelf.old }
+        ensures untouched { self.old.stopped ≡ true → shelf.new ≡ shelf.old }
+        ensures kept { H.holds shelf.new ≡ H.holds shelf.old }
+        ensures shelf_counted { H.faults shelf.old ≤ H.faults shelf.new }
         ensures cause { IsErrOf result EngineFault.WriteFault → Rose (L.faults lines.old) (L.faults lines.new) ⊎ Rose (P.faults pcm.old) (P.faults pcm.new) }
         ensures lines_counted { L.faults lines.old ≤ L.faults lines.new }
         ensures pcm_counted { P.faults pcm.old ≤ P.faults pcm.new }
@@ -173,13 +176,13 @@ impl Engine {
         if self.stopped {
             return Err(EngineFault::Stopped);
         }
-        match self.advance_to(to, lines, pcm, steps) {
+        match self.advance_to(to, shelf, lines, pcm, steps) {
             Ok(()) => Ok(()),
             Err(SinkFailed) => Err(self.stop()),
         }
     }
 
-    /// Runs the block that began before the present time and hasn't run, where there is one.
+    /// Runs the block that began before the present time and hasn't run, where there is one, after the clocks below its end.
     ///
     /// # Errors
     ///
@@ -191,15 +194,16 @@ impl Engine {
         pcm: &mut P,
         steps: &mut Steps<K>,
     ) -> Result<(), EngineFault>
-        ensures passed { OnOk result (Sounds finished (stage_at self.old) (stage_at self.new) (L.taken lines.old) (L.taken lines.new) (P.taken pcm.old) (P.taken pcm.new) steps.old steps.new) }
-        ensures part { OnErr result (SoundsPart finished (stage_at self.old) (L.taken lines.old) (L.taken lines.new) (P.taken pcm.old) (P.taken pcm.new) steps.old steps.new) }
+        ensures passed { OnOk result (Comes finished (stage_at self.old) (stage_at self.new) (sinks (L.taken lines.old) (P.taken pcm.old) steps.old (H.holds shelf.old) (H.faults shelf.old)) (sinks (L.taken lines.new) (P.taken pcm.new) steps.new (H.holds shelf.new) (H.faults shelf.new))) }
+        ensures part { OnErr result (Stops finished (stage_at self.old) (sinks (L.taken lines.old) (P.taken pcm.old) steps.old (H.holds shelf.old) (H.faults shelf.old)) (sinks (L.taken lines.new) (P.taken pcm.new) steps.new (H.holds shelf.new) (H.faults shelf.new))) }
         ensures stopped { self.old.stopped ≡ true → IsErrOf result EngineFault.Stopped }
         ensures stopped_before { IsErrOf result EngineFault.Stopped → self.old.stopped ≡ true }
         ensures nothing { self.old.stopped ≡ true → (self.new ≡ self.old) × (L.taken lines.new ≡ L.taken lines.old) × (P.taken pcm.new ≡ P.taken pcm.old) }
         ensures after { OnErr result (self.new.stopped ≡ true) }
         ensures goes_on { OnOk result (self.new.stopped ≡ false) }
-        ensures library { self.new.library ≡ self.old.library }
-        ensures shelf { shelf.new ≡ shelf.old }
+        ensures untouched { self.old.stopped ≡ true → shelf.new ≡ shelf.old }
+        ensures kept { H.holds shelf.new ≡ H.holds shelf.old }
+        ensures shelf_counted { H.faults shelf.old ≤ H.faults shelf.new }
         ensures cause { IsErrOf result EngineFault.WriteFault → Rose (L.faults lines.old) (L.faults lines.new) ⊎ Rose (P.faults pcm.old) (P.faults pcm.new) }
         ensures lines_counted { L.faults lines.old ≤ L.faults lines.new }
         ensures pcm_counted { P.faults pcm.old ≤ P.faults pcm.new }
@@ -207,7 +211,7 @@ impl Engine {
         if self.stopped {
             return Err(EngineFault::Stopped);
         }
-        match self.finish_block(lines, pcm, steps) {
+        match self.finish_block(shelf, lines, pcm, steps) {
             Ok(()) => Ok(()),
             Err(SinkFailed) => Err(self.stop()),
         }
@@ -217,7 +221,6 @@ impl Engine {
     fn stop(&mut self) -> EngineFault
         ensures fault { result ≡ EngineFault.WriteFault }
         ensures stopped { self.new.stopped ≡ true }
-        ensures library { self.new.library ≡ self.old.library }
     {
         self.stopped = true;
         EngineFault::WriteFault

@@ -1,6 +1,6 @@
 //! A patch is opened: fetched, read, grown and loaded.
 
-ghost use Rattle.std.specs.Prelude.{◌≡◌, ◌≢◌, ◌<◌, ◌≤◌, ℕ, false, Ok, [], IfOk, IfErr, OnOk, OnErr, length};
+ghost use Rattle.std.specs.Prelude.{◌≡◌, ◌≢◌, ◌<◌, ◌≤◌, ℕ, false, List, Option, Ok, [], IfOk, IfErr, OnOk, OnErr, length};
 ghost use Rattle.pd_io.specs.declared.shelves.TheConstants.{MAX_FILE};
 ghost use Rattle.pd_atom.specs.Names.{Extends};
 ghost use Rattle.pd_canvas.specs.Proper.{IsProper};
@@ -12,11 +12,12 @@ ghost use Rattle.pd_patch.specs.Report.{notices_in, loads_among};
 ghost use Rattle.pd_say.specs.Gathering.{HasCause};
 ghost use Rattle.pd_engine.specs.Causes.{HasOpeningCauses};
 ghost use Rattle.pd_stage.specs.Events.{event, Loading};
-ghost use Rattle.pd_stage.specs.Leads.{Says, SaysPart};
+ghost use Rattle.pd_stage.specs.Leads.{sinks, Comes, Stops};
 ghost use Rattle.pd_web.specs.Changes.{wires_told};
 ghost use Rattle.pd_boxes.specs.Put.{CanPut};
 ghost use Rattle.pd_adding.specs.Coming.{own_zero};
 ghost use Rattle.pd_adding.specs.Counts.{AreWithin};
+ghost use Rattle.pd_adding.specs.Counted.{AreCounted};
 ghost use Rattle.pd_stage.specs.Choices.{base_of};
 ghost use Rattle.pd_engine.specs.Stages.{stage_at};
 ghost use Rattle.pd_engine.specs.Opening.{first_stage, loaded, growth_of, GathersAll, Opens, IsUngathered, IsUngrown, IsRefused, Reads, IsUnread, IsUnreadText, OpensFile, IsFileRefused};
@@ -71,7 +72,7 @@ impl Room {
 
 impl Engine {
     /// Opens the patch of a file name in a folder: it is fetched and read, its abstractions are fetched, it grows, the lines of growth
-    /// are printed, and its load boxes send.
+    /// are printed, and its load boxes send. The edits that they ask for are taken.
     ///
     /// # Errors
     ///
@@ -84,8 +85,8 @@ impl Engine {
         lines: &mut L,
     ) -> Result<Engine, OpenRefusal>
         ensures running { IfOk result (λ e. e.stopped ≡ false) }
-        ensures opens { IfOk result (λ e. OpensFile (H.holds shelf.old) name.now rate e.library (stage_at e) (L.taken lines.old) (L.taken lines.new)) }
-        ensures refused { IfErr result (IsFileRefused (H.holds shelf.old) name.now rate (L.taken lines.old) (L.taken lines.new)) }
+        ensures opens { IfOk result (λ e. OpensFile (H.holds shelf.old) name.now rate (stage_at e) (L.taken lines.old) (L.taken lines.new) (H.faults shelf.old) (H.faults shelf.new)) }
+        ensures refused { IfErr result (IsFileRefused (H.holds shelf.old) name.now rate (L.taken lines.old) (L.taken lines.new) (H.faults shelf.old) (H.faults shelf.new)) }
         ensures quiet { IfErr result (λ e. e ≢ OpenRefusal.WriteFault → L.taken lines.new ≡ L.taken lines.old) }
         ensures kept { H.holds shelf.new ≡ H.holds shelf.old }
         ensures causes { HasOpeningCauses (H.faults shelf.old) (H.faults shelf.new) (L.faults lines.old) (L.faults lines.new) result }
@@ -112,8 +113,8 @@ impl Engine {
     ) -> Result<Engine, OpenRefusal>
         requires { IsProper symbols doc.root }
         ensures running { IfOk result (λ e. e.stopped ≡ false) }
-        ensures opens { IfOk result (λ e. Opens (H.holds shelf.old) name.now rate doc.root symbols e.library (stage_at e) (L.taken lines.old) (L.taken lines.new)) }
-        ensures refused { IfErr result (IsRefused (H.holds shelf.old) name.now rate doc.root symbols (L.taken lines.old) (L.taken lines.new)) }
+        ensures opens { IfOk result (λ e. Opens (H.holds shelf.old) name.now rate doc.root symbols (stage_at e) (L.taken lines.old) (L.taken lines.new) (H.faults shelf.old) (H.faults shelf.new)) }
+        ensures refused { IfErr result (IsRefused (H.holds shelf.old) name.now rate doc.root symbols (L.taken lines.old) (L.taken lines.new) (H.faults shelf.old) (H.faults shelf.new)) }
         ensures quiet { IfErr result (λ e. e ≢ OpenRefusal.WriteFault → L.taken lines.new ≡ L.taken lines.old) }
         ensures kept { H.holds shelf.new ≡ H.holds shelf.old }
         ensures causes { HasOpeningCauses (H.faults shelf.old) (H.faults shelf.new) (L.faults lines.old) (L.faults lines.new) result }
@@ -213,6 +214,35 @@ fn grow_all(
     }
 }
 
+/// Grows a document with the files that were gathered, and counts the patch.
+fn grow_counted(
+    alloc: Global,
+    doc: Doc,
+    name: &[u8],
+    rate: Rate,
+    library: &Library,
+    symbols: &mut Symbols,
+) -> Result<(Patch, Counts, Report), OpenRefusal>
+    requires proper { IsProper symbols.old doc.root }
+    requires found { AreProper symbols.old library.now }
+    requires all { AnswersAll name.now doc.root (known library.now symbols.old) }
+    ensures tree { IfOk result (λ r. IsTree r.0 symbols.new rate (growth_of name.now doc.root (known library.now symbols.old))) }
+    ensures fresh { IfOk result (λ r. IsFresh r.0 symbols.new name.now rate) }
+    ensures counted { IfOk result (λ r. (t : IsTree r.0 symbols.new rate (growth_of name.now doc.root (known library.now symbols.old))) → (a : AreCounted r.1 r.0) × (a.tree ≡ t.tree)) }
+    ensures within { IfOk result (λ r. AreWithin r.1) }
+    ensures zero { IfOk result (λ r. own_zero r.0 ≤ 1000000000) }
+    ensures notices { IfOk result (λ r. r.2.notices.items ≡ notices_in r.0.grove r.0.web r.0.orders.items) }
+    ensures loads { IfOk result (λ r. r.2.fresh.items ≡ loads_among r.0.grove (keys_in_order r.0.grove)) }
+    ensures extends { Extends symbols.old symbols.new }
+    ensures refused { IfErr result (IsUngrown (growth_of name.now doc.root (known library.now symbols.old)) rate) }
+    ensures causes { HasOpeningCauses 0 0 0 0 result }
+{
+    let (patch, report) = grow_all(alloc, doc, name, rate, library, symbols)?;
+    grown_patches_are_limited();
+    let counts = count_patch(alloc, &patch)?;
+    Ok((patch, counts, report))
+}
+
 /// Gathers the files that a document asks for, grows it, and loads its boxes.
 fn open_document<H: Shelf, L: Sink>(
     alloc: Global,
@@ -227,8 +257,8 @@ fn open_document<H: Shelf, L: Sink>(
     requires proper { IsProper symbols doc.root }
     requires file { room.file.items ≡ name.now }
     ensures running { IfOk result (λ e. e.stopped ≡ false) }
-    ensures opens { IfOk result (λ e. Opens (H.holds shelf.old) name.now rate doc.root symbols e.library (stage_at e) (L.taken lines.old) (L.taken lines.new)) }
-    ensures refused { IfErr result (IsRefused (H.holds shelf.old) name.now rate doc.root symbols (L.taken lines.old) (L.taken lines.new)) }
+    ensures opens { IfOk result (λ e. Opens (H.holds shelf.old) name.now rate doc.root symbols (stage_at e) (L.taken lines.old) (L.taken lines.new) (H.faults shelf.old) (H.faults shelf.new)) }
+    ensures refused { IfErr result (IsRefused (H.holds shelf.old) name.now rate doc.root symbols (L.taken lines.old) (L.taken lines.new) (H.faults shelf.old) (H.faults shelf.new)) }
     ensures quiet { IfErr result (λ e. e ≢ OpenRefusal.WriteFault → L.taken lines.new ≡ L.taken lines.old) }
     ensures kept { H.holds shelf.new ≡ H.holds shelf.old }
     ensures causes { HasOpeningCauses (H.faults shelf.old) (H.faults shelf.new) (L.faults lines.old) (L.faults lines.new) result }
@@ -239,17 +269,17 @@ fn open_document<H: Shelf, L: Sink>(
     gather_all(&mut library, &doc, name, shelf, &mut symbols)?;
     let _names = symbols.len();
     proper_extended();
-    let (patch, report) = grow_all(alloc, doc, name, rate, &library, &mut symbols)?;
+    let (patch, counts, report) = grow_counted(alloc, doc, name, rate, &library, &mut symbols)?;
     let _names = symbols.len();
     what_grows_is_built();
     putting_asks_alike();
-    grown_patches_are_limited();
-    let counts = count_patch(alloc, &patch)?;
-    begin(alloc, patch, counts, report, library, symbols, room, lines)
+    begin(
+        alloc, patch, counts, report, library, symbols, room, shelf, lines,
+    )
 }
 
 /// Prints the lines of growth and loads the boxes.
-fn begin<L: Sink>(
+fn begin<H: Shelf, L: Sink>(
     alloc: Global,
     patch: Patch,
     counts: Counts,
@@ -257,6 +287,7 @@ fn begin<L: Sink>(
     library: Library,
     symbols: Symbols,
     room: Room,
+    shelf: &mut H,
     lines: &mut L,
 ) -> Result<Engine, OpenRefusal>
     requires can { CanPut patch }
@@ -265,11 +296,11 @@ fn begin<L: Sink>(
     requires zero { own_zero patch ≤ 1000000000 }
     requires found { AreProper symbols library }
     ensures running { IfOk result (λ e. e.stopped ≡ false) }
-    ensures library { IfOk result (λ e. e.library ≡ library) }
-    ensures ok { IfOk result (λ e. (looks : ℕ) → Says (λ s. loaded s (remarks_text symbols patch report.notices.items) report.fresh.items) (first_stage room.file.items patch symbols (base_of library counts)) (stage_at e) (L.taken lines.old) (L.taken lines.new) looks looks) }
-    ensures err { OnErr result ((looks : ℕ) → SaysPart (λ s. loaded s (remarks_text symbols patch report.notices.items) report.fresh.items) (first_stage room.file.items patch symbols (base_of library counts)) (L.taken lines.old) (L.taken lines.new) looks looks) }
+    ensures ok { IfOk result (λ e. (looks : ℕ) (samples : Option (List ℕ)) → Comes (λ s. loaded s (remarks_text symbols patch report.notices.items) report.fresh.items) (first_stage room.file.items patch symbols (base_of library counts)) (stage_at e) (sinks (L.taken lines.old) samples looks (H.holds shelf.old) (H.faults shelf.old)) (sinks (L.taken lines.new) samples looks (H.holds shelf.new) (H.faults shelf.new))) }
+    ensures err { OnErr result ((looks : ℕ) (samples : Option (List ℕ)) → Stops (λ s. loaded s (remarks_text symbols patch report.notices.items) report.fresh.items) (first_stage room.file.items patch symbols (base_of library counts)) (sinks (L.taken lines.old) samples looks (H.holds shelf.old) (H.faults shelf.old)) (sinks (L.taken lines.new) samples looks (H.holds shelf.new) (H.faults shelf.new))) }
     ensures fault { IfErr result (λ e. e ≡ OpenRefusal.WriteFault) }
-    ensures causes { HasOpeningCauses 0 0 (L.faults lines.old) (L.faults lines.new) result }
+    ensures kept { H.holds shelf.new ≡ H.holds shelf.old }
+    ensures causes { HasOpeningCauses (H.faults shelf.old) (H.faults shelf.new) (L.faults lines.old) (L.faults lines.new) result }
 {
     let Room {
         file,
@@ -295,7 +326,7 @@ fn begin<L: Sink>(
         tally,
         stopped: false,
     };
-    match engine.load_whole(&report, lines) {
+    match engine.load_whole(&report, shelf, lines) {
         Ok(()) => Ok(engine),
         Err(SinkFailed) => Err(OpenRefusal::WriteFault),
     }
@@ -303,12 +334,18 @@ fn begin<L: Sink>(
 
 impl Engine {
     /// Prints the lines of growth, and loads the load boxes. Nobody reads how many looks at signal wires that takes.
-    fn load_whole<L: Sink>(&mut self, report: &Report, lines: &mut L) -> Result<(), SinkFailed>
-        ensures ok { OnOk result ((looks : ℕ) → Says (λ s. loaded s (remarks_text self.old.symbols self.old.patch report.now.notices.items) report.now.fresh.items) (stage_at self.old) (stage_at self.new) (L.taken lines.old) (L.taken lines.new) looks looks) }
-        ensures err { OnErr result ((looks : ℕ) → SaysPart (λ s. loaded s (remarks_text self.old.symbols self.old.patch report.now.notices.items) report.now.fresh.items) (stage_at self.old) (L.taken lines.old) (L.taken lines.new) looks looks) }
+    fn load_whole<H: Shelf, L: Sink>(
+        &mut self,
+        report: &Report,
+        shelf: &mut H,
+        lines: &mut L,
+    ) -> Result<(), SinkFailed>
+        ensures ok { OnOk result ((looks : ℕ) (samples : Option (List ℕ)) → Comes (λ s. loaded s (remarks_text self.old.symbols self.old.patch report.now.notices.items) report.now.fresh.items) (stage_at self.old) (stage_at self.new) (sinks (L.taken lines.old) samples looks (H.holds shelf.old) (H.faults shelf.old)) (sinks (L.taken lines.new) samples looks (H.holds shelf.new) (H.faults shelf.new))) }
+        ensures err { OnErr result ((looks : ℕ) (samples : Option (List ℕ)) → Stops (λ s. loaded s (remarks_text self.old.symbols self.old.patch report.now.notices.items) report.now.fresh.items) (stage_at self.old) (sinks (L.taken lines.old) samples looks (H.holds shelf.old) (H.faults shelf.old)) (sinks (L.taken lines.new) samples looks (H.holds shelf.new) (H.faults shelf.new))) }
         ensures cause { HasCause (L.faults lines.old) (L.faults lines.new) result }
+        ensures counted { H.faults shelf.old ≤ H.faults shelf.new }
+        ensures kept { H.holds shelf.new ≡ H.holds shelf.old }
         ensures stays { self.new.stopped ≡ self.old.stopped }
-        ensures library { self.new.library ≡ self.old.library }
     {
         print_remarks(
             &self.patch,
@@ -318,26 +355,28 @@ impl Engine {
             &mut self.held,
             lines,
         )?;
-        self.load::<L, Brand>(report.fresh.as_slice(), lines, Blank::new(1))
+        self.load::<H, L, Brand>(report.fresh.as_slice(), shelf, lines, Blank::new(1))
     }
 
     /// Loads boxes.
-    fn load<L: Sink, K: Ledger>(
+    fn load<H: Shelf, L: Sink, K: Ledger>(
         &mut self,
         boxes: &[u32],
+        shelf: &mut H,
         lines: &mut L,
         blank: Blank,
     ) -> Result<(), SinkFailed>
         requires name { blank.name ≡ K.name }
         requires parts { blank.parts ≡ K.parts }
         requires some { 0 < blank.parts }
-        ensures ok { OnOk result ((looks : ℕ) → Says (λ s. event s (Loading boxes.now)) (stage_at self.old) (stage_at self.new) (L.taken lines.old) (L.taken lines.new) looks looks) }
-        ensures err { OnErr result ((looks : ℕ) → SaysPart (λ s. event s (Loading boxes.now)) (stage_at self.old) (L.taken lines.old) (L.taken lines.new) looks looks) }
+        ensures ok { OnOk result ((looks : ℕ) (samples : Option (List ℕ)) → Comes (λ s. event s (Loading boxes.now)) (stage_at self.old) (stage_at self.new) (sinks (L.taken lines.old) samples looks (H.holds shelf.old) (H.faults shelf.old)) (sinks (L.taken lines.new) samples looks (H.holds shelf.new) (H.faults shelf.new))) }
+        ensures err { OnErr result ((looks : ℕ) (samples : Option (List ℕ)) → Stops (λ s. event s (Loading boxes.now)) (stage_at self.old) (sinks (L.taken lines.old) samples looks (H.holds shelf.old) (H.faults shelf.old)) (sinks (L.taken lines.new) samples looks (H.holds shelf.new) (H.faults shelf.new))) }
         ensures cause { HasCause (L.faults lines.old) (L.faults lines.new) result }
+        ensures counted { H.faults shelf.old ≤ H.faults shelf.new }
+        ensures kept { H.holds shelf.new ≡ H.holds shelf.old }
         ensures stays { self.new.stopped ≡ self.old.stopped }
-        ensures library { self.new.library ≡ self.old.library }
     {
         let mut steps = Steps::<K>::new(blank);
-        self.run_event(&Start::Loads { boxes }, lines, &mut steps)
+        self.run_event(&Start::Loads { boxes }, shelf, lines, &mut steps)
     }
 }

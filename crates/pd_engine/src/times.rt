@@ -4,14 +4,14 @@ ghost use Rattle.std.specs.Prelude.{◌≡◌, ◌≤◌, ◌^◌, ℕ, List, Op
 ghost use Rattle.pd_say.specs.Gathering.{HasCause};
 ghost use Rattle.pd_clock.specs.Queue.{Clock};
 ghost use Rattle.pd_engine.specs.Causes.{HasCauses};
-ghost use Rattle.pd_stage.specs.Leads.{Sounds, SoundsPart, Says, SaysPart};
+ghost use Rattle.pd_stage.specs.Leads.{sinks, Comes, Stops, Sounds, SoundsPart};
 ghost use Rattle.pd_engine.specs.Stages.{stage_at};
 ghost use Rattle.pd_stage.specs.Times.{fires_at, clocks_fire, block_sounds, block_runs, with_time, advanced, finished};
 
 use crate::engine::Engine;
 use pd_block::run_block;
 use pd_clock::Time;
-use pd_io::{Sink, SinkFailed, write_whole};
+use pd_io::{Shelf, Sink, SinkFailed, write_whole};
 use pd_mix::{BYTES, write_samples};
 use pd_num::Sig;
 use pd_order::Steps;
@@ -26,62 +26,68 @@ const MOST_FIRED: u32 = 10_000;
 
 impl Engine {
     /// Runs each block that ends by a time, fires the clocks below it, and raises the time to it.
-    pub(crate) fn advance_to<L: Sink, P: Sink, K: Ledger>(
+    pub(crate) fn advance_to<H: Shelf, L: Sink, P: Sink, K: Ledger>(
         &mut self,
         to: Time,
+        shelf: &mut H,
         lines: &mut L,
         pcm: &mut P,
         steps: &mut Steps<K>,
     ) -> Result<(), SinkFailed>
         requires { to ≤ 2 ^ 100 }
-        ensures ok { OnOk result (Sounds (advanced to) (stage_at self.old) (stage_at self.new) (L.taken lines.old) (L.taken lines.new) (P.taken pcm.old) (P.taken pcm.new) steps.old steps.new) }
-        ensures err { OnErr result (SoundsPart (advanced to) (stage_at self.old) (L.taken lines.old) (L.taken lines.new) (P.taken pcm.old) (P.taken pcm.new) steps.old steps.new) }
+        ensures ok { OnOk result (Comes (advanced to) (stage_at self.old) (stage_at self.new) (sinks (L.taken lines.old) (P.taken pcm.old) steps.old (H.holds shelf.old) (H.faults shelf.old)) (sinks (L.taken lines.new) (P.taken pcm.new) steps.new (H.holds shelf.new) (H.faults shelf.new))) }
+        ensures err { OnErr result (Stops (advanced to) (stage_at self.old) (sinks (L.taken lines.old) (P.taken pcm.old) steps.old (H.holds shelf.old) (H.faults shelf.old)) (sinks (L.taken lines.new) (P.taken pcm.new) steps.new (H.holds shelf.new) (H.faults shelf.new))) }
         ensures cause { HasCauses (L.faults lines.old) (L.faults lines.new) (P.faults pcm.old) (P.faults pcm.new) result }
+        ensures counted { H.faults shelf.old ≤ H.faults shelf.new }
+        ensures kept { H.holds shelf.new ≡ H.holds shelf.old }
         ensures stays { self.new.stopped ≡ self.old.stopped }
-        ensures library { self.new.library ≡ self.old.library }
     {
         while self.block_end.units() <= to.units() {
-            self.run_next_block(lines, pcm, steps)?;
+            self.run_next_block(shelf, lines, pcm, steps)?;
         }
-        self.fire_below(to, lines, steps)?;
+        self.fire_below(to, shelf, lines, steps)?;
         self.time = later(self.time, to);
         Ok(())
     }
 
     /// Runs the block that began before the present time, where there is one.
-    pub(crate) fn finish_block<L: Sink, P: Sink, K: Ledger>(
+    pub(crate) fn finish_block<H: Shelf, L: Sink, P: Sink, K: Ledger>(
         &mut self,
+        shelf: &mut H,
         lines: &mut L,
         pcm: &mut P,
         steps: &mut Steps<K>,
     ) -> Result<(), SinkFailed>
-        ensures ok { OnOk result (Sounds finished (stage_at self.old) (stage_at self.new) (L.taken lines.old) (L.taken lines.new) (P.taken pcm.old) (P.taken pcm.new) steps.old steps.new) }
-        ensures err { OnErr result (SoundsPart finished (stage_at self.old) (L.taken lines.old) (L.taken lines.new) (P.taken pcm.old) (P.taken pcm.new) steps.old steps.new) }
+        ensures ok { OnOk result (Comes finished (stage_at self.old) (stage_at self.new) (sinks (L.taken lines.old) (P.taken pcm.old) steps.old (H.holds shelf.old) (H.faults shelf.old)) (sinks (L.taken lines.new) (P.taken pcm.new) steps.new (H.holds shelf.new) (H.faults shelf.new))) }
+        ensures err { OnErr result (Stops finished (stage_at self.old) (sinks (L.taken lines.old) (P.taken pcm.old) steps.old (H.holds shelf.old) (H.faults shelf.old)) (sinks (L.taken lines.new) (P.taken pcm.new) steps.new (H.holds shelf.new) (H.faults shelf.new))) }
         ensures cause { HasCauses (L.faults lines.old) (L.faults lines.new) (P.faults pcm.old) (P.faults pcm.new) result }
+        ensures counted { H.faults shelf.old ≤ H.faults shelf.new }
+        ensures kept { H.holds shelf.new ≡ H.holds shelf.old }
         ensures stays { self.new.stopped ≡ self.old.stopped }
-        ensures library { self.new.library ≡ self.old.library }
     {
         let end = self.block_end.units();
         if end < BLOCK || end - BLOCK < self.time.units() {
-            return self.run_next_block(lines, pcm, steps);
+            return self.run_next_block(shelf, lines, pcm, steps);
         }
         Ok(())
     }
 
     /// Fires the clocks below the end of the next block, and runs it.
-    fn run_next_block<L: Sink, P: Sink, K: Ledger>(
+    fn run_next_block<H: Shelf, L: Sink, P: Sink, K: Ledger>(
         &mut self,
+        shelf: &mut H,
         lines: &mut L,
         pcm: &mut P,
         steps: &mut Steps<K>,
     ) -> Result<(), SinkFailed>
-        ensures ok { OnOk result (Sounds block_runs (stage_at self.old) (stage_at self.new) (L.taken lines.old) (L.taken lines.new) (P.taken pcm.old) (P.taken pcm.new) steps.old steps.new) }
-        ensures err { OnErr result (SoundsPart block_runs (stage_at self.old) (L.taken lines.old) (L.taken lines.new) (P.taken pcm.old) (P.taken pcm.new) steps.old steps.new) }
+        ensures ok { OnOk result (Comes block_runs (stage_at self.old) (stage_at self.new) (sinks (L.taken lines.old) (P.taken pcm.old) steps.old (H.holds shelf.old) (H.faults shelf.old)) (sinks (L.taken lines.new) (P.taken pcm.new) steps.new (H.holds shelf.new) (H.faults shelf.new))) }
+        ensures err { OnErr result (Stops block_runs (stage_at self.old) (sinks (L.taken lines.old) (P.taken pcm.old) steps.old (H.holds shelf.old) (H.faults shelf.old)) (sinks (L.taken lines.new) (P.taken pcm.new) steps.new (H.holds shelf.new) (H.faults shelf.new))) }
         ensures cause { HasCauses (L.faults lines.old) (L.faults lines.new) (P.faults pcm.old) (P.faults pcm.new) result }
+        ensures counted { H.faults shelf.old ≤ H.faults shelf.new }
+        ensures kept { H.holds shelf.new ≡ H.holds shelf.old }
         ensures stays { self.new.stopped ≡ self.old.stopped }
-        ensures library { self.new.library ≡ self.old.library }
     {
-        self.fire_below(self.block_end, lines, steps)?;
+        self.fire_below(self.block_end, shelf, lines, steps)?;
         self.sound_block(pcm)
     }
 
@@ -107,45 +113,49 @@ impl Engine {
     }
 
     /// Fires the clocks below a time, at most 10,000 between two blocks.
-    fn fire_below<L: Sink, K: Ledger>(
+    fn fire_below<H: Shelf, L: Sink, K: Ledger>(
         &mut self,
         limit: Time,
+        shelf: &mut H,
         lines: &mut L,
         steps: &mut Steps<K>,
     ) -> Result<(), SinkFailed>
-        ensures ok { OnOk result (Says (clocks_fire limit) (stage_at self.old) (stage_at self.new) (L.taken lines.old) (L.taken lines.new) steps.old steps.new) }
-        ensures err { OnErr result (SaysPart (clocks_fire limit) (stage_at self.old) (L.taken lines.old) (L.taken lines.new) steps.old steps.new) }
+        ensures ok { OnOk result ((samples : Option (List ℕ)) → Comes (clocks_fire limit) (stage_at self.old) (stage_at self.new) (sinks (L.taken lines.old) samples steps.old (H.holds shelf.old) (H.faults shelf.old)) (sinks (L.taken lines.new) samples steps.new (H.holds shelf.new) (H.faults shelf.new))) }
+        ensures err { OnErr result ((samples : Option (List ℕ)) → Stops (clocks_fire limit) (stage_at self.old) (sinks (L.taken lines.old) samples steps.old (H.holds shelf.old) (H.faults shelf.old)) (sinks (L.taken lines.new) samples steps.new (H.holds shelf.new) (H.faults shelf.new))) }
         ensures cause { HasCause (L.faults lines.old) (L.faults lines.new) result }
+        ensures counted { H.faults shelf.old ≤ H.faults shelf.new }
+        ensures kept { H.holds shelf.new ≡ H.holds shelf.old }
         ensures stays { self.new.stopped ≡ self.old.stopped }
-        ensures library { self.new.library ≡ self.old.library }
     {
         while self.fired < MOST_FIRED {
             let Some((time, owner)) = self.patch.next_clock(limit) else {
                 return Ok(());
             };
-            self.fire(time, owner, lines, steps)?;
+            self.fire(time, owner, shelf, lines, steps)?;
         }
         Ok(())
     }
 
     /// A clock that was taken off fires.
-    fn fire<L: Sink, K: Ledger>(
+    fn fire<H: Shelf, L: Sink, K: Ledger>(
         &mut self,
         time: Time,
         owner: u32,
+        shelf: &mut H,
         lines: &mut L,
         steps: &mut Steps<K>,
     ) -> Result<(), SinkFailed>
         requires { self.old.fired ≤ 10000 }
-        ensures ok { OnOk result (Says (λ s. fires_at s time owner) (stage_at self.old) (stage_at self.new) (L.taken lines.old) (L.taken lines.new) steps.old steps.new) }
-        ensures err { OnErr result (SaysPart (λ s. fires_at s time owner) (stage_at self.old) (L.taken lines.old) (L.taken lines.new) steps.old steps.new) }
+        ensures ok { OnOk result ((samples : Option (List ℕ)) → Comes (λ s. fires_at s time owner) (stage_at self.old) (stage_at self.new) (sinks (L.taken lines.old) samples steps.old (H.holds shelf.old) (H.faults shelf.old)) (sinks (L.taken lines.new) samples steps.new (H.holds shelf.new) (H.faults shelf.new))) }
+        ensures err { OnErr result ((samples : Option (List ℕ)) → Stops (λ s. fires_at s time owner) (stage_at self.old) (sinks (L.taken lines.old) samples steps.old (H.holds shelf.old) (H.faults shelf.old)) (sinks (L.taken lines.new) samples steps.new (H.holds shelf.new) (H.faults shelf.new))) }
         ensures cause { HasCause (L.faults lines.old) (L.faults lines.new) result }
+        ensures counted { H.faults shelf.old ≤ H.faults shelf.new }
+        ensures kept { H.holds shelf.new ≡ H.holds shelf.old }
         ensures stays { self.new.stopped ≡ self.old.stopped }
-        ensures library { self.new.library ≡ self.old.library }
     {
         self.fired += 1;
         self.time = later(self.time, time);
-        self.run_event(&Start::Clock { owner }, lines, steps)
+        self.run_event(&Start::Clock { owner }, shelf, lines, steps)
     }
 }
 

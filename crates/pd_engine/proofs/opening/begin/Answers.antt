@@ -1,7 +1,7 @@
-use Rattle.std.proofs.Common.{rules, arith, ℕ, List, Option, subst}
+use Rattle.std.proofs.Common.{rules, ℕ, List, Option, subst}
 use Rattle.pd_stage.specs.Choices.{Choice, base_of}
 use Rattle.pd_stage.specs.Stages.{Stage, Passage}
-use Rattle.pd_stage.specs.Leads.{Says, SaysPart}
+use Rattle.pd_stage.specs.Leads.{sinks, Comes, Stops}
 use Rattle.pd_engine.specs.Opening.{loaded}
 use Rattle.pd_engine.specs.Remarks.{remarks_text}
 use Rattle.pd_engine.specs.Stages.{stage_at}
@@ -12,7 +12,7 @@ pub returns-clause-causes : goal.returns-clause-causes
 returns-clause-causes g c = record {
   shelf = search rules;
   write = λ h. c.in-Err.ensures.cause.failed;
-  folder_counted = omega arith;
+  folder_counted = c.load_whole.ensures.counted;
   lines_counted = c.load_whole.ensures.cause.counted;
 }
 
@@ -21,7 +21,7 @@ returns-in-Ok-clause-ok g c =
     let part : Stage → Passage = λ s. loaded s (remarks_text c.args.symbols c.args.patch c.args.report.notices.items) c.args.report.fresh.items in
     let t : Option (List ℕ) = g.L.Sink.taken c.args.lines.now in
     let t' : Option (List ℕ) = g.L.Sink.taken c.load_whole.new.lines in
-    subst (λ (from : List Choice → Stage). (looks : ℕ) → Says part from (stage_at c.load_whole.new.self) t t' looks looks)
+    subst (λ (from : List Choice → Stage). (looks : ℕ) (samples : Option (List ℕ)) → Comes part from (stage_at c.load_whole.new.self) (sinks t samples looks (g.H.Shelf.holds c.args.shelf.now) (g.H.Shelf.faults c.args.shelf.now)) (sinks t' samples looks (g.H.Shelf.holds c.load_whole.new.shelf) (g.H.Shelf.faults c.load_whole.new.shelf)))
     (begins_at c.args.room.file.items c.args.patch c.args.symbols (base_of c.args.library c.args.counts) c.of_units.result c.of_units-2.result c.new-tally.result c.of_units.ensures c.of_units-2.ensures c.new-tally.ensures) c.in-Ok.ensures.ok
 
 pub returns-clause-err : goal.returns-clause-err
@@ -29,7 +29,7 @@ returns-clause-err g c =
     let part : Stage → Passage = λ s. loaded s (remarks_text c.args.symbols c.args.patch c.args.report.notices.items) c.args.report.fresh.items in
     let t : Option (List ℕ) = g.L.Sink.taken c.args.lines.now in
     let t' : Option (List ℕ) = g.L.Sink.taken c.load_whole.new.lines in
-    subst (λ (from : List Choice → Stage). (looks : ℕ) → SaysPart part from t t' looks looks)
+    subst (λ (from : List Choice → Stage). (looks : ℕ) (samples : Option (List ℕ)) → Stops part from (sinks t samples looks (g.H.Shelf.holds c.args.shelf.now) (g.H.Shelf.faults c.args.shelf.now)) (sinks t' samples looks (g.H.Shelf.holds c.load_whole.new.shelf) (g.H.Shelf.faults c.load_whole.new.shelf)))
     (begins_at c.args.room.file.items c.args.patch c.args.symbols (base_of c.args.library c.args.counts) c.of_units.result c.of_units-2.result c.new-tally.result c.of_units.ensures c.of_units-2.ensures c.new-tally.ensures) c.in-Err.ensures.err
 
 pub invariant_of-engine-clause-puts : goal.invariant_of-engine-clause-puts

@@ -8,14 +8,16 @@ use Rattle.pd_stage.specs.Leads.{sinks}
 use Rattle.pd_stage.specs.Events.{edit_taken}
 use Rattle.pd_engine.specs.Stages.{stage_at}
 use Rattle.pd_engine.specs.Commands.{commanded, answered, sent, shown}
-use Rattle.pd_engine.proofs.CommandLemmas.{says_carried, taken_carried, part_stops, taken_stops, if_ok_weaker}
+use Rattle.pd_engine.proofs.CommandLemmas.{comes_carried, says_carried, taken_carried, part_stops, taken_stops, if_ok_weaker}
 use Rattle.pd_engine.proofs.engine.Engine.carry_out.Goals as goal
 
 pub returns-in-Send-clause-ok : goal.returns-in-Send-clause-ok
 unfolding commanded
 returns-in-Send-clause-ok g c =
-    says_carried c.send.result c.args.cmd.now (sent c.in-Send.name c.as_slice.result.now) (stage_at c.args.self.now) (stage_at c.send.new.self) (g.L.Sink.taken c.args.lines.now) (g.L.Sink.taken c.send.new.lines) c.args.steps.now c.send.new.steps
-    (g.H.Shelf.holds c.args.shelf.now) (g.H.Shelf.faults c.args.shelf.now) (λ s. ap (λ (x : Command). commanded x s) c.in-Send.is ∙ ap (λ (a : List Atom). sent c.in-Send.name a s) (sym c.as_slice.ensures))
+    comes_carried c.send.result c.args.cmd.now (sent c.in-Send.name c.as_slice.result.now) (stage_at c.args.self.now) (stage_at c.send.new.self)
+    (λ samples. sinks (g.L.Sink.taken c.args.lines.now) samples c.args.steps.now (g.H.Shelf.holds c.args.shelf.now) (g.H.Shelf.faults c.args.shelf.now))
+    (λ samples. sinks (g.L.Sink.taken c.send.new.lines) samples c.send.new.steps (g.H.Shelf.holds c.send.new.shelf) (g.H.Shelf.faults c.send.new.shelf))
+    (λ s. ap (λ (x : Command). commanded x s) c.in-Send.is ∙ ap (λ (a : List Atom). sent c.in-Send.name a s) (sym c.as_slice.ensures))
     (λ edits. ap (λ (x : Command). answered x edits) c.in-Send.is) c.send.ensures.ok c.send.ensures.answer
 
 pub returns-in-Show-clause-ok : goal.returns-in-Show-clause-ok
@@ -67,9 +69,10 @@ returns-in-Redo-clause-err g c =
 pub returns-in-Send-clause-err : goal.returns-in-Send-clause-err
 unfolding commanded
 returns-in-Send-clause-err g c =
-    part_stops c.send.result c.args.cmd.now (sent c.in-Send.name c.as_slice.result.now) (stage_at c.args.self.now) (g.L.Sink.taken c.args.lines.now) (g.L.Sink.taken c.send.new.lines) c.args.steps.now c.send.new.steps
-    (g.H.Shelf.holds c.args.shelf.now) (g.H.Shelf.faults c.args.shelf.now) (λ s. ap (λ (x : Command). commanded x s) c.in-Send.is ∙ ap (λ (a : List Atom). sent c.in-Send.name a s) (sym c.as_slice.ensures))
-    c.send.ensures.err
+    taken_stops c.send.result c.args.cmd.now (sent c.in-Send.name c.as_slice.result.now) (stage_at c.args.self.now)
+    (λ samples. sinks (g.L.Sink.taken c.args.lines.now) samples c.args.steps.now (g.H.Shelf.holds c.args.shelf.now) (g.H.Shelf.faults c.args.shelf.now))
+    (λ samples. sinks (g.L.Sink.taken c.send.new.lines) samples c.send.new.steps (g.H.Shelf.holds c.send.new.shelf) (g.H.Shelf.faults c.send.new.shelf))
+    (λ s. ap (λ (x : Command). commanded x s) c.in-Send.is ∙ ap (λ (a : List Atom). sent c.in-Send.name a s) (sym c.as_slice.ensures)) c.send.ensures.err
 
 pub returns-in-Show-clause-err : goal.returns-in-Show-clause-err
 unfolding commanded

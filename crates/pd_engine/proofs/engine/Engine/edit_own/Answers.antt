@@ -1,4 +1,4 @@
-use Rattle.std.proofs.Common.{◌≡◌, false, sym, ◌∙◌}
+use Rattle.std.proofs.Common.{◌≡◌, false, refl, sym, ◌∙◌, inl}
 use Rattle.std.specs.Prelude.{None}
 use Rattle.std.proofs.lemmas.Result.{on_err_weaker}
 use Rattle.pd_script.specs.Edits.{puts_box}
@@ -6,7 +6,7 @@ use Rattle.pd_stage.specs.Choices.{base_of, Edits}
 use Rattle.pd_engine.specs.Stages.{stage_at}
 use Rattle.pd_engine.proofs.CommandLemmas.{if_ok_weaker}
 use Rattle.pd_engine.proofs.RewireLemmas.{IsKept, puts_sure}
-use Rattle.pd_engine.proofs.MakingLemmas.{edits, edited_so, edited_part, edits_kept, edits_within}
+use Rattle.pd_engine.proofs.MakingLemmas.{own_wire, edited_so, edited_part, edits_kept, edits_within}
 use Rattle.pd_engine.proofs.engine.Engine.edit_own.Goals as goal
 
 pub put_own-requires : goal.put_own-requires
@@ -36,7 +36,7 @@ returns-clause-ok g c =
     let e = c.args.self.now in
     let none : puts_box c.args.edit.now ≡ false = sym c.puts_box.ensures ∙ c.if-puts_box.false in
     if_ok_weaker c.tell.result (λ o so samples. so samples (g.H.Shelf.holds c.args.shelf.now) (g.H.Shelf.faults c.args.shelf.now))
-    (edited_so c.tell.result (Edits None c.args.path.now c.args.edit.now) c.args.path.now c.args.edit.now (edits c.args.path.now c.args.edit.now none) e.file.items e.symbols (base_of e.library e.counts) e.time e.block_end e.fired e.tally
+    (edited_so c.tell.result (Edits None c.args.path.now c.args.edit.now) c.args.path.now c.args.edit.now (own_wire (Edits None c.args.path.now c.args.edit.now) c.args.path.now c.args.edit.now (inl refl) none) e.file.items e.symbols (base_of e.library e.counts) e.time e.block_end e.fired e.tally
     e.patch c.make-done.new.patch c.make-done.new.wires e.counted c.make-done.ensures.counted (stage_at c.tell.new.self) c.make-done.result (g.L.Sink.taken c.args.lines.now) (g.L.Sink.taken c.tell.new.lines) c.args.steps.now c.make-done.new.steps
     (puts_sure e.patch e.puts) c.make-done.ensures.rewires (c.make-done.ensures.edits c.args.edit.now (sym c.wire_edit.ensures)) c.tell.ensures.stage c.tell.ensures.ok c.tell.ensures.answer)
 
@@ -45,6 +45,6 @@ returns-clause-err g c =
     let e = c.args.self.now in
     let none : puts_box c.args.edit.now ≡ false = sym c.puts_box.ensures ∙ c.if-puts_box.false in
     on_err_weaker c.tell.result (λ so samples. so samples (g.H.Shelf.holds c.args.shelf.now) (g.H.Shelf.faults c.args.shelf.now))
-    (edited_part c.tell.result (Edits None c.args.path.now c.args.edit.now) c.args.path.now c.args.edit.now (edits c.args.path.now c.args.edit.now none) e.file.items e.symbols (base_of e.library e.counts) e.time e.block_end e.fired e.tally
+    (edited_part c.tell.result (Edits None c.args.path.now c.args.edit.now) c.args.path.now c.args.edit.now (own_wire (Edits None c.args.path.now c.args.edit.now) c.args.path.now c.args.edit.now (inl refl) none) e.file.items e.symbols (base_of e.library e.counts) e.time e.block_end e.fired e.tally
     e.patch c.make-done.new.patch c.make-done.new.wires e.counted c.make-done.ensures.counted (stage_at c.tell.new.self) c.make-done.result (g.L.Sink.taken c.args.lines.now) (g.L.Sink.taken c.tell.new.lines) c.args.steps.now c.make-done.new.steps
     (puts_sure e.patch e.puts) c.make-done.ensures.rewires (c.make-done.ensures.edits c.args.edit.now (sym c.wire_edit.ensures)) c.tell.ensures.stage c.tell.ensures.err)

@@ -16,7 +16,7 @@ returns-then-end-lt-BLOCK-clause-ok g c =
       | then-end-lt-BLOCK-via-else-end-lt-BLOCK+then-end-units w ↦ omega (arith, c.units-end.ensures, w.units.ensures, w.if-end-units.true, w.if-end-lt-BLOCK.false)
     ] in
     on_ok_weaker c.run_next_block.result
-    (λ h held faults. leads_same (λ m. block_runs (s m)) (λ m. finished (s m)) (λ m. still (stage_at c.run_next_block.new.self m)) _ _ (λ m. is_begun (s m) begun) (h held faults))
+    (λ h. leads_same (λ m. block_runs (s m)) (λ m. finished (s m)) (λ m. still (stage_at c.run_next_block.new.self m)) _ _ (λ m. is_begun (s m) begun) h)
     c.run_next_block.ensures.ok
 
 pub returns-then-end-lt-BLOCK-clause-err : goal.returns-then-end-lt-BLOCK-clause-err
@@ -27,11 +27,11 @@ returns-then-end-lt-BLOCK-clause-err g c =
       | then-end-lt-BLOCK-via-else-end-lt-BLOCK+then-end-units w ↦ omega (arith, c.units-end.ensures, w.units.ensures, w.if-end-units.true, w.if-end-lt-BLOCK.false)
     ] in
     on_err_weaker c.run_next_block.result
-    (λ h held faults. broke_same (λ m. block_runs (s m)) (λ m. finished (s m)) _ _ (λ m. is_begun (s m) begun) (h held faults))
+    (λ h. broke_same (λ m. block_runs (s m)) (λ m. finished (s m)) _ _ (λ m. is_begun (s m) begun) h)
     c.run_next_block.ensures.err
 
 pub returns-clause-ok : goal.returns-clause-ok
-returns-clause-ok g c = λ held faults.
+returns-clause-ok g c =
     let s = stage_at c.args.self.now in
     let later : c.args.self.now.time + 64000000000 ≤ c.args.self.now.block_end = omega arith in
     leads_same (λ m. still (s m)) (λ m. finished (s m)) (λ m. still (s m)) _ _ (λ m. is_not_begun (s m) later) (leads_begin (λ m. still (s m)) _)
