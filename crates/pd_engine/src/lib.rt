@@ -4,11 +4,11 @@
 //! after it, what happens on the way, lines and samples in one list in their order, and the edits that were taken,
 //! and the code does exactly that: for what these edits came to, whatever the edits after them lead to. Each is
 //! lawful (pd_stage's `IsLawful`): an edit of wires of the patch's own document is made, or refused as it is
-//! planned to be or for want of memory; one of a command that puts a box grows it, with the files for which it asks,
-//! and puts it last into its canvas where it is one box without a canvas and no port of a box around, and tells why
-//! it could not be made; a save puts the document's text under the name of its file; every other edit or save is
-//! refused, and there is nothing to undo or redo. Edits that messages ask for change wires alone. Looks at signal
-//! wires are at most those of the edits.
+//! planned to be or for want of memory; one that puts a box grows it, with the files for which it asks, and puts it
+//! last into its canvas where it is one box without a canvas and no port of a box around, and tells why it could not
+//! be made; a save puts the document's text under the name of its file; every other edit or save is refused, and
+//! there is nothing to undo or redo. It makes no difference whether a command or a message asks for an edit. Looks at
+//! signal wires are at most those of the edits.
 //!
 //! `command` does what its command says: a `send` is its event, that is pd_walk's deliveries under 1,000,000, and
 //! then each edit that was asked for is taken; `show` prints the order of the canvas that its path leads to; an edit,
@@ -25,11 +25,12 @@
 //! `open` and `from_doc` (`opens`): the document is what pd_doc's definition reads of the file, which is the one
 //! that the folder holds where it tells; its files are gathered; it and they are proper; the patch is one that
 //! stands for the tree that growth gives, with `$0` from 1001; the lines are those of growth and of the load event,
-//! and the engine stands where these lead and keeps the files that were gathered and the counts of the patch. Edits
-//! that put boxes go on from these; `advance` and `finish` leave the files as they are. A refusal has its cause (`refused`): no such file, a text that isn't read, files
-//! whose names fill the table, a limit of growth, each with its number and cause; after each but `WriteFault` no
-//! line was printed (`quiet`). The folder stays as it was (`kept`), and a fault is answered only where its count
-//! rose (`causes`).
+//! and the engine stands where these lead, from the files that were gathered and the counts of the patch on. Edits
+//! that put boxes go on from these, also those that messages ask for while boxes load or time passes (`advance`,
+//! `finish`): the folder is asked for the files that a box names, holds what it held (`kept`), and each refusal for a
+//! fault of it raised its count. A refusal to open has its cause (`refused`): no such file, a text that isn't read,
+//! files whose names fill the table, a limit of growth, each with its number and cause; after each but `WriteFault`
+//! no line was printed (`quiet`). A fault of the folder is answered only where its count rose (`causes`).
 //!
 //! Law: from where a patch opens on, through commands and through time, a tree stands (pd_stage's `HasTree`): it stays
 //! as it grew but for its clocks, what its boxes keep, the blocks of their outlets, its wires with their links and

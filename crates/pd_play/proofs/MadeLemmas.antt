@@ -11,7 +11,7 @@ use Rattle.pd_clock.specs.Rates.{samples}
 use Rattle.pd_stage.specs.Choices.{Choice}
 use Rattle.pd_stage.specs.Stages.{Stage}
 use Rattle.pd_stage.specs.Leads.{Sinks}
-use Rattle.pd_engine.specs.Opening.{Files, Opens, IsRefused}
+use Rattle.pd_engine.specs.Opening.{Opens, IsRefused}
 use Rattle.pd_engine.specs.declared.refusals.OpenRefusal.{OpenRefusal}
 use Rattle.pd_engine.specs.declared.refusals.OpenRefusal.TheVariants as opening
 use Rattle.pd_made.specs.Documents.{made_document}
@@ -144,18 +144,18 @@ opened_well s folder folder' lines lines' a b = record {
 }
 
 -- a document opens as the made patch that it is
-pub opens_made : (n : ℕ) (holds : Option (List FileRow)) (name : List ℕ) (rate : Rate) (d : Page) (names : Names) (library : Files) (s : List Choice → Stage) (t t' : Option (List ℕ))
-    → d ≡ made_document made_names n → names ≡ made_names → Opens holds name rate d names library s t t' → OpensMade n holds name rate library s t t'
-opens_made n holds name rate d names library s t t' is brought h =
-    subst (λ (m : Names). Opens holds name rate (made_document made_names n) m library s t t') brought (subst (λ (p : Page). Opens holds name rate p names library s t t') is h)
+pub opens_made : (n : ℕ) (holds : Option (List FileRow)) (name : List ℕ) (rate : Rate) (d : Page) (names : Names) (s : List Choice → Stage) (t t' : Option (List ℕ)) (f f' : ℕ)
+    → d ≡ made_document made_names n → names ≡ made_names → Opens holds name rate d names s t t' f f' → OpensMade n holds name rate s t t' f f'
+opens_made n holds name rate d names s t t' f f' is brought h =
+    subst (λ (m : Names). Opens holds name rate (made_document made_names n) m s t t' f f') brought (subst (λ (p : Page). Opens holds name rate p names s t t' f f') is h)
 
-pub refuses_made : (n : ℕ) (holds : Option (List FileRow)) (name : List ℕ) (rate : Rate) (d : Page) (names : Names) (t t' : Option (List ℕ)) (e : OpenRefusal) (status : Status)
-    → d ≡ made_document made_names n → names ≡ made_names → status ≡ opened_as e → IsRefused holds name rate d names t t' e → (e ≢ opening.WriteFault → t' ≡ t)
-    → IsMadeRefusal n holds name rate t t' status
-refuses_made n holds name rate d names t t' e status is brought so h quiet = record {
+pub refuses_made : (n : ℕ) (holds : Option (List FileRow)) (name : List ℕ) (rate : Rate) (d : Page) (names : Names) (t t' : Option (List ℕ)) (f f' : ℕ) (e : OpenRefusal) (status : Status)
+    → d ≡ made_document made_names n → names ≡ made_names → status ≡ opened_as e → IsRefused holds name rate d names t t' f f' e → (e ≢ opening.WriteFault → t' ≡ t)
+    → IsMadeRefusal n holds name rate t t' f f' status
+refuses_made n holds name rate d names t t' f f' e status is brought so h quiet = record {
   refusal = e;
   status_is = so;
-  refused = subst (λ (m : Names). IsRefused holds name rate (made_document made_names n) m t t' e) brought (subst (λ (p : Page). IsRefused holds name rate p names t t' e) is h);
+  refused = subst (λ (m : Names). IsRefused holds name rate (made_document made_names n) m t t' f f' e) brought (subst (λ (p : Page). IsRefused holds name rate p names t t' f f' e) is h);
   quiet = quiet;
 }
 

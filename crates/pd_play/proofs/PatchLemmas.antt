@@ -186,7 +186,6 @@ plays_told name rate status how left left' read read' x y t before now (inl h) a
     inl (record { why = how; printed = y.lines; refused = h.refused; tells = a; unread = h.unread; silent = h.silent; held = h.held })
 plays_told name rate status how left left' read read' x y t before now (inr (to, h)) a =
     inr (record {
-      library = h.library;
       stage = h.stage;
       printed = h.printed;
       faults = h.faults;
@@ -211,20 +210,20 @@ pub made_as : (voices : ℕ) (n m : List ℕ) (rate : Rate) (status : Status) (b
 made_as voices n m rate status before now x y e h = subst (λ (name : List ℕ). PlaysMade voices name rate status before now x y) e h
 
 -- there is no memory to open the patch with
-no_memory : (holds : Option (List FileRow)) (name : List ℕ) (rate : Rate) (t : Option (List ℕ)) → IsRefusal holds name rate t t NoMemory
-no_memory holds name rate t = record { refusal = opening.NoMemory; status_is = refl; refused = inl tt; quiet = λ _. refl }
+no_memory : (holds : Option (List FileRow)) (name : List ℕ) (rate : Rate) (t : Option (List ℕ)) (f f' : ℕ) → IsRefusal holds name rate t t f f' NoMemory
+no_memory holds name rate t f f' = record { refusal = opening.NoMemory; status_is = refl; refused = inl tt; quiet = λ _. refl }
 
-pub no_made_memory : (n : ℕ) (holds : Option (List FileRow)) (name : List ℕ) (rate : Rate) (t : Option (List ℕ)) → IsMadeRefusal n holds name rate t t NoMemory
-no_made_memory n holds name rate t = record { refusal = opening.NoMemory; status_is = refl; refused = inl tt; quiet = λ _. refl }
+pub no_made_memory : (n : ℕ) (holds : Option (List FileRow)) (name : List ℕ) (rate : Rate) (t : Option (List ℕ)) (f f' : ℕ) → IsMadeRefusal n holds name rate t t f f' NoMemory
+no_made_memory n holds name rate t f f' = record { refusal = opening.NoMemory; status_is = refl; refused = inl tt; quiet = λ _. refl }
 
 -- there is no memory for the words
 short_words : (make : Option ℕ) (name : List ℕ) (rate : Rate) (status : Status) (left : Option (List ℕ)) (read : ℕ) (x : Sinks) (t : Option (List ℕ)) (before now : ℕ)
     → Answers (told [] NoMemory) status x.lines t before now → PlaysBy make name rate status left left read read before now x (with_lines x t)
 unfolding status_line
 short_words None name rate status left read x t before now a =
-    inl (record { why = NoMemory; printed = x.lines; refused = no_memory x.held name rate x.lines; tells = a; unread = refl; silent = refl; held = refl })
+    inl (record { why = NoMemory; printed = x.lines; refused = no_memory x.held name rate x.lines x.faults x.faults; tells = a; unread = refl; silent = refl; held = refl })
 short_words (Some n) name rate status left read x t before now a =
-    inl (record { why = NoMemory; printed = x.lines; refused = no_made_memory n x.held name rate x.lines; tells = a; unread = refl; silent = refl; held = refl })
+    inl (record { why = NoMemory; printed = x.lines; refused = no_made_memory n x.held name rate x.lines x.faults x.faults; tells = a; unread = refl; silent = refl; held = refl })
 
 pub words_told : (o : Option Asked) (status : Status) (left : Option (List ℕ)) (read : ℕ) (x : Sinks) (t : Option (List ℕ)) (before now : ℕ) → Answers (told [] NoMemory) status x.lines t before now
     → PlaysAsked o status left left read read before now x (with_lines x t)

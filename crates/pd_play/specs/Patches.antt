@@ -11,7 +11,7 @@ use Rattle.pd_stage.specs.Choices.{Choice}
 use Rattle.pd_stage.specs.Stages.{Stage, Taken, choices_of, saying, joined}
 use Rattle.pd_stage.specs.Lawful.{AreLawful}
 use Rattle.pd_stage.specs.Leads.{Sinks, sinks}
-use Rattle.pd_engine.specs.Opening.{Files, Opens, OpensFile}
+use Rattle.pd_engine.specs.Opening.{Opens, OpensFile}
 use Rattle.pd_made.specs.Documents.{made_document}
 use Rattle.pd_made.specs.Scripts.{made_script}
 use Rattle.pd_words.specs.Grammar.{Asked}
@@ -61,25 +61,24 @@ started stage rate m = start (stage m) rate
 abbrev pub once_open : Sinks → Option (List ℕ) → ℕ → Sinks
 once_open old printed faults = sinks printed old.samples old.looks old.held faults
 
--- how a patch opens: its engine then keeps these files and stands at this stage, and its lines were taken
+-- how a patch opens: its engine then stands at this stage, its lines were taken, and the folder counts so many faults
 abbrev pub Opening : Type 1
-Opening = Files → (List Choice → Stage) → (lines lines' : Option (List ℕ)) → Type 0
+Opening = (List Choice → Stage) → (lines lines' : Option (List ℕ)) → (faults faults' : ℕ) → Type 0
 
 -- It opens so, and from there it is played.
 pub record PlaysFrom (opening : Opening) (name : List ℕ) (closing : Stage → List ℕ) (rate : Rate) (status : Status) (left left' : Option (List ℕ)) (read read' : ℕ) (old new : Sinks) : Type 0 where
-  pub library : Files
   pub stage : List Choice → Stage
   pub printed : Option (List ℕ)
   pub faults : ℕ
   pub counted : old.faults ≤ faults
-  pub opens : opening library stage old.lines printed
+  pub opens : opening stage old.lines printed old.faults faults
   pub plays : PlaysScript name closing (started stage (samples rate)) status left left' read read' (once_open old printed faults) new
 
 -- It doesn't open, for this cause, and then the line that tells of it follows. No script is read, no sample written, and no file put.
-pub record RefusesBy (Refusal : (lines lines' : Option (List ℕ)) → Status → Type 0) (name : List ℕ) (status : Status) (left left' : Option (List ℕ)) (faults faults' : ℕ) (old new : Sinks) : Type 0 where
+pub record RefusesBy (Refusal : (lines lines' : Option (List ℕ)) → (faults faults' : ℕ) → Status → Type 0) (name : List ℕ) (status : Status) (left left' : Option (List ℕ)) (faults faults' : ℕ) (old new : Sinks) : Type 0 where
   pub why : Status
   pub printed : Option (List ℕ)
-  pub refused : Refusal old.lines printed why
+  pub refused : Refusal old.lines printed old.faults new.faults why
   pub tells : Answers (told name why) status printed new.lines faults faults'
   pub unread : left' ≡ left
   pub silent : new.samples ≡ old.samples
@@ -99,7 +98,7 @@ PlaysPatch name rate status left left' read read' faults faults' old new =
 
 -- the made patch of so many voices opens under a file name
 abbrev pub OpensMade : ℕ → Option (List FileRow) → List ℕ → Rate → Opening
-OpensMade n holds name rate library stage lines lines' = Opens holds name rate (made_document made_names n) made_names library stage lines lines'
+OpensMade n holds name rate stage lines lines' faults faults' = Opens holds name rate (made_document made_names n) made_names stage lines lines' faults faults'
 
 -- it is played by its own script, which no source fails to give, and its last line tells what that came to
 abbrev pub PlaysMadeOpened : ℕ → List ℕ → Rate → Status → Option (List ℕ) → Sinks → Sinks → Type 0
@@ -122,20 +121,19 @@ PlaysAsked asked status left left' read read' faults faults' old new =
 -- ---- before the line
 
 -- it didn't open
-pub record NotOpened (Refusal : (lines lines' : Option (List ℕ)) → Status → Type 0) (status : Status) (left left' : Option (List ℕ)) (old new : Sinks) : Type 0 where
-  pub refused : Refusal old.lines new.lines status
+pub record NotOpened (Refusal : (lines lines' : Option (List ℕ)) → (faults faults' : ℕ) → Status → Type 0) (status : Status) (left left' : Option (List ℕ)) (old new : Sinks) : Type 0 where
+  pub refused : Refusal old.lines new.lines old.faults new.faults status
   pub unread : left' ≡ left
   pub silent : new.samples ≡ old.samples
   pub held : new.held ≡ old.held
 
 -- it opened, and the script was run; where it is done, it stands here
 pub record Opened (opening : Opening) (rate : Rate) (status : Status) (to : List Choice → Point) (left left' : Option (List ℕ)) (read read' : ℕ) (old new : Sinks) : Type 0 where
-  pub library : Files
   pub stage : List Choice → Stage
   pub printed : Option (List ℕ)
   pub faults : ℕ
   pub counted : old.faults ≤ faults
-  pub opens : opening library stage old.lines printed
+  pub opens : opening stage old.lines printed old.faults faults
   pub ends : Ends unread (started stage (samples rate)) status to left left' read read' (once_open old printed faults) new
 
 abbrev pub Runs : List ℕ → Rate → Status → Option (List ℕ) → Option (List ℕ) → ℕ → ℕ → Sinks → Sinks → Type 0

@@ -18,10 +18,10 @@ pub record IsRefusalBy (Refuses : OpenRefusal → Type 0) (lines lines' : Option
   pub quiet : refusal ≢ opening.WriteFault → lines' ≡ lines
 
 -- the patch of a file name doesn't open
-abbrev pub IsRefusal : Option (List FileRow) → List ℕ → Rate → (lines lines' : Option (List ℕ)) → Status → Type 0
-IsRefusal holds name rate lines lines' status = IsRefusalBy (IsFileRefused holds name rate lines lines') lines lines' status
+abbrev pub IsRefusal : Option (List FileRow) → List ℕ → Rate → (lines lines' : Option (List ℕ)) → (faults faults' : ℕ) → Status → Type 0
+IsRefusal holds name rate lines lines' faults faults' status = IsRefusalBy (IsFileRefused holds name rate lines lines' faults faults') lines lines' status
 
 -- the made patch of so many voices doesn't open under a file name
-abbrev pub IsMadeRefusal : ℕ → Option (List FileRow) → List ℕ → Rate → (lines lines' : Option (List ℕ)) → Status → Type 0
-IsMadeRefusal n holds name rate lines lines' status =
-    IsRefusalBy (IsRefused holds name rate (made_document made_names n) made_names lines lines') lines lines' status
+abbrev pub IsMadeRefusal : ℕ → Option (List FileRow) → List ℕ → Rate → (lines lines' : Option (List ℕ)) → (faults faults' : ℕ) → Status → Type 0
+IsMadeRefusal n holds name rate lines lines' faults faults' status =
+    IsRefusalBy (IsRefused holds name rate (made_document made_names n) made_names lines lines' faults faults') lines lines' status

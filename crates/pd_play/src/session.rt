@@ -57,8 +57,8 @@ impl Session {
         ensures running { IfOk result (λ s. s.engine.stopped ≡ false) }
         ensures whole { IfOk result (λ s. IsWhole s.room) }
         ensures begins { IfOk result (λ s. Starts s rate) }
-        ensures opens { IfOk result (λ s. OpensFile (H.holds shelf.old) name.now rate s.engine.library (stage_at s.engine) (L.taken lines.old) (L.taken lines.new)) }
-        ensures refused { IfErr result (IsRefusal (H.holds shelf.old) name.now rate (L.taken lines.old) (L.taken lines.new)) }
+        ensures opens { IfOk result (λ s. OpensFile (H.holds shelf.old) name.now rate (stage_at s.engine) (L.taken lines.old) (L.taken lines.new) (H.faults shelf.old) (H.faults shelf.new)) }
+        ensures refused { IfErr result (IsRefusal (H.holds shelf.old) name.now rate (L.taken lines.old) (L.taken lines.new) (H.faults shelf.old) (H.faults shelf.new)) }
         ensures kept { H.holds shelf.new ≡ H.holds shelf.old }
         ensures causes { HasOpenCauses (H.faults shelf.old) (H.faults shelf.new) (L.faults lines.old) (L.faults lines.new) result }
     {
@@ -94,8 +94,8 @@ impl Session {
         ensures running { IfOk result (λ s. s.engine.stopped ≡ false) }
         ensures whole { IfOk result (λ s. IsWhole s.room) }
         ensures begins { IfOk result (λ s. Starts s rate) }
-        ensures opens { IfOk result (λ s. OpensMade voices (H.holds shelf.old) name.now rate s.engine.library (stage_at s.engine) (L.taken lines.old) (L.taken lines.new)) }
-        ensures refused { IfErr result (IsMadeRefusal voices (H.holds shelf.old) name.now rate (L.taken lines.old) (L.taken lines.new)) }
+        ensures opens { IfOk result (λ s. OpensMade voices (H.holds shelf.old) name.now rate (stage_at s.engine) (L.taken lines.old) (L.taken lines.new) (H.faults shelf.old) (H.faults shelf.new)) }
+        ensures refused { IfErr result (IsMadeRefusal voices (H.holds shelf.old) name.now rate (L.taken lines.old) (L.taken lines.new) (H.faults shelf.old) (H.faults shelf.new)) }
         ensures kept { H.holds shelf.new ≡ H.holds shelf.old }
         ensures causes { HasOpenCauses (H.faults shelf.old) (H.faults shelf.new) (L.faults lines.old) (L.faults lines.new) result }
     {

@@ -3,7 +3,7 @@ ghost use Rattle.std.specs.Prelude.{◌≡◌, ◌+◌, ◌*◌, ◌<◌, ◌≤
 ghost use Rattle.pd_io.specs.Faults.{Rose};
 ghost use Rattle.pd_script.specs.Room.{IsWhole, IsWholeAfter, HasRest};
 ghost use Rattle.pd_clock.specs.Rates.{samples};
-ghost use Rattle.pd_stage.specs.Leads.{sinks, Sounds, SoundsPart};
+ghost use Rattle.pd_stage.specs.Leads.{sinks, Comes, Stops};
 ghost use Rattle.pd_stage.specs.Times.{advanced};
 ghost use Rattle.pd_engine.specs.Stages.{stage_at};
 ghost use Rattle.pd_play.specs.Causes.{HasRunCauses};
@@ -224,9 +224,10 @@ impl Session {
         ensures running { OnOk result (self.new.engine.stopped ≡ false) }
         ensures stays { StaysBut self.old self.new }
         ensures room { self.new.room ≡ self.old.room }
-        ensures passed { OnOk result (Sounds (advanced (self.old.time * samples self.old.rate)) (stage_at self.old.engine) (stage_at self.new.engine) (L.taken lines.old) (L.taken lines.new) (P.taken pcm.old) (P.taken pcm.new) steps.old steps.new) }
-        ensures part { OnErr result (SoundsPart (advanced (self.old.time * samples self.old.rate)) (stage_at self.old.engine) (L.taken lines.old) (L.taken lines.new) (P.taken pcm.old) (P.taken pcm.new) steps.old steps.new) }
-        ensures shelf { shelf.new ≡ shelf.old }
+        ensures passed { OnOk result (Comes (advanced (self.old.time * samples self.old.rate)) (stage_at self.old.engine) (stage_at self.new.engine) (sinks (L.taken lines.old) (P.taken pcm.old) steps.old (H.holds shelf.old) (H.faults shelf.old)) (sinks (L.taken lines.new) (P.taken pcm.new) steps.new (H.holds shelf.new) (H.faults shelf.new))) }
+        ensures part { OnErr result (Stops (advanced (self.old.time * samples self.old.rate)) (stage_at self.old.engine) (sinks (L.taken lines.old) (P.taken pcm.old) steps.old (H.holds shelf.old) (H.faults shelf.old)) (sinks (L.taken lines.new) (P.taken pcm.new) steps.new (H.holds shelf.new) (H.faults shelf.new))) }
+        ensures kept { H.holds shelf.new ≡ H.holds shelf.old }
+        ensures shelf_counted { H.faults shelf.old ≤ H.faults shelf.new }
         ensures cause { OnErr result (Rose (L.faults lines.old) (L.faults lines.new) ⊎ Rose (P.faults pcm.old) (P.faults pcm.new)) }
         ensures lines_counted { L.faults lines.old ≤ L.faults lines.new }
         ensures pcm_counted { P.faults pcm.old ≤ P.faults pcm.new }
@@ -247,7 +248,8 @@ impl Session {
         requires { self.old.engine.stopped ≡ false }
         ensures stays { StaysBut self.old self.new }
         ensures plays { IsPlayed (λ m rest. end_reached (point_at self.old m)) result (point_at self.new) (sinks (L.taken lines.old) (P.taken pcm.old) steps.old (H.holds shelf.old) (H.faults shelf.old)) (sinks (L.taken lines.new) (P.taken pcm.new) steps.new (H.holds shelf.new) (H.faults shelf.new)) }
-        ensures shelf { shelf.new ≡ shelf.old }
+        ensures kept { H.holds shelf.new ≡ H.holds shelf.old }
+        ensures shelf_counted { H.faults shelf.old ≤ H.faults shelf.new }
         ensures causes { HasRunCauses 0 0 (L.faults lines.old) (L.faults lines.new) (P.faults pcm.old) (P.faults pcm.new) (Some result) }
     {
         match self.reach(shelf, lines, pcm, steps) {
@@ -267,7 +269,8 @@ impl Session {
         requires { self.old.engine.stopped ≡ false }
         ensures stays { StaysBut self.old self.new }
         ensures plays { IsPlayed (λ m rest. done (stage_at self.old.engine m)) result (point_at self.new) (sinks (L.taken lines.old) (P.taken pcm.old) steps.old (H.holds shelf.old) (H.faults shelf.old)) (sinks (L.taken lines.new) (P.taken pcm.new) steps.new (H.holds shelf.new) (H.faults shelf.new)) }
-        ensures shelf { shelf.new ≡ shelf.old }
+        ensures kept { H.holds shelf.new ≡ H.holds shelf.old }
+        ensures shelf_counted { H.faults shelf.old ≤ H.faults shelf.new }
         ensures causes { HasRunCauses 0 0 (L.faults lines.old) (L.faults lines.new) (P.faults pcm.old) (P.faults pcm.new) (Some result) }
     {
         match self.engine.finish(shelf, lines, pcm, steps) {

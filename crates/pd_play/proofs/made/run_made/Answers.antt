@@ -12,7 +12,7 @@ returns-in_default-clause-plays g c =
     inl (record {
       why = _;
       printed = g.L.Sink.taken c.args.lines.now;
-      refused = no_made_memory c.args.voices (g.H.Shelf.holds c.args.shelf.now) c.args.name.now c.args.rate (g.L.Sink.taken c.args.lines.now);
+      refused = no_made_memory c.args.voices (g.H.Shelf.holds c.args.shelf.now) c.args.name.now c.args.rate (g.L.Sink.taken c.args.lines.now) (g.H.Shelf.faults c.args.shelf.now) (g.H.Shelf.faults c.args.shelf.now);
       tells = c.tell.ensures.answer;
       unread = refl;
       silent = refl;
@@ -25,7 +25,6 @@ returns-in-Ok-open_made-clause-plays g c =
     inr (
       c.play_made.ensures.plays.0,
       record {
-        library = c.in-Ok-open_made.session.engine.library;
         stage = stage_at c.in-Ok-open_made.session.engine;
         printed = g.L.Sink.taken c.open_made.new.lines;
         faults = g.H.Shelf.faults c.open_made.new.shelf;

@@ -12,7 +12,6 @@ returns-in-Ok-clause-runs g c =
     inr (
       point_at c.play_script.new.session,
       record {
-        library = c.in-Ok.session.engine.library;
         stage = stage_at c.in-Ok.session.engine;
         printed = g.L.Sink.taken c.open.new.lines;
         faults = g.H.Shelf.faults c.open.new.shelf;

@@ -10,12 +10,11 @@ pub returns-in-Ok-clause-plays : goal.returns-in-Ok-clause-plays
 unfolding reached
 returns-in-Ok-clause-plays g c =
     let time : ℕ = c.args.self.now.time * samples c.args.self.now.rate in
-    part_played _ (advanced time) done (stage_at c.args.self.now.engine) (stage_at c.reach.new.self.engine) _ _ _ _ _ (c.in-Ok.ensures.passed _ _) (λ m rest. refl)
-    (rw c.reach.ensures.shelf at c.end.ensures.plays)
+    part_played _ (advanced time) done (stage_at c.args.self.now.engine) (stage_at c.reach.new.self.engine) _ _ _ _ _ c.in-Ok.ensures.passed (λ m rest. refl) c.end.ensures.plays
 
 pub returns-in-Err-clause-plays : goal.returns-in-Err-clause-plays
 unfolding reached
 returns-in-Err-clause-plays g c =
     let time : ℕ = c.args.self.now.time * samples c.args.self.now.rate in
     let s = stage_at c.args.self.now.engine in
-    rw c.reach.ensures.shelf (part_cut _ (advanced time) (λ m rest. done (advanced time (s m)).stage) s _ _ _ _ (c.in-Err.ensures.part _ _) c.fault_of.ensures (λ m rest. refl))
+    part_cut _ (advanced time) (λ m rest. done (advanced time (s m)).stage) s _ _ _ _ c.in-Err.ensures.part c.fault_of.ensures (λ m rest. refl)

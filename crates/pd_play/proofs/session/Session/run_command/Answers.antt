@@ -18,9 +18,8 @@ returns-in-Err-clause-leads g c =
     let s = stage_at c.args.self.now.engine in
     let p : List Choice → Point = point_at c.args.self.now in
     let part : Stage → Passage = λ x. followed_by (advanced time x) (commanded c.args.command) in
-    rw c.reach.ensures.shelf
-    (part_cut _ part (λ m rest. rest (at_stage (p m) (part (s m)).stage)) s _ _ _ _ (stops_first (advanced time) (commanded c.args.command) s _ _ (c.in-Err.ensures.part _ _)) c.fault_of.ensures
-    (λ m rest. refl))
+    part_cut _ part (λ m rest. rest (at_stage (p m) (part (s m)).stage)) s _ _ _ _ (stops_first (advanced time) (commanded c.args.command) s _ _ c.in-Err.ensures.part) c.fault_of.ensures
+    (λ m rest. refl)
 
 pub returns-in-Err-command-clause-leads : goal.returns-in-Err-command-clause-leads
 unfolding reached
@@ -30,8 +29,8 @@ returns-in-Err-command-clause-leads g c =
     let p : List Choice → Point = point_at c.args.self.now in
     let part : Stage → Passage = λ x. followed_by (advanced time x) (commanded c.args.command) in
     part_cut _ part (λ m rest. rest (at_stage (p m) (part (s m)).stage)) s _ _ _ _
-    (stops_then (advanced time) (commanded c.args.command) s (stage_at c.reach.new.self.engine) _ _ _ (c.in_default.ensures.passed _ _)
-    (rw c.reach.ensures.shelf at (c.in-Err-command.ensures.part (g.P.Sink.taken c.reach.new.pcm))))
+    (stops_then (advanced time) (commanded c.args.command) s (stage_at c.reach.new.self.engine) _ _ _ c.in_default.ensures.passed
+    (c.in-Err-command.ensures.part (g.P.Sink.taken c.reach.new.pcm)))
     c.fault_of-in-Err-command.ensures (λ m rest. refl)
 
 pub returns-clause-leads : goal.returns-clause-leads
@@ -43,7 +42,7 @@ returns-clause-leads g c =
     let part : Stage → Passage = λ x. followed_by (advanced time x) (commanded c.args.command) in
     let stays = c.reach.ensures.stays in
     part_goes_on _ part s (stage_at c.command.new.self) p _ _ _
-    (comes_then (advanced time) (commanded c.args.command) s (stage_at c.reach.new.self.engine) (stage_at c.command.new.self) _ _ _ (c.in_default.ensures.passed _ _)
-    (rw c.reach.ensures.shelf at (c.in_default-command.ensures.said (g.P.Sink.taken c.reach.new.pcm)).comes))
+    (comes_then (advanced time) (commanded c.args.command) s (stage_at c.reach.new.self.engine) (stage_at c.command.new.self) _ _ _ c.in_default.ensures.passed
+    (c.in_default-command.ensures.said (g.P.Sink.taken c.reach.new.pcm)).comes)
     (λ m rest. refl)
     (λ m n. point_is (p n) _ (stage_at c.command.new.self m) refl (ap samples stays.rate) stays.number stays.time)
