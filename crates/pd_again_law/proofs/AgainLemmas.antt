@@ -1,6 +1,5 @@
 -- A patch that was saved opens again.
-use Rattle.std.proofs.Common.{◌≡◌, ◌≤◌, ◌+◌, ◌++◌, inl, ℕ, List, [], ◌∷◌, length, Option, Some, None, Ok, IfSome, refl, sym, ap, ◌∙◌, subst, arith}
-use Rattle.std.specs.Prelude.{option_map}
+use Rattle.std.proofs.Common.{◌≡◌, ◌≤◌, ◌+◌, ◌-◌, inl, ℕ, List, [], ◌∷◌, length, Option, Some, None, Ok, IfSome, refl, sym, ap, ◌∙◌, subst, arith, append-nil}
 use Rattle.slab.specs.Slab.{get}
 use Rattle.pd_io.specs.declared.files.FileRow.{FileRow}
 use Rattle.pd_atom.specs.Names.{Names, Extends, IsTable}
@@ -8,8 +7,6 @@ use Rattle.pd_atom.proofs.NameLemmas.{six_names}
 use Rattle.pd_canvas.specs.Pages.{Page}
 use Rattle.pd_canvas.specs.Proper.{IsProper, AreBoxes, count_wires}
 use Rattle.pd_clock.specs.declared.times.Rate.{Rate}
-use Rattle.pd_name.specs.declared.Class.{Class}
-use Rattle.pd_name.specs.Rows.{owners_of}
 use Rattle.pd_doc.specs.Reading.{document_of}
 use Rattle.pd_doc.specs.Writing.{text_of}
 use Rattle.pd_doc.proofs.GrowLaws.{proper_grows}
@@ -19,11 +16,12 @@ use Rattle.pd_object.specs.declared.kinds.Kind.TheVariants as kind
 use Rattle.pd_object.specs.declared.kinds.Glue.{Glue}
 use Rattle.pd_object.specs.declared.kinds.Glue.TheVariants as glue
 use Rattle.pd_kind.specs.declared.states.State.{State}
-use Rattle.pd_kind.specs.Fit.{blank}
 use Rattle.pd_library.specs.Files.{answer_in}
 use Rattle.pd_library.specs.declared.answers.Answer.{Answer}
-use Rattle.pd_tree.specs.Trees.{Tree, weight, document_in, zeros_of}
+use Rattle.pd_tree.specs.Trees.{Tree, weight, document_in}
 use Rattle.pd_growth.specs.Steps.{Stock, Step, beginning, gives}
+use Rattle.pd_growth.specs.Growth.{grown}
+use Rattle.pd_gather.specs.Gather.{GoesOn, known}
 use Rattle.pd_grove.specs.declared.grove.Grove.{Grove}
 use Rattle.pd_grove.specs.Standing.{GroveStands}
 use Rattle.pd_grove.specs.States.{NodesSmall}
@@ -34,18 +32,18 @@ use Rattle.pd_web.specs.Changes.{wires_told}
 use Rattle.pd_present.specs.Presents.{present_page, wires_among}
 use Rattle.pd_patch.specs.declared.patch.Patch.{Patch}
 use Rattle.pd_patch.specs.Document.{present_document}
-use Rattle.pd_patch.specs.Grown.{IsTree, IsFresh}
+use Rattle.pd_patch.specs.Grown.{IsTree, IsFresh, HasCause}
+use Rattle.pd_patch.specs.declared.refusal.GrowRefusal.{GrowRefusal}
+use Rattle.pd_patch.specs.declared.refusal.GrowRefusal.TheVariants.{NoMemory}
 use Rattle.pd_patch.specs.Sounds.{sound_of}
 use Rattle.pd_patch.specs.Wired.{IsWired}
 use Rattle.pd_patch.proofs.BuiltLemmas.{is_built}
 use Rattle.pd_wiring.proofs.BuiltLemmas.{runs_rewire}
-use Rattle.pd_adding.specs.Counts.{AreWithin}
-use Rattle.pd_adding.specs.Counted.{AreCounted}
 use Rattle.pd_hearing.specs.Worlds.{Net, net_of, states_of}
 use Rattle.pd_regrowth_law.specs.Regrowth.{stock}
 use Rattle.pd_regrowth_law.proofs.DocumentLemmas.{patch_stays}
 use Rattle.pd_regrowth_law.proofs.StepLemmas.{extends_same, gives_same, gives_stock}
-use Rattle.pd_regrowth_law.proofs.TakeLemmas.{patch_takes, patch_small}
+use Rattle.pd_regrowth_law.proofs.TakeLemmas.{patch_takes}
 use Rattle.pd_reload_law.specs.Reloading.{HasGrown, RunsAs}
 use Rattle.pd_reload_law.specs.Saving.{tree_now, AreMade}
 use Rattle.pd_reload_law.specs.Wires.{StandOnce}
@@ -75,13 +73,14 @@ use Rattle.pd_proper_law.proofs.DocumentCounts.{all_keys, document_count, dist_k
 use Rattle.pd_proper_law.proofs.LawLemmas.{tree_proper}
 use Rattle.pd_proper_law.proofs.OwnLemmas.{written_settled}
 use Rattle.pd_proper_law.proofs.SavableLemmas.{contents_save}
-use Rattle.pd_stage.specs.Choices.{Base, Wanted, Edits, Asks, Saves, Undoes, Redoes, Made, Choice, Refuses, Lacks, Makes}
-use Rattle.pd_stage.specs.Lawful.{IsSaved, StandsAt}
+use Rattle.pd_stage.specs.Choices.{Base, Wanted, Edits, Asks, Saves, Undoes, Redoes, Choice, Refuses, Lacks, Makes}
+use Rattle.pd_stage.specs.Lawful.{StandsAt}
 use Rattle.pd_stage.specs.Stages.{Stage, Taken}
-use Rattle.pd_engine.specs.Opening.{Grows, first_stage}
+use Rattle.pd_engine.specs.Opening.{Grows, first_stage, growth_of}
 use Rattle.pd_steady.specs.Steady.{IsSteady}
-use Rattle.pd_again_law.specs.Again.{IsSamePatch, grown_alike, OpensAgain, Reopens, SavedOpensAgain, AreAgain}
-use Rattle.pd_again_law.proofs.FoundLemmas.{six_more, HasCounted, StaysProper, IsStanding, IsGood, AreFound, runs_at}
+use Rattle.pd_again_law.specs.Again.{IsSamePatch, grown_alike, GrowsAgain, Reopens, SavedOpensAgain, AreAgain}
+use Rattle.pd_again_law.proofs.NumberLemmas.{HasFirstNumbers, as_opened}
+use Rattle.pd_again_law.proofs.FoundLemmas.{six_more, HasCounted, StaysProper, IsGood, AreFound, runs_at}
 use Rattle.pd_again_law.proofs.HeldLemmas.{IsHeld, Settled, bare_kind, told, held_in}
 
 -- ---- small kinds
@@ -139,6 +138,14 @@ module _ (holds : Option (List FileRow)) (name : List ℕ) (rate : Rate) (d : Pa
       (subst (λ (n : Names). StandsAgain (answer_in grows.files.files) name n t) (sym grows.tree.given.table)
       (grown_stands (answer_in grows.files.files) name d (beginning before 1001) grows.tree.given.after t grew))
 
+  numbers : HasFirstNumbers t
+  numbers =
+      let after : Stock = grows.tree.given.after in
+      (after.zeros, (patch_takes (answer_in grows.files.files) name d (beginning before 1001) after t grows.tree.given.step).zeros)
+
+  gathered : GoesOn grows.files.files base.files
+  gathered = record { more = []; is = grows.first.files_are ∙ sym (append-nil grows.files.files) }
+
   made : AreMade t.boxes
   made = stands_made (answer_in base.files) name table t again
 
@@ -166,7 +173,8 @@ module _ (holds : Option (List FileRow)) (name : List ℕ) (rate : Rate) (d : Pa
     contents = grown_contents table (IsWritten p.grove) p rate 0 grows.fresh.states settled;
   }
 
-  pub first_good : (most : ℕ) (ahead : List Choice) → IsSteady most (first_stage name p table base ahead) → IsGood rate name most (first_stage name p table base ahead)
+  pub first_good : (most : ℕ) (ahead : List Choice) → IsSteady most (first_stage name p table base ahead)
+      → IsGood grows.files.files rate name most (first_stage name p table base ahead)
   first_good most ahead steady = record {
     steady = steady;
     stands = record {
@@ -177,6 +185,8 @@ module _ (holds : Option (List FileRow)) (name : List ℕ) (rate : Rate) (d : Pa
       low = no_deeper (deep t.boxes) grows.tree.shallow;
       again = again;
       proper = proper;
+      numbers = numbers;
+      files = gathered;
       counted = counted_first;
       held = held_in name table (states_of p) t p (net_of p) refl held;
     };
@@ -203,7 +213,7 @@ grown_as q names2 names rate s now zeros room t e =
       t.given.table ∙ ap (λ (x : Stock). x.names) after,
     )
 
-module _ (tells : Tells) (reads : ReadsBack) (rate : Rate) (name : List ℕ) (most : ℕ) (s : Stage) (good : IsGood rate name most s) (p : Patch) (at : StandsAt p s) (table : IsTable s.names)
+module _ (tells : Tells) (reads : ReadsBack) (library : List (ℕ × Answer)) (rate : Rate) (name : List ℕ) (most : ℕ) (s : Stage) (good : IsGood library rate name most s) (p : Patch) (at : StandsAt p s) (table : IsTable s.names)
     (once : StandOnce p.web) where
   abbrev tree : Tree
   tree = good.stands.tree
@@ -219,7 +229,7 @@ module _ (tells : Tells) (reads : ReadsBack) (rate : Rate) (name : List ℕ) (mo
   there = subst (λ (f : List ℕ). IsHeld f s.names s.states tree p) good.stands.file (good.stands.held p (told s.net p at.net))
 
   runs : RunsAs p.grove tree
-  runs = runs_at rate name most s p good.stands good.steady at
+  runs = runs_at library rate name most s p good.stands good.steady at
 
   all_made : AreMade tree.boxes
   all_made = stands_made (answer_in files) name s.names tree stood
@@ -277,49 +287,69 @@ module _ (tells : Tells) (reads : ReadsBack) (rate : Rate) (name : List ℕ) (mo
     wired = wired;
   }
 
-  same_patch : (more : List ℕ) (room : ℕ) (q : Patch) (names2 : Names) → IsTree q names2 rate (grown_alike files name (present_document p) s.names tree more room) → IsFresh q names2 name rate
-      → IsSamePatch p (now_of p tree) s.names q names2
-  same_patch more room q names2 grew fresh =
-      let o = grown_as q names2 s.names rate (grown_alike files name (present_document p) s.names tree more room) (now_of p tree) more room grew (grown_so more room) in
-      let h : HasOpened p tree q = has_opened q names2 fresh o.0 o.1 in
-      record {
-        tree = o.0;
-        table = o.2;
-        owners = λ class symbol. owners_opened p q tree s.names names2 name class symbol h (there.owners class symbol) (fresh.owners class symbol)
-            (again_alike (answer_in files) name s.names names2 tree stood (subst (Extends s.names) (sym o.2) (extends_same s.names)));
-        canvases = λ path. same_paths p q tree path h;
-        alike = λ path c e here back. same_everywhere p q tree path c e h once there.holds here back;
-      }
+  -- a growth that gives this tree
+  module _ (grows : Step Tree) (more : List ℕ) (room : ℕ) (is : grows ≡ gives (now_of p tree) (stock s.names more room)) where
+    same_patch : (q : Patch) (names2 : Names) → IsTree q names2 rate grows → IsFresh q names2 name rate → IsSamePatch p (now_of p tree) s.names q names2
+    same_patch q names2 grew fresh =
+        let o = grown_as q names2 s.names rate grows (now_of p tree) more room grew is in
+        let h : HasOpened p tree q = has_opened q names2 fresh o.0 o.1 in
+        record {
+          tree = o.0;
+          table = o.2;
+          owners = λ class symbol. owners_opened p q tree s.names names2 name class symbol h (there.owners class symbol) (fresh.owners class symbol)
+              (again_alike (answer_in files) name s.names names2 tree stood (subst (Extends s.names) (sym o.2) (extends_same s.names)));
+          canvases = λ path. same_paths p q tree path h;
+          alike = λ path c e here back. same_everywhere p q tree path c e h once there.holds here back;
+        }
 
-  pub reopens : Reopens name rate s p
+    for_memory : (why : GrowRefusal) → HasCause why grows rate → why ≡ NoMemory
+    for_memory why cause =
+        memory_alone rate grows (now_of p tree) (stock s.names more room) why is (few_fit p tree runs at.puts.runs once there.holds.inside (inl few_wires))
+        (as_few (sound_of rate (now_of p tree).boxes) s.base.counts.sound 16777216 (same_sound p tree s.names rate runs all_made saves ∙ sym good.stands.counted.sound) good.steady.tree.within.sound)
+        cause
+
+    grows_again : GrowsAgain grows (stock s.names more room) name rate tree p s.names
+    grows_again = record { tree = is; same = same_patch; refused = for_memory }
+
+  -- the numbers and the room that are left where its text is opened as a file
+  abbrev numbers_left : List ℕ
+  numbers_left = good.stands.numbers.0
+
+  abbrev room_left : ℕ
+  room_left = 16384 - weight tree.boxes
+
+  opened_so : growth_of name (present_document p) (known files s.names) ≡ gives (now_of p tree) (stock s.names numbers_left room_left)
+  opened_so =
+      ap (grown (answer_in files) name (present_document p)) (as_opened s.names tree numbers_left few_boxes good.stands.numbers.1) ∙ grown_so numbers_left room_left
+
+  pub reopens : Reopens library name rate s p
   reopens = record {
     tree = tree;
+    files = good.stands.files;
     again = record {
       stands = runs;
       page = present_document p;
       reads = reads s.names (present_document p) table is_proper;
       is_now = refl;
-      tree = grown_so;
-      grows = same_patch;
-      refused = λ more room why cause. memory_alone rate (grown_alike files name (present_document p) s.names tree more room) (now_of p tree) (stock s.names more room) why (grown_so more room)
-          (few_fit p tree runs at.puts.runs once there.holds.inside (inl few_wires))
-          (as_few (sound_of rate (now_of p tree).boxes) s.base.counts.sound 16777216 (same_sound p tree s.names rate runs all_made saves ∙ sym good.stands.counted.sound) good.steady.tree.within.sound)
-          cause;
+      numbers_left = numbers_left;
+      room_left = room_left;
+      opened = grows_again (growth_of name (present_document p) (known files s.names)) numbers_left room_left opened_so;
+      alike = λ more room. grows_again (grown_alike files name (present_document p) s.names tree more room) more room (grown_so more room);
     };
   }
 
 -- ---- edits that found such stages
 
-one_again : Tells → ReadsBack → (rate : Rate) (name : List ℕ) (most : ℕ) (wanted : Wanted) (taken : Taken) (c : Choice) → IsGood rate name most taken.found → SavedOpensAgain name rate wanted taken c
-one_again tells reads rate name most (Edits place path e) taken c good = tt
-one_again tells reads rate name most (Asks path e) taken c good = tt
-one_again tells reads rate name most (Saves (Some place)) taken c good = tt
-one_again tells reads rate name most (Saves None) taken (Refuses why) good = tt
-one_again tells reads rate name most (Saves None) taken (Lacks net) good = tt
-one_again tells reads rate name most (Saves None) taken (Makes m) good = λ saved. reopens tells reads rate name most taken.found good saved.patch saved.stands saved.table saved.once
-one_again tells reads rate name most Undoes taken c good = tt
-one_again tells reads rate name most Redoes taken c good = tt
+one_again : Tells → ReadsBack → (library : List (ℕ × Answer)) (rate : Rate) (name : List ℕ) (most : ℕ) (wanted : Wanted) (taken : Taken) (c : Choice) → IsGood library rate name most taken.found → SavedOpensAgain library name rate wanted taken c
+one_again tells reads library rate name most (Edits place path e) taken c good = tt
+one_again tells reads library rate name most (Asks path e) taken c good = tt
+one_again tells reads library rate name most (Saves (Some place)) taken c good = tt
+one_again tells reads library rate name most (Saves None) taken (Refuses why) good = tt
+one_again tells reads library rate name most (Saves None) taken (Lacks net) good = tt
+one_again tells reads library rate name most (Saves None) taken (Makes m) good = λ saved. reopens tells reads library rate name most taken.found good saved.patch saved.stands saved.table saved.once
+one_again tells reads library rate name most Undoes taken c good = tt
+one_again tells reads library rate name most Redoes taken c good = tt
 
-pub all_again : Tells → ReadsBack → (rate : Rate) (name : List ℕ) (most : ℕ) (edits : List Taken) → AreFound rate name most edits → AreAgain name rate edits
-all_again tells reads rate name most [] h = tt
-all_again tells reads rate name most (x ∷ edits) h = (one_again tells reads rate name most x.wanted x x.choice h.0, all_again tells reads rate name most edits h.1)
+pub all_again : Tells → ReadsBack → (library : List (ℕ × Answer)) (rate : Rate) (name : List ℕ) (most : ℕ) (edits : List Taken) → AreFound library rate name most edits → AreAgain library name rate edits
+all_again tells reads library rate name most [] h = tt
+all_again tells reads library rate name most (x ∷ edits) h = (one_again tells reads library rate name most x.wanted x x.choice h.0, all_again tells reads library rate name most edits h.1)

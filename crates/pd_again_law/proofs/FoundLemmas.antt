@@ -16,6 +16,7 @@ use Rattle.pd_kind.specs.Forming.{cut_atoms}
 use Rattle.pd_object.specs.declared.kinds.Kind.{Kind}
 use Rattle.pd_script.specs.declared.commands.Command.{Command}
 use Rattle.pd_script.specs.declared.commands.Command.TheVariants as command
+use Rattle.pd_library.specs.declared.answers.Answer.{Answer}
 use Rattle.pd_library.specs.Files.{answer_in}
 use Rattle.pd_tree.specs.Trees.{Tree, weight, document_in}
 use Rattle.pd_turns.specs.Turns.{World}
@@ -24,20 +25,17 @@ use Rattle.pd_grove.specs.TextOrder.{deep, keys_in_order}
 use Rattle.pd_patch.specs.declared.patch.Patch.{Patch}
 use Rattle.pd_patch.specs.Report.{loads_among}
 use Rattle.pd_patch.specs.Sounds.{sound_of}
-use Rattle.pd_gather.specs.Gather.{Known}
+use Rattle.pd_gather.specs.Gather.{Known, GoesOn}
 use Rattle.pd_wiring.specs.Plans.{Plan, Attaches, Detaches, IsCarriedOut}
 use Rattle.pd_hearing.specs.Worlds.{Net, Kept, net_of, states_of}
 use Rattle.pd_regrowth_law.proofs.StepLemmas.{extends_same}
 use Rattle.pd_regrowth_law.proofs.AgainLemmas.{library_more}
-use Rattle.pd_regrowth_law.specs.Suits.{AnswersAlike}
 use Rattle.pd_reload_law.specs.Reloading.{RunsAs}
 use Rattle.pd_putting_law.specs.Again.{StandsAgain}
 use Rattle.pd_putting_law.proofs.AgainLemmas.{stands_on}
 use Rattle.pd_boxes.specs.Put.{CanPut}
-use Rattle.pd_putting.specs.Adds.{AddsBox}
-use Rattle.pd_putting.specs.declared.adding.NewBox.{NewBox}
 use Rattle.pd_put_law.specs.Coming.{with_leaf}
-use Rattle.pd_put_law.proofs.ComeLemmas.{goes_on, box_runs, box_again}
+use Rattle.pd_put_law.proofs.ComeLemmas.{goes_on, known_files, box_runs, box_again}
 use Rattle.pd_put_law.proofs.OwnerLemmas.{own_more, room_own, box_owners}
 use Rattle.pd_put_law.proofs.PutLemmas.{box_holds, box_fits, more_boxes, more_sound}
 use Rattle.pd_put_law.proofs.RoomLemmas as room
@@ -52,9 +50,9 @@ use Rattle.pd_contents_law.proofs.BlockLemmas.{block_kept}
 use Rattle.pd_proper_law.specs.Saves.{IsWritten}
 use Rattle.pd_proper_law.proofs.SavableLemmas.{kinds_savable}
 use Rattle.pd_stage.specs.Choices.{Base, base_of, Wanted, Edits, Asks, Saves, Undoes, Redoes, Made, Choice, Refuses, Lacks, Makes, first_choice, later}
-use Rattle.pd_stage.specs.Lawful.{StandsAt, with_wire_count, known_at, IsMade, IsShort, IsRewiringLawful, IsPutIn, IsUnputForRoom, IsPutLawful, IsEditLawful, IsSaved, MayCome, AreLawful}
+use Rattle.pd_stage.specs.Lawful.{StandsAt, known_at, IsMade, IsShort, IsRewiringLawful, IsPutIn, IsUnputForRoom, IsPutLawful, IsEditLawful, IsSaved, MayCome}
 use Rattle.pd_stage.specs.Stages.{Stage, Taken, Passage, with_names, with_ahead, still, followed_by}
-use Rattle.pd_stage.specs.Events.{Beginning, Message, Firing, Loading, with_net, stage_by, edit_by, edit_taken, edit_asked, edits_taken, begun, delivered, with_kept, event}
+use Rattle.pd_stage.specs.Events.{Beginning, Message, Firing, Loading, with_net, stage_by, edit_taken, edit_asked, edits_taken, begun, delivered, with_kept, event}
 use Rattle.pd_stage.specs.Times.{block_units, most_fired, first_clock, next_clock, taken_off, with_taken, with_fired, fires, fires_or_not, fires_below, clocks_fire, block_net, sound_at, block_sounds, block_runs, blocks_run, time_is, comes_to, advanced, finished}
 use Rattle.pd_engine.specs.Messages.{message_in}
 use Rattle.pd_engine.specs.Commands.{commanded}
@@ -63,13 +61,14 @@ use Rattle.pd_engine.proofs.WholeLemmas.{both_on}
 use Rattle.pd_steady.specs.Runs.{own_ways, finished_by}
 use Rattle.pd_steady.specs.Steady.{IsSteady, IsCommand}
 use Rattle.pd_steady.specs.Steps.{Step, Does, Learns, Comes, AreSteps, step_by, steps_by, run_by}
-use Rattle.pd_steady.proofs.EventLemmas.{Guards, Begins, start_of, starts, outcome_is, altered_steady, owned_at, delivered_steady}
+use Rattle.pd_steady.proofs.EventLemmas.{Guards, Begins, start_of, starts, outcome_is, owned_at, altered_steady, delivered_steady}
 use Rattle.pd_steady.proofs.ExtendLemmas.{outcome_extends}
 use Rattle.pd_steady.proofs.FairLemmas.{IsRefusal, IsFair, AreFair, fair_first, fair_second, taken_left}
 use Rattle.pd_steady.proofs.OwnLemmas.{commanded_own, advanced_own, finished_own}
 use Rattle.pd_steady.proofs.RunLemmas.{named_steady}
 use Rattle.pd_steady.proofs.TreeLemmas.{taken_owned}
 use Rattle.pd_steady.proofs.TimeLemmas.{below_limit, fires_end, within, below, same_end, ends_soon, steady_longer, fired_steady, timed_steady, sounds_steady}
+use Rattle.pd_again_law.proofs.NumberLemmas.{HasFirstNumbers, leaf_first, goes_behind}
 use Rattle.pd_again_law.proofs.HeldLemmas.{Settled, IsHeld, bare_kind, NetHeld, told, held_in, held_edit, held_room}
 
 -- ---- what is so of a stage of a run
@@ -89,8 +88,9 @@ six_more names more x h = enough (length names) (length more) h (longer names mo
 abbrev pub StaysProper : Names → Tree → Type 0
 StaysProper names t = (more : Names) → Extends names more → IsTable more → IsProper more (document_in t)
 
-module _ (rate : Rate) (name : List ℕ) where
-  -- a tree stands in each patch of which the stage tells, and grows again from its own document; as many boxes and values are counted as it has
+module _ (library : List (ℕ × Answer)) (rate : Rate) (name : List ℕ) where
+  -- A tree stands in each patch of which the stage tells, and grows again from its own document. Its `$0` numbers are the first ones from 1001 on; what was
+  -- known of files where the patch opened is known still; and as many boxes and values are counted as it has.
   pub record IsStanding (s : Stage) : Type 0 where
     pub file : s.file ≡ name
     pub rates : s.net.rate ≡ rate
@@ -99,6 +99,8 @@ module _ (rate : Rate) (name : List ℕ) where
     pub low : deep tree.boxes ≤ 256
     pub again : StandsAgain (answer_in s.base.files) s.file s.names tree
     pub proper : StaysProper s.names tree
+    pub numbers : HasFirstNumbers tree
+    pub files : GoesOn library s.base.files
     pub counted : HasCounted rate s.base tree
     pub held : NetHeld s.file s.names s.states tree s.net
 
@@ -129,6 +131,8 @@ module _ (rate : Rate) (name : List ℕ) where
     low = h.low;
     again = h.again;
     proper = h.proper;
+    numbers = h.numbers;
+    files = h.files;
     counted = h.counted;
     held = h.held;
   }
@@ -165,6 +169,8 @@ module _ (rate : Rate) (name : List ℕ) where
         low = h.low;
         again = subst (λ (ns : Names). StandsAgain (answer_in m.base.files) s.file ns h.tree) (sym x.names) rest.0;
         proper = subst (λ (ns : Names). StaysProper ns h.tree) (sym x.names) h.proper;
+        numbers = h.numbers;
+        files = subst (GoesOn library) (sym (ap (λ (b : Base). b.files) x.base)) h.files;
         counted = rest.1;
         held = subst (λ (ns : Names). NetHeld s.file ns m.states h.tree m.net) (sym x.names)
             (subst (λ (f : ℕ → Option State). NetHeld s.file s.names f h.tree m.net) (sym x.states) rest.2);
@@ -179,7 +185,7 @@ module _ (rate : Rate) (name : List ℕ) where
       let held : IsHeld s.file s.names s.states h.tree x.new =
       held_room s.file s.names s.states h.tree h.low x.old x.new x.same (held_at s x.old h x.stands) in
       let rest = rewired_stands s net s.base x.old x.new h x.stands x.net_is x.same.rate refl refl refl held in
-      record { file = h.file; rates = rest.3; six = h.six; tree = h.tree; low = h.low; again = rest.0; proper = h.proper; counted = rest.1; held = rest.2 }
+      record { file = h.file; rates = rest.3; six = h.six; tree = h.tree; low = h.low; again = rest.0; proper = h.proper; numbers = h.numbers; files = h.files; counted = rest.1; held = rest.2 }
 
   -- a patch that stands at a steady stage
   keeps_at : (most : ℕ) (s : Stage) (p : Patch) → IsSteady most s → StandsAt p s → KeepsOfKind (kinds_of p) (states_of p)
@@ -225,6 +231,10 @@ module _ (rate : Rate) (name : List ℕ) where
           (subst (λ (r : Rate). s.base.counts.sound ≡ sound_of r h.tree.boxes) (sym (rate_at s x.old h x.stands)) h.counted.sound));
     }
 
+    files : GoesOn library x.after.files
+    files = goes_behind library s.base.files x.after.files h.files
+        (subst (GoesOn s.base.files) (sym (known_files x.old x.new s.base.counts s.file path s.time e before x.after x.box x.adds)) x.adds.grew.behind)
+
     few : weight now.boxes ≤ 16384
     few = as_few (weight now.boxes) x.box.counts.boxes 16384 counted.boxes (subst (λ (b : Base). b.counts.boxes ≤ 16384) x.base x.within.boxes)
       where
@@ -254,6 +264,8 @@ module _ (rate : Rate) (name : List ℕ) where
           let later : Extends x.after.names more = subst (λ (ns : Names). Extends ns more) x.names on_more in
           box_proper x.old x.new s.base.counts s.file path s.time e before x.after x.box x.adds can h.tree runs h.again more later table few
           (h.proper more (onward s.names x.after.names more on later) table);
+      numbers = leaf_first x.adds.put.plain.cell path h.tree h.numbers;
+      files = subst (λ (b : Base). GoesOn library b.files) (sym x.base) files;
       counted = subst (λ (b : Base). HasCounted rate b now) (sym x.base) counted;
       held = held_in s.file m.names m.states now x.new m.net x.net
           (subst (λ (ns : Names). IsHeld s.file ns m.states now x.new) (sym x.names)
@@ -280,6 +292,8 @@ module _ (rate : Rate) (name : List ℕ) where
         low = h.low;
         again = h.again;
         proper = h.proper;
+        numbers = h.numbers;
+        files = h.files;
         counted = h.counted;
         held = held_in s.file s.names s.states h.tree x.new net x.net_is held;
       }
@@ -294,6 +308,8 @@ module _ (rate : Rate) (name : List ℕ) where
     again = subst (λ (b : Base). StandsAgain (answer_in b.files) s.file m.names h.tree) (sym x.base)
         (subst (λ (ns : Names). StandsAgain (answer_in s.base.files) s.file ns h.tree) (sym x.names) h.again);
     proper = subst (λ (ns : Names). StaysProper ns h.tree) (sym x.names) h.proper;
+    numbers = h.numbers;
+    files = subst (λ (b : Base). GoesOn library b.files) (sym x.base) h.files;
     counted = subst (λ (b : Base). HasCounted rate b h.tree) (sym x.base) h.counted;
     held = subst (λ (n : Net). NetHeld s.file m.names m.states h.tree n) (sym x.net)
         (subst (λ (ns : Names). NetHeld s.file ns m.states h.tree s.net) (sym x.names) (subst (λ (f : ℕ → Option State). NetHeld s.file s.names f h.tree s.net) (sym x.states) h.held));
@@ -431,6 +447,8 @@ module _ (rate : Rate) (name : List ℕ) where
             low = h.stands.low;
             again = again_on s (delivered s b).kept.names h.stands on;
             proper = proper_on s (delivered s b).kept.names h.stands on;
+            numbers = h.stands.numbers;
+            files = h.stands.files;
             counted = h.stands.counted;
             held = held_on s (delivered s b).kept.names (delivered s b).kept.states h.stands on (λ p c.
                 subst (λ (w : World Kept). Settled p w.kept.names w.kept.states) (outcome_is s.net s.time (begun s) b)
@@ -457,6 +475,8 @@ module _ (rate : Rate) (name : List ℕ) where
           (subst (λ (f : List ℕ). StandsAgain (answer_in s.base.files) f r.names h.tree) (sym file)
           (subst (λ (ns : Names). StandsAgain (answer_in s.base.files) s.file ns h.tree) (sym names) h.again));
       proper = subst (λ (ns : Names). StaysProper ns h.tree) (sym names) h.proper;
+      numbers = h.numbers;
+      files = subst (λ (b : Base). GoesOn library b.files) (sym base) h.files;
       counted = subst (λ (b : Base). HasCounted rate b h.tree) (sym base) h.counted;
       held = subst (λ (n : Net). NetHeld r.file r.names r.states h.tree n) (sym net)
           (subst (λ (f : List ℕ). NetHeld f r.names r.states h.tree s.net) (sym file)
@@ -513,6 +533,8 @@ module _ (rate : Rate) (name : List ℕ) where
           low = h.stands.low;
           again = h.stands.again;
           proper = h.stands.proper;
+          numbers = h.stands.numbers;
+          files = h.stands.files;
           counted = h.stands.counted;
           held = played_held s h.stands;
         };
@@ -581,6 +603,8 @@ module _ (rate : Rate) (name : List ℕ) where
         low = h.stands.low;
         again = again_on s names h.stands x;
         proper = proper_on s names h.stands x;
+        numbers = h.stands.numbers;
+        files = h.stands.files;
         counted = h.stands.counted;
         held = held_on s names s.states h.stands x (λ p c. all_more (IsWritten p.grove) (counts_of (kinds_of p)) s.names names x s.states c);
       };

@@ -1,6 +1,6 @@
 -- In a patch of a run a tree stands, its wires fit and hold, each name has its owners, and what a save writes of boxes is settled.
-use Rattle.std.proofs.Common.{◌≡◌, ◌≤◌, ℕ, true, List, [], ◌∷◌, ◌++◌, slice_get, Option, Some, None, IfSome, refl, sym, ap, ◌∙◌, subst}
-use Rattle.std.specs.Prelude.{option_map, option_and_then}
+use Rattle.std.proofs.Common.{◌≡◌, ◌≤◌, ℕ, true, List, [], ◌∷◌, slice_get, Option, Some, None, IfSome, refl, sym, ap, ◌∙◌, subst}
+use Rattle.std.specs.Prelude.{option_and_then}
 use Rattle.std.specs.List.{AllByRecursion}
 use Rattle.std.specs.Option.{option_map_or}
 use Rattle.std.specs.declared.vec.Vec.{Vec}
@@ -13,20 +13,20 @@ use Rattle.pd_name.specs.Rows.{Row, owners_of}
 use Rattle.pd_object.specs.declared.kinds.Kind.{Kind}
 use Rattle.pd_kind.specs.declared.states.State.{State}
 use Rattle.pd_tree.specs.Ports.{fits}
-use Rattle.pd_tree.specs.Trees.{Trees, Done, Leaf, Holder, Tree}
+use Rattle.pd_tree.specs.Trees.{Tree}
 use Rattle.pd_grove.specs.declared.boards.Board.{Board}
 use Rattle.pd_grove.specs.declared.grove.Grove.{Grove}
 use Rattle.pd_grove.specs.declared.nodes.Node.{Node}
 use Rattle.pd_grove.specs.OwnPaths.{sub_in, sub_step_in, sub_reached}
 use Rattle.pd_grove.specs.Standing.{GroveStands}
-use Rattle.pd_grove.specs.Telling.{kind_in, inner_in, keys_in, with_state}
+use Rattle.pd_grove.specs.Telling.{kind_in, keys_in}
 use Rattle.pd_grove.specs.TextOrder.{deep}
 use Rattle.pd_bind.specs.Owning.{owners_in}
 use Rattle.pd_web.specs.declared.web.Web.{Web}
 use Rattle.pd_web.specs.Hops.{boxes_told}
 use Rattle.pd_present.specs.Presents.{wires_among}
 use Rattle.pd_patch.specs.declared.patch.Patch.{Patch}
-use Rattle.pd_wiring.specs.Changes.{AreAlike, CanRewire, SameButRoom, StaysButWire}
+use Rattle.pd_wiring.specs.Changes.{AreAlike, CanRewire, SameButRoom}
 use Rattle.pd_wiring.specs.Plans.{Plan, Attaches, Detaches, IsCarriedOut, IsRewired}
 use Rattle.pd_boxes.specs.Put.{HasOwners}
 use Rattle.pd_hearing.specs.Worlds.{Net, net_of, bare}

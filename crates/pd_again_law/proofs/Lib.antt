@@ -1,3 +1,4 @@
+pub mod NumberLemmas
 pub mod HeldLemmas
 pub mod FoundLemmas
 pub mod AgainLemmas

@@ -10,8 +10,9 @@ use Rattle.pd_doc.specs.Writing.{text_of}
 use Rattle.pd_library.specs.Files.{answer_in}
 use Rattle.pd_library.specs.declared.answers.Answer.{Answer}
 use Rattle.pd_tree.specs.Trees.{Tree, weight, zeros_of}
-use Rattle.pd_growth.specs.Steps.{Step, gives}
+use Rattle.pd_growth.specs.Steps.{Stock, Step, gives}
 use Rattle.pd_growth.specs.Growth.{grown}
+use Rattle.pd_gather.specs.Gather.{GoesOn, known}
 use Rattle.pd_grove.specs.Standing.{GroveStands}
 use Rattle.pd_grove.specs.Telling.{reached}
 use Rattle.pd_patch.specs.declared.patch.Patch.{Patch}
@@ -27,6 +28,7 @@ use Rattle.pd_inside_law.specs.Inside.{IsSameCanvas}
 use Rattle.pd_stage.specs.Choices.{Wanted, Saves, Choice, Makes}
 use Rattle.pd_stage.specs.Stages.{Stage, Taken}
 use Rattle.pd_stage.specs.Lawful.{IsSaved}
+use Rattle.pd_engine.specs.Opening.{growth_of}
 
 -- The second patch stands as the first one does: as this tree, with no name more, and each name has the same owners, by their places in text order.
 -- A path leads to a canvas in both or in neither, in abstractions too, and the second has there the same ports; the same wires, at each outlet and
@@ -42,31 +44,41 @@ pub record IsSamePatch (p : Patch) (now : Tree) (names : Names) (q : Patch) (nam
 abbrev pub grown_alike : List (ℕ × Answer) → List ℕ → Page → Names → Tree → List ℕ → ℕ → Step Tree
 grown_alike files name page names t more room = grown (answer_in files) name page (stock names (zeros_of t ++ more) (weight t.boxes + room))
 
--- The patch stands as the tree t. Its text reads back as its document with no name more, and from this, with these files and the same `$0` numbers, the
--- tree grows that the patch is by now: each patch that stands as what grows is the same patch. It is refused for want of memory alone.
+-- Growth comes to the tree that the patch is by now, with this at hand after it: each patch that stands as what grows is the same patch. It is refused for
+-- want of memory alone.
+pub record GrowsAgain (grows : Step Tree) (rest : Stock) (name : List ℕ) (rate : Rate) (t : Tree) (p : Patch) (names : Names) : Type 0 where
+  pub tree : grows ≡ gives (tree_now p.grove p.web p.numbers.items t) rest
+  pub same : (q : Patch) (names' : Names) → IsTree q names' rate grows → IsFresh q names' name rate → IsSamePatch p (tree_now p.grove p.web p.numbers.items t) names q names'
+  pub refused : (why : GrowRefusal) → HasCause why grows rate → why ≡ NoMemory
+
+-- The patch stands as the tree t. Its text reads back as its document with no name more. From this, with these files, the tree grows that the patch is by
+-- now: as a file that is opened grows, whose `$0` numbers are those from 1001 on; and with the `$0` numbers of t, whatever numbers and room there are
+-- besides.
 pub record OpensAgain (files : List (ℕ × Answer)) (name : List ℕ) (rate : Rate) (t : Tree) (p : Patch) (names : Names) (text : List ℕ) : Type 0 where
   pub stands : RunsAs p.grove t
   pub page : Page
   pub reads : document_of names text ≡ Ok (page, names)
   pub is_now : page ≡ present_document p
-  pub tree : (more : List ℕ) (room : ℕ) → grown_alike files name page names t more room ≡ gives (tree_now p.grove p.web p.numbers.items t) (stock names more room)
-  pub grows : (more : List ℕ) (room : ℕ) (q : Patch) (names' : Names) → IsTree q names' rate (grown_alike files name page names t more room) → IsFresh q names' name rate
-      → IsSamePatch p (tree_now p.grove p.web p.numbers.items t) names q names'
-  pub refused : (more : List ℕ) (room : ℕ) (why : GrowRefusal) → HasCause why (grown_alike files name page names t more room) rate → why ≡ NoMemory
+  pub numbers_left : List ℕ
+  pub room_left : ℕ
+  pub opened : GrowsAgain (growth_of name page (known files names)) (stock names numbers_left room_left) name rate t p names
+  pub alike : (more : List ℕ) (room : ℕ) → GrowsAgain (grown_alike files name page names t more room) (stock names more room) name rate t p names
 
--- a patch that stands at a stage opens again from its text, with the files that are known there
-pub record Reopens (name : List ℕ) (rate : Rate) (s : Stage) (p : Patch) : Type 0 where
+-- A patch that stands at a stage opens again from its text, with the files that are known there: those that were known where the patch opened, with what
+-- boxes that came have asked for behind them.
+pub record Reopens (library : List (ℕ × Answer)) (name : List ℕ) (rate : Rate) (s : Stage) (p : Patch) : Type 0 where
   pub tree : Tree
+  pub files : GoesOn library s.base.files
   pub again : OpensAgain s.base.files name rate tree p s.names (text_of s.names (present_document p))
 
 -- a save that was made put a text that opens again as the patch that was saved
-abbrev pub SavedOpensAgain : List ℕ → Rate → Wanted → Taken → Choice → Type 0
-SavedOpensAgain name rate (Saves None) taken (Makes m) = (saved : IsSaved taken.found m) → Reopens name rate taken.found saved.patch
-SavedOpensAgain name rate wanted taken c = Unit {0}
+abbrev pub SavedOpensAgain : List (ℕ × Answer) → List ℕ → Rate → Wanted → Taken → Choice → Type 0
+SavedOpensAgain library name rate (Saves None) taken (Makes m) = (saved : IsSaved taken.found m) → Reopens library name rate taken.found saved.patch
+SavedOpensAgain library name rate wanted taken c = Unit {0}
 
-abbrev pub IsAgain : List ℕ → Rate → Taken → Type 0
-IsAgain name rate taken = SavedOpensAgain name rate taken.wanted taken taken.choice
+abbrev pub IsAgain : List (ℕ × Answer) → List ℕ → Rate → Taken → Type 0
+IsAgain library name rate taken = SavedOpensAgain library name rate taken.wanted taken taken.choice
 
 -- so does each save of these edits
-abbrev pub AreAgain : List ℕ → Rate → List Taken → Type 0
-AreAgain name rate edits = AllByRecursion (IsAgain name rate) edits
+abbrev pub AreAgain : List (ℕ × Answer) → List ℕ → Rate → List Taken → Type 0
+AreAgain library name rate edits = AllByRecursion (IsAgain library name rate) edits

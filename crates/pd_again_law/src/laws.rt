@@ -15,13 +15,14 @@ ghost use Rattle.pd_steady.specs.Runs.{own_ways};
 ghost use Rattle.pd_steady.specs.Steps.{Step, AreSteps, steps_by, run_by};
 ghost use Rattle.pd_again_law.specs.Again.{Reopens, AreAgain};
 
-/// In a run in which each edit is lawful, from where a patch opens to its end, whatever wires and boxes come, each save puts a text that opens again
-/// as the patch that was saved.
+/// In a run in which each edit is lawful, from where a patch opens to its end, whatever wires and boxes come, each save puts a text that opens again,
+/// as a file that is opened does, as the patch that was saved. It does so with the files that are known by then, which begin with those that were
+/// gathered where the patch opened.
 pub fn saves_open_again()
     ensures { (holds : Option (List FileRow)) (name : List ℕ) (rate : Rate) (d : Page) (names table : Names) (p : Patch) (base : Base) (most : ℕ)
-        (steps : List Step) (ahead : List Choice) → Grows holds name rate d names p table base → most + block_units ≤ 2 ^ 101 →
+        (steps : List Step) (ahead : List Choice) → (grows : Grows holds name rate d names p table base) → most + block_units ≤ 2 ^ 101 →
         AreSteps most steps (opened name p table base ahead).stage → AreLawful (run_by own_ways name p table base ahead steps).edits →
-        AreAgain name rate (run_by own_ways name p table base ahead steps).edits }
+        AreAgain grows.files.files name rate (run_by own_ways name p table base ahead steps).edits }
 {
     pd_guards::delivery_passes_nothing_over();
     pd_guards::messages_keep_values();
@@ -37,10 +38,11 @@ pub fn saves_open_again()
 /// In such a run a patch that stands anywhere between two steps has a text that opens again as that patch, also where nothing is saved.
 pub fn stages_open_again()
     ensures { (holds : Option (List FileRow)) (name : List ℕ) (rate : Rate) (d : Page) (names table : Names) (p : Patch) (base : Base) (most : ℕ)
-        (steps : List Step) (ahead : List Choice) → Grows holds name rate d names p table base → most ≤ 2 ^ 101 →
+        (steps : List Step) (ahead : List Choice) → (grows : Grows holds name rate d names p table base) → most ≤ 2 ^ 101 →
         AreSteps most steps (opened name p table base ahead).stage →
         let run = followed_by (opened name p table base ahead) (steps_by own_ways steps) in
-        AreLawful run.edits → (q : Patch) → StandsAt q run.stage → IsTable run.stage.names → StandOnce q.web → Reopens name rate run.stage q }
+        AreLawful run.edits → (q : Patch) → StandsAt q run.stage → IsTable run.stage.names → StandOnce q.web →
+        Reopens grows.files.files name rate run.stage q }
 {
     pd_guards::delivery_passes_nothing_over();
     pd_guards::messages_keep_values();

@@ -13,7 +13,7 @@ use Rattle.pd_stage.specs.Choices.{Base, Choice}
 use Rattle.pd_stage.specs.Leads.{Sinks}
 use Rattle.pd_stage.specs.Stages.{Stage, Taken, Passage}
 use Rattle.pd_stage.specs.Times.{block_units}
-use Rattle.pd_engine.specs.Opening.{Grows, first_stage, opened}
+use Rattle.pd_engine.specs.Opening.{Files, Grows, first_stage, opened}
 use Rattle.pd_steady.specs.Runs.{own_ways}
 use Rattle.pd_steady.specs.Steady.{IsSteady}
 use Rattle.pd_steady.specs.Steps.{steps_by}
@@ -39,34 +39,38 @@ pub record AgainLaws : Type 0 where
 
 module _ (laws : Laws) (again : AgainLaws) (holds : Option (List FileRow)) (name : List ℕ) (rate : Rate) (d : Page) (names : Names) (p : Patch) (table : Names) (base : Base)
     (grows : Grows holds name rate d names p table base) where
-  ended_found : (status : Status) (r : Stage) → IsGood rate name most_units r → AreFair (ended_by own_ways status r).edits → AreFound rate name (most_units + block_units) (ended_by own_ways status r).edits
-  ended_found Done r h l = last_found rate name laws.guards most_units block_more r h l
+  -- the files that were gathered
+  abbrev library : Files
+  library = grows.files.files
+
+  ended_found : (status : Status) (r : Stage) → IsGood library rate name most_units r → AreFair (ended_by own_ways status r).edits → AreFound library rate name (most_units + block_units) (ended_by own_ways status r).edits
+  ended_found Done r h l = last_found library rate name laws.guards most_units block_more r h l
   ended_found status r h l = tt
 
   -- from where the patch opens the run of a script
   pub played_again : (ahead : List Choice) (ending : Ending) (text : Text) → let o : Passage = opened name p table base ahead in
       let q : Point = start o.stage (samples rate) in
-      IsSteadyAt q → AreFair (o.edits ++ (run_of ending text q).passage.edits) → AreAgain name rate (o.edits ++ (run_of ending text q).passage.edits)
+      IsSteadyAt q → AreFair (o.edits ++ (run_of ending text q).passage.edits) → AreAgain library name rate (o.edits ++ (run_of ending text q).passage.edits)
   played_again ahead ending text steady w =
       let o : Passage = opened name p table base ahead in
       let q : Point = start o.stage (samples rate) in
       let run : Run = run_of ending text q in
       let later : AreFair run.passage.edits = fair_second o.edits run.passage.edits w in
-      let begins : EndsWell rate name most_units o =
-      opened_leads rate name laws.guards most_units in_range name p table base ahead
+      let begins : EndsWell library rate name most_units o =
+      opened_leads library rate name laws.guards most_units in_range name p table base ahead
       (first_good holds name rate d names p table base grows most_units ahead (again.first holds name rate d names table p base most_units ahead grows)) (fair_first o.edits run.passage.edits w) in
       let k : IsStepped most_units o.stage run = run_stepped laws ending text q steady later in
       let mid : Passage = steps_by own_ways k.steps o.stage in
       let last : Passage = ended_by own_ways run.status mid.stage in
       let both : AreFair (mid.edits ++ last.edits) = subst (λ (x : Passage). AreFair x.edits) k.same later in
-      let goes : EndsWell rate name most_units mid =
-      steps_lead rate name laws.guards most_units in_range k.steps o.stage k.are begins.stage (fair_first mid.edits last.edits both) in
-      let more : most_units ≤ most_units + block_units = one_block rate name most_units in
-      let rest : AreFound rate name (most_units + block_units) (mid.edits ++ last.edits) =
-      both_found rate name most_units (most_units + block_units) more mid.edits last.edits goes.found (ended_found run.status mid.stage goes.stage (fair_second mid.edits last.edits both)) in
-      all_again again.tells again.reads rate name (most_units + block_units) (o.edits ++ run.passage.edits)
-      (both_found rate name most_units (most_units + block_units) more o.edits run.passage.edits begins.found
-      (subst (λ (x : Passage). AreFound rate name (most_units + block_units) x.edits) (sym k.same) rest))
+      let goes : EndsWell library rate name most_units mid =
+      steps_lead library rate name laws.guards most_units in_range k.steps o.stage k.are begins.stage (fair_first mid.edits last.edits both) in
+      let more : most_units ≤ most_units + block_units = one_block library rate name most_units in
+      let rest : AreFound library rate name (most_units + block_units) (mid.edits ++ last.edits) =
+      both_found library rate name most_units (most_units + block_units) more mid.edits last.edits goes.found (ended_found run.status mid.stage goes.stage (fair_second mid.edits last.edits both)) in
+      all_again again.tells again.reads library rate name (most_units + block_units) (o.edits ++ run.passage.edits)
+      (both_found library rate name most_units (most_units + block_units) more o.edits run.passage.edits begins.found
+      (subst (λ (x : Passage). AreFound library rate name (most_units + block_units) x.edits) (sym k.same) rest))
 
 -- ---- the edits of a run that are told
 

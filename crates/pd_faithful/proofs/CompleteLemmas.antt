@@ -145,14 +145,14 @@ ungathered_free rows name rate d names w opening.ShelfFault h = inl refl
 ungathered_free rows name rate d names w opening.WriteFault h = absurd h
 ungathered_free rows name rate d names w opening.NoMemory h = inr (inr refl)
 
-refused_free : (rows : List FileRow) (name : List ℕ) (rate : Rate) (d : Page) (names : Names) (t t' : Option (List ℕ)) (w : GrowsWithin rows name rate d names)
-    (e : OpenRefusal) → IsRefused (Some rows) name rate d names t t' e → IsFree e
-refused_free rows name rate d names t t' w e (inl h) = ungathered_free rows name rate d names w e h
-refused_free rows name rate d names t t' w e (inr (inl h)) =
+refused_free : (rows : List FileRow) (name : List ℕ) (rate : Rate) (d : Page) (names : Names) (t t' : Option (List ℕ)) (f f' : ℕ) (w : GrowsWithin rows name rate d names)
+    (e : OpenRefusal) → IsRefused (Some rows) name rate d names t t' f f' e → IsFree e
+refused_free rows name rate d names t t' f f' w e (inl h) = ungathered_free rows name rate d names w e h
+refused_free rows name rate d names t t' f f' w e (inr (inl h)) =
     let same : Gathered h.files ≡ Gathered w.files = gathers_same rows name d (known [] names) (Gathered h.files) (Gathered w.files) tt tt h.gathers w.gathers in
     ungrown_free (growth_of name d w.files) w.tree w.after rate w.step w.few_wires w.few_values e
     (subst (λ (k : Known). IsUngrown (growth_of name d k) rate e) (ap (λ (g : Gathering). known_in h.files g) same) h.ungrown)
-refused_free rows name rate d names t t' w e (inr (inr h)) = inr (inl h.is)
+refused_free rows name rate d names t t' f f' w e (inr (inr h)) = inr (inl h.is)
 
 unread_free : (rows : List FileRow) (name : List ℕ) (r : Page × Names) (e : OpenRefusal) → Reads (Some rows) name first_names (Ok r)
     → IsUnread (Some rows) name first_names e → IsFree e
@@ -170,14 +170,14 @@ unread_free rows name r opening.NoMemory a h = inr (inr refl)
 one_document : (rows : List FileRow) (name : List ℕ) (r s : Page × Names) → Reads (Some rows) name first_names (Ok r) → Reads (Some rows) name first_names (Ok s) → s ≡ r
 one_document rows name r s a b = ap (read_in r) (reads_same rows name first_names (Ok s) (Ok r) b a)
 
-file_free : (rows : List FileRow) (name : List ℕ) (rate : Rate) (script : List ℕ) (t t' : Option (List ℕ)) (e : OpenRefusal) → IsPlayable rows name rate script
-    → IsFileRefused (Some rows) name rate t t' e → IsFree e
-file_free rows name rate script t t' e p (inl h) = unread_free rows name (p.document, p.names) e p.reads h
-file_free rows name rate script t t' e p (inr h) =
+file_free : (rows : List FileRow) (name : List ℕ) (rate : Rate) (script : List ℕ) (t t' : Option (List ℕ)) (f f' : ℕ) (e : OpenRefusal) → IsPlayable rows name rate script
+    → IsFileRefused (Some rows) name rate t t' f f' e → IsFree e
+file_free rows name rate script t t' f f' e p (inl h) = unread_free rows name (p.document, p.names) e p.reads h
+file_free rows name rate script t t' f f' e p (inr h) =
     let same : ◌≡◌ {A = Page × Names} (h.document, h.names) (p.document, p.names) =
     one_document rows name (p.document, p.names) (h.document, h.names) p.reads h.reads in
-    refused_free rows name rate p.document p.names t t' p.within e
-    (subst (λ (r : Page × Names). IsRefused (Some rows) name rate r.0 r.1 t t' e) same h.refused)
+    refused_free rows name rate p.document p.names t t' f f' p.within e
+    (subst (λ (r : Page × Names). IsRefused (Some rows) name rate r.0 r.1 t t' f f' e) same h.refused)
 
 -- ---- a made patch is refused for a fault or for memory alone
 
@@ -189,15 +189,16 @@ module _ (n : ℕ) (name : List ℕ) (rate : Rate) (few : n ≤ 1000) (grows : G
   made_ungathered holds opening.WriteFault h = absurd h
   made_ungathered holds opening.NoMemory h = inr (inr refl)
 
-  made_free : (holds : Option (List FileRow)) (t t' : Option (List ℕ)) (e : OpenRefusal) → IsRefused holds name rate (made_document made_names n) made_names t t' e → IsFree e
-  made_free holds t t' e (inl h) = made_ungathered holds e h
-  made_free holds t t' e (inr (inl h)) =
+  made_free : (holds : Option (List FileRow)) (t t' : Option (List ℕ)) (f f' : ℕ) (e : OpenRefusal) → IsRefused holds name rate (made_document made_names n) made_names t t' f f' e
+      → IsFree e
+  made_free holds t t' f f' e (inl h) = made_ungathered holds e h
+  made_free holds t t' f f' e (inr (inl h)) =
       let same : Gathered h.files ≡ Gathered own_names = gathers_none holds name n (Gathered h.files) grows h.gathers in
       let wires = grows.few_wires in
       let none = grows.no_values rate in
       ungrown_free (growth_of name (made_document made_names n) own_names) grows.tree grows.after rate grows.step (omega (arith, few, wires)) (omega (arith, none)) e
       (subst (λ (k : Known). IsUngrown (growth_of name (made_document made_names n) k) rate e) (ap (λ (g : Gathering). known_in h.files g) same) h.ungrown)
-  made_free holds t t' e (inr (inr h)) = inr (inl h.is)
+  made_free holds t t' f f' e (inr (inr h)) = inr (inl h.is)
 
 -- ---- how the run ends
 
@@ -235,8 +236,8 @@ module _ (rows : List FileRow) (name : List ℕ) (rate : Rate) (script : List �
   refused_short : Refuses name rate status (Some script) left' x x' old new → status ≡ NoMemory
   refused_short h =
       told_free name h.why status h.printed new.lines x x' h.refused.refusal h.refused.status_is
-      (file_free rows name rate script old.lines h.printed h.refused.refusal p
-      (subst (λ (o : Option (List FileRow)). IsFileRefused o name rate old.lines h.printed h.refused.refusal) holds h.refused.refused)) no_shelf no_write h.tells
+      (file_free rows name rate script old.lines h.printed old.faults new.faults h.refused.refusal p
+      (subst (λ (o : Option (List FileRow)). IsFileRefused o name rate old.lines h.printed old.faults new.faults h.refused.refusal) holds h.refused.refused)) no_shelf no_write h.tells
 
   played_done : PlaysFreely name rate status (Some script) left' read read' old new → status ≡ Done
   played_done h =
@@ -262,7 +263,7 @@ module _ (laws : MadeLaws) (n : ℕ) (name : List ℕ) (rate : Rate) (few : n �
   made_short : RefusesBy (IsMadeRefusal n old.held name rate) name status None None x x' old new → status ≡ NoMemory
   made_short h =
       told_free name h.why status h.printed new.lines x x' h.refused.refusal h.refused.status_is
-      (made_free n name rate few (laws.grows (answer_in []) name n few) old.held old.lines h.printed h.refused.refusal h.refused.refused) (λ e. none.folder_stays (causes.shelf e)) made_no_write h.tells
+      (made_free n name rate few (laws.grows (answer_in []) name n few) old.held old.lines h.printed old.faults new.faults h.refused.refusal h.refused.refused) (λ e. none.folder_stays (causes.shelf e)) made_no_write h.tells
 
   made_done : (left' : Option (List ℕ)) → PlaysMadeFreely n name rate status left' old new → status ≡ Done
   made_done left' h =

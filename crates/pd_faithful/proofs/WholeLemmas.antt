@@ -11,11 +11,11 @@ use Rattle.pd_feed.specs.Feed.{IsAtEnd}
 use Rattle.pd_patch.specs.declared.patch.Patch.{Patch}
 use Rattle.pd_stage.specs.Items.{Item}
 use Rattle.pd_stage.specs.Choices.{Base, Choice}
-use Rattle.pd_stage.specs.Stages.{Stage, Taken, choices_of, faults_of, Passage, still, saying, after}
+use Rattle.pd_stage.specs.Stages.{Stage, Taken, choices_of, Passage, still, saying, after}
 use Rattle.pd_stage.specs.Lawful.{AreLawful}
-use Rattle.pd_stage.specs.Leads.{RoseBy, Sinks, sinks, Took, Leads as LeadsOn}
+use Rattle.pd_stage.specs.Leads.{Sinks, sinks, Took, Leads as LeadsOn}
 use Rattle.pd_stage.proofs.LeadLemmas.{after-joined, choices-append, lawful_both}
-use Rattle.pd_engine.specs.Opening.{Files, Grows, OpensFile, opened, Opens as EngineOpens}
+use Rattle.pd_engine.specs.Opening.{Grows, OpensFile, opened, Opens as EngineOpens}
 use Rattle.pd_steady.specs.Runs.{opened_by}
 use Rattle.pd_steady.specs.Freely.{free_ways}
 use Rattle.pd_steady.specs.Steady.{IsSteady}
@@ -65,11 +65,6 @@ line_after : (name : List ℕ) (closing : Stage → List ℕ) (items : List Item
 line_after name closing items edits run =
     ap (λ (x : Passage). record { status = run.status; passage = x }) (after-joined items edits run.passage (saying run.passage.stage (last_line name closing run.status run.passage.stage)))
 
--- a count of faults that rose while a patch opened
-faults_more : (n x y : ℕ) → x ≤ y → RoseBy n x x → RoseBy n x y
-faults_more n x y l (inl k) = inl (omega (arith, l, k))
-faults_more n x y l (inr k) = inr (omega (arith, l, k))
-
 -- from where a patch opened, the run of a script
 run_at : Ending → Text → ℕ → Stage → Run
 run_at ending text rate s = run_of ending text (start s rate)
@@ -80,11 +75,11 @@ own_run name p table base edits rate ending text = behind (opened name p table b
 
 module _ (opens : Opens) where
   -- where it opens by edits that are lawful
-  pub opens_steady : (holds : Option (List FileRow)) (name : List ℕ) (rate : Rate) (library : Files) (s : List Choice → Stage) (lines lines' : Option (List ℕ)) (edits : List Choice)
-      → OpensFile holds name rate library s lines lines' → IsSteadyAt (start (s edits) (samples rate))
-  opens_steady holds name rate library s lines lines' edits h =
+  pub opens_steady : (holds : Option (List FileRow)) (name : List ℕ) (rate : Rate) (s : List Choice → Stage) (lines lines' : Option (List ℕ)) (faults faults' : ℕ) (edits : List Choice)
+      → OpensFile holds name rate s lines lines' faults faults' → IsSteadyAt (start (s edits) (samples rate))
+  opens_steady holds name rate s lines lines' faults faults' edits h =
       let o = h.opens in
-      let led = o.says 0 None None 0 in
+      let led = o.says 0 None in
       let ahead : List Choice = choices_of led.edits ++ edits in
       let lawful : AreLawful (opened name o.patch o.table o.base ahead).edits = subst (λ (p : Passage). AreLawful p.edits) (sym (led.same edits)) (lawful_both led.edits [] led.lawful tt) in
       starts_steady (s edits) rate
@@ -104,11 +99,11 @@ module _ (opens : Opens) where
   -- a patch that was opened is played by a script
   module _ (saves : AgainLaws) (d : Page) (names : Names) (name : List ℕ) (closing : Stage → List ℕ) (rate : Rate) (status : Status) (left left' : Option (List ℕ)) (read read' : ℕ) (old new : Sinks)
       (h : PlaysFrom (EngineOpens old.held name rate d names) name closing rate status left left' read read' old new) where
-    abbrev o : EngineOpens old.held name rate d names h.library h.stage old.lines h.printed
+    abbrev o : EngineOpens old.held name rate d names h.stage old.lines h.printed old.faults h.faults
     o = h.opens
 
-    abbrev led : LeadsOn (opened name o.patch o.table o.base) (λ m. still (h.stage m)) (sinks old.lines old.samples old.looks old.held old.faults) (sinks h.printed old.samples old.looks old.held old.faults)
-    led = o.says old.looks old.samples old.held old.faults
+    abbrev led : LeadsOn (opened name o.patch o.table o.base) (λ m. still (h.stage m)) (sinks old.lines old.samples old.looks old.held old.faults) (sinks h.printed old.samples old.looks old.held h.faults)
+    led = o.says old.looks old.samples
 
     abbrev log : List Taken
     log = led.edits ++ h.plays.edits
@@ -144,7 +139,7 @@ module _ (opens : Opens) where
       samples_are = led.took.samples_are;
       few_looks = led.took.few_looks;
       held_are = led.took.held_are;
-      few_faults = faults_more (faults_of led.edits) old.faults h.faults h.counted led.took.few_faults;
+      few_faults = led.took.few_faults;
     }
 
     lined_so : with_line name closing (own h.plays.ending) ≡ run_after led.items led.edits (with_line name closing (run h.plays.ending))
@@ -182,10 +177,10 @@ module _ (opens : Opens) where
         let fair : AreFair (own Broken).passage.edits = subst (λ (r : Run). AreFair r.passage.edits) (broken_so e) own_fair in
         inr (ap (λ (r : Run). r.status) (free_so Broken fair ∙ own_so Broken) ∙ e)
 
-    log_again : AreAgain name rate log
+    log_again : AreAgain o.grows.files.files name rate log
     log_again =
         let p : Passage = opened name o.patch o.table o.base (choices_of log) in
-        told_all (IsAgain name rate) name closing (own h.plays.ending) log status old new own_tells
+        told_all (IsAgain o.grows.files.files name rate) name closing (own h.plays.ending) log status old new own_tells
         (played_again opens.laws saves old.held name rate d names o.patch o.table o.base o.grows (choices_of log) h.plays.ending text
         (starts_steady p.stage rate (opens.steady old.held name rate d names o.table o.patch o.base most_units (choices_of log) o.grows opened_lawful)) own_fair)
 
@@ -211,7 +206,6 @@ module _ (opens : Opens) where
       let d : Page = h.opens.document in
       let names : Names = h.opens.names in
       let from : PlaysFrom (EngineOpens old.held name rate d names) name no_line rate status left left' read read' old new = record {
-        library = h.library;
         stage = h.stage;
         printed = h.printed;
         faults = h.faults;

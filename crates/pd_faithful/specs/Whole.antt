@@ -40,7 +40,7 @@ pub record PlaysGrown (document : Page) (names : Names) (name : List ℕ) (closi
   pub is_script : IsScript ending bytes left left' read read'
   pub edits : List Taken
   pub lawful : AreLawful edits
-  pub again : AreAgain name rate edits
+  pub again : AreAgain grows.files.files name rate edits
   pub tells : Tells name closing (played_by free_ways name patch table base (choices_of edits) (samples rate) ending (script_of 0 0 bytes)) edits status old new
   pub over : status ≡ Done → IsAtEnd left' ⊎ ((played_by free_ways name patch table base (choices_of edits) (samples rate) Broken (script_of 0 0 bytes)).status ≡ Done)
 

@@ -12,7 +12,7 @@ ghost use Rattle.pd_stage.specs.Lawful.{AreLawful};
 ghost use Rattle.pd_stage.specs.Leads.{Sinks};
 ghost use Rattle.pd_stage.specs.Stages.{Stage};
 ghost use Rattle.pd_steady.specs.Runs.{own_ways};
-ghost use Rattle.pd_engine.specs.Opening.{Files, Grows, OpensFile, opened};
+ghost use Rattle.pd_engine.specs.Opening.{Grows, OpensFile, opened};
 ghost use Rattle.pd_steady.specs.Freely.{free_ways};
 ghost use Rattle.pd_play.specs.Runs.{Point, Ending, behind, run_of};
 ghost use Rattle.pd_play.specs.Patches.{start, PlaysOpened, PlaysMadeOpened};
@@ -46,8 +46,8 @@ pub fn scripts_are_steps()
 pub fn scripts_pass_nothing_over()
     ensures freely { (ending : Ending) (text : Text) (p : Point) → IsSteadyAt p →
         AreLawful (run_of ending text p).passage.edits → run_of_by free_ways ending text p ≡ run_of ending text p }
-    ensures opens { (holds : Option (List FileRow)) (name : List ℕ) (rate : Rate) (library : Files) (s : List Choice → Stage)
-        (lines lines' : Option (List ℕ)) (edits : List Choice) → OpensFile holds name rate library s lines lines' →
+    ensures opens { (holds : Option (List FileRow)) (name : List ℕ) (rate : Rate) (s : List Choice → Stage)
+        (lines lines' : Option (List ℕ)) (faults faults' : ℕ) (edits : List Choice) → OpensFile holds name rate s lines lines' faults faults' →
         IsSteadyAt (start (s edits) (samples rate)) }
     ensures whole { (holds : Option (List FileRow)) (name : List ℕ) (rate : Rate) (d : Page) (names table : Names) (p : Patch) (base : Base)
         (edits : List Choice) (ending : Ending) (text : Text) → Grows holds name rate d names p table base →

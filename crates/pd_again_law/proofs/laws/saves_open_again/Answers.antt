@@ -20,7 +20,7 @@ returns c = λ holds name rate d names table p base most steps ahead x top k l.
       sounds = c.blocks_stay_in_order.ensures.sounds;
       begins = λ names name atoms first n h. c.commands_begin_in_order.ensures.message names name atoms first n h;
     } in
-    all_again c.documents_tell_trees.ensures.document c.written_read.ensures rate name (most + block_units) (run_by own_ways name p table base ahead steps).edits
-    (run_found rate name guards name p table base ahead steps most top
+    all_again c.documents_tell_trees.ensures.document c.written_read.ensures x.files.files rate name (most + block_units) (run_by own_ways name p table base ahead steps).edits
+    (run_found x.files.files rate name guards name p table base ahead steps most top
     (first_good holds name rate d names p table base x most ahead (c.opening_is_steady.ensures.first holds name rate d names table p base most ahead x))
     k (lawful_fair _ l))

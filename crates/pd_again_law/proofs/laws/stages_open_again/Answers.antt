@@ -21,7 +21,7 @@ returns c = λ holds name rate d names table p base most steps ahead x top k l q
       begins = λ names name atoms first n h. c.commands_begin_in_order.ensures.message names name atoms first n h;
     } in
     let run = followed_by (opened name p table base ahead) (steps_by own_ways steps) in
-    reopens c.documents_tell_trees.ensures.document c.written_read.ensures rate name most run.stage
-    (steps_found rate name guards name p table base ahead steps most top
+    reopens c.documents_tell_trees.ensures.document c.written_read.ensures x.files.files rate name most run.stage
+    (steps_found x.files.files rate name guards name p table base ahead steps most top
     (first_good holds name rate d names p table base x most ahead (c.opening_is_steady.ensures.first holds name rate d names table p base most ahead x))
     k (lawful_fair _ l)).stage q at of once
