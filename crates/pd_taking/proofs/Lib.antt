@@ -1,0 +1,2 @@
+pub mod LoseLemmas
+pub mod LoosenLemmas

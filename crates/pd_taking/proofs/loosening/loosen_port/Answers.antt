@@ -1,0 +1,45 @@
+use Rattle.std.proofs.Common.{◌≡◌, refl, sym, ap, ◌∙◌, arith}
+use Rattle.std.specs.Prelude.{Option, Some, slice_get}
+use Rattle.pd_web.specs.declared.web.Hop.{Hop}
+use Rattle.pd_web.specs.Changes.{Meet}
+use Rattle.pd_taking.specs.Loosening.{hops_at}
+use Rattle.pd_taking.proofs.LoseLemmas.{IsWeb, empty_list}
+use Rattle.pd_taking.proofs.LoosenLemmas.{Detaches_so, first_more, first_smaller, leads_first, loosens_none}
+use Rattle.pd_taking.proofs.loosening.loosen_port.Goals as goal
+
+pub loop-next-init : goal.loop-next-init
+loop-next-init g c = record { loosens = loosens_none c.args.patch.now c.args.key c.args.steps.now c.requires.runs c.requires.meet; first = c.first_at-next.ensures }
+
+pub detach-requires-clause-wire : goal.detach-requires-clause-wire
+detach-requires-clause-wire g c =
+    let p = c.args.patch.now in
+    let q = c.loop-next.patch in
+    let is : IsWeb q.web = record { fans = c.laws.ensures.fans; feeds = c.laws.ensures.feeds } in
+    leads_first p q q c.args.side c.args.key c.args.port c.in-Some.hop c.key.result c.line_at.result c.args.steps.now c.loop-next.steps c.loop-next.steps c.loop-next.invariant.loosens is
+    (sym c.loop-next.invariant.first ∙ c.in-Some.is) c.key.ensures c.line_at.ensures
+
+pub loop-next-preserved : goal.loop-next-preserved
+loop-next-preserved g c =
+    let p = c.args.patch.now in
+    let q = c.loop-next.patch in
+    let is : IsWeb q.web = record { fans = c.laws.ensures.fans; feeds = c.laws.ensures.feeds } in
+    let e = c.detach.ensures in
+    let r = e.rest in
+    record {
+      loosens = first_more p q c.detach.new.patch c.args.side c.args.key c.args.port c.in-Some.hop c.key.result c.line_at.result c.args.steps.now c.loop-next.steps c.detach.new.steps c.loop-next.invariant.loosens is
+          (sym c.loop-next.invariant.first ∙ c.in-Some.is) c.key.ensures c.line_at.ensures
+          (record { done = record { cuts = e.cuts; rest = r; rewires = e.rewires; built = e.built }; control = e.control; looks = e.looks });
+      first = c.first_at-next-in-Some.ensures;
+    }
+
+pub loop-next-smaller : goal.loop-next-smaller
+loop-next-smaller g c =
+    let p = c.args.patch.now in
+    let q = c.loop-next.patch in
+    let is : IsWeb q.web = record { fans = c.laws.ensures.fans; feeds = c.laws.ensures.feeds } in
+    let less = first_smaller p q c.detach.new.patch c.args.side c.args.key c.args.port c.in-Some.hop c.key.result c.line_at.result c.args.steps.now c.loop-next.steps c.loop-next.steps c.loop-next.invariant.loosens is
+    (sym c.loop-next.invariant.first ∙ c.in-Some.is) c.key.ensures c.line_at.ensures c.detach.ensures.cuts in
+    omega (arith, less)
+
+pub returns-clause-none : goal.returns-clause-none
+returns-clause-none g c = empty_list (hops_at c.loop-next.patch.web c.args.side c.args.key c.args.port) (sym c.loop-next.invariant.first ∙ c.in_default.is)
