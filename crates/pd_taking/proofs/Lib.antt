@@ -1,2 +1,3 @@
 pub mod LoseLemmas
 pub mod LoosenLemmas
+pub mod RowLemmas
