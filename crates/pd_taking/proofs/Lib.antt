@@ -1,3 +1,4 @@
 pub mod LoseLemmas
 pub mod LoosenLemmas
 pub mod RowLemmas
+pub mod TakeLemmas

@@ -20,7 +20,7 @@ pub empty_list : {X : Type 0} (xs : List X) → slice_get xs 0 ≡ None → xs �
 empty_list [] h = refl
 empty_list (x ∷ xs) h = absurd (none-some x (sym h))
 
-nothing_there : {X : Type 0} (x : X) (i : ℕ) → slice_get [] i ≡ Some x → ⊥
+pub nothing_there : {X : Type 0} (x : X) (i : ℕ) → slice_get [] i ≡ Some x → ⊥
 nothing_there x zero h = none-some x h
 nothing_there x (suc i) h = none-some x h
 
@@ -93,7 +93,7 @@ left key (x ∷ xs) (suc i) h differ e = step (x.key == key) (left key xs i h di
     step true at = at
     step false at = (suc at.0, at.1)
 
-none_listed : (hops : List Hop) (h : Hop) → hops ≡ [] → IsListed hops h → ⊥
+pub none_listed : (hops : List Hop) (h : Hop) → hops ≡ [] → IsListed hops h → ⊥
 none_listed hops h e at = nothing_there h at.0 (ap (λ (hs : List Hop). slice_get hs at.0) (sym e) ∙ at.1)
 
 -- Some go.
