@@ -1,6 +1,6 @@
 -- A patch from which wires at a box go.
-use Rattle.std.proofs.Common.{◌≡◌, ◌≢◌, ℕ, zero, suc, ◌+◌, ◌<◌, ◌≤◌, ◌==◌, Bool, true, false, cond, not, List, [], ◌∷◌, ◌++◌, length, slice_get, Option, Some, None, refl, sym, ap, ◌∙◌, subst, inl, inr, map, eq-eqb, length-append, arith}
-use Rattle.std.specs.Prelude.{◌⊎◌, is_some, option_and_then}
+use Rattle.std.proofs.Common.{◌≡◌, ℕ, suc, ◌+◌, ◌<◌, ◌≤◌, ◌==◌, Bool, true, false, cond, not, List, [], ◌∷◌, ◌++◌, length, slice_get, Option, Some, refl, sym, ap, ◌∙◌, subst, inl, inr, map, eq-eqb, length-append, arith}
+use Rattle.std.specs.Prelude.{is_some, option_and_then}
 use mathlib.Core.Logic.{⊎_elim}
 use Rattle.std.proofs.lemmas.Bool.{cases_lt}
 use Rattle.std.proofs.lemmas.List.{length-map}
@@ -17,18 +17,18 @@ use Rattle.pd_web.specs.declared.web.Web.{Web}
 use Rattle.pd_web.specs.declared.sockets.Port.{Port}
 use Rattle.pd_web.specs.Canvases.{keys_at}
 use Rattle.pd_web.specs.Sockets.{ports_at}
-use Rattle.pd_web.specs.Hops.{ports_told, hop_to, hop_from, fan_under, feeds_under, fan_hops, feed_hops}
-use Rattle.pd_web.specs.Changes.{hop_at, line_by, line_told, without_hop, wires_told, CutsWire, Meet}
+use Rattle.pd_web.specs.Hops.{ports_told, hop_to, hop_from, fan_under, feeds_under}
+use Rattle.pd_web.specs.Changes.{line_told, without_hop, CutsWire, Meet}
 use Rattle.pd_web.proofs.CountLemmas.{cut_is_one_less}
 use Rattle.pd_ports.specs.Boxes.{HasNoWires}
 use Rattle.pd_patch.specs.declared.patch.Patch.{Patch}
 use Rattle.pd_patch.specs.Linked.{ShareCanvas}
 use Rattle.pd_patch.specs.Listing.{IsThere}
 use Rattle.pd_patch.specs.Telling.{order_in}
-use Rattle.pd_wiring.specs.Changes.{is_signal_line, graph_in, most_mending, CanRewire, LeadsAlong, StaysButWire, StaysBuilt}
+use Rattle.pd_wiring.specs.Changes.{is_signal_line, graph_in, most_mending, CanRewire, LeadsAlong}
 use Rattle.pd_wiring.specs.Plans.{Detaches, Detached, most_looks}
 use Rattle.pd_wiring.proofs.WebLemmas.{line_inside}
-use Rattle.pd_taking.specs.Loosening.{hops_at, line_at, AreGone, Goes, Gone, IsAt, Loosens, LosesSome, looks_for}
+use Rattle.pd_taking.specs.Loosening.{hops_at, line_at, AreGone, Gone, IsAt, Loosens, looks_for}
 use Rattle.pd_taking.proofs.LoseLemmas.{IsWeb, cut_loses, loses_none, loses_on}
 
 -- The wire at a port that goes.

@@ -1,6 +1,5 @@
 -- A web that loses wires at a box.
-use Rattle.std.proofs.Common.{◌≡◌, ◌≢◌, ℕ, zero, suc, ◌+◌, ◌≤◌, ◌==◌, Bool, true, false, cond, not, List, [], ◌∷◌, filter, length, slice_get, Option, Some, None, refl, sym, ap, ◌∙◌, subst, inl, inr, true≢false, eqb-true, eq-eqb, arith}
-use Rattle.std.specs.Prelude.{◌⊎◌}
+use Rattle.std.proofs.Common.{◌≡◌, ◌≢◌, ℕ, zero, suc, ◌==◌, Bool, true, false, cond, not, List, [], ◌∷◌, filter, slice_get, Some, None, refl, sym, ap, ◌∙◌, subst, inl, inr, eqb-true, eq-eqb, arith}
 use mathlib.Core.Logic.{⊎_elim}
 use Rattle.std.proofs.lemmas.Bool.{cases_eq}
 use Rattle.std.proofs.lemmas.Option.{none-some, same_Some}
@@ -10,7 +9,7 @@ use Rattle.pd_web.specs.declared.lines.Line.{Line}
 use Rattle.pd_web.specs.declared.web.Hop.{Hop}
 use Rattle.pd_web.specs.declared.web.Web.{Web}
 use Rattle.pd_web.specs.Hops.{fan_hops, feed_hops}
-use Rattle.pd_web.specs.Changes.{hop_at, line_by, line_told, without_hop, CutsWire, HasRoom, IsListed, KeepsPorts, Meet}
+use Rattle.pd_web.specs.Changes.{hop_at, line_by, line_told, without_hop, CutsWire, IsListed, KeepsPorts, Meet}
 use Rattle.pd_ports.specs.Boxes.{HasNoWires}
 use Rattle.pd_taking.specs.Loosening.{hops_at, is_of_other, IsAt, LosesSome, LosesWires}
 

@@ -1,10 +1,10 @@
 -- A box without wires goes: the tree, ports, wires, names and numbers without it.
-use Rattle.std.proofs.Common.{◌≡◌, ◌≢◌, ℕ, zero, suc, ◌+◌, ◌<◌, ◌≤◌, ◌==◌, Bool, true, false, cond, List, [], ◌∷◌, ◌++◌, take, drop, length, Option, Some, None, IsSome, refl, sym, ap, ◌∙◌, subst, inl, inr, arith}
+use Rattle.std.proofs.Common.{◌≡◌, ◌≢◌, ℕ, zero, suc, ◌+◌, ◌<◌, ◌≤◌, Bool, true, false, List, [], ◌∷◌, ◌++◌, take, drop, length, Option, Some, None, IsSome, refl, sym, ap, ◌∙◌, subst, inl, inr, arith}
 use Rattle.std.specs.Prelude.{slice_get, option_map, option_and_then, ◌⊎◌}
 use Rattle.std.specs.List.{AllByRecursion}
 use mathlib.Core.Logic.{⊎_elim}
 use Rattle.std.proofs.lemmas.Bool.{cases_eq, cases_lt}
-use Rattle.std.proofs.lemmas.Option.{none-some, same_Some, slice_get_within}
+use Rattle.std.proofs.lemmas.Option.{none-some, slice_get_within}
 use Rattle.slab.specs.Slab.{get}
 use Rattle.pd_atom.specs.Names.{Names}
 use Rattle.pd_name.specs.declared.Class.{Class}
@@ -14,7 +14,6 @@ use Rattle.pd_object.specs.declared.kinds.Kind.TheVariants as kind
 use Rattle.pd_order.specs.Graph.{tally, IsLawful}
 use Rattle.pd_order.specs.Listing.{Listing}
 use Rattle.pd_order.proofs.Basics.{other_test}
-use Rattle.pd_links.specs.declared.links.Links.{Links}
 use Rattle.pd_links.specs.Linked.{feeders_of, followers_of}
 use Rattle.pd_chain.specs.declared.graph.SignalWire.{SignalWire}
 use Rattle.pd_tree.specs.Trees.{Cell}
@@ -23,7 +22,7 @@ use Rattle.pd_grove.specs.declared.boards.Board.{Board}
 use Rattle.pd_grove.specs.declared.grove.Grove.{Grove}
 use Rattle.pd_grove.specs.declared.spots.Spot.{Spot}
 use Rattle.pd_grove.specs.declared.ports.Side.{Side}
-use Rattle.pd_grove.specs.declared.ports.Side.TheVariants.{Inlets, Outlets}
+use Rattle.pd_grove.specs.declared.ports.Side.TheVariants.{Outlets}
 use Rattle.pd_grove.specs.Ports.{port_signal}
 use Rattle.pd_grove.specs.Standing.{node_seen}
 use Rattle.pd_grove.specs.Telling.{inner_in, keys_in}
@@ -35,7 +34,7 @@ use Rattle.pd_grove.proofs.NestLemmas.{board_there}
 use Rattle.pd_grove.proofs.PruneLemmas.{forest_pruned}
 use Rattle.pd_grove.proofs.UseLemmas.{none_or_some}
 use Rattle.pd_bind.specs.Naming.{owned_by, owned_by_kind}
-use Rattle.pd_bind.specs.Owning.{root_owner, owned_at, owners_in}
+use Rattle.pd_bind.specs.Owning.{owned_at, owners_in}
 use Rattle.pd_owning.specs.Bound.{AreOwnersBut, OthersStay}
 use Rattle.pd_owning.specs.Parts.{ArePart}
 use Rattle.pd_owning.proofs.FollowLemmas.{owners_stay}
@@ -45,12 +44,12 @@ use Rattle.pd_web.specs.declared.jacks.Jack.{Jack}
 use Rattle.pd_web.specs.declared.web.Hop.{Hop}
 use Rattle.pd_web.specs.declared.web.Web.{Web}
 use Rattle.pd_web.specs.Canvases.{keys_at}
-use Rattle.pd_web.specs.Changes.{hop_at, IsListed, Meet}
+use Rattle.pd_web.specs.Changes.{hop_at, IsListed}
 use Rattle.pd_web.specs.Homes.{IsPortOf, inner_in as box_in}
 use Rattle.pd_web.specs.Hops.{ports_told, fan_hops, feed_hops, port_told}
 use Rattle.pd_web.specs.Jacks.{jacks_at, made_in}
 use Rattle.pd_web.specs.Sockets.{made_at}
-use Rattle.pd_ports.specs.Boxes.{HasPorts as GetsPorts, HasNoWires, IsTrueOf, but_of}
+use Rattle.pd_ports.specs.Boxes.{HasPorts as GetsPorts, IsTrueOf, but_of}
 use Rattle.pd_patch.specs.declared.patch.Patch.{Patch}
 use Rattle.pd_patch.specs.Built.{HasPorts}
 use Rattle.pd_patch.specs.Linked.{HasLinks, ShareCanvas, StayInside, signal_sinks}
@@ -67,7 +66,7 @@ use Rattle.pd_placing.specs.Groves.{AreBothOwn}
 use Rattle.pd_placing.specs.Placing.{IsLoose, AreOrderedBut}
 use Rattle.pd_placing.proofs.ChangeLemmas.{goes_leaf}
 use Rattle.pd_boxes.specs.declared.room.Place.{Place}
-use Rattle.pd_boxes.specs.Put.{CanPut, HasOwners, IsNoPort, keys_before}
+use Rattle.pd_boxes.specs.Put.{HasOwners, keys_before}
 use Rattle.pd_boxes.specs.Rows.{NumbersFrom}
 use Rattle.pd_boxes.proofs.PortLemmas.{jacks_none, jacks_same, no_home}
 use Rattle.pd_boxes.proofs.WireLemmas.{wires_same}

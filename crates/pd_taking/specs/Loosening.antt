@@ -1,5 +1,5 @@
 -- The wires at a box of a running patch go, one after the other.
-use Rattle.std.specs.Prelude.{◌≡◌, ◌≢◌, ◌≤◌, ◌+◌, ◌==◌, ◌⊎◌, ℕ, Bool, true, false, not, List, [], ◌∷◌, filter, length, slice_get, Option, Some, None}
+use Rattle.std.specs.Prelude.{◌≡◌, ◌≢◌, ◌≤◌, ◌+◌, ◌==◌, ◌⊎◌, ℕ, Bool, not, List, [], ◌∷◌, filter, length, slice_get, Some, None}
 use Rattle.slab.specs.Slab.{get}
 use Rattle.pd_grove.specs.Owning.{board_in}
 use Rattle.pd_grove.specs.declared.ports.Side.{Side}

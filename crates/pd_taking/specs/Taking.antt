@@ -1,5 +1,5 @@
 -- A box without a canvas inside goes from a canvas of a running patch.
-use Rattle.std.specs.Prelude.{◌≡◌, ◌≢◌, ◌+◌, ℕ, true, false, List, [], take, drop, slice_get, Option, Some, None, option_map, option_and_then}
+use Rattle.std.specs.Prelude.{◌≡◌, ◌≢◌, ◌+◌, ℕ, true, false, List, [], drop, slice_get, Some, None}
 use Rattle.slab.specs.Slab.{get}
 use Rattle.pd_atom.specs.Names.{Names}
 use Rattle.pd_clock.specs.Queue.{without}
@@ -10,7 +10,7 @@ use Rattle.pd_grove.specs.Standing.{node_seen}
 use Rattle.pd_grove.specs.Telling.{inner_in}
 use Rattle.pd_grove.specs.Grafts.{TakesBox}
 use Rattle.pd_web.specs.Canvases.{keys_at}
-use Rattle.pd_web.specs.Changes.{HasRoom, Meet}
+use Rattle.pd_web.specs.Changes.{Meet}
 use Rattle.pd_web.specs.Hops.{port_told}
 use Rattle.pd_ports.specs.Boxes.{HasNoWires, HasPorts}
 use Rattle.pd_patch.specs.declared.patch.Patch.{Patch}
@@ -19,6 +19,7 @@ use Rattle.pd_patch.specs.Orders.{AreOrdered}
 use Rattle.pd_patch.specs.Telling.{order_in}
 use Rattle.pd_patch.specs.Values.{Blocks, block_at, blocks_told}
 use Rattle.pd_boxes.specs.declared.room.Place.{Place}
+use Rattle.pd_taking.specs.Loosening.{Loosens, LosesWires}
 use Rattle.pd_boxes.specs.Put.{CanPut, HasOwners, IsNoPort, keys_before}
 
 -- the boxes of a canvas behind the one at the place
@@ -64,3 +65,18 @@ pub record IsTaken (p q : Patch) (table : Names) (place : Place) (key : ℕ) : T
   pub goes : GoesOut p q table place key
   pub orders : AreOrdered q.grove q.web q.orders.items
   pub other_orders : (c : ℕ) → c ≢ place.canvas → order_in q.orders.items c ≡ order_in p.orders.items c
+
+-- At the place stands a box that holds no canvas, and is no port of a box around.
+pub record CanRemove (p : Patch) (place : Place) (key : ℕ) : Type 0 where
+  pub can : CanPut p
+  pub is : slice_get (keys_at p.grove place.canvas) place.number ≡ Some key
+  pub leaf : inner_in (get p.grove.nodes key) ≡ None
+  pub plain : (n : Node) → get p.grove.nodes key ≡ Some n → IsNoPort p place n.kind
+  pub meet : Meet p.web
+
+-- the wires at a box are gone, with so many looks at signal wires, and then the box
+pub record IsRemoved (p q : Patch) (table : Names) (place : Place) (key steps steps' : ℕ) : Type 0 where
+  pub loose : Patch
+  pub loosens : Loosens p loose key steps steps'
+  pub wires : LosesWires p.web loose.web key
+  pub taken : IsTaken loose q table place key

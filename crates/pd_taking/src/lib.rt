@@ -9,9 +9,13 @@
 //! Definitions: `Loosening` (the wires at a box go).
 #![tactic(auto)]
 
+mod laws;
 mod loosening;
+mod removing;
 mod rows;
 mod taking;
 
+pub use laws::{patches_run_on_without, patches_run_without, removed_boxes_are_gone};
 pub use loosening::loosen;
+pub use removing::remove;
 pub use taking::take;

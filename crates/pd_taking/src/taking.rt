@@ -17,13 +17,7 @@ use std::alloc::Global;
 
 /// Takes a box without wires out of its canvas, and gives it back with what it keeps. The boxes behind it move up by one number. No memory is
 /// taken, and no look at signal wires.
-pub fn take(
-    patch: &mut Patch,
-    alloc: Global,
-    place: Place,
-    key: u32,
-    symbols: &mut Symbols,
-) -> Node
+pub fn take(patch: &mut Patch, alloc: Global, place: Place, key: u32, symbols: &mut Symbols) -> Node
     requires can { CanTake patch.old place key }
     requires room { HasRoom patch.old.web (key + 1) 0 0 }
     ensures taken { IsTaken patch.old patch.new symbols.old place key }

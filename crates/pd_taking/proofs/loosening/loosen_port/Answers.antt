@@ -1,10 +1,7 @@
-use Rattle.std.proofs.Common.{◌≡◌, refl, sym, ap, ◌∙◌, arith}
-use Rattle.std.specs.Prelude.{Option, Some, slice_get}
-use Rattle.pd_web.specs.declared.web.Hop.{Hop}
-use Rattle.pd_web.specs.Changes.{Meet}
+use Rattle.std.proofs.Common.{sym, ◌∙◌, arith}
 use Rattle.pd_taking.specs.Loosening.{hops_at}
 use Rattle.pd_taking.proofs.LoseLemmas.{IsWeb, empty_list}
-use Rattle.pd_taking.proofs.LoosenLemmas.{Detaches_so, first_more, first_smaller, leads_first, loosens_none}
+use Rattle.pd_taking.proofs.LoosenLemmas.{first_more, first_smaller, leads_first, loosens_none}
 use Rattle.pd_taking.proofs.loosening.loosen_port.Goals as goal
 
 pub loop-next-init : goal.loop-next-init

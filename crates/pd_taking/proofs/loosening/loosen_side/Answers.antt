@@ -1,4 +1,4 @@
-use Rattle.std.proofs.Common.{◌≡◌, refl, sym, ap, ◌∙◌, arith}
+use Rattle.std.proofs.Common.{arith}
 use Rattle.pd_taking.proofs.LoosenLemmas.{loosens_none, loosens_on, none_at_all, none_more}
 use Rattle.pd_taking.proofs.loosening.loosen_side.Goals as goal
 
