@@ -18,7 +18,7 @@ use Rattle.pd_web.specs.declared.sockets.Port.{Port}
 use Rattle.pd_web.specs.Canvases.{keys_at}
 use Rattle.pd_web.specs.Sockets.{ports_at}
 use Rattle.pd_web.specs.Hops.{ports_told, hop_to, hop_from, fan_under, feeds_under}
-use Rattle.pd_web.specs.Changes.{line_told, without_hop, CutsWire, Meet}
+use Rattle.pd_web.specs.Changes.{line_told, without_hop, CutsWire, Meet, wires_told}
 use Rattle.pd_web.proofs.CountLemmas.{cut_is_one_less}
 use Rattle.pd_ports.specs.Boxes.{HasNoWires}
 use Rattle.pd_patch.specs.declared.patch.Patch.{Patch}
@@ -153,8 +153,11 @@ module _ (p q r : Patch) (box key : ℕ) (l : Line) (s s' s'' : ℕ) (L : Loosen
       }
 
 -- the first wire at a port goes
-module _ (p q r : Patch) (side : Side) (box port : ℕ) (h : Hop) (key : ℕ) (l : Line) (s s' s'' : ℕ) (L : Loosens p q box s s') (is : IsWeb q.web) (first : slice_get (hops_at q.web side box port) 0 ≡ Some h)
+module _ (p q r : Patch) (side : Side) (box port : ℕ) (h : Hop) (key : ℕ) (l : Line) (s s' s'' : ℕ) (L : Loosens p q box s s') (is : IsWeb q.web) (next : Option Hop) (at_first : next ≡ slice_get (hops_at q.web side box port) 0) (is_hop : next ≡ Some h)
     (key_is : key ≡ h.key) (line_is : l ≡ line_at side box port h) where
+  first : slice_get (hops_at q.web side box port) 0 ≡ Some h
+  first = sym at_first ∙ is_hop
+
   pub leads_first : LeadsAlong q.web key l
   leads_first =
       subst (λ m. LeadsAlong q.web key m) (sym line_is) (subst (λ k. LeadsAlong q.web k (line_at side box port h)) (sym key_is) (leads_so q.web side box port h L.web.meet first))
@@ -163,6 +166,9 @@ module _ (p q r : Patch) (side : Side) (box port : ℕ) (h : Hop) (key : ℕ) (l
   first_more D = loosens_more p q r box key l s s' s'' L is
       (ap (line_told q.web) key_is ∙ told_so q.web side box port h is first ∙ ap (λ (m : Line). Some m) (sym line_is))
       (subst (IsAt box) (sym line_is) (at_box side box port h)) leads_first D
+
+  pub first_one_less : CutsWire q.web r.web key → wires_told r.web + 1 ≡ wires_told q.web
+  first_one_less C = cut_is_one_less q.web r.web key C (ap is_some (ap (line_told q.web) key_is ∙ told_so q.web side box port h is first))
 
   pub first_smaller : CutsWire q.web r.web key → length (hops_at r.web side box port) < length (hops_at q.web side box port)
   first_smaller C = fewer_at q.web r.web side box port h (subst (λ k. CutsWire q.web r.web k) key_is C) first

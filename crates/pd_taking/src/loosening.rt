@@ -2,7 +2,7 @@
 
 ghost use Rattle.std.specs.Prelude.{◌≡◌, ℕ, [], length, slice_get};
 ghost use Rattle.pd_web.specs.Hops.{ports_told};
-ghost use Rattle.pd_web.specs.Changes.{Meet};
+ghost use Rattle.pd_web.specs.Changes.{wires_told, Meet};
 ghost use Rattle.pd_wiring.specs.Changes.{CanRewire};
 ghost use Rattle.pd_taking.specs.Loosening.{hops_at, line_at as line_so, Loosens, LosesWires};
 
@@ -13,43 +13,67 @@ use pd_web::{Hop, Line, Web};
 use pd_wiring::detach;
 use std::sync::ledger::Ledger;
 
-/// Takes all wires at a box out, one after the other: those that leave its outlets, and then those that lead to its inlets. Looks at signal
-/// wires are counted in `steps`.
-pub fn loosen<L: Ledger>(patch: &mut Patch, key: u32, steps: &mut Steps<L>)
+/// Takes all wires at a box out, one after the other: those that leave its outlets, and then those that lead to its inlets. `wires` is how
+/// many wires there are, and what is given how many there are then. Looks at signal wires are counted in `steps`.
+pub fn loosen<L: Ledger>(patch: &mut Patch, key: u32, wires: usize, steps: &mut Steps<L>) -> usize
     requires runs { CanRewire patch.old }
     requires meet { Meet patch.old.web }
+    requires counted { wires ≡ wires_told patch.old.web }
     ensures loosens { Loosens patch.old patch.new key steps.old steps.new }
     ensures wires { LosesWires patch.old.web patch.new.web key }
+    ensures counted { result ≡ wires_told patch.new.web }
 {
-    loosen_side(patch, Side::Outlets, key, steps);
-    loosen_side(patch, Side::Inlets, key, steps);
+    let left = loosen_side(patch, Side::Outlets, key, wires, steps);
+    loosen_side(patch, Side::Inlets, key, left, steps)
 }
 
 /// Takes all wires at the ports of a side of a box out.
-fn loosen_side<L: Ledger>(patch: &mut Patch, side: Side, key: u32, steps: &mut Steps<L>)
+fn loosen_side<L: Ledger>(
+    patch: &mut Patch,
+    side: Side,
+    key: u32,
+    wires: usize,
+    steps: &mut Steps<L>,
+) -> usize
     requires runs { CanRewire patch.old }
     requires meet { Meet patch.old.web }
+    requires counted { wires ≡ wires_told patch.old.web }
     ensures loosens { Loosens patch.old patch.new key steps.old steps.new }
     ensures none { (port : ℕ) → hops_at patch.new.web side key port ≡ [] }
+    ensures counted { result ≡ wires_told patch.new.web }
 {
+    let mut left = wires;
     for port in 0..ports_at(&patch.web, side, key) {
-        loosen_port(patch, side, key, port, steps);
+        left = loosen_port(patch, side, key, port, left, steps);
     }
+    left
 }
 
 /// Takes all wires at a port of a box out.
-fn loosen_port<L: Ledger>(patch: &mut Patch, side: Side, key: u32, port: u32, steps: &mut Steps<L>)
+fn loosen_port<L: Ledger>(
+    patch: &mut Patch,
+    side: Side,
+    key: u32,
+    port: u32,
+    wires: usize,
+    steps: &mut Steps<L>,
+) -> usize
     requires runs { CanRewire patch.old }
     requires meet { Meet patch.old.web }
+    requires counted { wires ≡ wires_told patch.old.web }
     ensures loosens { Loosens patch.old patch.new key steps.old steps.new }
     ensures none { hops_at patch.new.web side key port ≡ [] }
+    ensures counted { result ≡ wires_told patch.new.web }
 {
+    let mut left = wires;
     let mut next = first_at(&patch.web, side, key, port);
     while let Some(hop) = next {
         patch.web.laws();
         detach(patch, line_at(side, key, port, hop), hop.key(), steps);
+        left -= 1;
         next = first_at(&patch.web, side, key, port);
     }
+    left
 }
 
 /// How many ports a box has on a side.
