@@ -16,7 +16,6 @@ use Rattle.pd_patch.specs.declared.patch.Patch.{Patch}
 use Rattle.pd_wiring.specs.declared.refusals.EditRefusal.{EditRefusal}
 use Rattle.pd_wiring.specs.declared.refusals.EditRefusal.TheVariants.{NoDocument, NoCanvas, NoBox, NoMemory}
 use Rattle.pd_wiring.specs.Changes.{SameButRoom}
-use Rattle.pd_boxes.specs.declared.room.Place.{Place}
 use Rattle.pd_adding.specs.declared.counts.Counts.{Counts}
 use Rattle.pd_taking.specs.Taking.{IsRemoved}
 use Rattle.pd_deleting.specs.declared.deleting.OldBox.{OldBox}
