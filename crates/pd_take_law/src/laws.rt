@@ -1,0 +1,48 @@
+//! Laws over a running patch of which an edit deleted a box, its document and its tree.
+
+ghost use Rattle.std.specs.Prelude.{◌≡◌, ℕ, List, Option};
+ghost use Rattle.pd_atom.specs.Names.{Names};
+ghost use Rattle.pd_canvas.specs.Edits.{edited};
+ghost use Rattle.pd_canvas.specs.Paths.{edit_at};
+ghost use Rattle.pd_canvas.specs.declared.edits.Edit.TheVariants as edit;
+ghost use Rattle.pd_library.specs.declared.answers.Answer.{Answer};
+ghost use Rattle.pd_tree.specs.Trees.{Tree};
+ghost use Rattle.pd_web.specs.Changes.{Meet};
+ghost use Rattle.pd_patch.specs.declared.patch.Patch.{Patch};
+ghost use Rattle.pd_patch.specs.Document.{present_document};
+ghost use Rattle.pd_boxes.specs.Put.{CanPut, HasOwners};
+ghost use Rattle.pd_reload_law.specs.Reloading.{RunsAs};
+ghost use Rattle.pd_putting_law.specs.Again.{StandsAgain};
+ghost use Rattle.pd_taking_law.specs.Takes.{taken_at};
+ghost use Rattle.pd_taking_law.specs.Taking.{TakesBoxAt, CutsBox};
+ghost use Rattle.pd_adding.specs.declared.counts.Counts.{Counts};
+ghost use Rattle.pd_deleting.specs.declared.deleting.OldBox.{OldBox};
+ghost use Rattle.pd_deleting.specs.Deletes.{DeletesBox};
+
+/// Where an edit deleted a box, the box of that number went from the canvas to which the path leads. Of the wires of the other boxes those to it are gone,
+/// and under the key of each box stands its number.
+pub fn deletes_take_boxes()
+    ensures tree { (old new : Patch) (n : Counts) (table : Names) (path : List ℕ) (number steps steps' : ℕ) (b : OldBox) →
+        DeletesBox old new n table path number steps steps' b → CanPut old → TakesBoxAt old.grove new.grove path b.canvas b.key number }
+    ensures wires { (old new : Patch) (n : Counts) (table : Names) (path : List ℕ) (number steps steps' : ℕ) (b : OldBox) →
+        DeletesBox old new n table path number steps steps' b → CanPut old → Meet old.web →
+        CutsBox old.grove new.grove old.web new.web old.numbers.items new.numbers.items b.key }
+{}
+
+/// The document of the patch is then the one after the edit that deletes the box.
+pub fn documents_follow_edits()
+    ensures { (old new : Patch) (n : Counts) (table : Names) (path : List ℕ) (number steps steps' : ℕ) (b : OldBox) →
+        DeletesBox old new n table path number steps steps' b → CanPut old → Meet old.web →
+        present_document new ≡ edit_at path (edited (edit.Delete number)) (present_document old) }
+{}
+
+/// The tree that stood stands less the box, and grows again from its own document; and each name has its owners.
+pub fn boxes_go_from_trees()
+    ensures runs { (old new : Patch) (n : Counts) (table : Names) (path : List ℕ) (number steps steps' : ℕ) (b : OldBox) (t : Tree) →
+        DeletesBox old new n table path number steps steps' b → CanPut old → RunsAs old.grove t → RunsAs new.grove (taken_at path number t) }
+    ensures again { (old new : Patch) (n : Counts) (table : Names) (path : List ℕ) (number steps steps' : ℕ) (b : OldBox) (t : Tree) →
+        DeletesBox old new n table path number steps steps' b → CanPut old → RunsAs old.grove t →
+        (lib : ℕ → Option Answer) (file : List ℕ) (names : Names) → StandsAgain lib file names t → StandsAgain lib file names (taken_at path number t) }
+    ensures owners { (old new : Patch) (n : Counts) (table : Names) (path : List ℕ) (number steps steps' : ℕ) (b : OldBox) →
+        DeletesBox old new n table path number steps steps' b → (file : List ℕ) → HasOwners old table file → HasOwners new table file }
+{}
