@@ -1,1 +1,3 @@
+mod CountLemmas
 mod GoneLemmas
+mod FitLemmas

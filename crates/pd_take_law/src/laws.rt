@@ -6,12 +6,14 @@ ghost use Rattle.pd_canvas.specs.Edits.{edited};
 ghost use Rattle.pd_canvas.specs.Paths.{edit_at};
 ghost use Rattle.pd_canvas.specs.declared.edits.Edit.TheVariants as edit;
 ghost use Rattle.pd_library.specs.declared.answers.Answer.{Answer};
-ghost use Rattle.pd_tree.specs.Trees.{Tree};
-ghost use Rattle.pd_web.specs.Changes.{Meet};
+ghost use Rattle.pd_tree.specs.Trees.{Tree, weight};
+ghost use Rattle.pd_web.specs.Changes.{wires_told, Meet};
 ghost use Rattle.pd_patch.specs.declared.patch.Patch.{Patch};
 ghost use Rattle.pd_patch.specs.Document.{present_document};
+ghost use Rattle.pd_patch.specs.Sounds.{sound_of};
 ghost use Rattle.pd_boxes.specs.Put.{CanPut, HasOwners};
 ghost use Rattle.pd_reload_law.specs.Reloading.{RunsAs};
+ghost use Rattle.pd_saved_law.specs.Fitting.{WiresFit};
 ghost use Rattle.pd_putting_law.specs.Again.{StandsAgain};
 ghost use Rattle.pd_taking_law.specs.Takes.{taken_at};
 ghost use Rattle.pd_taking_law.specs.Taking.{TakesBoxAt, CutsBox};
@@ -45,4 +47,22 @@ pub fn boxes_go_from_trees()
         (lib : ℕ → Option Answer) (file : List ℕ) (names : Names) → StandsAgain lib file names t → StandsAgain lib file names (taken_at path number t) }
     ensures owners { (old new : Patch) (n : Counts) (table : Names) (path : List ℕ) (number steps steps' : ℕ) (b : OldBox) →
         DeletesBox old new n table path number steps steps' b → (file : List ℕ) → HasOwners old table file → HasOwners new table file }
+{}
+
+/// The wires that are saved fit then as they did.
+pub fn wires_still_fit()
+    ensures { (old new : Patch) (n : Counts) (table : Names) (path : List ℕ) (number steps steps' : ℕ) (b : OldBox) →
+        DeletesBox old new n table path number steps steps' b → CanPut old → Meet old.web → WiresFit old → WiresFit new }
+{}
+
+/// The counts without the box are those of the tree without it, where they were those of the tree.
+pub fn counts_follow_deletes()
+    ensures boxes { (old new : Patch) (n : Counts) (table : Names) (path : List ℕ) (number steps steps' : ℕ) (b : OldBox) (t : Tree) →
+        DeletesBox old new n table path number steps steps' b → CanPut old → RunsAs old.grove t → n.boxes ≡ weight t.boxes →
+        b.counts.boxes ≡ weight (taken_at path number t).boxes }
+    ensures sound { (old new : Patch) (n : Counts) (table : Names) (path : List ℕ) (number steps steps' : ℕ) (b : OldBox) (t : Tree) →
+        DeletesBox old new n table path number steps steps' b → CanPut old → RunsAs old.grove t → n.sound ≡ sound_of old.rate t.boxes →
+        b.counts.sound ≡ sound_of old.rate (taken_at path number t).boxes }
+    ensures wires { (old new : Patch) (n : Counts) (table : Names) (path : List ℕ) (number steps steps' : ℕ) (b : OldBox) →
+        DeletesBox old new n table path number steps steps' b → b.counts.wires ≡ wires_told new.web }
 {}
