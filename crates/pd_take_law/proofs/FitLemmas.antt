@@ -40,7 +40,7 @@ use Rattle.pd_take_law.proofs.GoneLemmas.{box_gone, wires_gone}
 lowered_on : (n i : ℕ) → i ≢ n → lowered (suc n) (suc i) ≡ suc (lowered n i)
 lowered_on n i d = grind (arith, nat_tests)
 
-less_at : {X : Type 0} (xs : List X) (n i : ℕ) → i ≢ n → slice_get (remove xs n) (lowered n i) ≡ slice_get xs i
+pub less_at : {X : Type 0} (xs : List X) (n i : ℕ) → i ≢ n → slice_get (remove xs n) (lowered n i) ≡ slice_get xs i
 less_at [] zero i d = slice_get_past [] (lowered zero i) (omega arith) ∙ sym (slice_get_past [] i (omega arith))
 less_at [] (suc n) i d = slice_get_past [] (lowered (suc n) i) (omega arith) ∙ sym (slice_get_past [] i (omega arith))
 less_at (x ∷ xs) zero zero d = absurd (d refl)
@@ -89,7 +89,7 @@ module _ (old new : Patch) (n : Counts) (table : Names) (path : List ℕ) (numbe
       ∙ ap (λ (js : List Jack). seen_by (ports_told old.web Inlets k) js (made_at new.web.sockets.items k)) (G.other_ports Outlets k d ∙ L.ports Outlets k ∙ R.ports Outlets k)
       ∙ ap (seen_by (ports_told old.web Inlets k) (ports_told old.web Outlets k)) (G.others_made k d ∙ L.made k ∙ R.made k)
 
-  not_key : (c i k : ℕ) → slice_get (keys_at new.grove c) i ≡ Some k → k ≢ b.key
+  pub not_key : (c i k : ℕ) → slice_get (keys_at new.grove c) i ≡ Some k → k ≢ b.key
   not_key c i k at e =
       let B = box_gone old new n table path number steps steps' b D C in
       none-some c (sym (ap board_in (ap (get new.grove.nodes) e ∙ B.takes.gone)) ∙ (forest_still old.grove new.grove path b.canvas b.key number B).own.home c i k at)

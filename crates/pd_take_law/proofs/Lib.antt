@@ -1,3 +1,5 @@
 mod CountLemmas
 mod GoneLemmas
 mod FitLemmas
+mod FeedLemmas
+mod OrderLemmas

@@ -13,6 +13,7 @@ ghost use Rattle.pd_patch.specs.Document.{present_document};
 ghost use Rattle.pd_patch.specs.Sounds.{sound_of};
 ghost use Rattle.pd_boxes.specs.Put.{CanPut, HasOwners};
 ghost use Rattle.pd_reload_law.specs.Reloading.{RunsAs};
+ghost use Rattle.pd_alike_law.specs.Feeds.{FedOnce, FeedsInOrder};
 ghost use Rattle.pd_saved_law.specs.Fitting.{WiresFit};
 ghost use Rattle.pd_putting_law.specs.Again.{StandsAgain};
 ghost use Rattle.pd_taking_law.specs.Takes.{taken_at};
@@ -53,6 +54,14 @@ pub fn boxes_go_from_trees()
 pub fn wires_still_fit()
     ensures { (old new : Patch) (n : Counts) (table : Names) (path : List ℕ) (number steps steps' : ℕ) (b : OldBox) →
         DeletesBox old new n table path number steps steps' b → CanPut old → Meet old.web → WiresFit old → WiresFit new }
+{}
+
+/// Each wire to an inlet stands there once then, and the feeds of a canvas are in order, where it was so.
+pub fn feeds_still_hold()
+    ensures once { (old new : Patch) (n : Counts) (table : Names) (path : List ℕ) (number steps steps' : ℕ) (b : OldBox) →
+        DeletesBox old new n table path number steps steps' b → FedOnce old.web → FedOnce new.web }
+    ensures order { (old new : Patch) (n : Counts) (table : Names) (path : List ℕ) (number steps steps' : ℕ) (b : OldBox) →
+        DeletesBox old new n table path number steps steps' b → CanPut old → Meet old.web → (c : ℕ) → FeedsInOrder old c → FeedsInOrder new c }
 {}
 
 /// The counts without the box are those of the tree without it, where they were those of the tree.
