@@ -1,1 +1,5 @@
-pub mod GoneLemmas
+mod CountLemmas
+mod GoneLemmas
+mod FitLemmas
+mod FeedLemmas
+mod OrderLemmas
