@@ -23,12 +23,12 @@ use Rattle.pd_putting_law.proofs.WithinLemmas.{ChangesWithin}
 
 -- ---- boxes and values
 
-pub weight_join : (t u : Trees) → weight (join t u) ≡ weight t + weight u
+weight_join : (t u : Trees) → weight (join t u) ≡ weight t + weight u
 weight_join Done u = omega arith
 weight_join (Leaf c t) u = omega (arith, weight_join t u)
 weight_join (Holder c s inner t) u = omega (arith, weight_join t u)
 
-pub sound_join : (rate : Rate) (t u : Trees) → sound_of rate (join t u) ≡ sound_of rate t + sound_of rate u
+sound_join : (rate : Rate) (t u : Trees) → sound_of rate (join t u) ≡ sound_of rate t + sound_of rate u
 sound_join rate Done u = omega arith
 sound_join rate (Leaf c t) u = sum (size_of c.kind rate) (sound_of rate t) (sound_of rate u) (sound_of rate (join t u)) (sound_join rate t u)
   where
@@ -74,7 +74,7 @@ box_wires : (f : Shape) (h : Head) (s : Sheet) (inner rest : Boxes) → inner_wi
 box_wires Sub h s inner rest = refl
 box_wires f h s inner rest = refl
 
-pub wires_join : (t u : Trees) → inner_wires (document_boxes (join t u)) ≡ inner_wires (document_boxes t) + inner_wires (document_boxes u)
+wires_join : (t u : Trees) → inner_wires (document_boxes (join t u)) ≡ inner_wires (document_boxes t) + inner_wires (document_boxes u)
 wires_join Done u = omega arith
 wires_join (Leaf c t) u = sum (inner_wires (document_boxes t)) (inner_wires (document_boxes u)) (inner_wires (document_boxes (join t u))) (wires_join t u)
   where
@@ -94,7 +94,7 @@ sheet_stays : (nest : Nest) (u : Tree) (new : Trees) → (nested nest (with_boxe
 sheet_stays Alone u new = refl
 sheet_stays (Inside sheet before c nest behind) u new = refl
 
-pub sub_wires : (c : Cell) (s : Sheet) (inner rest : Boxes) → c.head.form ≡ Sub → inner_wires (box_with c.head.form c.head s inner rest) ≡ length s.wires + inner_wires inner + inner_wires rest
+sub_wires : (c : Cell) (s : Sheet) (inner rest : Boxes) → c.head.form ≡ Sub → inner_wires (box_with c.head.form c.head s inner rest) ≡ length s.wires + inner_wires inner + inner_wires rest
 sub_wires c s inner rest f = box_wires c.head.form c.head s inner rest ∙ ap (λ (y : Shape). kept_wires y s inner + inner_wires rest) f
 
 nest_wires : (nest : Nest) (u : Tree) (new : Trees) → AreSubpatches nest
@@ -146,29 +146,29 @@ module _ (names : Names) where
   with_rest Sub h s inner rest other a b = (a.0, a.1, a.2, a.3, b)
   with_rest f h s inner rest other a b = (a.0, a.1, a.2, a.3, b)
 
-  pub are_joined : (t u : Trees) → AreBoxes names (document_boxes t) → AreBoxes names (document_boxes u) → AreBoxes names (document_boxes (join t u))
+  are_joined : (t u : Trees) → AreBoxes names (document_boxes t) → AreBoxes names (document_boxes u) → AreBoxes names (document_boxes (join t u))
   are_joined Done u a b = b
   are_joined (Leaf c t) u a b = (a.0, a.1, a.2, a.3, are_joined t u a.4 b)
   are_joined (Holder c s inner t) u a b =
       with_rest c.head.form c.head s (document_boxes inner) (document_boxes t) (document_boxes (join t u)) a
       (are_joined t u (rest_of c.head.form c.head s (document_boxes inner) (document_boxes t) a) b)
 
-  pub are_first : (t u : Trees) → AreBoxes names (document_boxes (join t u)) → AreBoxes names (document_boxes t)
+  are_first : (t u : Trees) → AreBoxes names (document_boxes (join t u)) → AreBoxes names (document_boxes t)
   are_first Done u a = tt
   are_first (Leaf c t) u a = (a.0, a.1, a.2, a.3, are_first t u a.4)
   are_first (Holder c s inner t) u a =
       with_rest c.head.form c.head s (document_boxes inner) (document_boxes (join t u)) (document_boxes t) a
       (are_first t u (rest_of c.head.form c.head s (document_boxes inner) (document_boxes (join t u)) a))
 
-  pub are_last : (t u : Trees) → AreBoxes names (document_boxes (join t u)) → AreBoxes names (document_boxes u)
+  are_last : (t u : Trees) → AreBoxes names (document_boxes (join t u)) → AreBoxes names (document_boxes u)
   are_last Done u a = a
   are_last (Leaf c t) u a = are_last t u a.4
   are_last (Holder c s inner t) u a = are_last t u (rest_of c.head.form c.head s (document_boxes inner) (document_boxes (join t u)) a)
 
-  pub inner_are : (f : Shape) (h : Head) (s : Sheet) (inner rest : Boxes) → f ≡ Sub → AreBoxes names (box_with f h s inner rest) → AreBoxes names inner
+  inner_are : (f : Shape) (h : Head) (s : Sheet) (inner rest : Boxes) → f ≡ Sub → AreBoxes names (box_with f h s inner rest) → AreBoxes names inner
   inner_are f h s inner rest e a = (subst (λ (y : Shape). AreBoxes names (box_with y h s inner rest)) e a).3
 
-  pub with_inner : (f : Shape) (h : Head) (s : Sheet) (inner other rest : Boxes) → h.form ≡ Sub → AreBoxes names (box_with f h s inner rest) → AreBoxes names other
+  with_inner : (f : Shape) (h : Head) (s : Sheet) (inner other rest : Boxes) → h.form ≡ Sub → AreBoxes names (box_with f h s inner rest) → AreBoxes names other
       → AreBoxes names (box_with f h s other rest)
   with_inner Sub h s inner other rest e a b = (a.0, subst (λ (y : Shape). HoldsNone y (page_of (frame_in s) other)) (sym e) tt, a.2, b, a.4)
   with_inner f h s inner other rest e a b = a

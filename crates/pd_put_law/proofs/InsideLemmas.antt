@@ -42,12 +42,12 @@ use Rattle.pd_put_law.proofs.ComeLemmas.{ComesLast, keys_more, keys_stay, was_th
 -- ---- paths that part
 
 -- the second path doesn't lead along the first one
-abbrev pub LeadsOff : List ℕ → List ℕ → Type 0
+abbrev LeadsOff : List ℕ → List ℕ → Type 0
 LeadsOff path [] = ⊥
 LeadsOff [] (m ∷ way) = Unit {0}
 LeadsOff (n ∷ path) (m ∷ way) = m ≡ n → LeadsOff path way
 
-pub sub_off : (g : Grove) (path way : List ℕ) (c d : ℕ) → sub_reached g (Some c) path ≡ Some d → sub_reached g (Some c) way ≡ None → LeadsOff path way
+sub_off : (g : Grove) (path way : List ℕ) (c d : ℕ) → sub_reached g (Some c) path ≡ Some d → sub_reached g (Some c) way ≡ None → LeadsOff path way
 sub_off g path [] c d on off = absurd (none-some c (sym off))
 sub_off g [] (m ∷ way) c d on off = tt
 sub_off g (n ∷ path) (m ∷ way) c d on off = λ same.
@@ -66,7 +66,7 @@ box_after cell (suc m) (Leaf c rest) = box_after cell m rest
 box_after cell zero (Holder c s inner rest) = refl
 box_after cell (suc m) (Holder c s inner rest) = box_after cell m rest
 
-pub box_beside : (n m : ℕ) (f : Tree → Tree) (t : Trees) → m ≢ n → canvas_in_box m (change_inside n f t) ≡ canvas_in_box m t
+box_beside : (n m : ℕ) (f : Tree → Tree) (t : Trees) → m ≢ n → canvas_in_box m (change_inside n f t) ≡ canvas_in_box m t
 box_beside n m f Done d = refl
 box_beside zero zero f (Leaf c rest) d = refl
 box_beside zero (suc m) f (Leaf c rest) d = refl
@@ -77,14 +77,14 @@ box_beside zero (suc m) f (Holder c s inner rest) d = refl
 box_beside (suc n) zero f (Holder c s inner rest) d = refl
 box_beside (suc n) (suc m) f (Holder c s inner rest) d = box_beside n m f rest (λ e. d (ap suc e))
 
-pub box_changed : (n : ℕ) (f : Tree → Tree) (t : Trees) → canvas_in_box n (change_inside n f t) ≡ option_map f (canvas_in_box n t)
+box_changed : (n : ℕ) (f : Tree → Tree) (t : Trees) → canvas_in_box n (change_inside n f t) ≡ option_map f (canvas_in_box n t)
 box_changed n f Done = refl
 box_changed zero f (Leaf c rest) = refl
 box_changed (suc n) f (Leaf c rest) = box_changed n f rest
 box_changed zero f (Holder c s inner rest) = refl
 box_changed (suc n) f (Holder c s inner rest) = box_changed n f rest
 
-pub along_in : (way : List ℕ) (f : Tree → Tree) → ((v : Tree) → canvas_along way (f v) ≡ canvas_along way v) → (o : Option Tree)
+along_in : (way : List ℕ) (f : Tree → Tree) → ((v : Tree) → canvas_along way (f v) ≡ canvas_along way v) → (o : Option Tree)
     → option_and_then (canvas_along way) (option_map f o) ≡ option_and_then (canvas_along way) o
 along_in way f h None = refl
 along_in way f h (Some v) = h v

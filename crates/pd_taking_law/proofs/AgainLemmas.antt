@@ -21,14 +21,14 @@ use Rattle.pd_taking_law.specs.Takes.{boxes_less, less_box, taken_at}
 use Rattle.pd_taking_law.specs.Taking.{TakesBoxAt}
 
 -- the boxes before that of a number, that box, and those behind
-pub record PartsAt (n : ℕ) (t : Trees) : Type 0 where
-  pub before : Trees
-  pub box : Trees
-  pub behind : Trees
-  pub whole : t ≡ join before (join box behind)
-  pub less : boxes_less n t ≡ join before behind
+record PartsAt (n : ℕ) (t : Trees) : Type 0 where
+  before : Trees
+  box : Trees
+  behind : Trees
+  whole : t ≡ join before (join box behind)
+  less : boxes_less n t ≡ join before behind
 
-pub parts_at : (n : ℕ) (t : Trees) → PartsAt n t
+parts_at : (n : ℕ) (t : Trees) → PartsAt n t
 parts_at n Done = record { before = Done; box = Done; behind = Done; whole = refl; less = refl }
 parts_at zero (Leaf c rest) = record { before = Done; box = Leaf c Done; behind = rest; whole = refl; less = refl }
 parts_at zero (Holder c s inner rest) = record { before = Done; box = Holder c s inner Done; behind = rest; whole = refl; less = refl }
@@ -53,7 +53,7 @@ texts_less names n t o =
     (texts_join names p.before p.behind (texts_before names p.before (join p.box p.behind) all)
     (texts_behind names p.box p.behind (texts_behind names p.before (join p.box p.behind) all)))
 
-pub levels_less : (n : ℕ) (t : Trees) (left : ℕ) → levels (document_boxes t) ≤ left → levels (document_boxes (boxes_less n t)) ≤ left
+levels_less : (n : ℕ) (t : Trees) (left : ℕ) → levels (document_boxes t) ≤ left → levels (document_boxes (boxes_less n t)) ≤ left
 levels_less n t left low =
     let p = parts_at n t in
     let a = levels (document_boxes p.before) in

@@ -23,10 +23,10 @@ use Rattle.pd_taking_law.specs.Taking.{TakesBoxAt, CutsBox, leads_past}
 use Rattle.pd_taking_law.proofs.StayLemmas.{forest_still, keys_less}
 
 -- the number that a box had before one of a lower number or the same went
-abbrev pub raised : ℕ → ℕ → ℕ
+abbrev raised : ℕ → ℕ → ℕ
 raised n s = cond (nat_lt s n) s (suc s)
 
-pub raised_apart : (n s : ℕ) → raised n s ≢ n
+raised_apart : (n s : ℕ) → raised n s ≢ n
 raised_apart n s e = by_test (nat_lt s n) (λ t. low t (sym (ap (λ b. cond b s (suc s)) t) ∙ e)) (λ f. high f (sym (ap (λ b. cond b s (suc s)) f) ∙ e))
   where
     low : nat_lt s n ≡ true → s ≡ n → ⊥
@@ -35,14 +35,14 @@ raised_apart n s e = by_test (nat_lt s n) (λ t. low t (sym (ap (λ b. cond b s 
     high : nat_lt s n ≡ false → suc s ≡ n → ⊥
     high t h = grind (arith, nat_tests)
 
-pub raised_back : (n s : ℕ) → lowered n (raised n s) ≡ s
+raised_back : (n s : ℕ) → lowered n (raised n s) ≡ s
 raised_back n s = grind (arith, nat_tests)
 
-pub raised_on : (n k : ℕ) → k ≢ n → raised n (lowered n k) ≡ k
+raised_on : (n k : ℕ) → k ≢ n → raised n (lowered n k) ≡ k
 raised_on n k apart = grind (arith, nat_tests)
 
 -- the elements behind move up by one place
-pub get_less : (xs : List ℕ) (n s : ℕ) → slice_get (remove xs n) s ≡ slice_get xs (raised n s)
+get_less : (xs : List ℕ) (n s : ℕ) → slice_get (remove xs n) s ≡ slice_get xs (raised n s)
 get_less [] zero s = refl
 get_less [] (suc n) s = refl
 get_less (x ∷ xs) zero s = sym (ap (slice_get (x ∷ xs)) (next s))
