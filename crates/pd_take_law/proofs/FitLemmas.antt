@@ -73,14 +73,14 @@ all_less boxes n (v ∷ ws) h = step (spares n v) refl (all_less boxes n ws h.1)
 
 -- Ports.
 
-told_same : (w w' : Web) (key : ℕ) (ks : List ℕ) → ((k : ℕ) → k ≢ key → laid_at w'.sockets.items k ≡ laid_at w.sockets.items k) → ((i k : ℕ) → slice_get ks i ≡ Some k → k ≢ key)
+pub told_same : (w w' : Web) (key : ℕ) (ks : List ℕ) → ((k : ℕ) → k ≢ key → laid_at w'.sockets.items k ≡ laid_at w.sockets.items k) → ((i k : ℕ) → slice_get ks i ≡ Some k → k ≢ key)
     → boxes_told w' ks ≡ boxes_told w ks
 told_same w w' key [] same other = refl
 told_same w w' key (k ∷ ks) same other =
     ap (λ (s : Seen). s ∷ boxes_told w' ks) (same k (other 0 k refl)) ∙ ap (λ (ss : List Seen). laid_at w.sockets.items k ∷ ss) (told_same w w' key ks same (λ i. other (suc i)))
 
 module _ (old new : Patch) (n : Counts) (table : Names) (path : List ℕ) (number steps steps' : ℕ) (b : OldBox) (D : DeletesBox old new n table path number steps steps' b) (C : CanPut old) (meet : Meet old.web) where
-  box_same : (k : ℕ) → k ≢ b.key → laid_at new.web.sockets.items k ≡ laid_at old.web.sockets.items k
+  pub box_same : (k : ℕ) → k ≢ b.key → laid_at new.web.sockets.items k ≡ laid_at old.web.sockets.items k
   box_same k d =
       let G = D.removed.taken.goes.ports in
       let L = D.removed.loosens.web.kept in

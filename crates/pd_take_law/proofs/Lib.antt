@@ -3,3 +3,4 @@ mod GoneLemmas
 mod FitLemmas
 mod FeedLemmas
 mod OrderLemmas
+mod InsideLemmas

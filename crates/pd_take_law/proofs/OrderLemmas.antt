@@ -74,14 +74,14 @@ module _ (old new : Patch) (n : Counts) (table : Names) (path : List ℕ) (numbe
   W = wires_gone old new n table path number steps steps' b D C meet
 
   -- what feeds a box of a canvas lies in it
-  feeder_there : (c k inlet i : ℕ) (g : Hop) → IsThere (keys_at old.grove c) k → slice_get (feed_hops old.web k inlet) i ≡ Some g → IsThere (keys_at old.grove c) g.node
+  pub feeder_there : (c k inlet i : ℕ) (g : Hop) → IsThere (keys_at old.grove c) k → slice_get (feed_hops old.web k inlet) i ≡ Some g → IsThere (keys_at old.grove c) g.node
   feeder_there c k inlet i g t e =
       let f = meet.fanned k inlet i g e in
       let s = all_at (λ (x : Hop). ShareCanvas old.grove g.node x.node) (fan_hops old.web g.node g.port) f.0 (hop_at g.key k inlet) (C.runs.inside g.node g.port) f.1 in
       let same : s.canvas ≡ c = same_Some s.canvas c (sym (C.forest.own.home s.canvas s.other.0 k s.other.1) ∙ C.forest.own.home c t.0 k t.1) in
       (s.one.0, ap (λ x. slice_get (keys_at old.grove x) s.one.0) (sym same) ∙ s.one.1)
 
-  was_there : (c i k : ℕ) → slice_get (keys_at new.grove c) i ≡ Some k → IsThere (keys_at old.grove c) k
+  pub was_there : (c i k : ℕ) → slice_get (keys_at new.grove c) i ≡ Some k → IsThere (keys_at old.grove c) k
   was_there c i k at =
       let lies = (forest_still old.grove new.grove path b.canvas b.key number B).own.home c i k at in
       let same = B.takes.none_comes k (lives (get new.grove.nodes k) c lies) in

@@ -13,6 +13,7 @@ ghost use Rattle.pd_patch.specs.Document.{present_document};
 ghost use Rattle.pd_patch.specs.Sounds.{sound_of};
 ghost use Rattle.pd_boxes.specs.Put.{CanPut, HasOwners};
 ghost use Rattle.pd_reload_law.specs.Reloading.{RunsAs};
+ghost use Rattle.pd_inside_law.specs.Inside.{HoldsWires};
 ghost use Rattle.pd_alike_law.specs.Feeds.{FedOnce, FeedsInOrder};
 ghost use Rattle.pd_saved_law.specs.Fitting.{WiresFit};
 ghost use Rattle.pd_putting_law.specs.Again.{StandsAgain};
@@ -62,6 +63,12 @@ pub fn feeds_still_hold()
         DeletesBox old new n table path number steps steps' b → FedOnce old.web → FedOnce new.web }
     ensures order { (old new : Patch) (n : Counts) (table : Names) (path : List ℕ) (number steps steps' : ℕ) (b : OldBox) →
         DeletesBox old new n table path number steps steps' b → CanPut old → Meet old.web → (c : ℕ) → FeedsInOrder old c → FeedsInOrder new c }
+{}
+
+/// All wires then are what the wires of a patch that runs are: those inside abstractions are as they grew.
+pub fn wires_still_hold()
+    ensures { (old new : Patch) (n : Counts) (table : Names) (path : List ℕ) (number steps steps' : ℕ) (b : OldBox) (t : Tree) →
+        DeletesBox old new n table path number steps steps' b → CanPut old → RunsAs old.grove t → HoldsWires old t → HoldsWires new (taken_at path number t) }
 {}
 
 /// The counts without the box are those of the tree without it, where they were those of the tree.
