@@ -1,5 +1,8 @@
-mod CountLemmas
-mod GoneLemmas
-mod FitLemmas
-mod FeedLemmas
-mod OrderLemmas
+pub mod CountLemmas
+pub mod GoneLemmas
+pub mod FitLemmas
+pub mod FeedLemmas
+pub mod OrderLemmas
+pub mod InsideLemmas
+pub mod ShrinkLemmas
+pub mod SavedLemmas

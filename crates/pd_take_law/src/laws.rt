@@ -57,7 +57,8 @@ pub fn boxes_go_from_trees()
     ensures zeros { (old new : Patch) (n : Counts) (table : Names) (path : List ℕ) (number steps steps' : ℕ) (b : OldBox) (t : Tree) →
         DeletesBox old new n table path number steps steps' b → CanPut old → RunsAs old.grove t → zeros_of (taken_at path number t) ≡ zeros_of t }
     ensures holds { (old new : Patch) (n : Counts) (table : Names) (path : List ℕ) (number steps steps' : ℕ) (b : OldBox) (t : Tree) →
-        DeletesBox old new n table path number steps steps' b → CanPut old → HoldsWires old t → HoldsWires new (taken_at path number t) }
+        DeletesBox old new n table path number steps steps' b → CanPut old → RunsAs old.grove t → HoldsWires old t →
+        HoldsWires new (taken_at path number t) }
     ensures fit { (old new : Patch) (n : Counts) (table : Names) (path : List ℕ) (number steps steps' : ℕ) (b : OldBox) →
         DeletesBox old new n table path number steps steps' b → CanPut old → Meet old.web → WiresFit old → WiresFit new }
     ensures wires { (old new : Patch) (n : Counts) (table : Names) (path : List ℕ) (number steps steps' : ℕ) (b : OldBox) →
