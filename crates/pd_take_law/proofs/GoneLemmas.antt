@@ -1,11 +1,13 @@
 -- A box that an edit deleted, as one that went from a canvas at a path.
-use Rattle.std.proofs.Common.{◌≡◌, ℕ, ◌+◌, take, drop, List, filter, slice_get, Some, sym, ap, ◌∙◌, subst, ◌-◌, arith, None}
-use Rattle.std.proofs.lemmas.Option.{same_Some}
+use Rattle.std.proofs.Common.{◌≡◌, ℕ, ◌+◌, ◌-◌, take, drop, List, filter, slice_get, Option, Some, None, IsSome, refl, sym, ap, ◌∙◌, subst, arith}
+use Rattle.std.proofs.lemmas.Option.{none-some, same_Some}
 use Rattle.slab.specs.Slab.{get}
 use Rattle.pd_atom.specs.Names.{Names}
 use Rattle.pd_grove.specs.declared.grove.Grove.{Grove}
 use Rattle.pd_grove.specs.Grafts.{TakesBox}
 use Rattle.pd_grove.specs.OwnPaths.{sub_reached}
+use Rattle.pd_grove.specs.Owning.{board_in}
+use Rattle.pd_grove.specs.Telling.{inner_in}
 use Rattle.pd_grove.proofs.UseLemmas.{not_both}
 use Rattle.pd_web.specs.declared.web.Hop.{Hop}
 use Rattle.pd_web.specs.Canvases.{keys_at}
@@ -13,11 +15,13 @@ use Rattle.pd_web.specs.Changes.{Meet}
 use Rattle.pd_web.specs.Hops.{fan_hops}
 use Rattle.pd_patch.specs.declared.patch.Patch.{Patch}
 use Rattle.pd_patch.specs.Linked.{ShareCanvas}
+use Rattle.pd_patch.specs.Listing.{IsThere}
 use Rattle.pd_wiring.specs.Changes.{CanRewire}
 use Rattle.pd_wiring.proofs.HeardLemmas.{all_at}
 use Rattle.pd_boxes.specs.Put.{CanPut, HasOwners}
 use Rattle.pd_reload_law.specs.Wires.{StayAmong}
 use Rattle.pd_taking_law.specs.Taking.{TakesBoxAt, CutsBox, leads_past}
+use Rattle.pd_taking_law.proofs.StayLemmas.{forest_still}
 use Rattle.pd_adding.specs.declared.counts.Counts.{Counts}
 use Rattle.pd_taking.proofs.TakenLemmas.{fans_less, numbers_less, owners_less, root_same, tree_less}
 use Rattle.pd_deleting.specs.declared.deleting.OldBox.{OldBox}
@@ -56,6 +60,23 @@ module _ (old new : Patch) (n : Counts) (table : Names) (path : List ℕ) (numbe
         (tree_less D.ready new table (record { canvas = b.canvas; number = number }) b.key steps steps' D.removed);
     root = root_same D.ready new table (record { canvas = b.canvas; number = number }) b.key steps steps' D.removed ∙ ap (λ (g : Grove). g.root) D.room.grove;
   }
+
+  pub holds_none : inner_in (get old.grove.nodes b.key) ≡ None
+  holds_none =
+      ap (λ (g : Grove). inner_in (get g.nodes b.key)) (sym D.room.grove)
+      ∙ ap inner_in (tree_less D.ready new table (record { canvas = b.canvas; number = number }) b.key steps steps' D.removed).was ∙ D.removed.taken.goes.leaf
+
+  -- what lies in a canvas lay in it
+  pub was_there : CanPut old → (c i k : ℕ) → slice_get (keys_at new.grove c) i ≡ Some k → IsThere (keys_at old.grove c) k
+  was_there C c i k at =
+      let B = box_gone C in
+      let lies = (forest_still old.grove new.grove path b.canvas b.key number B).own.home c i k at in
+      let same = B.takes.none_comes k (lives (get new.grove.nodes k) c lies) in
+      C.forest.placed k c (ap board_in (sym same) ∙ lies)
+    where
+      lives : (o : Option Node) (c : ℕ) → board_in o ≡ Some c → IsSome o
+      lives None c e = absurd (none-some c e)
+      lives (Some x) c e = refl
 
   pub wires_gone : CanPut old → Meet old.web → CutsBox old.grove new.grove old.web new.web old.numbers.items new.numbers.items b.key
   wires_gone C meet = record {

@@ -37,10 +37,10 @@ use Rattle.pd_taking.proofs.TakenLemmas.{meets_less}
 use Rattle.pd_deleting.specs.declared.deleting.OldBox.{OldBox}
 use Rattle.pd_deleting.specs.Deletes.{DeletesBox}
 use Rattle.pd_deleting.proofs.DeleteLemmas.{can_remove}
-use Rattle.pd_take_law.proofs.GoneLemmas.{box_gone, wires_gone}
+use Rattle.pd_take_law.proofs.GoneLemmas.{box_gone, was_there, wires_gone}
 use Rattle.pd_take_law.proofs.FitLemmas.{box_same, told_same}
 use Rattle.pd_take_law.proofs.FeedLemmas.{feeds_gone, still_fed}
-use Rattle.pd_take_law.proofs.OrderLemmas.{feeder_there, still_ordered, was_there}
+use Rattle.pd_take_law.proofs.OrderLemmas.{feeder_there, still_ordered}
 
 -- Paths.
 
@@ -102,12 +102,12 @@ then_sub g (n ∷ way) more None = then_sub g way more None
 then_sub g (n ∷ way) more (Some c) = then_sub g way more (option_and_then (λ k. sub_in (get g.nodes k)) (slice_get (keys_at g c) n))
 
 -- the way to a canvas in the patch as it was
-record WayBack (g h : Grove) (d c : ℕ) (way : List ℕ) : Type 0 where
-  was : List ℕ
-  leads : reached g (Some d) was ≡ Some c
-  own : sub_reached g (Some d) was ≡ sub_reached h (Some d) way
+pub record WayBack (g h : Grove) (d c : ℕ) (way : List ℕ) : Type 0 where
+  pub was : List ℕ
+  pub leads : reached g (Some d) was ≡ Some c
+  pub own : sub_reached g (Some d) was ≡ sub_reached h (Some d) way
 
-module _ (old new : Patch) (n : Counts) (table : Names) (path : List ℕ) (number steps_old steps_new : ℕ) (b : OldBox) (D : DeletesBox old new n table path number steps_old steps_new b) (C : CanPut old) (meet : Meet old.web) where
+module _ (old new : Patch) (n : Counts) (table : Names) (path : List ℕ) (number steps_old steps_new : ℕ) (b : OldBox) (D : DeletesBox old new n table path number steps_old steps_new b) (C : CanPut old) where
   B : TakesBoxAt old.grove new.grove path b.canvas b.key number
   B = box_gone old new n table path number steps_old steps_new b D C
 
@@ -121,7 +121,7 @@ module _ (old new : Patch) (n : Counts) (table : Names) (path : List ℕ) (numbe
   way_back [] d c e = record { was = []; leads = e; own = refl }
   way_back (m ∷ way) d c e =
       let s = steps new.grove d m way c e in
-      let t = was_there old new n table path number steps_old steps_new b D C meet d m s.key s.is in
+      let t = was_there old new n table path number steps_old steps_new b D C d m s.key s.is in
       let rest = way_back way s.inner c s.on in
       let same = same_box d m s.key s.is in
       record {
@@ -141,101 +141,102 @@ module _ (old new : Patch) (n : Counts) (table : Names) (path : List ℕ) (numbe
           let same : j ≡ i = same_Some j i (sym holds ∙ sub_inner (get new.grove.nodes (steps new.grove d m way c e).key) i q) in
           subst (λ x. sub_reached old.grove (Some x) was ≡ sub_reached new.grove (Some x) way) same own
 
-  root_back : (way : List ℕ) (c : ℕ) → reached new.grove (Some new.grove.root) way ≡ Some c → WayBack old.grove new.grove old.grove.root c way
+  pub root_back : (way : List ℕ) (c : ℕ) → reached new.grove (Some new.grove.root) way ≡ Some c → WayBack old.grove new.grove old.grove.root c way
   root_back way c e = way_back way old.grove.root c (ap (λ r. reached new.grove (Some r) way) (sym B.root) ∙ e)
 
-  pub order_still : (t : Tree) → HoldsWires old t → (way : List ℕ) (c : ℕ) → sub_reached new.grove (Some new.grove.root) way ≡ Some c → FeedsInOrder new c
-  order_still t H way c e =
-      let w = root_back way c (sub_leads new.grove new.grove.root c way e) in
-      still_ordered old new n table path number steps_old steps_new b D C meet c (H.order w.was c (w.own ∙ ap (λ r. sub_reached new.grove (Some r) way) (sym B.root) ∙ e))
+  module _ (meet : Meet old.web) where
+    pub order_still : (t : Tree) → HoldsWires old t → (way : List ℕ) (c : ℕ) → sub_reached new.grove (Some new.grove.root) way ≡ Some c → FeedsInOrder new c
+    order_still t H way c e =
+        let w = root_back way c (sub_leads new.grove new.grove.root c way e) in
+        still_ordered old new n table path number steps_old steps_new b D C meet c (H.order w.was c (w.own ∙ ap (λ r. sub_reached new.grove (Some r) way) (sym B.root) ∙ e))
 
-  -- Canvases inside abstractions.
+    -- Canvases inside abstractions.
 
-  module _ (way : List ℕ) (c : ℕ) (leads : reached new.grove (Some new.grove.root) way ≡ Some c) (off : sub_reached new.grove (Some new.grove.root) way ≡ None) where
-    was_off : sub_reached old.grove (Some old.grove.root) (root_back way c leads).was ≡ None
-    was_off = (root_back way c leads).own ∙ ap (λ r. sub_reached new.grove (Some r) way) (sym B.root) ∙ off
+    module _ (way : List ℕ) (c : ℕ) (leads : reached new.grove (Some new.grove.root) way ≡ Some c) (off : sub_reached new.grove (Some new.grove.root) way ≡ None) where
+      was_off : sub_reached old.grove (Some old.grove.root) (root_back way c leads).was ≡ None
+      was_off = (root_back way c leads).own ∙ ap (λ r. sub_reached new.grove (Some r) way) (sym B.root) ∙ off
 
-    -- it isn't the canvas of the box
-    apart : c ≢ b.canvas
-    apart e =
-        let w = root_back way c leads in
-        let same = paths_once old.grove C.forest path w.was old.grove.root c (sub_leads old.grove old.grove.root c path (B.leads ∙ ap (λ x. Some x) (sym e))) w.leads in
-        none-some b.canvas (sym was_off ∙ ap (sub_reached old.grove (Some old.grove.root)) (sym same) ∙ B.leads)
+      -- it isn't the canvas of the box
+      apart : c ≢ b.canvas
+      apart e =
+          let w = root_back way c leads in
+          let same = paths_once old.grove C.forest path w.was old.grove.root c (sub_leads old.grove old.grove.root c path (B.leads ∙ ap (λ x. Some x) (sym e))) w.leads in
+          none-some b.canvas (sym was_off ∙ ap (sub_reached old.grove (Some old.grove.root)) (sym same) ∙ B.leads)
 
-    -- and that doesn't lie in it
-    not_in : LeadsNot new.grove b.canvas c
-    not_in more e =
-        let on = leads_from_root old.grove new.grove path b.canvas b.key number B in
-        let same : way ++ more ≡ path =
-        paths_once new.grove F (way ++ more) path new.grove.root b.canvas (then_reached new.grove way more (Some new.grove.root) ∙ ap (λ o. reached new.grove o more) leads ∙ e)
-        (sub_leads new.grove new.grove.root b.canvas path on) in
-        none-some b.canvas (sym (sub_nowhere new.grove more) ∙ ap (λ o. sub_reached new.grove o more) (sym off) ∙ sym (then_sub new.grove way more (Some new.grove.root))
-        ∙ ap (sub_reached new.grove (Some new.grove.root)) same ∙ on)
+      -- and that doesn't lie in it
+      not_in : LeadsNot new.grove b.canvas c
+      not_in more e =
+          let on = leads_from_root old.grove new.grove path b.canvas b.key number B in
+          let same : way ++ more ≡ path =
+          paths_once new.grove F (way ++ more) path new.grove.root b.canvas (then_reached new.grove way more (Some new.grove.root) ∙ ap (λ o. reached new.grove o more) leads ∙ e)
+          (sub_leads new.grove new.grove.root b.canvas path on) in
+          none-some b.canvas (sym (sub_nowhere new.grove more) ∙ ap (λ o. sub_reached new.grove o more) (sym off) ∙ sym (then_sub new.grove way more (Some new.grove.root))
+          ∙ ap (sub_reached new.grove (Some new.grove.root)) same ∙ on)
 
-    bare : inner_in (get old.grove.nodes b.key) ≡ None
-    bare = ap (λ (g : Grove). inner_in (get g.nodes b.key)) (sym D.room.grove) ∙ (can_remove old D.ready path number b.canvas b.key D.room C meet D.is).leaf
+      bare : inner_in (get old.grove.nodes b.key) ≡ None
+      bare = ap (λ (g : Grove). inner_in (get g.nodes b.key)) (sym D.room.grove) ∙ (can_remove old D.ready path number b.canvas b.key D.room C meet D.is).leaf
 
-    board_same : get new.grove.boards c ≡ get old.grove.boards c
-    board_same = B.takes.boards_stay c apart (λ L. none-some L.0 (sym bare ∙ L.1))
+      board_same : get new.grove.boards c ≡ get old.grove.boards c
+      board_same = B.takes.boards_stay c apart (λ L. none-some L.0 (sym bare ∙ L.1))
 
-    -- the canvas is the same in the tree
-    same_canvas : (u v : Tree) → CanvasStands old.grove c u → CanvasStands new.grove c v → u ≡ v
-    same_canvas u v S T =
-        let e : Some (record { holder = S.holder; depth = S.depth; sheet = u.sheet; keys = S.keys }) ≡ Some (record { holder = T.holder; depth = T.depth; sheet = v.sheet; keys = T.keys }) =
-        sym S.board ∙ ap (option_map board_seen) (sym board_same) ∙ T.board in
-        let x = same_Some (record { holder = S.holder; depth = S.depth; sheet = u.sheet; keys = S.keys }) (record { holder = T.holder; depth = T.depth; sheet = v.sheet; keys = T.keys }) e in
-        let deep : T.depth ≡ S.depth = sym (ap (λ (y : BoardSeen). y.depth) x) in
-        let keys : T.keys ≡ S.keys = sym (ap (λ (y : BoardSeen). y.keys) x) in
-        let sheet : u.sheet ≡ v.sheet = ap (λ (y : BoardSeen). y.sheet) x in
-        let at : keys_at new.grove c ≡ S.keys = ap keys_in board_same ∙ seen_keys (get old.grove.boards c) _ S.board in
-        let was = stands_aside old.grove new.grove path b.canvas b.key number B F c S.depth S.keys u.boxes (live_inside new.grove c S.keys F at) (aside_inside new.grove b.canvas c S.keys at not_in) S.stands in
-        let now = subst (λ d. Stands (get new.grove.nodes) (get new.grove.boards) c d S.keys v.boxes) deep
-        (subst (λ (ks : List ℕ). Stands (get new.grove.nodes) (get new.grove.boards) c T.depth ks v.boxes) keys T.stands) in
-        let boxes : u.boxes ≡ v.boxes = stands_once (get new.grove.nodes) (get new.grove.boards) c S.depth S.keys u.boxes v.boxes was now in
-        ap (λ (y : Sheet). tree_of y u.boxes) sheet ∙ ap (tree_of v.sheet) boxes
-      where
-        tree_of : Sheet → Trees → Tree
-        tree_of y bs = record { sheet = y; boxes = bs }
+      -- the canvas is the same in the tree
+      same_canvas : (u v : Tree) → CanvasStands old.grove c u → CanvasStands new.grove c v → u ≡ v
+      same_canvas u v S T =
+          let e : Some (record { holder = S.holder; depth = S.depth; sheet = u.sheet; keys = S.keys }) ≡ Some (record { holder = T.holder; depth = T.depth; sheet = v.sheet; keys = T.keys }) =
+          sym S.board ∙ ap (option_map board_seen) (sym board_same) ∙ T.board in
+          let x = same_Some (record { holder = S.holder; depth = S.depth; sheet = u.sheet; keys = S.keys }) (record { holder = T.holder; depth = T.depth; sheet = v.sheet; keys = T.keys }) e in
+          let deep : T.depth ≡ S.depth = sym (ap (λ (y : BoardSeen). y.depth) x) in
+          let keys : T.keys ≡ S.keys = sym (ap (λ (y : BoardSeen). y.keys) x) in
+          let sheet : u.sheet ≡ v.sheet = ap (λ (y : BoardSeen). y.sheet) x in
+          let at : keys_at new.grove c ≡ S.keys = ap keys_in board_same ∙ seen_keys (get old.grove.boards c) _ S.board in
+          let was = stands_aside old.grove new.grove path b.canvas b.key number B F c S.depth S.keys u.boxes (live_inside new.grove c S.keys F at) (aside_inside new.grove b.canvas c S.keys at not_in) S.stands in
+          let now = subst (λ d. Stands (get new.grove.nodes) (get new.grove.boards) c d S.keys v.boxes) deep
+          (subst (λ (ks : List ℕ). Stands (get new.grove.nodes) (get new.grove.boards) c T.depth ks v.boxes) keys T.stands) in
+          let boxes : u.boxes ≡ v.boxes = stands_once (get new.grove.nodes) (get new.grove.boards) c S.depth S.keys u.boxes v.boxes was now in
+          ap (λ (y : Sheet). tree_of y u.boxes) sheet ∙ ap (tree_of v.sheet) boxes
+        where
+          tree_of : Sheet → Trees → Tree
+          tree_of y bs = record { sheet = y; boxes = bs }
 
-    keys_same : keys_at new.grove c ≡ keys_at old.grove c
-    keys_same = ap keys_in board_same
+      keys_same : keys_at new.grove c ≡ keys_at old.grove c
+      keys_same = ap keys_in board_same
 
-    aside : (k : ℕ) → IsThere (keys_at old.grove c) k → k ≢ b.key
-    aside k t e = apart (same_Some c b.canvas (sym (C.forest.own.home c t.0 b.key (t.1 ∙ ap (λ x. Some x) e)) ∙ C.forest.own.home b.canvas number b.key B.is))
+      aside : (k : ℕ) → IsThere (keys_at old.grove c) k → k ≢ b.key
+      aside k t e = apart (same_Some c b.canvas (sym (C.forest.own.home c t.0 b.key (t.1 ∙ ap (λ x. Some x) e)) ∙ C.forest.own.home b.canvas number b.key B.is))
 
-    fans_same : (i k outlet : ℕ) → slice_get (keys_at old.grove c) i ≡ Some k → fan_hops new.web k outlet ≡ fan_hops old.web k outlet
-    fans_same i k outlet at =
-        let W = wires_gone old new n table path number steps_old steps_new b D C meet in
-        W.fans k outlet (live_box new.grove F c i k (ap (λ (ks : List ℕ). slice_get ks i) keys_same ∙ at))
-        ∙ none_gone b.key (fan_hops old.web k outlet) (λ j x e. let a = W.inside c k outlet j x (i, at) e in aside x.node (a.0, a.1))
+      fans_same : (i k outlet : ℕ) → slice_get (keys_at old.grove c) i ≡ Some k → fan_hops new.web k outlet ≡ fan_hops old.web k outlet
+      fans_same i k outlet at =
+          let W = wires_gone old new n table path number steps_old steps_new b D C meet in
+          W.fans k outlet (live_box new.grove F c i k (ap (λ (ks : List ℕ). slice_get ks i) keys_same ∙ at))
+          ∙ none_gone b.key (fan_hops old.web k outlet) (λ j x e. let a = W.inside c k outlet j x (i, at) e in aside x.node (a.0, a.1))
 
-    feeds_same : (i k inlet : ℕ) → slice_get (keys_at old.grove c) i ≡ Some k → feed_hops new.web k inlet ≡ feed_hops old.web k inlet
-    feeds_same i k inlet at =
-        feeds_gone old new n table path number steps_old steps_new b D k inlet (aside k (i, at))
-        ∙ none_gone b.key (feed_hops old.web k inlet) (λ j x e. aside x.node (feeder_there old new n table path number steps_old steps_new b D C meet c k inlet j x (i, at) e))
+      feeds_same : (i k inlet : ℕ) → slice_get (keys_at old.grove c) i ≡ Some k → feed_hops new.web k inlet ≡ feed_hops old.web k inlet
+      feeds_same i k inlet at =
+          feeds_gone old new n table path number steps_old steps_new b D k inlet (aside k (i, at))
+          ∙ none_gone b.key (feed_hops old.web k inlet) (λ j x e. aside x.node (feeder_there old new n table path number steps_old steps_new b D C meet c k inlet j x (i, at) e))
 
-    wires_same : (u : Tree) → HasWiresOf old.web (keys_at old.grove c) u → HasWiresOf new.web (keys_at new.grove c) u
-    wires_same u H = subst (λ (ks : List ℕ). HasWiresOf new.web ks u) (sym keys_same) (record {
-      ports = told_same old.web new.web b.key (keys_at old.grove c) (box_same old new n table path number steps_old steps_new b D C meet) (λ i k at. aside k (i, at)) ∙ H.ports;
-      fans = λ i outlet k at. ap places_of (fans_same i k outlet at) ∙ H.fans i outlet k at;
-      feeds = λ i inlet k at. ap places_of (feeds_same i k inlet at) ∙ H.feeds i inlet k at;
-    })
+      wires_same : (u : Tree) → HasWiresOf old.web (keys_at old.grove c) u → HasWiresOf new.web (keys_at new.grove c) u
+      wires_same u H = subst (λ (ks : List ℕ). HasWiresOf new.web ks u) (sym keys_same) (record {
+        ports = told_same old.web new.web b.key (keys_at old.grove c) (box_same old new n table path number steps_old steps_new b D C meet) (λ i k at. aside k (i, at)) ∙ H.ports;
+        fans = λ i outlet k at. ap places_of (fans_same i k outlet at) ∙ H.fans i outlet k at;
+        feeds = λ i inlet k at. ap places_of (feeds_same i k inlet at) ∙ H.feeds i inlet k at;
+      })
 
-  inside_still : (t : Tree) → RunsAs old.grove t → HoldsWires old t → IsWiredInside new.grove new.web (taken_at path number t)
-  inside_still t R H = record {
-    all = λ way c v l.
-        let w = root_back way c l.here.key in
-        let is = along old.grove t w.was c R.stands w.leads in
-        let now = along new.grove (taken_at path number t) way c (runs_less old.grove new.grove path b.canvas b.key number t B R).stands l.here.key in
-        let same : is.tree ≡ v = same_canvas way c l.here.key l.inside is.tree now.tree is.stands now.stands ∙ same_Some now.tree v (sym now.is ∙ l.here.canvas) in
-        wires_same way c l.here.key l.inside v (subst (λ (x : Tree). HasWiresOf old.web (keys_at old.grove c) x) same
-        (H.inside.all w.was c is.tree (record { here = record { key = w.leads; canvas = is.is }; inside = was_off way c l.here.key l.inside })));
-  }
+    inside_still : (t : Tree) → RunsAs old.grove t → HoldsWires old t → IsWiredInside new.grove new.web (taken_at path number t)
+    inside_still t R H = record {
+      all = λ way c v l.
+          let w = root_back way c l.here.key in
+          let is = along old.grove t w.was c R.stands w.leads in
+          let now = along new.grove (taken_at path number t) way c (runs_less old.grove new.grove path b.canvas b.key number t B R).stands l.here.key in
+          let same : is.tree ≡ v = same_canvas way c l.here.key l.inside is.tree now.tree is.stands now.stands ∙ same_Some now.tree v (sym now.is ∙ l.here.canvas) in
+          wires_same way c l.here.key l.inside v (subst (λ (x : Tree). HasWiresOf old.web (keys_at old.grove c) x) same
+          (H.inside.all w.was c is.tree (record { here = record { key = w.leads; canvas = is.is }; inside = was_off way c l.here.key l.inside })));
+    }
 
-  pub still_holds : (t : Tree) → RunsAs old.grove t → HoldsWires old t → HoldsWires new (taken_at path number t)
-  still_holds t R H = record {
-    fed = still_fed old new n table path number steps_old steps_new b D H.fed;
-    meet = meets_less D.ready new table (record { canvas = b.canvas; number = number }) b.key steps_old steps_new D.removed (can_remove old D.ready path number b.canvas b.key D.room C meet D.is);
-    inside = inside_still t R H;
-    order = order_still t H;
-  }
+    pub still_holds : (t : Tree) → RunsAs old.grove t → HoldsWires old t → HoldsWires new (taken_at path number t)
+    still_holds t R H = record {
+      fed = still_fed old new n table path number steps_old steps_new b D H.fed;
+      meet = meets_less D.ready new table (record { canvas = b.canvas; number = number }) b.key steps_old steps_new D.removed (can_remove old D.ready path number b.canvas b.key D.room C meet D.is);
+      inside = inside_still t R H;
+      order = order_still t H;
+    }

@@ -30,7 +30,7 @@ use Rattle.pd_taking.specs.Loosening.{is_of_other}
 use Rattle.pd_deleting.specs.declared.deleting.OldBox.{OldBox}
 use Rattle.pd_deleting.specs.Deletes.{DeletesBox}
 use Rattle.pd_deleting.proofs.DeleteLemmas.{can_remove}
-use Rattle.pd_take_law.proofs.GoneLemmas.{box_gone, wires_gone}
+use Rattle.pd_take_law.proofs.GoneLemmas.{box_gone, was_there, wires_gone}
 use Rattle.pd_take_law.proofs.FitLemmas.{less_at, not_key}
 use Rattle.pd_take_law.proofs.FeedLemmas.{feeds_gone, from_other, passed}
 
@@ -81,16 +81,6 @@ module _ (old new : Patch) (n : Counts) (table : Names) (path : List ℕ) (numbe
       let same : s.canvas ≡ c = same_Some s.canvas c (sym (C.forest.own.home s.canvas s.other.0 k s.other.1) ∙ C.forest.own.home c t.0 k t.1) in
       (s.one.0, ap (λ x. slice_get (keys_at old.grove x) s.one.0) (sym same) ∙ s.one.1)
 
-  pub was_there : (c i k : ℕ) → slice_get (keys_at new.grove c) i ≡ Some k → IsThere (keys_at old.grove c) k
-  was_there c i k at =
-      let lies = (forest_still old.grove new.grove path b.canvas b.key number B).own.home c i k at in
-      let same = B.takes.none_comes k (lives (get new.grove.nodes k) c lies) in
-      C.forest.placed k c (ap board_in (sym same) ∙ lies)
-    where
-      lives : (o : Option Node) (c : ℕ) → board_in o ≡ Some c → IsSome o
-      lives None c e = absurd (none-some c e)
-      lives (Some x) c e = refl
-
   label_here : (k : ℕ) → IsThere (keys_at old.grove b.canvas) k → k ≢ b.key → (label_at new.numbers.items k ≡ lowered number (label_at old.numbers.items k)) × (label_at old.numbers.items k ≢ number)
   label_here k t d =
       let was : label_at old.numbers.items k ≡ t.0 = label_is old.numbers.items k t.0 (C.runs.numbers b.canvas t.0 k t.1) in
@@ -122,7 +112,7 @@ module _ (old new : Patch) (n : Counts) (table : Names) (path : List ℕ) (numbe
       one : (i k inlet : ℕ) → slice_get (keys_at new.grove c) i ≡ Some k → AreInOrder new.numbers.items (feed_hops new.web k inlet)
       one i k inlet at x y g h l u v =
           let d = not_key old new n table path number steps steps' b D C meet c i k at in
-          let t = was_there c i k at in
+          let t = was_there old new n table path number steps steps' b D C c i k at in
           let hops = feeds_gone old new n table path number steps steps' b D k inlet d in
           let u' = ap (λ (hs : List Hop). slice_get hs x) (sym hops) ∙ u in
           let v' = ap (λ (hs : List Hop). slice_get hs y) (sym hops) ∙ v in
