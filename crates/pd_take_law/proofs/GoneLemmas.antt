@@ -29,6 +29,7 @@ use Rattle.pd_kind.specs.States.{size_of}
 use Rattle.pd_grove.specs.declared.nodes.Node.{Node}
 use Rattle.pd_grove.specs.Standing.{GroveStands}
 use Rattle.pd_grove.proofs.PlaceLemmas.{seen_keys}
+use Rattle.pd_regrowth_law.specs.Canvases.{own_along}
 use Rattle.pd_putting_law.proofs.StandLemmas.{path_along}
 use Rattle.pd_take_law.proofs.CountLemmas.{IsOneLess, leaf_less, tree_counts}
 use Rattle.pd_deleting.proofs.DeleteLemmas.{can_remove, found_there, leads_there}
@@ -94,3 +95,9 @@ module _ (old new : Patch) (n : Counts) (table : Names) (path : List ℕ) (numbe
     where
       sum : (old new size sound count : ℕ) → new + size ≡ old → count ≡ sound - size → sound ≡ old → count ≡ new
       sum old new size sound count h k e = omega (arith, h, k, e)
+
+  -- the path leads to a canvas of the document
+  pub along : (t : Tree) → CanPut old → GroveStands old.grove t.sheet t.boxes → (u : Tree) × (own_along path t ≡ Some u)
+  along t C G =
+      let p = path_along old.grove path b.canvas t C.forest G (leads_there old.grove number (sub_reached old.grove (Some old.grove.root) path) b.canvas b.key D.is) in
+      (p.0, p.1)

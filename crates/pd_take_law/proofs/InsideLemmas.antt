@@ -102,10 +102,10 @@ then_sub g (n ∷ way) more None = then_sub g way more None
 then_sub g (n ∷ way) more (Some c) = then_sub g way more (option_and_then (λ k. sub_in (get g.nodes k)) (slice_get (keys_at g c) n))
 
 -- the way to a canvas in the patch as it was
-record WayBack (g h : Grove) (d c : ℕ) (way : List ℕ) : Type 0 where
-  was : List ℕ
-  leads : reached g (Some d) was ≡ Some c
-  own : sub_reached g (Some d) was ≡ sub_reached h (Some d) way
+pub record WayBack (g h : Grove) (d c : ℕ) (way : List ℕ) : Type 0 where
+  pub was : List ℕ
+  pub leads : reached g (Some d) was ≡ Some c
+  pub own : sub_reached g (Some d) was ≡ sub_reached h (Some d) way
 
 module _ (old new : Patch) (n : Counts) (table : Names) (path : List ℕ) (number steps_old steps_new : ℕ) (b : OldBox) (D : DeletesBox old new n table path number steps_old steps_new b) (C : CanPut old) (meet : Meet old.web) where
   B : TakesBoxAt old.grove new.grove path b.canvas b.key number
@@ -114,7 +114,7 @@ module _ (old new : Patch) (n : Counts) (table : Names) (path : List ℕ) (numbe
   F : IsForest (get new.grove.nodes) (get new.grove.boards) new.grove.root
   F = forest_still old.grove new.grove path b.canvas b.key number B
 
-  same_box : (c i k : ℕ) → slice_get (keys_at new.grove c) i ≡ Some k → get new.grove.nodes k ≡ get old.grove.nodes k
+  pub same_box : (c i k : ℕ) → slice_get (keys_at new.grove c) i ≡ Some k → get new.grove.nodes k ≡ get old.grove.nodes k
   same_box c i k at = B.takes.none_comes k (live_box new.grove F c i k at)
 
   way_back : (way : List ℕ) (d c : ℕ) → reached new.grove (Some d) way ≡ Some c → WayBack old.grove new.grove d c way
@@ -141,7 +141,7 @@ module _ (old new : Patch) (n : Counts) (table : Names) (path : List ℕ) (numbe
           let same : j ≡ i = same_Some j i (sym holds ∙ sub_inner (get new.grove.nodes (steps new.grove d m way c e).key) i q) in
           subst (λ x. sub_reached old.grove (Some x) was ≡ sub_reached new.grove (Some x) way) same own
 
-  root_back : (way : List ℕ) (c : ℕ) → reached new.grove (Some new.grove.root) way ≡ Some c → WayBack old.grove new.grove old.grove.root c way
+  pub root_back : (way : List ℕ) (c : ℕ) → reached new.grove (Some new.grove.root) way ≡ Some c → WayBack old.grove new.grove old.grove.root c way
   root_back way c e = way_back way old.grove.root c (ap (λ r. reached new.grove (Some r) way) (sym B.root) ∙ e)
 
   pub order_still : (t : Tree) → HoldsWires old t → (way : List ℕ) (c : ℕ) → sub_reached new.grove (Some new.grove.root) way ≡ Some c → FeedsInOrder new c

@@ -4,3 +4,5 @@ mod FitLemmas
 mod FeedLemmas
 mod OrderLemmas
 mod InsideLemmas
+mod ContentLemmas
+mod ProperLemmas

@@ -6,13 +6,18 @@ ghost use Rattle.pd_canvas.specs.Edits.{edited};
 ghost use Rattle.pd_canvas.specs.Paths.{edit_at};
 ghost use Rattle.pd_canvas.specs.declared.edits.Edit.TheVariants as edit;
 ghost use Rattle.pd_library.specs.declared.answers.Answer.{Answer};
-ghost use Rattle.pd_tree.specs.Trees.{Tree, weight};
+ghost use Rattle.pd_tree.specs.Trees.{Tree, weight, document_in};
 ghost use Rattle.pd_web.specs.Changes.{wires_told, Meet};
 ghost use Rattle.pd_patch.specs.declared.patch.Patch.{Patch};
 ghost use Rattle.pd_patch.specs.Document.{present_document};
 ghost use Rattle.pd_patch.specs.Sounds.{sound_of};
 ghost use Rattle.pd_boxes.specs.Put.{CanPut, HasOwners};
 ghost use Rattle.pd_reload_law.specs.Reloading.{RunsAs};
+ghost use Rattle.pd_canvas.specs.Proper.{IsProper};
+ghost use Rattle.pd_hearing.specs.Worlds.{states_of};
+ghost use Rattle.pd_sized.specs.Kinds.{kinds_of};
+ghost use Rattle.pd_contents_law.specs.Contents.{HaveContents, counts_of};
+ghost use Rattle.pd_proper_law.specs.Saves.{IsWritten};
 ghost use Rattle.pd_inside_law.specs.Inside.{HoldsWires};
 ghost use Rattle.pd_alike_law.specs.Feeds.{FedOnce, FeedsInOrder};
 ghost use Rattle.pd_saved_law.specs.Fitting.{WiresFit};
@@ -81,4 +86,15 @@ pub fn counts_follow_deletes()
         b.counts.sound ≡ sound_of old.rate (taken_at path number t).boxes }
     ensures wires { (old new : Patch) (n : Counts) (table : Names) (path : List ℕ) (number steps steps' : ℕ) (b : OldBox) →
         DeletesBox old new n table path number steps steps' b → b.counts.wires ≡ wires_told new.web }
+{}
+
+/// The document of the tree without the box is proper where that of the tree was, and what a save writes of boxes stays so.
+pub fn rest_can_be_saved()
+    ensures proper { (old new : Patch) (n : Counts) (table : Names) (path : List ℕ) (number steps steps' : ℕ) (b : OldBox) (t : Tree) →
+        DeletesBox old new n table path number steps steps' b → CanPut old → RunsAs old.grove t →
+        (names : Names) → IsProper names (document_in t) → IsProper names (document_in (taken_at path number t)) }
+    ensures contents { (old new : Patch) (n : Counts) (table : Names) (path : List ℕ) (number steps steps' : ℕ) (b : OldBox) →
+        DeletesBox old new n table path number steps steps' b → CanPut old → Meet old.web →
+        (names : Names) → HaveContents (IsWritten old.grove) (counts_of (kinds_of old)) names (states_of old) →
+        HaveContents (IsWritten new.grove) (counts_of (kinds_of new)) names (states_of new) }
 {}
