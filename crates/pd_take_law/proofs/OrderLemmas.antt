@@ -1,5 +1,5 @@
 -- The order of the wires to inlets, where a box went.
-use Rattle.std.proofs.Common.{◌≡◌, ◌≢◌, ℕ, zero, suc, ◌<◌, ◌≤◌, Bool, true, false, cond, List, [], ◌∷◌, filter, slice_get, Option, Some, None, IsSome, refl, sym, ap, ◌∙◌, subst, inl, inr, arith}
+use Rattle.std.proofs.Common.{◌≡◌, ◌≢◌, ℕ, zero, suc, ◌<◌, ◌≤◌, Bool, true, false, cond, List, [], ◌∷◌, filter, slice_get, Option, Some, None, sym, ap, ◌∙◌, subst, inl, inr, arith}
 use mathlib.Core.Logic.{⊎_elim}
 use Rattle.std.proofs.lemmas.Bool.Decides.{nat_tests}
 use Rattle.std.proofs.lemmas.Bool.{cases_eq}
@@ -7,10 +7,8 @@ use Rattle.std.proofs.lemmas.Option.{none-some, same_Some}
 use Rattle.slab.specs.Slab.{get}
 use Rattle.pd_atom.specs.Names.{Names}
 use Rattle.pd_canvas.specs.Wiring.{lowered}
-use Rattle.pd_grove.specs.declared.nodes.Node.{Node}
 use Rattle.pd_grove.specs.declared.boards.Board.{Board}
 use Rattle.pd_grove.specs.declared.grove.Grove.{Grove}
-use Rattle.pd_grove.specs.Owning.{board_in}
 use Rattle.pd_grove.specs.Telling.{inner_in, keys_in}
 use Rattle.pd_web.specs.declared.web.Hop.{Hop}
 use Rattle.pd_web.specs.Canvases.{keys_at}
@@ -24,7 +22,7 @@ use Rattle.pd_wiring.proofs.HeardLemmas.{all_at}
 use Rattle.pd_boxes.specs.Put.{CanPut}
 use Rattle.pd_alike_law.specs.Feeds.{FeedsInOrder}
 use Rattle.pd_taking_law.specs.Taking.{TakesBoxAt, CutsBox}
-use Rattle.pd_taking_law.proofs.StayLemmas.{forest_still, keys_less}
+use Rattle.pd_taking_law.proofs.StayLemmas.{keys_less}
 use Rattle.pd_adding.specs.declared.counts.Counts.{Counts}
 use Rattle.pd_taking.specs.Loosening.{is_of_other}
 use Rattle.pd_deleting.specs.declared.deleting.OldBox.{OldBox}

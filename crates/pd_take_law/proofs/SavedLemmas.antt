@@ -1,9 +1,10 @@
--- The document of the tree without the box, and what a save writes of the boxes that are left.
+-- The tree without the box and its document, and what a save writes of the boxes that are left.
 use Rattle.std.proofs.Common.{◌≡◌, ◌≤◌, ℕ, true, List, slice_get, Option, Some, None, IfSome, sym, ap, ◌∙◌, subst}
 use Rattle.std.specs.Option.{option_map_or}
 use Rattle.slab.specs.Slab.{get}
 use Rattle.pd_atom.specs.Names.{Names}
 use Rattle.pd_canvas.specs.Proper.{IsProper, levels}
+use Rattle.pd_library.specs.declared.answers.Answer.{Answer}
 use Rattle.pd_tree.specs.Trees.{Tree, zeros_of, document_boxes, document_in}
 use Rattle.pd_grove.specs.declared.nodes.Node.{Node}
 use Rattle.pd_grove.specs.OwnPaths.{sub_reached}
@@ -17,8 +18,11 @@ use Rattle.pd_reload_law.specs.Reloading.{RunsAs}
 use Rattle.pd_sized.specs.Kinds.{kinds_of}
 use Rattle.pd_contents_law.specs.Contents.{HasContents, HaveContents, count_of, counts_of}
 use Rattle.pd_proper_law.specs.Saves.{is_written, form_of, IsOwnBox, IsWritten}
+use Rattle.pd_putting_law.specs.Again.{StandsAgain}
 use Rattle.pd_putting_law.proofs.PathLemmas.{live_box, sub_leads}
 use Rattle.pd_taking_law.specs.Takes.{taken_at}
+use Rattle.pd_taking_law.proofs.AgainLemmas.{deleted_stands}
+use Rattle.pd_taking_law.proofs.StandLemmas.{runs_less}
 use Rattle.pd_taking_law.proofs.StayLemmas.{forest_still}
 use Rattle.pd_adding.specs.declared.counts.Counts.{Counts}
 use Rattle.pd_adding.specs.Counts.{AreWithin}
@@ -47,6 +51,16 @@ module _ (old new : Patch) (n : Counts) (table : Names) (path : List ℕ) (numbe
 
     bare : inner_in (get old.grove.nodes b.key) ≡ None
     bare = holds_none old new n table path number steps steps' b D
+
+    -- ---- the tree
+
+    pub still_runs : (t : Tree) → RunsAs old.grove t → RunsAs new.grove (taken_at path number t)
+    still_runs t R = runs_less old.grove new.grove path b.canvas b.key number t (box_gone old new n table path number steps steps' b D C) R
+
+    pub still_again : (t : Tree) → RunsAs old.grove t → (lib : ℕ → Option Answer) (file : List ℕ) (names : Names) → StandsAgain lib file names t
+        → StandsAgain lib file names (taken_at path number t)
+    still_again t R lib file names a =
+        deleted_stands lib file names old.grove new.grove path b.canvas b.key number t a R (box_gone old new n table path number steps steps' b D C)
 
     -- ---- the document
 
