@@ -1,9 +1,14 @@
 -- A patch with room for a box that goes, and which box that is.
-use Rattle.std.proofs.Common.{◌≡◌, ℕ, Bool, true, false, cond, ◌&&◌, ◌||◌, not, is_some, List, slice_get, Option, Some, None, inl, inr, refl, sym, ap, ◌∙◌, subst}
+use Rattle.std.proofs.Common.{◌≡◌, ℕ, Bool, true, false, cond, ◌&&◌, ◌||◌, not, is_some, List, slice_get, Option, Some, None, inl, inr, refl, sym, ap, ◌∙◌, subst, ◌≢◌, ◌≤◌, arith}
 use Rattle.std.specs.Prelude.{◌⊎◌, Result, Ok, Err}
-use Rattle.std.proofs.lemmas.Option.{same_Some}
+use Rattle.std.proofs.lemmas.Option.{none-some, same_Some}
+use mathlib.Core.Logic.{⊎_elim}
+use Rattle.std.proofs.lemmas.Bool.{cases_eq}
 use Rattle.slab.specs.Slab.{get}
 use Rattle.pd_object.specs.declared.kinds.Kind.{Kind}
+use Rattle.pd_tree.specs.declared.rows.Sheet.{Sheet}
+use Rattle.pd_atom.specs.Names.{Names}
+use Rattle.pd_grove.specs.declared.boards.Board.{Board}
 use Rattle.pd_grove.specs.declared.grove.Grove.{Grove}
 use Rattle.pd_grove.specs.declared.nodes.Node.{Node}
 use Rattle.pd_grove.specs.declared.ports.Side.{Side}
@@ -15,7 +20,8 @@ use Rattle.pd_grove.specs.Telling.{inner_in}
 use Rattle.pd_web.specs.declared.web.Hop.{Hop}
 use Rattle.pd_web.specs.declared.web.Web.{Web}
 use Rattle.pd_web.specs.Canvases.{keys_at}
-use Rattle.pd_web.specs.Changes.{hop_at, IsListed, IsSame, Meet}
+use Rattle.pd_web.specs.Changes.{hop_at, IsListed, IsSame, Meet, wires_told}
+use Rattle.pd_web.proofs.CountLemmas.{same_are_as_many}
 use Rattle.pd_patch.specs.declared.patch.Patch.{Patch}
 use Rattle.pd_wiring.specs.declared.refusals.EditRefusal.{EditRefusal}
 use Rattle.pd_wiring.specs.declared.refusals.EditRefusal.TheVariants.{NoDocument}
@@ -23,8 +29,13 @@ use Rattle.pd_wiring.specs.Changes.{SameButRoom}
 use Rattle.pd_wiring.proofs.BuiltLemmas.{roomed, same_links}
 use Rattle.pd_boxes.specs.Put.{CanPut}
 use Rattle.pd_boxes.proofs.AskingLemmas.{put_rewired}
-use Rattle.pd_taking.specs.Taking.{CanRemove}
-use Rattle.pd_deleting.specs.Deletes.{going, going_box, going_in, is_plain, is_port_in}
+use Rattle.pd_adding.specs.declared.counts.Counts.{Counts}
+use Rattle.pd_adding.specs.Coming.{own_zero, zero_in}
+use Rattle.pd_adding.specs.Counts.{AreWithin}
+use Rattle.pd_boxes.specs.declared.room.Place.{Place}
+use Rattle.pd_taking.specs.Taking.{CanRemove, IsRemoved}
+use Rattle.pd_taking.proofs.TakenLemmas.{count_less, root_same, tree_less}
+use Rattle.pd_deleting.specs.Deletes.{counts_less, going, going_box, going_in, is_plain, is_port_in}
 
 -- Room.
 
@@ -132,3 +143,32 @@ can_remove p q path number canvas key S C meet e =
           ∙ not_true (is_some (holder_in (get p.grove.boards canvas)) && is_port_in (get p.grove.nodes key)) parts.1));
       meet = still_meet p.web q.web S.web meet;
     }
+
+-- Counts.
+
+pub within_less : (n : Counts) (size wires : ℕ) → wires ≤ n.wires → AreWithin n → AreWithin (counts_less n size wires)
+within_less n size wires l W =
+    let b = W.boxes in
+    let w = W.wires in
+    let s = W.sound in
+    record { boxes = omega (arith, b); wires = omega (arith, w, l); sound = omega (arith, s); zeros = W.zeros }
+
+pub fewer_wires : (p q loose : Patch) (table : Names) (place : Place) (key steps steps' : ℕ) (S : SameButRoom p loose) (I : IsRemoved loose q table place key steps steps') → wires_told q.web ≤ wires_told p.web
+fewer_wires p q loose table place key steps steps' S I =
+    let a = count_less loose q table place key steps steps' I in
+    let b = same_are_as_many p.web loose.web S.web in
+    omega (arith, a, b)
+
+-- the `$0` of the patch's own document stays
+zero_same : (o o' : Option Board) (b b' : Board) → o ≡ Some b → o' ≡ Some b' → b'.sheet ≡ b.sheet → zero_in o' ≡ zero_in o
+zero_same o o' b b' e e' s = ap zero_in e' ∙ ap (λ (x : Sheet). x.zero) s ∙ sym (ap zero_in e)
+
+pub zero_stays : (p q : Patch) (table : Names) (place : Place) (key steps steps' : ℕ) → IsRemoved p q table place key steps steps' → CanRemove p place key → own_zero q ≡ own_zero p
+zero_stays p q table place key steps steps' I C =
+    let T = tree_less p q table place key steps steps' I in
+    let root = root_same p q table place key steps steps' I in
+    ap (λ r. zero_in (get q.grove.boards r)) root ∙ ⊎_elim
+    (λ (e : p.grove.root ≡ place.canvas). ap (λ r. zero_in (get q.grove.boards r)) e ∙ zero_same (get p.grove.boards place.canvas) (get q.grove.boards place.canvas) T.old T.new T.board T.without T.sheet
+    ∙ ap (λ r. zero_in (get p.grove.boards r)) (sym e))
+    (λ (d : p.grove.root ≢ place.canvas). ap zero_in (T.boards_stay p.grove.root d (λ L. none-some L.0 (sym C.leaf ∙ L.1))))
+    (cases_eq p.grove.root place.canvas)

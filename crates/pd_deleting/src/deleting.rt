@@ -4,6 +4,8 @@ ghost use Rattle.std.specs.Prelude.{◌≡◌, IfOk, IfErr, OnErr};
 ghost use Rattle.pd_kind.specs.States.{size_of};
 ghost use Rattle.pd_web.specs.Changes.{wires_told, Meet};
 ghost use Rattle.pd_boxes.specs.Put.{CanPut};
+ghost use Rattle.pd_adding.specs.Coming.{own_zero};
+ghost use Rattle.pd_adding.specs.Counts.{AreWithin};
 ghost use Rattle.pd_deleting.specs.Deletes.{counts_less, DeletesBox, IsNotDeleted};
 
 use crate::asking::box_to_go;
@@ -49,6 +51,8 @@ pub fn delete_box<L: Ledger>(
     ensures refused { IfErr result (λ why. IsNotDeleted patch.old patch.new path.now number why) }
     ensures goes_on { CanPut patch.new }
     ensures meet { Meet patch.new.web }
+    ensures within { AreWithin counts → IfOk result (λ b. AreWithin b.counts) }
+    ensures zero { own_zero patch.new ≡ own_zero patch.old }
     ensures as_many { OnErr result (wires_told patch.new.web ≡ wires_told patch.old.web) }
     ensures names { symbols.new ≡ symbols.old }
     ensures no_looks { OnErr result (steps.new ≡ steps.old) }
