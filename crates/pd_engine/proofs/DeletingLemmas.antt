@@ -1,7 +1,6 @@
 -- What is told of a box that an edit deletes, or of why none is deleted.
 use Rattle.std.proofs.Common.{◌≡◌, ◌≤◌, ◌+◌, ◌⊎◌, arith, Bool, true, false, cond, ℕ, List, [], refl, sym, ◌∙◌, ap, subst, inl, inr, slice_get, Option, Some, None, Result, Ok, Err, OnErr, OnOk, IfOk}
 use Rattle.std.proofs.lemmas.Result.{on_err_weaker}
-use Rattle.std.proofs.lemmas.Option.{same_Some}
 use Rattle.slab.specs.Slab.{get}
 use Rattle.pd_io.specs.Stream.{grown, TookPart}
 use Rattle.pd_io.specs.declared.files.FileRow.{FileRow}
@@ -80,29 +79,6 @@ goes_from g number (Some canvas) = box_goes g canvas number (slice_get (keys_at 
 
 faultless : (p : Patch) (path : List ℕ) (number : ℕ) (cause : EditRefusal) → going p path number ≡ Err cause → faults_of_why (why_of cause) ≡ 0
 faultless p path number cause is = subst Faultless is (goes_from p.grove number (sub_reached p.grove (Some p.grove.root) path))
-
--- ---- where it stood
-
-canvas_part : Result (ℕ × ℕ) EditRefusal → Option ℕ
-canvas_part (Ok box) = Some box.0
-canvas_part (Err cause) = None
-
-plain_in : (b : Bool) (d x canvas key : ℕ) → cond {A = Result (ℕ × ℕ) EditRefusal} b (Ok (d, x)) (Err refusal.NoDocument) ≡ Ok (canvas, key) → d ≡ canvas
-unfolding canvas_part
-plain_in true d x canvas key e = same_Some d canvas (ap canvas_part e)
-plain_in false d x canvas key e = cc
-
-box_in : (g : Grove) (number d : ℕ) (o : Option ℕ) (canvas key : ℕ) → going_box g d number o ≡ Ok (canvas, key) → d ≡ canvas
-box_in g number d None canvas key e = cc
-box_in g number d (Some x) canvas key e = plain_in (is_plain g d x) d x canvas key e
-
-leads_in : (g : Grove) (number : ℕ) (o : Option ℕ) (canvas key : ℕ) → going_in g number o ≡ Ok (canvas, key) → o ≡ Some canvas
-leads_in g number None canvas key e = cc
-leads_in g number (Some d) canvas key e = ap (λ (c : ℕ). Some c) (box_in g number d (slice_get (keys_at g d) number) canvas key e)
-
--- the path leads to its canvas
-pub leads_there : (p : Patch) (path : List ℕ) (number canvas key : ℕ) → going p path number ≡ Ok (canvas, key) → sub_reached p.grove (Some p.grove.root) path ≡ Some canvas
-leads_there p path number canvas key e = leads_in p.grove number (sub_reached p.grove (Some p.grove.root) path) canvas key e
 
 -- ---- what it comes to
 

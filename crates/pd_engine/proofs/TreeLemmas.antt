@@ -74,9 +74,8 @@ use Rattle.pd_taking.proofs.TakenLemmas.{owners_less, root_same, runs_less, tree
 use Rattle.pd_taking_law.specs.Takes.{taken_at}
 use Rattle.pd_taking_law.specs.Taking.{TakesBoxAt}
 use Rattle.pd_taking_law.proofs.StandLemmas.{grove_less}
-use Rattle.pd_deleting.proofs.DeleteLemmas.{can_remove}
+use Rattle.pd_deleting.proofs.DeleteLemmas.{can_remove, leads_there}
 use Rattle.pd_engine.proofs.ComingLemmas.{WentTo, went_to}
-use Rattle.pd_engine.proofs.DeletingLemmas.{leads_there}
 use Rattle.pd_engine.proofs.LessLemmas.{all_taken, deep_taken, weight_out, weight_taken}
 use Rattle.pd_engine.proofs.PutLemmas.{deep_put, weight_put, all_both, all_put, owned_anywhere}
 
@@ -438,7 +437,7 @@ module _ (s : Stage) (t : HasTree s) (path : List ℕ) (number : ℕ) (m : Made)
       let same : roomed.grove ≡ h.old.grove = h.deletes.room.grove in
       record {
         forest = h.stands.puts.forest;
-        leads = leads_there h.old path number canvas key h.deletes.is;
+        leads = leads_there h.old.grove number (sub_reached h.old.grove (Some h.old.grove.root) path) canvas key h.deletes.is;
         is = subst (λ (g : Grove). slice_get (keys_at g canvas) number ≡ Some key) same could.is;
         node = h.deletes.removed.taken.goes.node;
         takes = subst (λ (g : Grove). TakesBox (get g.nodes) (get h.new.grove.nodes) (get g.boards) (get h.new.grove.boards) canvas key h.deletes.removed.taken.goes.node
