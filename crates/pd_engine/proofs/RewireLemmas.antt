@@ -287,7 +287,7 @@ puts_sure p t = record {
   runs = rewires_sure p (∥∥₁_map t (λ h. h.runs));
 }
 
-meet_sure : (w : Web) → ∥ Meet w ∥₁ → Meet w
+pub meet_sure : (w : Web) → ∥ Meet w ∥₁ → Meet w
 meet_sure w t = record {
   fed = λ node outlet i h e. sure (listed_decided hops_decided _ _) (∥∥₁_map t (λ m. m.fed node outlet i h e));
   fanned = λ node inlet i h e. sure (listed_decided hops_decided _ _) (∥∥₁_map t (λ m. m.fanned node inlet i h e));
