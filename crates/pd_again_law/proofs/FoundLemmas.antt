@@ -63,11 +63,11 @@ use Rattle.pd_engine.proofs.WholeLemmas.{both_on}
 use Rattle.pd_steady.specs.Runs.{own_ways, finished_by}
 use Rattle.pd_steady.specs.Steady.{IsSteady, IsCommand}
 use Rattle.pd_steady.specs.Steps.{Step, Does, Learns, Comes, AreSteps, step_by, steps_by, run_by}
-use Rattle.pd_steady.proofs.EventLemmas.{Guards, Begins, start_of, starts, outcome_is, owned_at, delivered_steady}
+use Rattle.pd_steady.proofs.EventLemmas.{Guards, Begins, start_of, starts, outcome_is, altered_steady, owned_at, delivered_steady}
 use Rattle.pd_steady.proofs.ExtendLemmas.{outcome_extends}
 use Rattle.pd_steady.proofs.FairLemmas.{IsRefusal, IsFair, AreFair, fair_first, fair_second, taken_left}
 use Rattle.pd_steady.proofs.OwnLemmas.{commanded_own, advanced_own, finished_own}
-use Rattle.pd_steady.proofs.RunLemmas.{altered_steady, named_steady}
+use Rattle.pd_steady.proofs.RunLemmas.{named_steady}
 use Rattle.pd_steady.proofs.TreeLemmas.{taken_owned}
 use Rattle.pd_steady.proofs.TimeLemmas.{below_limit, fires_end, within, below, same_end, ends_soon, steady_longer, fired_steady, timed_steady, sounds_steady}
 use Rattle.pd_again_law.proofs.HeldLemmas.{Settled, IsHeld, bare_kind, NetHeld, told, held_in, held_edit, held_room}
@@ -338,7 +338,7 @@ module _ (rate : Rate) (name : List ℕ) where
     choice_stands : (wanted : Wanted) (c : Choice) → MayCome wanted (with_ahead s []) c → IsStanding (stage_by (with_ahead s ahead) c)
     choice_stands (Edits None path e) c x = edit_stands path e c x
     choice_stands (Edits (Some document) path e) c x = none_stands c _ x
-    choice_stands (Asks path e) c x = wire_stands path e c x
+    choice_stands (Asks path e) c x = edit_stands path e c x
     choice_stands (Saves None) c x = save_stands c x
     choice_stands (Saves (Some document)) c x = none_stands c _ x
     choice_stands Undoes c x = none_stands c _ x

@@ -14,13 +14,15 @@ use Rattle.pd_walk.specs.Outcome.{outcome}
 use Rattle.pd_guards.specs.Order.{IsName}
 use Rattle.pd_guards.specs.Worlds.{IsInOrder, IsTask, IsStart}
 use Rattle.pd_guards.proofs.FactLemmas.{either_by}
+use Rattle.pd_guards.proofs.MoreLemmas.{longer}
 use Rattle.pd_guards.proofs.SameTurns.{Agree}
 use Rattle.pd_guards.proofs.WalkLemmas.{name_in, asked_in, done_in, done_names, IsTaskAt, stays_in, others_in, follow_in, Delivers, outcome_ends}
 use Rattle.pd_stage.specs.Stages.{Stage, Passage, kept_at, still, followed_by}
 use Rattle.pd_stage.specs.Events.{Firing, begun, delivered, event}
 use Rattle.pd_stage.specs.Times.{most_fired, first_clock, if_below, next_clock, taken_off, with_taken, with_fired, fires, fires_or_not, fires_below, clocks_fire, block_sounds, block_runs, blocks_run, time_is, comes_to, advanced}
+use Rattle.pd_stage.proofs.EditLemmas.{Alters}
 use Rattle.pd_steady.specs.Steady.{IsSteady}
-use Rattle.pd_steady.proofs.FairLemmas.{AreFair, fair_first, fair_second, event_left}
+use Rattle.pd_steady.proofs.FairLemmas.{AreFair, fair_first, fair_second, altered_extends, event_keeps}
 use Rattle.pd_steady.proofs.EventLemmas.{Guards, event_free}
 use Rattle.pd_steady.proofs.TimeLemmas.{fired_steady, block_free}
 
@@ -90,13 +92,16 @@ outcome_names net now w s h k =
     (outcome_ends net now (rules net now) (Holds net now w.kept.names) (IsTaskAt net now) (delivers net now w.kept.names) w s (record { order = h; known = λ name j. j }) k).1 in
     covers (length w.kept.names) (length (outcome net now w s).kept.names) e.known
 
--- an event leaves the table as its deliveries do
+-- what deliveries leave of the table, each edit goes on from
 kept_names : (s : Stage) (owner : ℕ) → IsInOrder s.net s.time (kept_at s) → length s.names ≤ length (delivered s (Firing owner)).kept.names
 unfolding outcome
 kept_names s owner h = outcome_names s.net s.time (begun s) (start.Clock owner) h tt
 
+altered_names : (s r q : Stage) → Alters r q → length s.names ≤ length r.names → length s.names ≤ length q.names
+altered_names s r q a l = within (length s.names) (length r.names) (length q.names) l (longer r.names q.names (altered_extends r q a))
+
 fired_names : (s : Stage) (owner : ℕ) → IsInOrder s.net s.time (kept_at s) → AreFair (event s (Firing owner)).edits → length s.names ≤ length (event s (Firing owner)).stage.names
-fired_names s owner h w = subst (λ (x : Stage). length s.names ≤ length x.names) (sym (event_left s (Firing owner) w).is) (kept_names s owner h)
+fired_names s owner h w = event_keeps (λ (r : Stage). length s.names ≤ length r.names) (altered_names s) s (Firing owner) w (kept_names s owner h)
 
 -- a clock that is next is below the limit
 below_limit : (limit : ℕ) (o : Option Clock) → IfSome (if_below limit o) (λ (c : Clock). c.time < limit)

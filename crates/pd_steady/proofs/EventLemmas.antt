@@ -1,5 +1,5 @@
 -- An event that begins in order passes nothing over, and leaves the stage steady where its edits are fair.
-use Rattle.std.proofs.Common.{◌≡◌, ◌≤◌, ◌+◌, ◌-◌, ◌^◌, ℕ, List, Option, slice_get, refl, sym, ap, subst, ◌∙◌}
+use Rattle.std.proofs.Common.{◌≡◌, inl, inr, ◌≤◌, ◌+◌, ◌-◌, ◌^◌, ℕ, List, Option, slice_get, refl, sym, ap, subst, ◌∙◌}
 use Rattle.pd_atom.specs.Names.{Names, Extends}
 use Rattle.pd_atom.specs.declared.Atom.{Atom}
 use Rattle.pd_kind.specs.declared.states.State.{State}
@@ -35,14 +35,14 @@ use Rattle.pd_engine.specs.Messages.{message_in}
 use Rattle.pd_stage.specs.Times.{block_units, block_net, sound_at}
 use Rattle.pd_stage.specs.Events as engine
 use Rattle.pd_stage.specs.Events.{Beginning, Message, Firing, Loading, begun, delivered, with_kept, event_after, event}
-use Rattle.pd_stage.proofs.EditLemmas.{ButWires}
+use Rattle.pd_stage.proofs.EditLemmas.{ButWires, but_wires, Alters}
 use Rattle.pd_steady.specs.Freely.{deliveries, event_freely}
 use Rattle.pd_steady.specs.Steady.{IsSteady}
-use Rattle.pd_steady.proofs.FairLemmas.{AreFair, edits_left}
+use Rattle.pd_steady.proofs.FairLemmas.{AreFair, edits_keep}
 use Rattle.pd_steady.proofs.ExtendLemmas.{outcome_extends}
-use Rattle.pd_engine.proofs.TreeLemmas.{HasBoth}
+use Rattle.pd_engine.proofs.TreeLemmas.{HasBoth, altered_both}
 use Rattle.pd_engine.proofs.WholeLemmas.{both_on}
-use Rattle.pd_steady.proofs.TreeLemmas.{edits_owned}
+use Rattle.pd_steady.proofs.PutLemmas.{put_steady, room_steady}
 
 -- what the laws of pd_guards say
 pub record Guards : Type 0 where
@@ -120,7 +120,7 @@ blocks_stay : (w v : Web) (blocks : Blocks) → KeepsPorts w v → HasBlocks w b
 blocks_stay w v blocks kept h k o sounds = h k o (ap (λ (js : List Jack). signal_in (slice_get js o)) (sym (kept.ports Outlets k)) ∙ sounds)
 
 -- other wires leave a stage steady
-pub wires_steady : (most : ℕ) (s r : Stage) → IsSteady most s → ButWires s r → HasBoth r → IsSteady most r
+wires_steady : (most : ℕ) (s r : Stage) → IsSteady most s → ButWires s r → HasBoth r → IsSteady most r
 wires_steady most s r h e tree =
     subst (λ (x : Stage). HasBoth x → IsSteady most x) (sym e.is)
     (λ t. record {
@@ -142,6 +142,14 @@ wires_steady most s r h e tree =
       tree = t.tree;
       owners = t.owners;
     }) tree
+
+-- whatever a lawful edit makes of a steady stage, it is steady where a tree and its owners stand
+pub altered_steady : (most : ℕ) (s r : Stage) → IsSteady most s → Alters s r → HasBoth r → IsSteady most r
+altered_steady most s r h (inl a) tree = wires_steady most s r h (but_wires s r a) tree
+altered_steady most s r h (inr (inl a)) tree =
+    subst (IsSteady most) (sym a.is) (put_steady most s a.ahead a.path a.edit a.made h a.put (subst HasBoth a.is tree))
+altered_steady most s r h (inr (inr a)) tree =
+    subst (IsSteady most) (sym a.is) (room_steady most s a.ahead a.path a.edit a.net h a.short (subst HasBoth a.is tree))
 
 -- what deliveries leave
 pub owned_at : (most : ℕ) (s : Stage) → IsSteady most s → HasBoth s
@@ -165,12 +173,15 @@ kept_steady most s v u h d = record {
   owners = (kept_owned most s v u h d).owners;
 }
 
+-- what a lawful edit makes of a steady stage is steady
+any_steady : (most : ℕ) (s r : Stage) → Alters s r → IsSteady most s → IsSteady most r
+any_steady most s r a h = altered_steady most s r h a (altered_both s r a (owned_at most s h))
+
 -- an event that comes to this world, and freely to that one
 after_free : (most : ℕ) (s : Stage) (v u : World Kept) → IsSteady most s → IsDelivered s.net s.time s.names s.states v u → IsFree most (event_after s v) (event_after s u)
 after_free most s v u h d = record {
   same = ap (λ (w : World Kept). event_after s w) d.same;
-  steady = λ l. wires_steady most (with_kept s v.kept) (event_after s v).stage (kept_steady most s v u h d) (edits_left v.kept.queue (with_kept s v.kept) l)
-      (edits_owned v.kept.queue (with_kept s v.kept) l (kept_owned most s v u h d));
+  steady = λ l. edits_keep (IsSteady most) (any_steady most) v.kept.queue (with_kept s v.kept) l (kept_steady most s v u h d);
 }
 
 pub event_free : (g : Guards) (most : ℕ) (s : Stage) (b : Beginning) → IsSteady most s → Begins s.names b → IsFree most (event s b) (event_freely s b)

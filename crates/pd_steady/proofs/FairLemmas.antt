@@ -1,16 +1,16 @@
--- Edits that are lawful, or refused for whatever reason: those that messages ask for leave a stage as it was, but its wires.
-use Rattle.std.proofs.Common.{◌⊎◌, inl, inr, ℕ, List, [], ◌∷◌, ◌++◌, refl}
+-- Edits that are lawful, or refused for whatever reason: what each leaves, and what an event leaves with those that messages ask for.
+use Rattle.std.proofs.Common.{◌⊎◌, inl, inr, ℕ, List, [], ◌∷◌, ◌++◌, refl, sym, subst}
 use Rattle.std.specs.List.{AllByRecursion}
+use Rattle.pd_atom.specs.Names.{Extends}
 use Rattle.pd_canvas.specs.declared.edits.Edit.{Edit}
+use Rattle.pd_regrowth_law.proofs.StepLemmas.{extends_same}
 use Rattle.pd_turns.specs.Turns.{World}
 use Rattle.pd_hearing.specs.Worlds.{Kept}
 use Rattle.pd_stage.specs.Choices.{Wanted, Asks, Choice, Refuses, Lacks, Makes, first_choice, later}
 use Rattle.pd_stage.specs.Stages.{Stage, Taken, with_ahead}
 use Rattle.pd_stage.specs.Lawful.{IsLawful, AreLawful}
 use Rattle.pd_stage.specs.Events.{Beginning, with_kept, edit_by, edit_taken, edit_asked, edits_taken, delivered, event}
-use Rattle.pd_stage.proofs.FedLemmas.{none_kept}
-use Rattle.pd_stage.proofs.CountedLemmas.{none_counted}
-use Rattle.pd_stage.proofs.EditLemmas.{ButWires, but_none, but_then, Alters, taken_alters, asked_rewires}
+use Rattle.pd_stage.proofs.EditLemmas.{but_wires, Alters, taken_alters}
 
 -- it is refused, and nothing changes
 abbrev pub IsRefusal : Choice → Type 0
@@ -37,31 +37,7 @@ pub fair_second : (a b : List Taken) → AreFair (a ++ b) → AreFair b
 fair_second [] b h = h
 fair_second (t ∷ a) b h = fair_second a b h.1
 
--- what an edit leaves that a message asked for
-refused_left : (wanted : Wanted) (s : Stage) (c : Choice) → IsRefusal c → ButWires s (edit_by wanted s c).stage
-refused_left wanted s (Refuses why) h = record {
-  web = s.net.web;
-  links = s.net.links;
-  orders = s.net.orders;
-  base = s.base;
-  ahead = later s.ahead;
-  kept = none_kept s.net.web;
-  counted = none_counted s.base s.net.web;
-  is = refl;
-}
-refused_left wanted s (Lacks net) h = absurd h
-refused_left wanted s (Makes m) h = absurd h
-
-either_left : (asked : List ℕ × Edit) (s : Stage) → IsFair (record { found = with_ahead s []; wanted = Asks asked.0 asked.1; choice = first_choice s.ahead }) → ButWires s (edit_asked asked s).stage
-unfolding edit_taken
-either_left asked s (inl h) = asked_rewires asked s (h, tt)
-either_left asked s (inr h) = refused_left (Asks asked.0 asked.1) s (first_choice s.ahead) h
-
-pub asked_left : (asked : List ℕ × Edit) (s : Stage) → AreFair (edit_asked asked s).edits → ButWires s (edit_asked asked s).stage
-unfolding edit_taken
-asked_left asked s h = either_left asked s h.0
-
--- what any edit leaves
+-- an edit leaves what a lawful one leaves
 refused_alters : (wanted : Wanted) (s : Stage) (c : Choice) → IsRefusal c → Alters s (edit_by wanted s c).stage
 refused_alters wanted s (Refuses why) h = inl (inl (record { ahead = later s.ahead; is = refl }))
 refused_alters wanted s (Lacks net) h = absurd h
@@ -76,16 +52,24 @@ pub taken_left : (wanted : Wanted) (s : Stage) → AreFair (edit_taken wanted s)
 unfolding edit_taken
 taken_left wanted s h = either_alters wanted s h.0
 
-pub edits_left : (waiting : List (List ℕ × Edit)) (s : Stage) → AreFair (edits_taken waiting s).edits → ButWires s (edits_taken waiting s).stage
-unfolding edits_taken
-edits_left [] s h = but_none s
-edits_left (asked ∷ waiting) s h =
-    let r : Stage = (edit_asked asked s).stage in
-    but_then s r (edits_taken waiting r).stage
-    (asked_left asked s (fair_first (edit_asked asked s).edits (edits_taken waiting r).edits h))
-    (edits_left waiting r (fair_second (edit_asked asked s).edits (edits_taken waiting r).edits h))
+-- its table of names goes on
+pub altered_extends : (s r : Stage) → Alters s r → Extends s.names r.names
+altered_extends s r (inl a) = subst (λ (x : Stage). Extends s.names x.names) (sym (but_wires s r a).is) (extends_same s.names)
+altered_extends s r (inr (inl a)) = subst (λ (x : Stage). Extends s.names x.names) (sym a.is) a.put.more
+altered_extends s r (inr (inr a)) = subst (λ (x : Stage). Extends s.names x.names) (sym a.is) (extends_same s.names)
 
--- but its wires, an event leaves what its deliveries leave
-pub event_left : (s : Stage) (b : Beginning) → AreFair (event s b).edits → ButWires (with_kept s (delivered s b).kept) (event s b).stage
+-- a fact that no edit ends lasts through those that wait
+pub edits_keep : (P : Stage → Type 0) → ((s r : Stage) → Alters s r → P s → P r) → (waiting : List (List ℕ × Edit)) (s : Stage) → AreFair (edits_taken waiting s).edits
+    → P s → P (edits_taken waiting s).stage
+unfolding edits_taken
+edits_keep P each [] s h p = p
+edits_keep P each (asked ∷ waiting) s h p =
+    let r : Stage = (edit_asked asked s).stage in
+    edits_keep P each waiting r (fair_second (edit_asked asked s).edits (edits_taken waiting r).edits h)
+    (each s r (taken_left (Asks asked.0 asked.1) s (fair_first (edit_asked asked s).edits (edits_taken waiting r).edits h)) p)
+
+-- the same of an event: its deliveries come first
+pub event_keeps : (P : Stage → Type 0) → ((s r : Stage) → Alters s r → P s → P r) → (s : Stage) (b : Beginning) → AreFair (event s b).edits
+    → P (with_kept s (delivered s b).kept) → P (event s b).stage
 unfolding event
-event_left s b h = let w : World Kept = delivered s b in edits_left w.kept.queue (with_kept s w.kept) h
+event_keeps P each s b h p = let w : World Kept = delivered s b in edits_keep P each w.kept.queue (with_kept s w.kept) h p

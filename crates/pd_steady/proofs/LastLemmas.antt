@@ -1,5 +1,5 @@
 -- In a run in which each edit is lawful the boxes that were there go on keeping what is of the same objects.
-use Rattle.std.proofs.Common.{◌≡◌, inl, inr, ◌+◌, ◌-◌, ℕ, zero, suc, Bool, true, false, nat_le, if◌then◌else◌, List, [], ◌∷◌, Option, Some, None, IsSome, option_map, refl, sym, ap, subst, ◌∙◌}
+use Rattle.std.proofs.Common.{◌≡◌, inl, inr, ◌+◌, ◌-◌, ℕ, zero, suc, Bool, true, false, nat_le, if◌then◌else◌, List, [], ◌∷◌, Option, Some, None, IsSome, option_map, refl, sym, subst, ◌∙◌}
 use Rattle.std.proofs.lemmas.Option.{none-some}
 use Rattle.pd_atom.specs.Names.{Names}
 use Rattle.pd_canvas.specs.declared.edits.Edit.{Edit}
@@ -20,7 +20,7 @@ use Rattle.pd_sized.proofs.AlikeBlockLemmas.{block_alike}
 use Rattle.pd_stage.specs.Choices.{Base, Made, Choice}
 use Rattle.pd_stage.specs.Lawful.{IsPutIn, AreLawful}
 use Rattle.pd_stage.proofs.LeadLemmas.{lawful_first, lawful_second}
-use Rattle.pd_stage.proofs.EditLemmas.{ButWires, but_wires, Alters, taken_alters, event_rewires}
+use Rattle.pd_stage.proofs.EditLemmas.{ButWires, but_wires, Alters, taken_alters, event_leads}
 use Rattle.pd_stage.specs.Stages.{Stage, Passage, with_ahead, still, followed_by}
 use Rattle.pd_stage.specs.Events.{Beginning, Firing, begun, delivered, with_kept, event}
 use Rattle.pd_stage.specs.Times.{block_units, most_fired, next_clock, taken_off, with_taken, with_fired, fires, fires_or_not, fires_below, clocks_fire, block_net, sound_at, block_sounds, block_runs, blocks_run, time_is, comes_to, advanced}
@@ -91,7 +91,7 @@ kept_lasts s b =
 event_lasts : (s : Stage) (b : Beginning) → Leads s (event s b)
 event_lasts s b = λ l.
     let r : Stage = with_kept s (delivered s b).kept in
-    then_lasts s r (event s b).stage (kept_lasts s b) (wires_last r (event s b).stage (event_rewires s b l))
+    then_lasts s r (event s b).stage (kept_lasts s b) (event_leads (λ q t. StayAlike q.states t.states) itself_lasts then_lasts altered_lasts s b l)
 
 -- clocks
 fires_lasts : (s : Stage) (c : Clock) → Leads s (fires s c)

@@ -30,9 +30,9 @@ use Rattle.pd_sized.proofs.AlikeBlockLemmas.{block_alike}
 use Rattle.pd_stage.specs.Choices.{Base, Choice}
 use Rattle.pd_stage.specs.Lawful.{AreLawful}
 use Rattle.pd_stage.proofs.LeadLemmas.{lawful_first, lawful_second}
-use Rattle.pd_stage.proofs.EditLemmas.{ButWires, but_wires, Alters, HasNewBox, HasMoreRoom, taken_alters, edits_rewire}
+use Rattle.pd_stage.proofs.EditLemmas.{ButWires, but_wires, Alters, HasNewBox, HasMoreRoom, taken_alters, event_keeps}
 use Rattle.pd_stage.specs.Stages.{Stage, Passage, with_names, with_ahead, still, followed_by}
-use Rattle.pd_stage.specs.Events.{Beginning, Firing, begun, delivered, with_kept, with_net, edits_taken, event}
+use Rattle.pd_stage.specs.Events.{Beginning, Firing, begun, delivered, with_kept, with_net, event}
 use Rattle.pd_stage.specs.Times.{block_units, most_fired, next_clock, taken_off, with_taken, with_fired, fires, fires_or_not, fires_below, clocks_fire, block_net, sound_at, played_at, with_played, block_sounds, block_runs, blocks_run, with_time, time_is, comes_to, advanced, finished}
 use Rattle.pd_engine.specs.Commands.{commanded}
 use Rattle.pd_engine.specs.Opening.{Grows, first_stage, opened}
@@ -41,14 +41,12 @@ use Rattle.pd_steady.specs.Steps.{Step, Does, Learns, Comes, step_by, steps_by, 
 use Rattle.pd_steady.specs.Serving.{OwnersServe}
 use Rattle.pd_steady.proofs.EventLemmas.{start_of as start_at, outcome_is}
 use Rattle.pd_steady.proofs.ExtendLemmas.{outcome_extends}
-use Rattle.pd_steady.proofs.FairLemmas.{lawful_fair}
 use Rattle.pd_steady.proofs.KeyLemmas.{HasOneMore, one_more, more_objects}
 use Rattle.pd_steady.proofs.OwnLemmas.{commanded_own, advanced_own, finished_own}
 use Rattle.pd_steady.proofs.StandLemmas.{tree_serves}
 use Rattle.pd_steady.proofs.StartLemmas.{first_blank}
 use Rattle.pd_engine.proofs.TreeLemmas.{HasBoth, altered_both}
 use Rattle.pd_engine.proofs.WholeLemmas.{both_on, first_both}
-use Rattle.pd_steady.proofs.TreeLemmas.{edits_owned}
 
 -- all boxes of a stage keep what is of their kinds
 abbrev AreOfKinds : Stage → Type 0
@@ -126,15 +124,7 @@ kept_goes s b h =
     }
 
 event_goes : (s : Stage) (b : Beginning) → Goes s (event s b)
-unfolding event
-event_goes s b h l =
-    let w : World Kept = delivered s b in
-    let r : Stage = with_kept s w.kept in
-    let k : IsServing r = kept_goes s b h in
-    record {
-      owned = edits_owned w.kept.queue r (lawful_fair (edits_taken w.kept.queue r).edits l) k.owned;
-      kinds = wires_kinds r (edits_taken w.kept.queue r).stage (edits_rewire w.kept.queue r l) k.kinds;
-    }
+event_goes s b h l = event_keeps IsServing altered_goes s b l (kept_goes s b h)
 
 -- clocks
 fires_go : (s : Stage) (c : Clock) → Goes s (fires s c)

@@ -1,5 +1,5 @@
 -- Commands, names, opening and whole runs: nothing is passed over, and the stage stays steady where each edit is fair.
-use Rattle.std.proofs.Common.{◌≡◌, inl, inr, ◌≤◌, ◌+◌, ◌^◌, ℕ, List, [], ◌∷◌, length, take, refl, sym, ap, subst, ◌∙◌, arith}
+use Rattle.std.proofs.Common.{◌≡◌, ◌≤◌, ◌+◌, ◌^◌, ℕ, List, [], ◌∷◌, length, take, refl, sym, ap, subst, ◌∙◌, arith}
 use Rattle.std.proofs.lemmas.List.{length-take}
 use Rattle.pd_atom.specs.Names.{Names, IsTable, Extends}
 use Rattle.pd_kind.specs.Forming.{cut_atoms}
@@ -23,7 +23,6 @@ use Rattle.pd_guards.proofs.MoreLemmas.{longer, first_more, kind_more, kept_more
 use Rattle.pd_stage.specs.Choices.{Base, Choice}
 use Rattle.pd_stage.specs.Stages.{Stage, Passage, with_names, saying, joined, followed_by}
 use Rattle.pd_stage.specs.Events.{Beginning, Message, Loading, event}
-use Rattle.pd_stage.proofs.EditLemmas.{Alters, but_wires}
 use Rattle.pd_engine.specs.Messages.{message_in}
 use Rattle.pd_stage.specs.Times.{block_units, advanced, finished}
 use Rattle.pd_engine.specs.Commands.{cut_text, commanded}
@@ -37,8 +36,7 @@ use Rattle.pd_steady.proofs.FairLemmas.{AreFair, fair_first, fair_second, taken_
 use Rattle.pd_engine.proofs.TreeLemmas.{HasBoth}
 use Rattle.pd_engine.proofs.WholeLemmas.{both_on}
 use Rattle.pd_steady.proofs.TreeLemmas.{taken_owned}
-use Rattle.pd_steady.proofs.PutLemmas.{put_steady, room_steady}
-use Rattle.pd_steady.proofs.EventLemmas.{Guards, IsFree, owned_at, event_free, wires_steady}
+use Rattle.pd_steady.proofs.EventLemmas.{Guards, IsFree, owned_at, altered_steady, event_free}
 use Rattle.pd_steady.proofs.TimeLemmas.{followed, advanced_free, finished_free}
 use Rattle.pd_steady.proofs.OwnLemmas.{commanded_own, advanced_own, finished_own}
 
@@ -55,14 +53,6 @@ room_left most l = omega arith
 -- after lines
 said_free : (most : ℕ) (s : Stage) (lines : List ℕ) (p free : Passage) → IsFree most p free → IsFree most (joined (saying s lines) p) (joined (saying s lines) free)
 said_free most s lines p free a = record { same = ap (λ (x : Passage). joined (saying s lines) x) a.same; steady = a.steady }
-
--- whatever a lawful edit makes of a steady stage, it is steady where a tree and its owners stand
-pub altered_steady : (most : ℕ) (s r : Stage) → IsSteady most s → Alters s r → HasBoth r → IsSteady most r
-altered_steady most s r h (inl a) tree = wires_steady most s r h (but_wires s r a) tree
-altered_steady most s r h (inr (inl a)) tree =
-    subst (IsSteady most) (sym a.is) (put_steady most s a.ahead a.path a.edit a.made h a.put (subst HasBoth a.is tree))
-altered_steady most s r h (inr (inr a)) tree =
-    subst (IsSteady most) (sym a.is) (room_steady most s a.ahead a.path a.edit a.net h a.short (subst HasBoth a.is tree))
 
 -- commands
 pub commanded_free : (g : Guards) (most : ℕ) (c : Command) (s : Stage) → IsSteady most s → IsCommand s.names c → IsFree most (commanded c s) (commanded_by free_ways c s)

@@ -8,7 +8,8 @@
 //! (`opening_is_steady`); it stays so through commands whose names are of the table (`commands_stay_steady`), names
 //! that records bring (`names_stay_steady`) and time (`time_stays_steady`), in a run in which each edit is lawful:
 //! edits of wires and saves leave all that steadiness speaks of, and a box that an edit puts is of a kind in order
-//! and keeps what its kind keeps at first.
+//! and keeps what its kind keeps at first. So it is with those that a script asks for and with those that messages
+//! ask for, which are taken at the end of their event.
 //!
 //! So a whole run in which each edit is lawful, from where a patch opens to its end, is the one in which each event
 //! is the depth-first recursion over the objects' own definitions, and in each block each box runs its own row
