@@ -7,7 +7,7 @@ use Rattle.pd_io.specs.declared.files.FileRow.{FileRow}
 use Rattle.pd_io.specs.declared.shelves.Fetched.{Fetched}
 use Rattle.pd_io.specs.declared.shelves.Fetched.TheVariants as fetched
 use Rattle.pd_io.specs.declared.shelves.TheConstants.{MAX_FILE}
-use Rattle.pd_atom.specs.Names.{Names}
+use Rattle.pd_atom.specs.Names.{Names, first_names}
 use Rattle.pd_canvas.specs.Pages.{Page}
 use Rattle.pd_canvas.specs.declared.tree.Doc.{Doc}
 use Rattle.pd_clock.specs.declared.times.Rate.{Rate}
@@ -45,7 +45,7 @@ use Rattle.pd_stage.specs.Events.{event, Loading}
 use Rattle.pd_stage.specs.Times.{block_units}
 use Rattle.pd_engine.proofs.ClockLemmas.{stage_with}
 use Rattle.pd_engine.specs.Remarks.{remarks_text}
-use Rattle.pd_engine.specs.Opening.{first_stage, loaded, opening, growth_of, Grows, Opens, IsUngathered, IsUngrown, IsRefused, text_read, IsUnreadText, IsUnread, Reads}
+use Rattle.pd_engine.specs.Opening.{first_stage, loaded, opening, growth_of, Grows, Opens, IsUngathered, IsUngrown, IsRefused, text_read, IsUnreadText, IsUnread, Reads, OpensFile, IsFileRefused}
 use Rattle.pd_stage.proofs.LeadLemmas.{leads_same, broke_same, comes_then, stops_first, stops_then, written_leads, written_breaks}
 
 -- the shelf's answer to a fetch, and what it hands out
@@ -220,3 +220,64 @@ module _ (holds : Option (List FileRow)) (name : List ℕ) (rate : Rate) (d : Pa
 pub short_ungrown : {T : Type 0} (s : Step Tree) (rate : Rate) (r : Result T OpenRefusal) → IsErrAnd r (λ e. e ≡ NoMemory) → IfErr r (IsUngrown s rate)
 short_ungrown s rate (Ok e) h = absurd h
 short_ungrown s rate (Err e) h = subst (λ (x : OpenRefusal). IsUngrown s rate x) (sym h) tt
+
+-- ---- the file of a name was read before, and its shelf counted fewer faults then
+
+module _ (holds held : Option (List FileRow)) (name : List ℕ) (rate : Rate) (first : Names) (d : Page) (names : Names) (t t' : Option (List ℕ)) (f g f' : ℕ)
+    (same : held ≡ holds) (low : f ≤ g) (begins : first ≡ first_names) (reads : Reads holds name first (Ok (d, names))) where
+  took_wider : (u : Option (List ℕ)) (k : ℕ) (h : Option (List FileRow)) (items : List Item) (edits : List Taken) → Took (sinks t u k h g) (sinks t' u k h f') items edits
+      → Took (sinks t u k h f) (sinks t' u k h f') items edits
+  took_wider u k h items edits a = record {
+    lines_are = a.lines_are;
+    samples_are = a.samples_are;
+    few_looks = a.few_looks;
+    held_are = a.held_are;
+    few_faults = rose_from (faults_of edits) f g f' low a.few_faults;
+  }
+
+  opens_wider : (s : List Choice → Stage) → Opens holds name rate d names s t t' g f' → Opens holds name rate d names s t t' f f'
+  opens_wider s o = record {
+    patch = o.patch;
+    table = o.table;
+    base = o.base;
+    grows = o.grows;
+    says = λ looks samples.
+        let a : Comes (opening o.patch o.table) (first_stage name o.patch o.table o.base) s (sinks t samples looks holds g) (sinks t' samples looks holds f') = o.says looks samples in
+        record { items = a.items; edits = a.edits; same = a.same; took = took_wider samples looks holds a.items a.edits a.took; lawful = a.lawful };
+  }
+
+  refused_wider : (e : OpenRefusal) → IsRefused holds name rate d names t t' g f' e → IsRefused holds name rate d names t t' f f' e
+  refused_wider e (inl h) = inl h
+  refused_wider e (inr (inl h)) = inr (inl h)
+  refused_wider e (inr (inr h)) =
+      inr (inr (record {
+        patch = h.patch;
+        table = h.table;
+        base = h.base;
+        grows = h.grows;
+        took = λ looks samples.
+            let a : Stops (opening h.patch h.table) (first_stage name h.patch h.table h.base) (sinks t samples looks holds g) (sinks t' samples looks holds f') = h.took looks samples in
+            record { items = a.items; edits = a.edits; begins = a.begins; took = took_wider samples looks holds a.items a.edits a.took; lawful = a.lawful };
+        is = h.is;
+      }))
+
+  read_first : Reads holds name first_names (Ok (d, names))
+  read_first = subst (λ (n : Names). Reads holds name n (Ok (d, names))) begins reads
+
+  pub opens_file : (r : Result Engine OpenRefusal) → IfOk r (λ e. Opens held name rate d names (stage_at e) t t' g f') → IfOk r (λ e. OpensFile holds name rate (stage_at e) t t' f f')
+  opens_file (Ok e) o = record {
+    document = d;
+    names = names;
+    reads = read_first;
+    opens = opens_wider (stage_at e) (subst (λ (h : Option (List FileRow)). Opens h name rate d names (stage_at e) t t' g f') same o);
+  }
+  opens_file (Err e) o = tt
+
+  pub refuses_file : (r : Result Engine OpenRefusal) → IfErr r (IsRefused held name rate d names t t' g f') → IfErr r (IsFileRefused holds name rate t t' f f')
+  refuses_file (Ok e) h = tt
+  refuses_file (Err e) h = inr (record {
+    document = d;
+    names = names;
+    reads = read_first;
+    refused = refused_wider e (subst (λ (x : Option (List FileRow)). IsRefused x name rate d names t t' g f' e) same h);
+  })

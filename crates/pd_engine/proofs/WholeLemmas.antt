@@ -1,5 +1,5 @@
 -- A tree stands in a run, and so its blocks are whole.
-use Rattle.std.proofs.Common.{◌≡◌, ℕ, zero, suc, ◌+◌, ◌-◌, ◌<◌, ◌≤◌, arith, Bool, true, false, if◌then◌else◌, nat_le, nat_lt, List, [], ◌∷◌, Option, refl, sym, ap, ◌∙◌, subst}
+use Rattle.std.proofs.Common.{◌≡◌, ℕ, zero, suc, ◌+◌, ◌-◌, ◌<◌, ◌≤◌, arith, Bool, true, false, if◌then◌else◌, nat_le, nat_lt, List, [], Option, refl, sym, ap, ◌∙◌, subst}
 use Rattle.std.specs.Prelude.{Some, None}
 use Rattle.pd_io.specs.declared.files.FileRow.{FileRow}
 use Rattle.pd_atom.specs.Names.{Names, Extends}
@@ -18,7 +18,6 @@ use Rattle.pd_tree.specs.Trees.{Trees, Tree, weight}
 use Rattle.pd_queue.specs.Queue.{Waiting}
 use Rattle.pd_turns.specs.Turns.{World}
 use Rattle.pd_hearing.specs.Worlds.{Kept}
-use Rattle.pd_canvas.specs.declared.edits.Edit.{Edit}
 use Rattle.pd_grove.specs.Standing.{GroveStands}
 use Rattle.pd_grove.specs.TextOrder.{deep, keys_in_order}
 use Rattle.pd_patch.specs.declared.patch.Patch.{Patch}
@@ -31,10 +30,10 @@ use Rattle.pd_block.specs.Nets as block
 use Rattle.pd_block.specs.Blocks.{block_within, block_of}
 use Rattle.pd_patch.proofs.BuiltLemmas.{is_built}
 use Rattle.pd_wiring.proofs.BuiltLemmas.{runs_rewire}
-use Rattle.pd_stage.specs.Choices.{Base, Wanted, Asks, Choice}
+use Rattle.pd_stage.specs.Choices.{Base, Wanted, Choice}
 use Rattle.pd_stage.specs.Lawful.{AreLawful}
 use Rattle.pd_stage.specs.Stages.{Stage, Taken, Passage, still, followed_by}
-use Rattle.pd_stage.specs.Events.{Beginning, Message, Loading, Firing, with_kept, delivered, edit_taken, edit_asked, edits_taken, event}
+use Rattle.pd_stage.specs.Events.{Beginning, Message, Loading, Firing, with_kept, delivered, edit_taken, edits_taken, event}
 use Rattle.pd_web.specs.Changes.{wires_told}
 use Rattle.pd_adding.specs.Counts.{AreWithin}
 use Rattle.pd_stage.specs.Times.{with_wires, with_played, with_time, block_units, block_net, sound_at, played_at, taken_off, with_taken, with_fired, fires, fires_or_not, fires_below, next_clock, most_fired, clocks_fire, block_sounds, block_runs, blocks_run, comes_to, advanced, finished}
@@ -90,13 +89,8 @@ then_of s q next first rest h lawful =
 pub taken_of : (wanted : Wanted) (s : Stage) → Stays s (edit_taken wanted s)
 taken_of wanted s h lawful = altered_tree s (edit_taken wanted s).stage (taken_alters wanted s lawful) h
 
-pub asked_of : (asked : List ℕ × Edit) (s : Stage) → Stays s (edit_asked asked s)
-asked_of asked s h lawful = taken_of (Asks asked.0 asked.1) s h lawful
-
 pub edits_of : (waiting : Waiting) (s : Stage) → Stays s (edits_taken waiting s)
-unfolding edits_taken
-edits_of [] s h lawful = h
-edits_of (asked ∷ waiting) s h lawful = then_of s (edit_asked asked s) (edits_taken waiting) (asked_of asked s) (λ r. edits_of waiting r) h lawful
+edits_of waiting s h lawful = edits_keep HasTree (λ r q a k. altered_tree r q a k) waiting s lawful h
 
 pub event_of : (s : Stage) (b : Beginning) → Stays s (event s b)
 unfolding event
