@@ -22,7 +22,7 @@ use Rattle.pd_hearing.specs.Worlds.{Kept, Net, bare, net_of}
 use Rattle.pd_block.specs.Nets as block
 use Rattle.pd_stage.specs.Choices.{Base, Wanted, Edits, Asks, Saves, Undoes, Redoes, Made, Choice, Refuses, Lacks, Makes, first_choice, later, text_of_choice, looks_of_choice, faults_of_choice}
 use Rattle.pd_stage.specs.Stages.{Stage, Taken, still, saying, with_ahead, followed_by}
-use Rattle.pd_stage.specs.Lawful.{StandsAt, with_wire_count, IsMade, IsShort, IsRewiringLawful, IsPutIn, IsUnputForRoom, IsPutLawful, IsEditLawful, IsSaved, MayCome, AreLawful}
+use Rattle.pd_stage.specs.Lawful.{StandsAt, with_wire_count, IsMade, IsShort, IsRewiringLawful, IsPutIn, IsUnputForRoom, IsPutLawful, IsTakenOut, IsLeftInForRoom, IsTakingLawful, IsEditLawful, IsSaved, MayCome, AreLawful}
 use Rattle.pd_stage.specs.Leads.{Sinks, sinks, Took, Leads, Comes, Stops}
 use Rattle.pd_stage.specs.Events.{Beginning, with_net, stage_by, files_put, edit_by, edit_taken, edit_asked, edits_taken, delivered, with_kept, event}
 use Rattle.pd_stage.specs.Times.{with_wires, IsStageOf}
@@ -285,28 +285,37 @@ edit_made s ahead path e m h =
           (h.net ∙ new_net (with_ahead s []) h.old h.new r.0 h.stands r.1) h.states h.clocks h.names h.base;
     }
 
-edit_short : (s : Stage) (ahead : List Choice) (path : List ℕ) (e : Edit) (net : Net) → IsShort (with_ahead s []) path e net → IsRewiredStage s (with_net (with_ahead s ahead) net)
-edit_short s ahead path e net h =
-    let many : wires_told h.new.web ≡ wires_told h.old.web = same_are_as_many h.old.web h.new.web h.same.web in
+-- there may be more room
+room_left : (s : Stage) (ahead : List Choice) (net : Net) (old new : Patch) → StandsAt old (with_ahead s []) → SameButRoom old new → CanRewire new → net ≡ net_of new
+    → IsRewiredStage s (with_net (with_ahead s ahead) net)
+room_left s ahead net old new at same rewires e =
+    let many : wires_told new.web ≡ wires_told old.web = same_are_as_many old.web new.web same.web in
     record {
-      patch = h.new;
+      patch = new;
       base = s.base;
       ahead = ahead;
-      nodes = nodes_at (with_ahead s []) h.old h.new h.stands h.same.grove;
-      boards = boards_at (with_ahead s []) h.old h.new h.stands h.same.grove;
-      numbers = numbers_at (with_ahead s []) h.old h.new h.stands h.same.numbers;
-      rewires = h.rewires;
-      kept = kept_at_stage (with_ahead s []) h.old h.new.web h.stands (same_kept h.old.web h.new.web h.same.web);
+      nodes = nodes_at (with_ahead s []) old new at same.grove;
+      boards = boards_at (with_ahead s []) old new at same.grove;
+      numbers = numbers_at (with_ahead s []) old new at same.numbers;
+      rewires = rewires;
+      kept = kept_at_stage (with_ahead s []) old new.web at (same_kept old.web new.web same.web);
       counted = record {
         files = refl;
         boxes = refl;
         sound = refl;
         zeros = refl;
-        wires = λ x. x ∙ wires_at (with_ahead s []) h.old h.stands ∙ sym many;
+        wires = λ x. x ∙ wires_at (with_ahead s []) old at ∙ sym many;
         few = λ x low. low;
       };
-      is = ap (λ (n : Net). with_net (with_ahead s ahead) n) (h.net_is ∙ same_net (with_ahead s []) h.old h.new h.stands h.same);
+      is = ap (λ (n : Net). with_net (with_ahead s ahead) n) (e ∙ same_net (with_ahead s []) old new at same);
     }
+
+edit_short : (s : Stage) (ahead : List Choice) (path : List ℕ) (e : Edit) (net : Net) → IsShort (with_ahead s []) path e net → IsRewiredStage s (with_net (with_ahead s ahead) net)
+edit_short s ahead path e net h = room_left s ahead net h.old h.new h.stands h.same h.rewires h.net_is
+
+stay_short : (s : Stage) (ahead : List Choice) (path : List ℕ) (number : ℕ) (net : Net) → IsLeftInForRoom (with_ahead s []) path number net
+    → IsRewiredStage s (with_net (with_ahead s ahead) net)
+stay_short s ahead path number net h = room_left s ahead net h.old h.new h.stands h.short.room h.rewires h.net_is
 
 save_made : (s : Stage) (ahead : List Choice) (m : Made) → IsSaved (with_ahead s []) m → IsLeft s (stage_by (with_ahead s ahead) (Makes m))
 save_made s ahead m h = record { ahead = ahead; is = made_stage (with_ahead s ahead) m s.net s.base h.net h.states h.clocks h.names h.base }
@@ -333,6 +342,15 @@ pub record HasNewBox (s r : Stage) : Type 0 where
   pub put : IsPutIn (with_ahead s []) path edit made
   pub is : r ≡ stage_by (with_ahead s ahead) (Makes made)
 
+-- a box went
+pub record HasLostBox (s r : Stage) : Type 0 where
+  pub path : List ℕ
+  pub number : ℕ
+  pub made : Made
+  pub ahead : List Choice
+  pub taken : IsTakenOut (with_ahead s []) path number made
+  pub is : r ≡ stage_by (with_ahead s ahead) (Makes made)
+
 -- a box could have come, and there may be more room
 pub record HasMoreRoom (s r : Stage) : Type 0 where
   pub path : List ℕ
@@ -344,17 +362,22 @@ pub record HasMoreRoom (s r : Stage) : Type 0 where
 
 -- what any edit makes of a stage
 abbrev pub Alters : Stage → Stage → Type 0
-Alters s r = Changes s r ⊎ (HasNewBox s r ⊎ HasMoreRoom s r)
+Alters s r = Changes s r ⊎ (HasNewBox s r ⊎ (HasLostBox s r ⊎ HasMoreRoom s r))
 
 put_alters : (s : Stage) (ahead : List Choice) (path : List ℕ) (e : Edit) (c : Choice) → IsPutLawful (with_ahead s []) path e c → Alters s (stage_by (with_ahead s ahead) c)
 put_alters s ahead path e (Refuses why) h = inl (inl (record { ahead = ahead; is = refl }))
-put_alters s ahead path e (Lacks net) h = inr (inr (record { path = path; edit = e; net = net; ahead = ahead; short = h; is = refl }))
+put_alters s ahead path e (Lacks net) h = inr (inr (inr (record { path = path; edit = e; net = net; ahead = ahead; short = h; is = refl })))
 put_alters s ahead path e (Makes m) h = inr (inl (record { path = path; edit = e; made = m; ahead = ahead; put = h; is = refl }))
+
+take_alters : (s : Stage) (ahead : List Choice) (path : List ℕ) (number : ℕ) (c : Choice) → IsTakingLawful (with_ahead s []) path number c → Alters s (stage_by (with_ahead s ahead) c)
+take_alters s ahead path number (Refuses why) h = inl (inl (record { ahead = ahead; is = refl }))
+take_alters s ahead path number (Lacks net) h = inl (inr (stay_short s ahead path number net h))
+take_alters s ahead path number (Makes m) h = inr (inr (inl (record { path = path; number = number; made = m; ahead = ahead; taken = h; is = refl })))
 
 edit_alters : (s : Stage) (ahead : List Choice) (path : List ℕ) (e : Edit) (c : Choice) → IsEditLawful (with_ahead s []) path e c → Alters s (stage_by (with_ahead s ahead) c)
 edit_alters s ahead path (edit.Connect v) c h = inl (wire_changes s ahead path (edit.Connect v) c h)
 edit_alters s ahead path (edit.Disconnect v) c h = inl (wire_changes s ahead path (edit.Disconnect v) c h)
-edit_alters s ahead path (edit.Delete number) c h = inl (refused_changes s ahead c _ h)
+edit_alters s ahead path (edit.Delete number) c h = take_alters s ahead path number c h
 edit_alters s ahead path (edit.Retype number text) c h = inl (refused_changes s ahead c _ h)
 edit_alters s ahead path (edit.Move number x y) c h = inl (refused_changes s ahead c _ h)
 edit_alters s ahead path (edit.Obj x y text) c h = put_alters s ahead path (edit.Obj x y text) c h

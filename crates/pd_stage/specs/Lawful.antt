@@ -6,7 +6,8 @@ use Rattle.pd_canvas.specs.declared.edits.Edit.{Edit}
 use Rattle.pd_canvas.specs.declared.edits.Edit.TheVariants as edit
 use Rattle.pd_doc.specs.Writing.{text_of}
 use Rattle.pd_gather.specs.Gather.{Known, known}
-use Rattle.pd_web.specs.Changes.{wires_told}
+use Rattle.pd_clock.specs.Queue.{without}
+use Rattle.pd_web.specs.Changes.{wires_told, Meet}
 use Rattle.pd_patch.specs.declared.patch.Patch.{Patch}
 use Rattle.pd_patch.specs.Document.{present_document}
 use Rattle.pd_reload_law.specs.Wires.{StandOnce}
@@ -18,6 +19,10 @@ use Rattle.pd_boxes.specs.Put.{CanPut}
 use Rattle.pd_adding.specs.Counts.{AreWithin}
 use Rattle.pd_putting.specs.Adds.{AddsBox, IsNotPut, IsShortOfRoom}
 use Rattle.pd_putting.specs.declared.adding.NewBox.{NewBox}
+use Rattle.pd_taking.specs.Loosening.{looks_for}
+use Rattle.pd_deleting.specs.Deletes as deleting
+use Rattle.pd_deleting.specs.Deletes.{going, DeletesBox}
+use Rattle.pd_deleting.specs.declared.deleting.OldBox.{OldBox}
 use Rattle.pd_say.specs.declared.refusals.Why.{Why}
 use Rattle.pd_say.specs.declared.refusals.Why.TheVariants as why
 use Rattle.pd_hearing.specs.Worlds.{Net, net_of, states_of}
@@ -42,11 +47,13 @@ why_of refusal.TooManyWires = why.TooManyWires
 why_of refusal.TooMuchSound = why.TooMuchSound
 why_of refusal.NoMemory = why.NoMemory
 
--- A patch stands at a stage: what messages leave as it is, and what its boxes keep. Its wires can be changed, and boxes can come.
+-- A patch stands at a stage: what messages leave as it is, and what its boxes keep. Its wires can be changed, boxes can come and go, and each
+-- wire stands at both of its ports.
 pub record StandsAt (p : Patch) (s : Stage) : Type 0 where
   pub net : s.net ≡ net_of p
   pub states : s.states ≡ states_of p
   pub puts : CanPut p
+  pub meet : Meet p.web
 
 -- what is known at a stage
 abbrev pub known_at : Stage → Known
@@ -137,11 +144,53 @@ IsPutLawful s path e (Refuses reason) = IsUnput s path e reason
 IsPutLawful s path e (Lacks net) = IsUnputForRoom s path e net
 IsPutLawful s path e (Makes m) = IsPutIn s path e m
 
--- an edit of the patch's own document: wires come and go, and boxes come; other edits aren't made yet
+-- An edit took a box out with its wires: all other boxes keep what they kept, and their clocks; names and files stay, the counts stay within the
+-- limits of a patch, and a loop of its canvas is told. It looks at no more signal wires than the mends for the wires that went.
+pub record IsTakenOut (s : Stage) (path : List ℕ) (number : ℕ) (m : Made) : Type 0 where
+  pub old : Patch
+  pub new : Patch
+  pub box : OldBox
+  pub steps : ℕ
+  pub steps' : ℕ
+  pub stands : StandsAt old s
+  pub deletes : DeletesBox old new s.base.counts s.names path number steps steps' box
+  pub net : m.net ≡ net_of new
+  pub states : m.states ≡ states_of new
+  pub clocks : m.clocks ≡ without box.key s.clocks
+  pub names : m.names ≡ s.names
+  pub base : m.base ≡ base_of s.base.files box.counts
+  pub within : AreWithin m.base.counts
+  pub lines : m.lines ≡ loops_text new box.canvas
+  pub files : m.files ≡ []
+  pub looks : m.looks ≡ looks_for box.canvas deletes.removed.loosens.gone deletes.removed.loose
+
+-- no box goes, for this reason
+pub record IsLeftIn (s : Stage) (path : List ℕ) (number : ℕ) (reason : Why) : Type 0 where
+  pub patch : Patch
+  pub cause : EditRefusal
+  pub stands : StandsAt patch s
+  pub refused : going patch path number ≡ Err cause
+  pub reason_is : reason ≡ why_of cause
+
+-- a box could go, and memory was wanting
+pub record IsLeftInForRoom (s : Stage) (path : List ℕ) (number : ℕ) (net : Net) : Type 0 where
+  pub old : Patch
+  pub new : Patch
+  pub stands : StandsAt old s
+  pub short : deleting.IsShortOfRoom old new path number
+  pub rewires : CanRewire new
+  pub net_is : net ≡ net_of new
+
+abbrev pub IsTakingLawful : Stage → List ℕ → ℕ → Choice → Type 0
+IsTakingLawful s path number (Refuses reason) = IsLeftIn s path number reason
+IsTakingLawful s path number (Lacks net) = IsLeftInForRoom s path number net
+IsTakingLawful s path number (Makes m) = IsTakenOut s path number m
+
+-- an edit of the patch's own document: wires and boxes come and go; other edits aren't made yet
 abbrev pub IsEditLawful : Stage → List ℕ → Edit → Choice → Type 0
 IsEditLawful s path (edit.Connect v) c = IsRewiringLawful s path (edit.Connect v) c
 IsEditLawful s path (edit.Disconnect v) c = IsRewiringLawful s path (edit.Disconnect v) c
-IsEditLawful s path (edit.Delete number) c = c ≡ Refuses why.NoDocument
+IsEditLawful s path (edit.Delete number) c = IsTakingLawful s path number c
 IsEditLawful s path (edit.Retype number text) c = c ≡ Refuses why.NoDocument
 IsEditLawful s path (edit.Move number x y) c = c ≡ Refuses why.NoDocument
 IsEditLawful s path e c = IsPutLawful s path e c

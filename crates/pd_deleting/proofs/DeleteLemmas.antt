@@ -1,0 +1,174 @@
+-- A patch with room for a box that goes, and which box that is.
+use Rattle.std.proofs.Common.{◌≡◌, ℕ, Bool, true, false, cond, ◌&&◌, ◌||◌, not, is_some, List, slice_get, Option, Some, None, inl, inr, refl, sym, ap, ◌∙◌, subst, ◌≢◌, ◌≤◌, arith}
+use Rattle.std.specs.Prelude.{◌⊎◌, Result, Ok, Err}
+use Rattle.std.proofs.lemmas.Option.{none-some, same_Some}
+use mathlib.Core.Logic.{⊎_elim}
+use Rattle.std.proofs.lemmas.Bool.{cases_eq}
+use Rattle.slab.specs.Slab.{get}
+use Rattle.pd_object.specs.declared.kinds.Kind.{Kind}
+use Rattle.pd_tree.specs.declared.rows.Sheet.{Sheet}
+use Rattle.pd_atom.specs.Names.{Names}
+use Rattle.pd_grove.specs.declared.boards.Board.{Board}
+use Rattle.pd_grove.specs.declared.grove.Grove.{Grove}
+use Rattle.pd_grove.specs.declared.nodes.Node.{Node}
+use Rattle.pd_grove.specs.declared.ports.Side.{Side}
+use Rattle.pd_grove.specs.declared.ports.Side.TheVariants.{Inlets, Outlets}
+use Rattle.pd_grove.specs.Forest.{holder_in}
+use Rattle.pd_grove.specs.OwnPaths.{sub_reached}
+use Rattle.pd_grove.specs.Ports.{port_signal}
+use Rattle.pd_grove.specs.Telling.{inner_in}
+use Rattle.pd_web.specs.declared.web.Hop.{Hop}
+use Rattle.pd_web.specs.declared.web.Web.{Web}
+use Rattle.pd_web.specs.Canvases.{keys_at}
+use Rattle.pd_web.specs.Changes.{hop_at, IsListed, IsSame, Meet, wires_told}
+use Rattle.pd_web.proofs.CountLemmas.{same_are_as_many}
+use Rattle.pd_patch.specs.declared.patch.Patch.{Patch}
+use Rattle.pd_wiring.specs.declared.refusals.EditRefusal.{EditRefusal}
+use Rattle.pd_wiring.specs.declared.refusals.EditRefusal.TheVariants.{NoDocument}
+use Rattle.pd_wiring.specs.Changes.{SameButRoom}
+use Rattle.pd_wiring.proofs.BuiltLemmas.{roomed, same_links}
+use Rattle.pd_boxes.specs.Put.{CanPut}
+use Rattle.pd_boxes.proofs.AskingLemmas.{put_rewired}
+use Rattle.pd_adding.specs.declared.counts.Counts.{Counts}
+use Rattle.pd_adding.specs.Coming.{own_zero, zero_in}
+use Rattle.pd_adding.specs.Counts.{AreWithin}
+use Rattle.pd_boxes.specs.declared.room.Place.{Place}
+use Rattle.pd_taking.specs.Taking.{CanRemove, IsRemoved}
+use Rattle.pd_taking.proofs.TakenLemmas.{count_less, root_same, tree_less}
+use Rattle.pd_deleting.specs.Deletes.{counts_less, going, going_box, going_in, is_plain, is_port_in}
+
+-- Room.
+
+pub reserved : (p : Patch) (w : Web) → IsSame p.web w → SameButRoom p (record p { web = w })
+reserved p w same = record {
+  grove = refl;
+  web = same;
+  links = same_links p.links;
+  names = refl;
+  timers = refl;
+  orders = refl;
+  numbers = refl;
+  values = refl;
+  rate = refl;
+  present = refl;
+}
+
+pub still_put : (p q : Patch) → SameButRoom p q → CanPut p → CanPut q
+still_put p q S C = put_rewired p q S.grove (roomed p q S C.runs) C
+
+pub still_meet : (w v : Web) → IsSame w v → Meet w → Meet v
+still_meet w v S m = record {
+  fed = λ node outlet i h e. subst (λ (hs : List Hop). IsListed hs (hop_at h.key node outlet)) (sym (S.feeds h.node h.port))
+      (m.fed node outlet i h (ap (λ (hs : List Hop). slice_get hs i) (sym (S.fans node outlet)) ∙ e));
+  fanned = λ node inlet i h e. subst (λ (hs : List Hop). IsListed hs (hop_at h.key node inlet)) (sym (S.fans h.node h.port))
+      (m.fanned node inlet i h (ap (λ (hs : List Hop). slice_get hs i) (sym (S.feeds node inlet)) ∙ e));
+}
+
+-- Which box goes.
+
+ok_part : Result (ℕ × ℕ) EditRefusal → Option (ℕ × ℕ)
+ok_part (Ok x) = Some x
+ok_part (Err why) = None
+
+both_yes : (a b : Bool) → (a && b) ≡ true → (a ≡ true) × (b ≡ true)
+both_yes true b h = (refl, h)
+both_yes false b h = cc
+
+not_true : (b : Bool) → not b ≡ true → b ≡ false
+not_true true h = cc
+not_true false h = refl
+
+none_of : (o : Option ℕ) → is_some o ≡ false → o ≡ None
+none_of None h = refl
+none_of (Some a) h = cc
+
+no_signal : (o : Option Bool) → is_some o ≡ false → o ≡ None
+no_signal None h = refl
+no_signal (Some a) h = cc
+
+no_side : (k : Kind) → (is_some (port_signal Inlets k) || is_some (port_signal Outlets k)) ≡ false → (side : Side) → port_signal side k ≡ None
+no_side k h Inlets = no_signal (port_signal Inlets k) (first_no (is_some (port_signal Inlets k)) (is_some (port_signal Outlets k)) h)
+  where
+    first_no : (a b : Bool) → (a || b) ≡ false → a ≡ false
+    first_no true b e = cc
+    first_no false b e = refl
+no_side k h Outlets = no_signal (port_signal Outlets k) (second_no (is_some (port_signal Inlets k)) (is_some (port_signal Outlets k)) h)
+  where
+    second_no : (a b : Bool) → (a || b) ≡ false → b ≡ false
+    second_no true b e = cc
+    second_no false b e = e
+
+no_port : (o : Option ℕ) (n : Node) → (is_some o && is_port_in (Some n)) ≡ false → (o ≡ None) ⊎ ((side : Side) → port_signal side n.kind ≡ None)
+no_port None n h = inl refl
+no_port (Some x) n h = inr (no_side n.kind h)
+
+-- the box of a number of a canvas, which holds no canvas and is no port of a box around
+record IsFound (g : Grove) (number canvas key : ℕ) : Type 0 where
+  is : slice_get (keys_at g canvas) number ≡ Some key
+  plain : is_plain g canvas key ≡ true
+
+found_plain : (g : Grove) (number d x : ℕ) (b : Bool) (canvas key : ℕ) → slice_get (keys_at g d) number ≡ Some x → is_plain g d x ≡ b
+    → cond {A = Result (ℕ × ℕ) EditRefusal} b (Ok (d, x)) (Err NoDocument) ≡ Ok (canvas, key) → IsFound g number canvas key
+unfolding ok_part
+found_plain g number d x true canvas key at t e =
+    let same : (d, x) ≡ (canvas, key) = same_Some (d, x) (canvas, key) (ap ok_part e) in
+    let c : d ≡ canvas = ap (λ (y : ℕ × ℕ). y.0) same in
+    let k : x ≡ key = ap (λ (y : ℕ × ℕ). y.1) same in
+    record {
+      is = ap (λ z. slice_get (keys_at g z) number) (sym c) ∙ at ∙ ap (λ z. Some z) k;
+      plain = ap (λ z. is_plain g z key) (sym c) ∙ ap (is_plain g d) (sym k) ∙ t;
+    }
+found_plain g number d x false canvas key at t e = cc
+
+found_box : (g : Grove) (number d : ℕ) (o : Option ℕ) (canvas key : ℕ) → slice_get (keys_at g d) number ≡ o → going_box g d number o ≡ Ok (canvas, key) → IsFound g number canvas key
+found_box g number d None canvas key at e = cc
+found_box g number d (Some x) canvas key at e = found_plain g number d x (is_plain g d x) canvas key at refl e
+
+found_in : (g : Grove) (number : ℕ) (o : Option ℕ) (canvas key : ℕ) → going_in g number o ≡ Ok (canvas, key) → IsFound g number canvas key
+found_in g number None canvas key e = cc
+found_in g number (Some d) canvas key e = found_box g number d (slice_get (keys_at g d) number) canvas key refl e
+
+pub can_remove : (p q : Patch) (path : List ℕ) (number canvas key : ℕ) → SameButRoom p q → CanPut p → Meet p.web → going p path number ≡ Ok (canvas, key)
+    → CanRemove q (record { canvas = canvas; number = number }) key
+can_remove p q path number canvas key S C meet e =
+    let F = found_in p.grove number (sub_reached p.grove (Some p.grove.root) path) canvas key e in
+    let parts = both_yes (not (is_some (inner_in (get p.grove.nodes key)))) (not (is_some (holder_in (get p.grove.boards canvas)) && is_port_in (get p.grove.nodes key))) F.plain in
+    record {
+      can = still_put p q S C;
+      is = subst (λ (g : Grove). slice_get (keys_at g canvas) number ≡ Some key) (sym S.grove) F.is;
+      leaf = subst (λ (g : Grove). inner_in (get g.nodes key) ≡ None) (sym S.grove) (none_of (inner_in (get p.grove.nodes key)) (not_true (is_some (inner_in (get p.grove.nodes key))) parts.0));
+      plain = λ n is. subst (λ (g : Grove). (holder_in (get g.boards canvas) ≡ None) ⊎ ((side : Side) → port_signal side n.kind ≡ None)) (sym S.grove)
+          (no_port (holder_in (get p.grove.boards canvas)) n
+          (ap (λ (o : Option Node). is_some (holder_in (get p.grove.boards canvas)) && is_port_in o) (sym (ap (λ (g : Grove). get g.nodes key) (sym S.grove) ∙ is))
+          ∙ not_true (is_some (holder_in (get p.grove.boards canvas)) && is_port_in (get p.grove.nodes key)) parts.1));
+      meet = still_meet p.web q.web S.web meet;
+    }
+
+-- Counts.
+
+pub within_less : (n : Counts) (size wires : ℕ) → wires ≤ n.wires → AreWithin n → AreWithin (counts_less n size wires)
+within_less n size wires l W =
+    let b = W.boxes in
+    let w = W.wires in
+    let s = W.sound in
+    record { boxes = omega (arith, b); wires = omega (arith, w, l); sound = omega (arith, s); zeros = W.zeros }
+
+pub fewer_wires : (p q loose : Patch) (table : Names) (place : Place) (key steps steps' : ℕ) (S : SameButRoom p loose) (I : IsRemoved loose q table place key steps steps') → wires_told q.web ≤ wires_told p.web
+fewer_wires p q loose table place key steps steps' S I =
+    let a = count_less loose q table place key steps steps' I in
+    let b = same_are_as_many p.web loose.web S.web in
+    omega (arith, a, b)
+
+-- the `$0` of the patch's own document stays
+zero_same : (o o' : Option Board) (b b' : Board) → o ≡ Some b → o' ≡ Some b' → b'.sheet ≡ b.sheet → zero_in o' ≡ zero_in o
+zero_same o o' b b' e e' s = ap zero_in e' ∙ ap (λ (x : Sheet). x.zero) s ∙ sym (ap zero_in e)
+
+pub zero_stays : (p q : Patch) (table : Names) (place : Place) (key steps steps' : ℕ) → IsRemoved p q table place key steps steps' → CanRemove p place key → own_zero q ≡ own_zero p
+zero_stays p q table place key steps steps' I C =
+    let T = tree_less p q table place key steps steps' I in
+    let root = root_same p q table place key steps steps' I in
+    ap (λ r. zero_in (get q.grove.boards r)) root ∙ ⊎_elim
+    (λ (e : p.grove.root ≡ place.canvas). ap (λ r. zero_in (get q.grove.boards r)) e ∙ zero_same (get p.grove.boards place.canvas) (get q.grove.boards place.canvas) T.old T.new T.board T.without T.sheet
+    ∙ ap (λ r. zero_in (get p.grove.boards r)) (sym e))
+    (λ (d : p.grove.root ≢ place.canvas). ap zero_in (T.boards_stay p.grove.root d (λ L. none-some L.0 (sym C.leaf ∙ L.1))))
+    (cases_eq p.grove.root place.canvas)

@@ -1,0 +1,5 @@
+pub mod LoseLemmas
+pub mod LoosenLemmas
+pub mod RowLemmas
+pub mod TakeLemmas
+pub mod TakenLemmas

@@ -1,0 +1,2 @@
+pub mod Loosening
+pub mod Taking
