@@ -43,6 +43,7 @@ use Rattle.pd_steady.proofs.ExtendLemmas.{outcome_extends}
 use Rattle.pd_engine.proofs.TreeLemmas.{HasBoth, altered_both}
 use Rattle.pd_engine.proofs.WholeLemmas.{both_on}
 use Rattle.pd_steady.proofs.PutLemmas.{put_steady, room_steady}
+use Rattle.pd_steady.proofs.TakeLemmas.{take_steady}
 
 -- what the laws of pd_guards say
 pub record Guards : Type 0 where
@@ -148,7 +149,9 @@ pub altered_steady : (most : ℕ) (s r : Stage) → IsSteady most s → Alters s
 altered_steady most s r h (inl a) tree = wires_steady most s r h (but_wires s r a) tree
 altered_steady most s r h (inr (inl a)) tree =
     subst (IsSteady most) (sym a.is) (put_steady most s a.ahead a.path a.edit a.made h a.put (subst HasBoth a.is tree))
-altered_steady most s r h (inr (inr a)) tree =
+altered_steady most s r h (inr (inr (inl a))) tree =
+    subst (IsSteady most) (sym a.is) (take_steady most s a.ahead a.path a.number a.made h a.taken (subst HasBoth a.is tree))
+altered_steady most s r h (inr (inr (inr a))) tree =
     subst (IsSteady most) (sym a.is) (room_steady most s a.ahead a.path a.edit a.net h a.short (subst HasBoth a.is tree))
 
 -- what deliveries leave

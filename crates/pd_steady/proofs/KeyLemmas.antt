@@ -1,11 +1,10 @@
 -- A patch with one box more: what holds of all boxes of the old one and of the new box holds of all.
-use Rattle.std.proofs.Common.{arith, ◌≡◌, ◌≢◌, ℕ, ℤ, zero, suc, ◌+◌, ◌<◌, ◌≤◌, ◌^◌, ◌==◌, Bool, true, false, List, [], ◌∷◌, ◌++◌, length, replicate, slice_get, Option, Some, None, IfSome, IsSome, is_some, option_map, refl, sym, ap, subst, ◌∙◌, true≢false}
+use Rattle.std.proofs.Common.{arith, ◌≡◌, ◌≢◌, ℕ, ℤ, zero, suc, ◌+◌, ◌<◌, ◌≤◌, ◌^◌, ◌==◌, true, false, List, [], ◌∷◌, ◌++◌, length, replicate, slice_get, Option, Some, None, IfSome, IsSome, is_some, option_map, refl, sym, ap, subst, ◌∙◌, true≢false}
 use Rattle.std.specs.Prelude.{option_and_then}
 use Rattle.std.specs.List.{AllByRecursion}
 use Rattle.std.proofs.lemmas.Option.{none-some, slice_get-get_or}
 use Rattle.std.proofs.lemmas.List.{length-replicate}
 use Rattle.slab.specs.Slab.{get}
-use Rattle.pd_kind.specs.declared.states.State.{State}
 use Rattle.pd_kind.specs.Fit.{blank}
 use Rattle.pd_kind.specs.States.{silent_block}
 use Rattle.pd_order.specs.Graph.{tally}
@@ -36,7 +35,6 @@ use Rattle.pd_sized.specs.Sizes.{IsBlock}
 use Rattle.pd_sized.proofs.StartLemmas.{silent_count}
 use Rattle.pd_sized.specs.Kinds.{blank_of, KeepsOfKind}
 use Rattle.pd_sound_law.specs.Ready.{HasBlocks}
-use Rattle.pd_steady.specs.Serving.{StayAlike}
 use Rattle.pd_atom.specs.Names.{Names}
 
 -- what holds at one key and at all others holds at all
@@ -162,7 +160,7 @@ more_objects p q key n more objects old =
     (λ k other. subst (λ (o : Option Node). option_map blank (state_in o) ≡ option_map blank_of (kind_in (bare o))) (sym (more.others k other)) (old k))
 
 -- each box that was there keeps what it kept
-pub more_alike : (p q : Patch) (key : ℕ) (n : Node) → HasOneMore p q key n → StayAlike (states_of p) (states_of q)
+pub more_alike : (p q : Patch) (key : ℕ) (n : Node) → HasOneMore p q key n → (k : ℕ) → IsSome (states_of p k) → option_map blank (states_of q k) ≡ option_map blank (states_of p k)
 more_alike p q key n more =
     by_key (λ k. IsSome (states_of p k) → option_map blank (states_of q k) ≡ option_map blank (states_of p k)) key
     (λ there. absurd (true≢false (sym there ∙ ap (λ (o : Option Node). is_some (state_in o)) more.vacant)))

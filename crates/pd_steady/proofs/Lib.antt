@@ -7,9 +7,11 @@ pub mod ShortLemmas
 pub mod StartLemmas
 pub mod NetLemmas
 pub mod KeyLemmas
+pub mod LessLemmas
 pub mod StandLemmas
 pub mod ExtendLemmas
 pub mod PutLemmas
+pub mod TakeLemmas
 pub mod OwnLemmas
 pub mod FairLemmas
 pub mod TreeLemmas

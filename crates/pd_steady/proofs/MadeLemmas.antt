@@ -27,7 +27,7 @@ use Rattle.pd_patch.specs.declared.report.Remark.TheVariants.{Loop}
 use Rattle.pd_patch.specs.Telling.{order_in}
 use Rattle.pd_wiring.specs.declared.asking.WireRefusal.{WireRefusal}
 use Rattle.pd_wiring.specs.declared.refusals.EditRefusal.{EditRefusal}
-use Rattle.pd_wiring.specs.declared.refusals.EditRefusal.TheVariants.{TooManyWires}
+use Rattle.pd_wiring.specs.declared.refusals.EditRefusal.TheVariants.{TooManyWires, NoDocument}
 use Rattle.pd_wiring.specs.Changes.{CanRewire}
 use Rattle.pd_wiring.specs.Plans.{Plan, Attaches, Detaches, canvas_of, attaching, wire_found, detaching, connecting, disconnecting, planned, IsCarriedOut, IsRewired}
 use Rattle.pd_boxes.specs.declared.room.Place.{Place}
@@ -35,11 +35,13 @@ use Rattle.pd_boxes.specs.Room.{SameButRoom as BoxRoom}
 use Rattle.pd_boxes.specs.Put.{IsPut, keys_before, keys_behind}
 use Rattle.pd_boxes.proofs.PutLemmas.{longer_by_one}
 use Rattle.pd_putting.specs.Adds.{last_place}
+use Rattle.pd_taking.specs.Taking.{keys_past}
+use Rattle.pd_deleting.specs.Deletes.{going_box, going_in, is_plain}
 use Rattle.pd_hearing.specs.Worlds.{Net, bare, net_of}
 use Rattle.pd_block.specs.Nets as block
 use Rattle.pd_stage.specs.Choices.{Made}
 use Rattle.pd_stage.specs.Stages.{Stage}
-use Rattle.pd_stage.specs.Lawful.{known_at, IsMade, IsPutIn}
+use Rattle.pd_stage.specs.Lawful.{known_at, IsMade, IsPutIn, IsTakenOut}
 use Rattle.pd_stage.specs.Trees.{HasTree}
 use Rattle.pd_stage.specs.Lines.{most_boxes}
 use Rattle.pd_stage.specs.Times.{with_wires, IsStageOf}
@@ -209,6 +211,10 @@ boards_same s t p e = sym (ap (λ (n : Net). n.boards) e) ∙ ap (λ (n : block.
 few_put : (n m k a : ℕ) → k ≤ m → n ≡ m → n < 16384 → a ≡ k + 1 → a ≤ 16384
 few_put n m k a l e h g = omega (arith, l, e, h, g)
 
+-- those that are left are no more than there were
+few_left : (n m k b : ℕ) → k ≡ suc n → k ≤ m → b ≡ m → b ≤ 16384 → n ≤ 16384
+few_left n m k b e l g h = omega (arith, e, l, g, h)
+
 through : (n a : ℕ) → n ≤ a → a ≤ 16384 → n ≤ most_boxes
 through n a l h = omega (arith, l, h)
 
@@ -234,3 +240,46 @@ put_short s path e m t h o order =
     let short : length o.chain + length o.stuck ≤ length k.after.nodes.items =
     order_short q.grove q.web (get q.grove.boards c) (board_seen k.after) (order_in q.orders.items c) o (ap (λ (x : Option Board). option_map board_seen x) k.is) b.put.order here in
     through (length o.chain + length o.stuck) (length k.after.nodes.items) short all
+
+-- ---- the order of the canvas from which an edit took a box
+
+-- a box goes from the canvas to which the path leads
+ok_same : (x y : ℕ × ℕ) (r : Result (ℕ × ℕ) EditRefusal) → r ≡ Ok x → r ≡ Ok y → x ≡ y
+ok_same x y r e f = cc
+
+plain_at : (is : Bool) (x y : ℕ × ℕ) → cond is (Ok x) (Err NoDocument) ≡ Ok y → x.0 ≡ y.0
+plain_at true x y h = ap (λ (z : ℕ × ℕ). z.0) (ok_same x y (Ok x) refl h)
+plain_at false x y h = absurd (cc)
+
+box_at : (g : Grove) (c number : ℕ) (o : Option ℕ) (x : ℕ × ℕ) → going_box g c number o ≡ Ok x → c ≡ x.0
+box_at g c number None x h = absurd (cc)
+box_at g c number (Some key) x h = plain_at (is_plain g c key) (c, key) x h
+
+going_at : (g : Grove) (number : ℕ) (o : Option ℕ) (x : ℕ × ℕ) → going_in g number o ≡ Ok x → o ≡ Some x.0
+going_at g number None x h = absurd (cc)
+going_at g number (Some c) x h = ap (λ (y : ℕ). Some y) (box_at g c number (slice_get (keys_at g c) number) x h)
+
+pub take_short : (s : Stage) (path : List ℕ) (number : ℕ) (m : Made) → HasTree s → (h : IsTakenOut s path number m) → (o : Listing) → order_in h.new.orders.items h.box.canvas ≡ Some o
+    → length o.chain + length o.stuck ≤ most_boxes
+take_short s path number m t h o order =
+    let p : Patch = h.old in
+    let q : Patch = h.new in
+    let c : ℕ = h.box.canvas in
+    let x = h.deletes.removed in
+    let g = x.taken.goes.grove in
+    let leads : reached p.grove (Some p.grove.root) path ≡ Some c =
+    sub_leads p.grove path (Some p.grove.root) c (going_at p.grove number (sub_reached p.grove (Some p.grove.root) path) (c, h.box.key) h.deletes.is) in
+    let there : reached t.patch.grove (Some t.patch.grove.root) path ≡ Some c = led_at (patch_now s t) p s path c h.stands.net t.of.net leads in
+    let few : length (keys_at t.patch.grove c) ≤ weight t.tree.boxes = canvas_few t.patch.grove t.tree t.stands path c there in
+    let same : g.old.nodes.items ≡ keys_at t.patch.grove c =
+    sym (ap (λ (o : Option Board). keys_in o) g.board) ∙ ap (λ (y : Grove). keys_at y c) (x.loosens.rest.grove ∙ h.deletes.room.grove)
+    ∙ ap (λ (boards : Slab Board). keys_in (get boards c)) (boards_same s t p h.stands.net) in
+    let before : List ℕ = keys_before x.loose (record { canvas = c; number = number }) in
+    let behind : List ℕ = keys_past x.loose (record { canvas = c; number = number }) in
+    let had : length g.old.nodes.items ≡ suc (length (before ++ behind)) = ap (λ (ks : List ℕ). length ks) g.had ∙ longer_by_one before behind h.box.key in
+    let all : length (before ++ behind) ≤ 16384 =
+    few_left (length (before ++ behind)) (weight t.tree.boxes) (length g.old.nodes.items) s.base.counts.boxes had
+    (subst (λ (ks : List ℕ). length ks ≤ weight t.tree.boxes) (sym same) few) t.boxes t.within.boxes in
+    let short : length o.chain + length o.stuck ≤ length g.new.nodes.items =
+    order_short q.grove q.web (get q.grove.boards c) (board_seen g.new) (order_in q.orders.items c) o (ap (λ (y : Option Board). option_map board_seen y) g.without) (x.taken.orders c) order in
+    through (length o.chain + length o.stuck) (length g.new.nodes.items) short (subst (λ (ks : List ℕ). length ks ≤ 16384) (sym g.has) all)

@@ -30,7 +30,7 @@ use Rattle.pd_sized.proofs.AlikeBlockLemmas.{block_alike}
 use Rattle.pd_stage.specs.Choices.{Base, Choice}
 use Rattle.pd_stage.specs.Lawful.{AreLawful}
 use Rattle.pd_stage.proofs.LeadLemmas.{lawful_first, lawful_second}
-use Rattle.pd_stage.proofs.EditLemmas.{ButWires, but_wires, Alters, HasNewBox, HasMoreRoom, taken_alters, event_keeps}
+use Rattle.pd_stage.proofs.EditLemmas.{ButWires, but_wires, Alters, HasNewBox, HasLostBox, HasMoreRoom, taken_alters, event_keeps}
 use Rattle.pd_stage.specs.Stages.{Stage, Passage, with_names, with_ahead, still, followed_by}
 use Rattle.pd_stage.specs.Events.{Beginning, Firing, begun, delivered, with_kept, with_net, event}
 use Rattle.pd_stage.specs.Times.{block_units, most_fired, next_clock, taken_off, with_taken, with_fired, fires, fires_or_not, fires_below, clocks_fire, block_net, sound_at, played_at, with_played, block_sounds, block_runs, blocks_run, with_time, time_is, comes_to, advanced, finished}
@@ -42,6 +42,8 @@ use Rattle.pd_steady.specs.Serving.{OwnersServe}
 use Rattle.pd_steady.proofs.EventLemmas.{start_of as start_at, outcome_is}
 use Rattle.pd_steady.proofs.ExtendLemmas.{outcome_extends}
 use Rattle.pd_steady.proofs.KeyLemmas.{HasOneMore, one_more, more_objects}
+use Rattle.pd_steady.proofs.LessLemmas.{left_objects}
+use Rattle.pd_steady.proofs.TakeLemmas.{taken_less}
 use Rattle.pd_steady.proofs.OwnLemmas.{commanded_own, advanced_own, finished_own}
 use Rattle.pd_steady.proofs.StandLemmas.{tree_serves}
 use Rattle.pd_steady.proofs.StartLemmas.{first_blank}
@@ -97,6 +99,19 @@ box_kinds s r x h =
     (more_objects p q put.box.key n more (new_objects a.canvas b.seed p.rate s.time b.fresh) was)) in
     subst AreOfKinds (sym x.is) now
 
+-- a box that went
+less_kinds : (s r : Stage) → HasLostBox s r → AreOfKinds s → AreOfKinds r
+less_kinds s r x h =
+    let out = x.taken in
+    let was : KeepsOfKind (λ k. kind_in ((net_of out.old).nodes k)) (states_of out.old) =
+    subst (λ (y : ℕ → Option State). KeepsOfKind (λ k. kind_in ((net_of out.old).nodes k)) y) out.stands.states
+    (subst (λ (y : Net). KeepsOfKind (λ k. kind_in (y.nodes k)) s.states) out.stands.net h) in
+    let now : KeepsOfKind (λ k. kind_in (x.made.net.nodes k)) x.made.states =
+    subst (λ (y : ℕ → Option State). KeepsOfKind (λ k. kind_in (x.made.net.nodes k)) y) (sym out.states)
+    (subst (λ (y : Net). KeepsOfKind (λ k. kind_in (y.nodes k)) (states_of out.new)) (sym out.net)
+    (left_objects out.old out.new out.box.key (taken_less (with_ahead s []) x.path x.number x.made out) was)) in
+    subst AreOfKinds (sym x.is) now
+
 room_kinds : (s r : Stage) → HasMoreRoom s r → AreOfKinds s → AreOfKinds r
 room_kinds s r x h =
     subst AreOfKinds (sym x.is)
@@ -108,7 +123,8 @@ room_kinds s r x h =
 altered_kinds : (s r : Stage) → Alters s r → AreOfKinds s → AreOfKinds r
 altered_kinds s r (inl a) h = wires_kinds s r (but_wires s r a) h
 altered_kinds s r (inr (inl a)) h = box_kinds s r a h
-altered_kinds s r (inr (inr a)) h = room_kinds s r a h
+altered_kinds s r (inr (inr (inl a))) h = less_kinds s r a h
+altered_kinds s r (inr (inr (inr a))) h = room_kinds s r a h
 
 altered_goes : (s r : Stage) → Alters s r → IsServing s → IsServing r
 altered_goes s r a h = record { owned = altered_both s r a h.owned; kinds = altered_kinds s r a h.kinds }

@@ -120,7 +120,7 @@ module _ (p q : Patch) (names : Names) (now key : ℕ) (n : Node) (more : HasOne
 -- ---- stages
 
 -- a stage at which a patch stands
-abbrev standing : Stage → Patch → Stage
+abbrev pub standing : Stage → Patch → Stage
 standing s p = record {
   file = s.file;
   net = net_of p;
@@ -150,7 +150,7 @@ other_states s states = record {
   ahead = s.ahead;
 }
 
-is_standing : (s : Stage) (p : Patch) → s.net ≡ net_of p → s.states ≡ states_of p → s ≡ standing s p
+pub is_standing : (s : Stage) (p : Patch) → s.net ≡ net_of p → s.states ≡ states_of p → s ≡ standing s p
 is_standing s p net states = ap (λ (x : Net). with_net s x) net ∙ ap (λ (x : ℕ → Option State). other_states (with_net s (net_of p)) x) states
 
 -- with these names, and other edits to come

@@ -1,4 +1,4 @@
--- At each stage of a run a tree stands, and under each name its owners, whatever wires and boxes come, so that no box runs twice in a block.
+-- At each stage of a run a tree stands, and under each name its owners, whatever wires and boxes come and go, so that no box runs twice in a block.
 use Rattle.std.proofs.Common.{ℕ, sym, subst}
 use Rattle.pd_patch.specs.declared.patch.Patch.{Patch}
 use Rattle.pd_block.specs.Nets as block
