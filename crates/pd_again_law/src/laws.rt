@@ -31,6 +31,9 @@ pub fn saves_open_again()
     pd_guards::blocks_stay_in_order();
     pd_guards::commands_begin_in_order();
     pd_steady::opening_is_steady();
+    pd_take_law::boxes_go_from_trees();
+    pd_take_law::counts_follow_deletes();
+    pd_take_law::shorter_documents_can_be_saved();
     pd_reload_law::documents_tell_trees();
     pd_doc::written_read();
 }
@@ -51,6 +54,9 @@ pub fn stages_open_again()
     pd_guards::blocks_stay_in_order();
     pd_guards::commands_begin_in_order();
     pd_steady::opening_is_steady();
+    pd_take_law::boxes_go_from_trees();
+    pd_take_law::counts_follow_deletes();
+    pd_take_law::shorter_documents_can_be_saved();
     pd_reload_law::documents_tell_trees();
     pd_doc::written_read();
 }
