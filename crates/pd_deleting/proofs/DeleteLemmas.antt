@@ -128,6 +128,23 @@ found_in : (g : Grove) (number : ℕ) (o : Option ℕ) (canvas key : ℕ) → go
 found_in g number None canvas key e = cc
 found_in g number (Some d) canvas key e = found_box g number d (slice_get (keys_at g d) number) canvas key refl e
 
+pub found_there : (g : Grove) (number : ℕ) (o : Option ℕ) (canvas key : ℕ) → going_in g number o ≡ Ok (canvas, key) → slice_get (keys_at g canvas) number ≡ Some key
+found_there g number o canvas key e = (found_in g number o canvas key e).is
+
+-- the path leads to its canvas
+canvas_same : (g : Grove) (number d : ℕ) (o : Option ℕ) (canvas key : ℕ) → going_box g d number o ≡ Ok (canvas, key) → d ≡ canvas
+unfolding ok_part
+canvas_same g number d None canvas key e = cc
+canvas_same g number d (Some x) canvas key e = step (is_plain g d x) e
+  where
+    step : (b : Bool) → cond {A = Result (ℕ × ℕ) EditRefusal} b (Ok (d, x)) (Err NoDocument) ≡ Ok (canvas, key) → d ≡ canvas
+    step true e = ap (λ (y : ℕ × ℕ). y.0) (same_Some (d, x) (canvas, key) (ap ok_part e))
+    step false e = cc
+
+pub leads_there : (g : Grove) (number : ℕ) (o : Option ℕ) (canvas key : ℕ) → going_in g number o ≡ Ok (canvas, key) → o ≡ Some canvas
+leads_there g number None canvas key e = cc
+leads_there g number (Some d) canvas key e = ap (λ x. Some x) (canvas_same g number d (slice_get (keys_at g d) number) canvas key e)
+
 pub can_remove : (p q : Patch) (path : List ℕ) (number canvas key : ℕ) → SameButRoom p q → CanPut p → Meet p.web → going p path number ≡ Ok (canvas, key)
     → CanRemove q (record { canvas = canvas; number = number }) key
 can_remove p q path number canvas key S C meet e =

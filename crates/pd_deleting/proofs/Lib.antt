@@ -1,1 +1,1 @@
-mod DeleteLemmas
+pub mod DeleteLemmas

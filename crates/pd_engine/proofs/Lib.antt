@@ -16,3 +16,5 @@ pub mod TreeLemmas
 pub mod ProperLemmas
 pub mod PuttingLemmas
 pub mod FreshLemmas
+pub mod DeletingLemmas
+pub mod LessLemmas

@@ -11,11 +11,10 @@ use Rattle.slab.specs.Slab.{get}
 use Rattle.pd_grove.specs.declared.grove.Grove.{Grove}
 use Rattle.pd_grove.specs.Telling.{state_in}
 use Rattle.pd_queue.specs.Entries.{wire_edit}
-use Rattle.pd_script.specs.Edits.{puts_box}
-use Rattle.pd_boxes.specs.Put.{CanPut}
+use Rattle.pd_script.specs.Edits.{puts_box, deleted}
 use Rattle.pd_web.specs.declared.lines.Line.{Line}
 use Rattle.pd_web.specs.declared.web.Web.{Web}
-use Rattle.pd_web.specs.Changes.{wires_told}
+use Rattle.pd_web.specs.Changes.{wires_told, Meet}
 use Rattle.pd_web.proofs.CountLemmas.{same_are_as_many}
 use Rattle.pd_made.specs.declared.tally.Tally.{Tally}
 use Rattle.pd_patch.specs.declared.patch.Patch.{Patch}
@@ -28,9 +27,9 @@ use Rattle.pd_say.specs.declared.refusals.Why.TheVariants as why
 use Rattle.pd_wiring.specs.Changes.{CanRewire, SameButRoom, StaysButWire}
 use Rattle.pd_boxes.specs.Room.{SameButRoom as RoomSet}
 use Rattle.pd_adding.specs.Growing.{Added}
-use Rattle.pd_putting.specs.Adds.{AddsBox, IsBoxPut, IsNotPut, IsShortOfRoom}
+use Rattle.pd_putting.specs.Adds.{AddsBox, IsBoxPut, IsNotPut, IsShortOfRoom, IsNotAdded}
 use Rattle.pd_putting.specs.declared.adding.NewBox.{NewBox}
-use Rattle.pd_gather.specs.Gather.{known}
+use Rattle.pd_gather.specs.Gather.{Known, known}
 use Rattle.pd_library.specs.declared.answers.Answer.{Answer}
 use Rattle.pd_clock.specs.Queue.{Clock}
 use Rattle.pd_kind.specs.declared.states.State.{State}
@@ -55,8 +54,9 @@ use Rattle.pd_engine.specs.Edits.{Makes, Lacks, Refuses, EditsTo, edit_text, edi
 use mathlib.Core.Logic.{∥∥₁_map}
 use Rattle.pd_adding.specs.declared.counts.Counts.{Counts}
 use Rattle.pd_adding.specs.Counts.{AreWithin}
+use Rattle.pd_alike_law.proofs.MeetLemmas.{edits_meet as rewired_meet, room_meet}
 use Rattle.pd_stage.proofs.CountedLemmas.{edit_few}
-use Rattle.pd_engine.proofs.RewireLemmas.{IsKept, wired_kept}
+use Rattle.pd_engine.proofs.RewireLemmas.{IsKept, IsReady, wired_kept, lists_meet}
 use Rattle.pd_engine.proofs.ClockLemmas.{stage_with}
 
 -- ---- one choice, and where it leads
@@ -217,18 +217,18 @@ unmade s path e (stage.Refuses reason) none h =
 unmade s path e (stage.Lacks net) none h = absurd (no_edit refusal.NoDocument h.plan (sym (none h.old) ∙ h.is_planned))
 unmade s path e (stage.Makes m) none h = absurd (no_edit refusal.NoDocument h.rewired.plan (sym (none h.old) ∙ h.rewired.is_planned))
 
-edit_may : (s : Stage) (path : List ℕ) (e : Edit) (c : Choice) → puts_box e ≡ false → IsRewiringLawful s path e c → IsEditLawful s path e c
-edit_may s path (edit.Connect v) c none h = h
-edit_may s path (edit.Disconnect v) c none h = h
-edit_may s path (edit.Delete n) c none h = unmade s path (edit.Delete n) c (λ p. refl) h
-edit_may s path (edit.Retype n text) c none h = unmade s path (edit.Retype n text) c (λ p. refl) h
-edit_may s path (edit.Move n x y) c none h = unmade s path (edit.Move n x y) c (λ p. refl) h
-edit_may s path (edit.Obj x y text) c none h = cc
-edit_may s path (edit.Msg x y text) c none h = cc
-edit_may s path (edit.Comment x y text) c none h = cc
-edit_may s path (edit.FloatBox x y text) c none h = cc
-edit_may s path (edit.SymbolBox x y text) c none h = cc
-edit_may s path (edit.Sub x y name) c none h = cc
+edit_may : (s : Stage) (path : List ℕ) (e : Edit) (c : Choice) → puts_box e ≡ false → deleted e ≡ None → IsRewiringLawful s path e c → IsEditLawful s path e c
+edit_may s path (edit.Connect v) c none stays h = h
+edit_may s path (edit.Disconnect v) c none stays h = h
+edit_may s path (edit.Delete n) c none stays h = cc
+edit_may s path (edit.Retype n text) c none stays h = unmade s path (edit.Retype n text) c (λ p. refl) h
+edit_may s path (edit.Move n x y) c none stays h = unmade s path (edit.Move n x y) c (λ p. refl) h
+edit_may s path (edit.Obj x y text) c none stays h = cc
+edit_may s path (edit.Msg x y text) c none stays h = cc
+edit_may s path (edit.Comment x y text) c none stays h = cc
+edit_may s path (edit.FloatBox x y text) c none stays h = cc
+edit_may s path (edit.SymbolBox x y text) c none stays h = cc
+edit_may s path (edit.Sub x y name) c none stays h = cc
 
 -- where the edit puts a box, what may come is what may come of that
 put_may : (s : Stage) (path : List ℕ) (e : Edit) (c : Choice) → puts_box e ≡ true → IsPutLawful s path e c → IsEditLawful s path e c
@@ -253,7 +253,20 @@ own_request : (wanted : Wanted) (path : List ℕ) (e : Edit) → IsOwn wanted pa
 own_request wanted path e (inl is) = ap request_of is
 own_request wanted path e (inr is) = ap request_of is
 
--- a wire edit puts no box
+-- a wire edit deletes no box, and puts none
+pub wire_deletes_none : (e f : Edit) → wire_edit e ≡ Some f → deleted e ≡ None
+wire_deletes_none (edit.Connect v) f some = refl
+wire_deletes_none (edit.Disconnect v) f some = refl
+wire_deletes_none (edit.Delete n) f some = cc
+wire_deletes_none (edit.Retype n text) f some = refl
+wire_deletes_none (edit.Move n x y) f some = refl
+wire_deletes_none (edit.Obj x y text) f some = refl
+wire_deletes_none (edit.Msg x y text) f some = refl
+wire_deletes_none (edit.Comment x y text) f some = refl
+wire_deletes_none (edit.FloatBox x y text) f some = refl
+wire_deletes_none (edit.SymbolBox x y text) f some = refl
+wire_deletes_none (edit.Sub x y name) f some = refl
+
 pub wire_puts_none : (e f : Edit) → wire_edit e ≡ Some f → puts_box e ≡ false
 wire_puts_none (edit.Connect v) f some = refl
 wire_puts_none (edit.Disconnect v) f some = refl
@@ -288,8 +301,8 @@ pub record IsWireEdit (wanted : Wanted) (path : List ℕ) (e : Edit) : Type 0 wh
   pub may : (s : Stage) (c : Choice) → IsRewiringLawful s path e c → MayCome wanted s c
   pub request : request_of wanted ≡ request.Edit
 
-pub own_wire : (wanted : Wanted) (path : List ℕ) (e : Edit) → IsOwn wanted path e → puts_box e ≡ false → IsWireEdit wanted path e
-own_wire wanted path e own none = record { may = λ s c h. own_may wanted s path e c own (edit_may s path e c none h); request = own_request wanted path e own }
+pub own_wire : (wanted : Wanted) (path : List ℕ) (e : Edit) → IsOwn wanted path e → puts_box e ≡ false → deleted e ≡ None → IsWireEdit wanted path e
+own_wire wanted path e own none stays = record { may = λ s c h. own_may wanted s path e c own (edit_may s path e c none stays h); request = own_request wanted path e own }
 
 -- an edit that puts a box, and which is told as an edit
 pub record IsBoxEdit (wanted : Wanted) (path : List ℕ) (e : Edit) : Type 0 where
@@ -307,8 +320,8 @@ module _ (wanted : Wanted) (path : List ℕ) (e : Edit) (is : IsWireEdit wanted 
   abbrev counted : Base
   counted = with_wire_count base wires
 
-  stands : CanPut old → StandsAt old (at old base [])
-  stands puts = record { net = refl; states = refl; puts = puts }
+  stands : IsReady old → StandsAt old (at old base [])
+  stands ready = record { net = refl; states = refl; puts = ready.puts; meet = ready.meet }
 
   -- it was made
   abbrev made : (canvas looks looks' : ℕ) → Makes old new path e canvas looks looks' → Made
@@ -323,14 +336,14 @@ module _ (wanted : Wanted) (path : List ℕ) (e : Edit) (is : IsWireEdit wanted 
     looks = most_looks d.rewired.plan old new;
   }
 
-  made_may : (canvas looks looks' : ℕ) → CanPut old → (d : Makes old new path e canvas looks looks') → IsMade (at old base []) path e (made canvas looks looks' d)
-  made_may canvas looks looks' puts d =
+  made_may : (canvas looks looks' : ℕ) → IsReady old → (d : Makes old new path e canvas looks looks') → IsMade (at old base []) path e (made canvas looks looks' d)
+  made_may canvas looks looks' ready d =
       let r = plan_stays d.rewired.plan old new d.rewired.done in
       record {
         old = old;
         new = new;
         canvas = canvas;
-        stands = stands puts;
+        stands = stands ready;
         rewired = d.rewired;
         net = refl;
         states = ap (λ (g : Grove). λ k. state_in (get g.nodes k)) r.1.grove;
@@ -359,7 +372,7 @@ module _ (wanted : Wanted) (path : List ℕ) (e : Edit) (is : IsWireEdit wanted 
   refusal_is : (c : EditRefusal) → refusal_text (request_of wanted) (why_of c) ≡ refusal_text request.Edit (why_of c)
   refusal_is c = ap (λ (r : Request). refusal_text r (why_of c)) is.request
 
-  short_so : (cause : EditRefusal) (looks looks' : ℕ) → CanPut old → CanRewire new → looks' ≡ looks → Lacks old new path e cause → Edited (Err cause) looks looks'
+  short_so : (cause : EditRefusal) (looks looks' : ℕ) → IsReady old → CanRewire new → looks' ≡ looks → Lacks old new path e cause → Edited (Err cause) looks looks'
   short_so cause looks looks' before now same d = record {
     came = record {
       choice = stage.Lacks (net_of new);
@@ -372,7 +385,7 @@ module _ (wanted : Wanted) (path : List ℕ) (e : Edit) (is : IsWireEdit wanted 
     few = (refl, refl, omega arith);
   }
 
-  refused_so : (cause : EditRefusal) (looks looks' : ℕ) → CanPut old → looks' ≡ looks → Refuses old new path e cause → Edited (Err cause) looks looks'
+  refused_so : (cause : EditRefusal) (looks looks' : ℕ) → IsReady old → looks' ≡ looks → Refuses old new path e cause → Edited (Err cause) looks looks'
   refused_so cause looks looks' before same d = record {
     came = record {
       choice = stage.Refuses (why_of cause);
@@ -384,7 +397,7 @@ module _ (wanted : Wanted) (path : List ℕ) (e : Edit) (is : IsWireEdit wanted 
     few = (refl, faultless old path e cause d.is_planned, omega arith);
   }
 
-  pub edited : (r : Result ℕ EditRefusal) (looks looks' : ℕ) → CanPut old → CanRewire new → EditsTo old new path e r looks looks' → Edited r looks looks'
+  pub edited : (r : Result ℕ EditRefusal) (looks looks' : ℕ) → IsReady old → CanRewire new → EditsTo old new path e r looks looks' → Edited r looks looks'
   edited (Ok canvas) looks looks' before now d = record {
     came = record {
       choice = stage.Makes (made canvas looks looks' d);
@@ -401,7 +414,7 @@ module _ (wanted : Wanted) (path : List ℕ) (e : Edit) (is : IsWireEdit wanted 
 -- it was told
 module _ {E : Type 0} (r : Result Outcome E) (wanted : Wanted) (path : List ℕ) (e : Edit) (is : IsWireEdit wanted path e) (file : List ℕ) (names : Names) (base : Base) (time block_end fired : ℕ) (tally : Tally)
     (old new : Patch) (wires : ℕ) (was : base.counts.wires ≡ wires_told old.web) (now_is : wires ≡ wires_told new.web) (to : List Choice → Stage)
-    (done : Result ℕ EditRefusal) (t t' : Option (List ℕ)) (k k' : ℕ) (before : CanPut old) (now : CanRewire new) (edits : EditsTo old new path e done k k')
+    (done : Result ℕ EditRefusal) (t t' : Option (List ℕ)) (k k' : ℕ) (before : IsReady old) (now : CanRewire new) (edits : EditsTo old new path e done k k')
     (stands : to ≡ stage_with file new names (with_wire_count base wires) time block_end fired tally) where
   abbrev from : List Choice → Stage
   from = stage_with file old names base time block_end fired tally
@@ -450,9 +463,14 @@ edits_few old new path e (Ok canvas) looks looks' d low = edit_few d.rewired.pla
 edits_few old new path e (Err cause) looks looks' (same, inl d) low = subst (λ (n : ℕ). n ≤ 65536) (sym (same_are_as_many old.web new.web d.same.web)) low
 edits_few old new path e (Err cause) looks looks' (same, inr d) low = subst (λ (p : Patch). wires_told p.web ≤ 65536) (sym d.same) low
 
+edits_meet : (old new : Patch) (path : List ℕ) (e : Edit) (r : Result ℕ EditRefusal) (looks looks' : ℕ) → EditsTo old new path e r looks looks' → Meet old.web → Meet new.web
+edits_meet old new path e (Ok canvas) looks looks' d m = rewired_meet old new path e canvas d.rewired m
+edits_meet old new path e (Err cause) looks looks' (same, inl d) m = room_meet old new d.same m
+edits_meet old new path e (Err cause) looks looks' (same, inr d) m = subst (λ (p : Patch). Meet p.web) (sym d.same) m
+
 pub edits_kept : (old new : Patch) (counts : Counts) (wires : ℕ) (path : List ℕ) (e : Edit) (r : Result ℕ EditRefusal) (looks looks' : ℕ) → EditsTo old new path e r looks looks'
     → CanRewire new → wires ≡ wires_told new.web → IsKept old counts → IsKept new (record counts { wires = wires })
-edits_kept old new counts wires path e r looks looks' d now is k = wired_kept old new counts (record counts { wires = wires }) (edits_grove old new path e r looks looks' d) now is k
+edits_kept old new counts wires path e r looks looks' d now is k = wired_kept old new counts (record counts { wires = wires }) (edits_grove old new path e r looks looks' d) now (edits_meet old new path e r looks looks' d) is k
 
 pub edits_within : (old new : Patch) (counts : Counts) (wires : ℕ) (path : List ℕ) (e : Edit) (r : Result ℕ EditRefusal) (looks looks' : ℕ) → EditsTo old new path e r looks looks'
     → counts.wires ≡ wires_told old.web → wires ≡ wires_told new.web → ∥ AreWithin counts ∥₁ → ∥ AreWithin (record counts { wires = wires }) ∥₁
@@ -536,11 +554,11 @@ module _ (wanted : Wanted) (path : List ℕ) (e : Edit) (is : IsBoxEdit wanted p
   abbrev before : List Choice → Stage
   before = stage_with file old names (base_of files counts) time block_end fired tally
 
-  pub stands_before : CanPut old → StandsAt old (before [])
-  stands_before puts = record { net = refl; states = refl; puts = puts }
+  pub stands_before : IsReady old → StandsAt old (before [])
+  stands_before ready = record { net = refl; states = refl; puts = ready.puts; meet = ready.meet }
 
   -- it was put
-  module _ (more : Names) (learned : List (ℕ × Answer)) (b : NewBox) (puts : CanPut old) (d : AddsBox old new counts file path time e (known files names) (known learned more) b)
+  module _ (more : Names) (learned : List (ℕ × Answer)) (b : NewBox) (ready : IsReady old) (d : AddsBox old new counts file path time e (known files names) (known learned more) b)
       (onward : Extends names more) (within : AreWithin b.counts) where
     abbrev pub put_made : Made
     put_made = record {
@@ -560,7 +578,7 @@ module _ (wanted : Wanted) (path : List ℕ) (e : Edit) (is : IsBoxEdit wanted p
       new = new;
       after = known learned more;
       box = b;
-      stands = stands_before puts;
+      stands = stands_before ready;
       adds = d;
       net = refl;
       states = refl;
@@ -592,26 +610,42 @@ module _ (wanted : Wanted) (path : List ℕ) (e : Edit) (is : IsBoxEdit wanted p
       ap (λ (f : ℕ → Option State). record (with_net (before m) (net_of new)) { states = f }) (λ i k. state_in (sym (room.grove.nodes k) i))
       ∙ ap (λ (c : List Clock). record (stage_with file new names (base_of files counts) time block_end fired tally m) { clocks = c }) (sym room.clocks)
 
-  abbrev pub refused_came : (cause : EditRefusal) → CanPut old → new ≡ old → IsNotPut old counts file path e (known files names) cause
+  abbrev pub refused_came : (cause : EditRefusal) → IsReady old → new ≡ old → IsNotPut old counts file path e (known files names) cause
       → Came wanted (before []) (stage_with file new names (base_of files counts) time block_end fired tally) (refusal_text request.Edit (why_of cause)) (edit_outcome (Err cause))
-  refused_came cause puts same d = record {
+  refused_came cause ready same d = record {
     choice = stage.Refuses (why_of cause);
-    may = is.may (before []) (stage.Refuses (why_of cause)) (record { patch = old; cause = cause; stands = stands_before puts; refused = d; reason_is = refl });
+    may = is.may (before []) (stage.Refuses (why_of cause)) (record { patch = old; cause = cause; stands = stands_before ready; refused = d; reason_is = refl });
     text_is = request_is cause;
     stage = λ m. ap (λ (p : Patch). stage_with file p names (base_of files counts) time block_end fired tally m) (sym same);
     answer = outcome_by cause;
   }
 
   -- memory was wanting to put it
-  abbrev pub short_came : (cause : EditRefusal) → CanPut old → cause ≡ refusal.NoMemory → IsShortOfRoom old new counts file path e (known files names)
+  abbrev pub short_came : (cause : EditRefusal) → IsReady old → cause ≡ refusal.NoMemory → IsShortOfRoom old new counts file path e (known files names)
       → Came wanted (before []) (stage_with file new names (base_of files counts) time block_end fired tally) (refusal_text request.Edit (why_of cause)) (edit_outcome (Err cause))
-  short_came cause puts short d = record {
+  short_came cause ready short d = record {
     choice = stage.Lacks (net_of new);
-    may = is.may (before []) (stage.Lacks (net_of new)) (record { old = old; new = new; stands = stands_before puts; short = d; net_is = refl });
+    may = is.may (before []) (stage.Lacks (net_of new)) (record { old = old; new = new; stands = stands_before ready; short = d; net_is = refl });
     text_is = ap (λ (c : EditRefusal). refusal_text (request_of wanted) (why_of c)) (sym short) ∙ request_is cause;
     stage = λ m. room_clocks d.room m;
     answer = ap (λ (c : EditRefusal). edit_outcome (Err c)) (sym short);
   }
+
+-- ---- wires still stand at both of their ports where a box came, or could have come
+
+came_meet : (old new : Patch) (now : ℕ) (a : Added) (key : ℕ) → IsBoxPut old new now a key → Meet old.web → Meet new.web
+came_meet old new now a key b m =
+    lists_meet b.ready.web new.web b.put.comes.ports.fans b.put.comes.ports.feeds (lists_meet old.web b.ready.web b.room.web.fans b.room.web.feeds m)
+
+pub put_meet : (old new : Patch) (n : Counts) (name path : List ℕ) (now : ℕ) (e : Edit) (k after : Known) (b : NewBox) → AddsBox old new n name path now e k after b → ∥ Meet old.web ∥₁ → ∥ Meet new.web ∥₁
+put_meet old new n name path now e k after b d t = ∥∥₁_map t (came_meet old new now d.added b.key d.put)
+
+unput_by : (old new : Patch) (n : Counts) (name path : List ℕ) (e : Edit) (k : Known) (why : EditRefusal) → IsNotAdded old new n name path e k why → Meet old.web → Meet new.web
+unput_by old new n name path e k why (inl d) m = subst (λ (p : Patch). Meet p.web) (sym d.0) m
+unput_by old new n name path e k why (inr d) m = lists_meet old.web new.web d.1.room.web.fans d.1.room.web.feeds m
+
+pub unput_meet : (old new : Patch) (n : Counts) (name path : List ℕ) (e : Edit) (k : Known) (why : EditRefusal) → IsNotAdded old new n name path e k why → ∥ Meet old.web ∥₁ → ∥ Meet new.web ∥₁
+unput_meet old new n name path e k why d t = ∥∥₁_map t (unput_by old new n name path e k why d)
 
 -- a line was said, and a part of another
 pub took_behind : (t u v : Option (List ℕ)) (a b : List ℕ) → u ≡ grown t a → TookPart u v b → TookPart t v (a ++ b)

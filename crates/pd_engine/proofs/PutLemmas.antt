@@ -14,6 +14,18 @@ use Rattle.pd_bind.specs.Naming.{owned_by_kind, owned_by}
 use Rattle.pd_regrowth_law.specs.Canvases.{canvas_with, sub_canvas, own_in_box, own_along}
 use Rattle.pd_putting_law.specs.Puts.{change_inside, change_at, with_boxes, put_at}
 
+-- the canvas in a subpatch along a path
+pub sub_there : (form : Shape) (path : List ℕ) (s : Sheet) (inner : Trees) (u : Tree) → option_and_then (own_along path) (sub_canvas form s inner) ≡ Some u
+    → own_along path (canvas_with s inner) ≡ Some u
+sub_there Obj path s inner u h = absurd (none-some u h)
+sub_there Msg path s inner u h = absurd (none-some u h)
+sub_there Comment path s inner u h = absurd (none-some u h)
+sub_there FloatBox path s inner u h = absurd (none-some u h)
+sub_there SymbolBox path s inner u h = absurd (none-some u h)
+sub_there Sub path s inner u h = h
+sub_there (Array values) path s inner u h = absurd (none-some u h)
+sub_there (Other x) path s inner u h = absurd (none-some u h)
+
 module _ (c : Cell) where
   -- no canvas lies deeper
   deep_join : (t : Trees) → deep (join t (Leaf c Done)) ≡ deep t
@@ -38,17 +50,6 @@ module _ (c : Cell) where
   weight_join (Leaf d t) = ap (λ (n : ℕ). n + 1) (weight_join t)
   weight_join (Holder d s inner t) = let e : weight (join t (Leaf c Done)) ≡ weight t + 1 = weight_join t in omega (arith, e)
 
-  sub_there : (form : Shape) (path : List ℕ) (s : Sheet) (inner : Trees) (u : Tree) → option_and_then (own_along path) (sub_canvas form s inner) ≡ Some u
-      → own_along path (canvas_with s inner) ≡ Some u
-  sub_there Obj path s inner u h = absurd (none-some u h)
-  sub_there Msg path s inner u h = absurd (none-some u h)
-  sub_there Comment path s inner u h = absurd (none-some u h)
-  sub_there FloatBox path s inner u h = absurd (none-some u h)
-  sub_there SymbolBox path s inner u h = absurd (none-some u h)
-  sub_there Sub path s inner u h = h
-  sub_there (Array values) path s inner u h = absurd (none-some u h)
-  sub_there (Other x) path s inner u h = absurd (none-some u h)
-
   weight_inside : (n : ℕ) (path : List ℕ) (f : Tree → Tree) (u : Tree) → ((v : Tree) → own_along path v ≡ Some u → weight (f v).boxes ≡ weight v.boxes + 1) → (t : Trees)
       → option_and_then (own_along path) (own_in_box n t) ≡ Some u → weight (change_inside n f t) ≡ weight t + 1
   weight_inside n path f u h Done on = absurd (none-some u on)
@@ -65,11 +66,11 @@ module _ (c : Cell) where
 
 -- ---- what holds of all boxes and of the new one
 
-all_append : {X : Type 0} (P : X → Type 0) (xs ys : List X) → AllByRecursion P xs → AllByRecursion P ys → AllByRecursion P (xs ++ ys)
+pub all_append : {X : Type 0} (P : X → Type 0) (xs ys : List X) → AllByRecursion P xs → AllByRecursion P ys → AllByRecursion P (xs ++ ys)
 all_append P [] ys h k = k
 all_append P (x ∷ xs) ys h k = (h.0, all_append P xs ys h.1 k)
 
-all_split : {X : Type 0} (P : X → Type 0) (xs ys : List X) → AllByRecursion P (xs ++ ys) → AllByRecursion P xs × AllByRecursion P ys
+pub all_split : {X : Type 0} (P : X → Type 0) (xs ys : List X) → AllByRecursion P (xs ++ ys) → AllByRecursion P xs × AllByRecursion P ys
 all_split P [] ys h = (tt, h)
 all_split P (x ∷ xs) ys h = let k : AllByRecursion P xs × AllByRecursion P ys = all_split P xs ys h.1 in ((h.0, k.0), k.1)
 

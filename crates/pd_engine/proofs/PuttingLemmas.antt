@@ -1,4 +1,4 @@
--- What is told of a box that an edit puts, or of why none is put.
+-- What is told of a box that an edit ready, or of why none is put.
 use Rattle.std.proofs.Common.{◌≡◌, ◌≤◌, ◌+◌, arith, true, ℕ, List, [], ◌∷◌, refl, sym, ◌∙◌, ap, subst, inl, inr, Option, Result, Ok, Err, OnErr, OnOk, IfOk}
 use Rattle.std.proofs.lemmas.Result.{on_err_weaker}
 use Rattle.pd_io.specs.Faults.{Rose}
@@ -15,7 +15,6 @@ use Rattle.pd_say.specs.declared.refusals.Request.TheVariants as request
 use Rattle.pd_script.specs.Edits.{puts_box}
 use Rattle.pd_wiring.specs.declared.refusals.EditRefusal.{EditRefusal}
 use Rattle.pd_wiring.specs.declared.refusals.EditRefusal.TheVariants as refusal
-use Rattle.pd_boxes.specs.Put.{CanPut}
 use Rattle.pd_adding.specs.declared.counts.Counts.{Counts}
 use Rattle.pd_adding.specs.Counts.{AreWithin}
 use Rattle.pd_gather.specs.Gather.{known}
@@ -34,6 +33,7 @@ use Rattle.pd_engine.specs.declared.refusals.Outcome.{Outcome}
 use Rattle.pd_engine.specs.declared.refusals.Outcome.TheVariants.{Done}
 use Rattle.pd_engine.specs.Edits.{edit_outcome, IsTakenSo, IsOwn}
 use Rattle.pd_engine.proofs.ClockLemmas.{stage_with}
+use Rattle.pd_engine.proofs.RewireLemmas.{IsReady}
 use Rattle.pd_engine.proofs.MakingLemmas.{IsBoxEdit, own_box, Came, came_so, came_part, both_ok, put_came, refused_came, short_came}
 
 -- want of memory is no fault of the folder
@@ -75,7 +75,7 @@ refusal_rose wanted s refusal.TooMuchSound f f' rose low = inl (omega (arith, lo
 refusal_rose wanted s refusal.NoMemory f f' rose low = inl (omega (arith, low))
 
 module _ (wanted : Wanted) (path : List ℕ) (e : Edit) (one : IsBoxEdit wanted path e) (file : List ℕ) (names : Names) (files : List (ℕ × Answer)) (counts : Counts) (time block_end fired : ℕ) (tally : Tally) (old new : Patch)
-    (puts : CanPut old) (t u : Option (List ℕ)) (k : ℕ) (h h' : Option (List FileRow)) (f f' : ℕ) (same : h' ≡ h) (low : f ≤ f') where
+    (ready : IsReady old) (t u : Option (List ℕ)) (k : ℕ) (h h' : Option (List FileRow)) (f f' : ℕ) (same : h' ≡ h) (low : f ≤ f') where
   abbrev from : List Choice → Stage
   from = stage_with file old names (base_of files counts) time block_end fired tally
 
@@ -86,7 +86,7 @@ module _ (wanted : Wanted) (path : List ℕ) (e : Edit) (one : IsBoxEdit wanted 
     to = stage_with file new more (base_of learned b.counts) time block_end fired tally
 
     abbrev came : Came wanted (from []) to (put_text more new b.key b.canvas) Done
-    came = put_came wanted path e one file names files counts time block_end fired tally old new more learned b puts d onward within
+    came = put_came wanted path e one file names files counts time block_end fired tally old new more learned b ready d onward within
 
     took : Took (sinks t u k h f) (sinks t u k h' f') (files_put came.choice) (taken_at wanted (from []) came.choice ∷ [])
     took = quiet_took wanted (from []) came.choice t u k h h' f f' refl same (inl (omega (arith, low)))
@@ -108,11 +108,11 @@ module _ (wanted : Wanted) (path : List ℕ) (e : Edit) (one : IsBoxEdit wanted 
     unput_by : (d : IsNotAdded old new counts file path e (known files names) cause)
         → (c : Came wanted (from []) left text (edit_outcome (Err cause))) × Took (sinks t u k h f) (sinks t u k h' f') (files_put c.choice) (taken_at wanted (from []) c.choice ∷ [])
     unput_by (inl (is, d)) = (
-      refused_came wanted path e one file names files counts time block_end fired tally old new cause puts is d,
+      refused_came wanted path e one file names files counts time block_end fired tally old new cause ready is d,
       quiet_took wanted (from []) (Refuses (why_of cause)) t u k h h' f f' refl same (refusal_rose wanted (from []) cause f f' rose low),
     )
     unput_by (inr (short, d)) = (
-      short_came wanted path e one file names files counts time block_end fired tally old new cause puts short d,
+      short_came wanted path e one file names files counts time block_end fired tally old new cause ready short d,
       quiet_took wanted (from []) (Lacks (net_of new)) t u k h h' f f' refl same (inl (omega (arith, low))),
     )
 
@@ -126,7 +126,7 @@ module _ (wanted : Wanted) (path : List ℕ) (e : Edit) (one : IsBoxEdit wanted 
 
 -- it was told, and this is answered
 module _ {E : Type 0} (r : Result Outcome E) (path : List ℕ) (e : Edit) (one : puts_box e ≡ true) (file : List ℕ) (names : Names) (files : List (ℕ × Answer)) (counts : Counts) (time block_end fired : ℕ) (tally : Tally)
-    (old new : Patch) (puts : CanPut old) (t t' : Option (List ℕ)) (k k' : ℕ) (looks : k' ≡ k) (h h' : Option (List FileRow)) (f f' : ℕ) (same : h' ≡ h) (low : f ≤ f') (to : List Choice → Stage) where
+    (old new : Patch) (ready : IsReady old) (t t' : Option (List ℕ)) (k k' : ℕ) (looks : k' ≡ k) (h h' : Option (List FileRow)) (f f' : ℕ) (same : h' ≡ h) (low : f ≤ f') (to : List Choice → Stage) where
   abbrev start : List Choice → Stage
   start = stage_with file old names (base_of files counts) time block_end fired tally
 
@@ -154,11 +154,11 @@ module _ {E : Type 0} (r : Result Outcome E) (path : List ℕ) (e : Edit) (one :
     put_answered stands said is =
         both_ok r
         (λ o a x. ends_so o Done (stage_with file new more (base_of learned b.counts) time block_end fired tally) stands x
-        (λ wanted own u. put_so wanted path e (own_box wanted path e own one) file names files counts time block_end fired tally old new puts t u k h h' f f' same low more learned b d onward within t' a)) said is
+        (λ wanted own u. put_so wanted path e (own_box wanted path e own one) file names files counts time block_end fired tally old new ready t u k h h' f f' same low more learned b d onward within t' a)) said is
 
     pub put_torn : OnErr r (TookPart t t' (put_text more new b.key b.canvas)) → OnErr r Torn
     put_torn part =
-        on_err_weaker r (λ a. torn_so (λ wanted own u. put_part wanted path e (own_box wanted path e own one) file names files counts time block_end fired tally old new puts t u k h h' f f' same low more learned b d onward within t' a)) part
+        on_err_weaker r (λ a. torn_so (λ wanted own u. put_part wanted path e (own_box wanted path e own one) file names files counts time block_end fired tally old new ready t u k h h' f f' same low more learned b d onward within t' a)) part
 
   -- it was refused, and names and files are as before
   module _ (cause : EditRefusal) (rose : cause ≡ refusal.ShelfFault → Rose f f') (d : IsNotAdded old new counts file path e (known files names) cause) where
@@ -170,10 +170,10 @@ module _ {E : Type 0} (r : Result Outcome E) (path : List ℕ) (e : Edit) (one :
         ∙ ap (λ (x : List (ℕ × Answer)). stage_with file new names (base_of x counts) time block_end fired tally) known_are in
         both_ok r
         (λ o a x. ends_so o (edit_outcome (Err cause)) (stage_with file new names (base_of files counts) time block_end fired tally) there x
-        (λ wanted own u. unput_so wanted path e (own_box wanted path e own one) file names files counts time block_end fired tally old new puts t u k h h' f f' same low cause rose t' d a)) said is
+        (λ wanted own u. unput_so wanted path e (own_box wanted path e own one) file names files counts time block_end fired tally old new ready t u k h h' f f' same low cause rose t' d a)) said is
 
     pub unput_torn : OnErr r (TookPart t t' (refusal_text request.Edit (why_of cause))) → OnErr r Torn
-    unput_torn part = on_err_weaker r (λ a. torn_so (λ wanted own u. unput_part wanted path e (own_box wanted path e own one) file names files counts time block_end fired tally old new puts t u k h h' f f' same low cause rose t' d a)) part
+    unput_torn part = on_err_weaker r (λ a. torn_so (λ wanted own u. unput_part wanted path e (own_box wanted path e own one) file names files counts time block_end fired tally old new ready t u k h h' f f' same low cause rose t' d a)) part
 
 -- a message asked for it: what holds whoever asks holds of that
 pub asked_so : {E : Type 0} (r : Result Outcome E) (from to : List Choice → Stage) (x y : Option (List ℕ) → Sinks) (p : List ℕ) (d : Edit) (Is : List ℕ → Edit → Type 0)
@@ -196,7 +196,7 @@ asked_torn (Err z) from x y p d Is are h = λ path e one is samples.
     subst (λ (l : List ℕ). Stops (edit_taken (Asks l e)) from (x samples) (y samples)) same.0
     (subst (λ (f : Edit). Stops (edit_taken (Asks p f)) from (x samples) (y samples)) same.1 (h (Asks p d) (inr refl) samples))
 
--- the same where it holds of any edit that puts a box
+-- the same where it holds of any edit that ready a box
 pub any_asked_so : {E : Type 0} (r : Result Outcome E) (from to : List Choice → Stage) (x y : Option (List ℕ) → Sinks) (Is : List ℕ → Edit → Type 0)
     → ((path : List ℕ) (e : Edit) → puts_box e ≡ true
     → IfOk r (λ o. (wanted : Wanted) → IsOwn wanted path e → (samples : Option (List ℕ)) → IsTakenSo wanted o from to (x samples) (y samples)))

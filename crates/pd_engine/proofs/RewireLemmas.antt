@@ -32,9 +32,10 @@ use Rattle.pd_grove.specs.declared.grove.Grove.{Grove}
 use Rattle.pd_grove.specs.declared.ports.Side.TheVariants.{Inlets, Outlets}
 use Rattle.pd_grove.specs.Owning.{AreOwn, board_in}
 use Rattle.pd_web.specs.declared.jacks.Jack.{Jack}
+use Rattle.pd_web.specs.declared.web.Hop.{Hop}
 use Rattle.pd_web.specs.declared.web.Web.{Web}
 use Rattle.pd_web.specs.Canvases.{keys_at}
-use Rattle.pd_web.specs.Hops.{fan_hops}
+use Rattle.pd_web.specs.Hops.{fan_hops, feed_hops}
 use Rattle.pd_web.specs.Homes.{IsPortOf, inner_in}
 use Rattle.pd_web.specs.Jacks.{jacks_at}
 use Rattle.pd_patch.specs.declared.patch.Patch.{Patch}
@@ -44,7 +45,7 @@ use Rattle.pd_patch.specs.Listing.{IsThere}
 use Rattle.pd_patch.specs.Orders.{HasOrder}
 use Rattle.pd_patch.specs.Walking.{RestStays, AllButTime}
 use Rattle.pd_wiring.specs.Changes.{CanRewire, AreAlike}
-use Rattle.pd_web.specs.Changes.{wires_told}
+use Rattle.pd_web.specs.Changes.{hop_at, wires_told, IsListed, Meet}
 use Rattle.pd_block.specs.Nets as block
 use Rattle.pd_hearing.specs.Worlds.{Net, bare, net_of}
 use Rattle.pd_boxes.specs.Put.{CanPut}
@@ -93,20 +94,37 @@ keys_decided : (o : Option ℕ) (k : ℕ) → Decided (o ≡ Some k)
 keys_decided None k = inr (λ e. none_some k e)
 keys_decided (Some x) k = both_some x k (numbers_decided x k)
 
--- ---- whether a key stands in a list
+-- ---- whether something stands in a list
 
-there_later : (x : ℕ) (keys : List ℕ) (k : ℕ) → (x ≡ k → ⊥) → (IsThere keys k → ⊥) → (i : ℕ) → slice_get (x ∷ keys) i ≡ Some k → ⊥
-there_later x keys k first denied zero e = first (some_same x k e)
-there_later x keys k first denied (suc i) e = denied (i, e)
+some_value : {A : Type 0} (x y : A) → ◌≡◌ {A = Option A} (Some x) (Some y) → x ≡ y
+some_value x y e = cc
 
-there_on : (x : ℕ) (keys : List ℕ) (k : ℕ) → Decided (x ≡ k) → Decided (IsThere keys k) → Decided (IsThere (x ∷ keys) k)
-there_on x keys k (inl e) d = inl (0, ap (λ (z : ℕ). Some z) e)
-there_on x keys k (inr first) (inl p) = inl (suc p.0, p.1)
-there_on x keys k (inr first) (inr denied) = inr (λ p. there_later x keys k first denied p.0 p.1)
+module _ {A : Type 0} (same : (x y : A) → Decided (x ≡ y)) where
+  listed_later : (x : A) (xs : List A) (k : A) → (x ≡ k → ⊥) → (IsListed xs k → ⊥) → (i : ℕ) → slice_get (x ∷ xs) i ≡ Some k → ⊥
+  listed_later x xs k first denied zero e = first (some_value x k e)
+  listed_later x xs k first denied (suc i) e = denied (i, e)
+
+  listed_on : (x : A) (xs : List A) (k : A) → Decided (x ≡ k) → Decided (IsListed xs k) → Decided (IsListed (x ∷ xs) k)
+  listed_on x xs k (inl e) d = inl (0, ap (λ (z : A). Some z) e)
+  listed_on x xs k (inr first) (inl p) = inl (suc p.0, p.1)
+  listed_on x xs k (inr first) (inr denied) = inr (λ p. listed_later x xs k first denied p.0 p.1)
+
+  listed_decided : (xs : List A) (k : A) → Decided (IsListed xs k)
+  listed_decided [] k = inr (λ p. none_some k p.1)
+  listed_decided (x ∷ xs) k = listed_on x xs k (same x k) (listed_decided xs k)
 
 there_decided : (keys : List ℕ) (k : ℕ) → Decided (IsThere keys k)
-there_decided [] k = inr (λ p. none_some k p.1)
-there_decided (x ∷ keys) k = there_on x keys k (numbers_decided x k) (there_decided keys k)
+there_decided keys k = listed_decided numbers_decided keys k
+
+hops_by : (x y : Hop) → Decided (x.key ≡ y.key) → Decided (x.node ≡ y.node) → Decided (x.port ≡ y.port) → Decided (x ≡ y)
+hops_by x y (inl a) (inl b) (inl c) =
+    inl (ap (λ (k : ℕ). hop_at k x.node x.port) a ∙ ap (λ (k : ℕ). hop_at y.key k x.port) b ∙ ap (λ (k : ℕ). hop_at y.key y.node k) c)
+hops_by x y (inr denied) b c = inr (λ e. denied (ap (λ (h : Hop). h.key) e))
+hops_by x y (inl a) (inr denied) c = inr (λ e. denied (ap (λ (h : Hop). h.node) e))
+hops_by x y (inl a) (inl b) (inr denied) = inr (λ e. denied (ap (λ (h : Hop). h.port) e))
+
+hops_decided : (x y : Hop) → Decided (x ≡ y)
+hops_decided x y = hops_by x y (numbers_decided x.key y.key) (numbers_decided x.node y.node) (numbers_decided x.port y.port)
 
 -- ---- whether two boxes stand in one canvas
 
@@ -269,6 +287,31 @@ puts_sure p t = record {
   runs = rewires_sure p (∥∥₁_map t (λ h. h.runs));
 }
 
+pub meet_sure : (w : Web) → ∥ Meet w ∥₁ → Meet w
+meet_sure w t = record {
+  fed = λ node outlet i h e. sure (listed_decided hops_decided _ _) (∥∥₁_map t (λ m. m.fed node outlet i h e));
+  fanned = λ node inlet i h e. sure (listed_decided hops_decided _ _) (∥∥₁_map t (λ m. m.fanned node inlet i h e));
+}
+
+-- ---- what an edit of a box asks of a patch
+
+-- boxes can come and go
+pub record IsReady (p : Patch) : Type 0 where
+  pub puts : CanPut p
+  pub meet : Meet p.web
+
+pub ready_sure : (p : Patch) → ∥ CanPut p ∥₁ → ∥ Meet p.web ∥₁ → IsReady p
+ready_sure p puts meet = record { puts = puts_sure p puts; meet = meet_sure p.web meet }
+
+-- each wire stands at both of its ports where the lists of wires are the same
+pub lists_meet : (w v : Web) → ((node outlet : ℕ) → fan_hops v node outlet ≡ fan_hops w node outlet) → ((node inlet : ℕ) → feed_hops v node inlet ≡ feed_hops w node inlet) → Meet w → Meet v
+lists_meet w v fans feeds m = record {
+  fed = λ node outlet i h e. subst (λ (hs : List Hop). IsListed hs (hop_at h.key node outlet)) (sym (feeds h.node h.port))
+      (m.fed node outlet i h (ap (λ (hs : List Hop). slice_get hs i) (sym (fans node outlet)) ∙ e));
+  fanned = λ node inlet i h e. subst (λ (hs : List Hop). IsListed hs (hop_at h.key node inlet)) (sym (fans h.node h.port))
+      (m.fanned node inlet i h (ap (λ (hs : List Hop). slice_get hs i) (sym (feeds node inlet)) ∙ e));
+}
+
 pub within_sure : (n : Counts) → ∥ AreWithin n ∥₁ → AreWithin n
 within_sure n t = record {
   boxes = few_sure _ _ (∥∥₁_map t (λ h. h.boxes));
@@ -279,9 +322,10 @@ within_sure n t = record {
 
 -- ---- what an edit asks of patches that are alike
 
--- boxes can come, wires are counted, and the patch's own `$0` is one that it may be
+-- boxes can come and go, wires are counted, and the patch's own `$0` is one that it may be
 pub record IsKept (p : Patch) (counts : Counts) : Type 0 where
   pub puts : ∥ CanPut p ∥₁
+  pub meet : ∥ Meet p.web ∥₁
   pub counted : counts.wires ≡ wires_told p.web
   pub zero : own_zero p ≤ 1000000000
 
@@ -291,6 +335,7 @@ zero_same p q boards root = ap (λ (b : Slab Board). zero_in (get b q.grove.root
 alike_kept : (p q : Patch) (counts : Counts) → AreAlike p q → q.grove.root ≡ p.grove.root → IsKept p counts → IsKept q counts
 alike_kept p q counts a root k = record {
   puts = ∥∥₁_map k.puts (λ h. put_alike p q a root h);
+  meet = subst (λ (w : Web). ∥ Meet w ∥₁) (sym a.web) k.meet;
   counted = k.counted ∙ ap wires_told (sym a.web);
   zero = subst (λ (n : ℕ). n ≤ 1000000000) (sym (zero_same p q a.boards root)) k.zero;
 }
@@ -335,9 +380,10 @@ pub clock_kept : (p q : Patch) (counts : Counts) → q.grove ≡ p.grove → Res
 clock_kept p q counts tree h k = alike_kept p q counts (tree_alike p q tree h.web h.links h.orders h.numbers) (ap (λ (g : Grove). g.root) tree) k
 
 -- an edit of wires keeps the boxes
-pub wired_kept : (p q : Patch) (counts counts' : Counts) → q.grove ≡ p.grove → CanRewire q → counts'.wires ≡ wires_told q.web → IsKept p counts → IsKept q counts'
-wired_kept p q counts counts' grove now counted k = record {
+pub wired_kept : (p q : Patch) (counts counts' : Counts) → q.grove ≡ p.grove → CanRewire q → (Meet p.web → Meet q.web) → counts'.wires ≡ wires_told q.web → IsKept p counts → IsKept q counts'
+wired_kept p q counts counts' grove now meet counted k = record {
   puts = ∥∥₁_map k.puts (λ h. put_rewired p q grove now h);
+  meet = ∥∥₁_map k.meet meet;
   counted = counted;
   zero = subst (λ (g : Grove). zero_in (get g.boards g.root) ≤ 1000000000) (sym grove) k.zero;
 }

@@ -17,7 +17,6 @@ use Rattle.pd_say.specs.declared.refusals.Request.TheVariants as request
 use Rattle.pd_say.specs.declared.refusals.Why.{Why}
 use Rattle.pd_say.specs.declared.refusals.Why.TheVariants as why
 use Rattle.pd_reload_law.specs.Wires.{StandOnce}
-use Rattle.pd_boxes.specs.Put.{CanPut}
 use Rattle.pd_wiring.specs.declared.refusals.EditRefusal.TheVariants as refusal
 use Rattle.pd_hearing.specs.Worlds.{net_of, states_of}
 use Rattle.pd_stage.specs.Items.{Put, lines_of, samples_of}
@@ -32,14 +31,15 @@ use Rattle.pd_engine.specs.declared.refusals.Outcome.TheVariants.{Done, Refused}
 use Rattle.pd_engine.specs.Refusals.{unsaved}
 use Rattle.pd_engine.specs.Edits.{IsSavedSo}
 use Rattle.pd_engine.proofs.ClockLemmas.{stage_with}
+use Rattle.pd_engine.proofs.RewireLemmas.{IsReady}
 use Rattle.pd_engine.proofs.MakingLemmas.{Came, came_so, came_part}
 
-module _ (file : List ℕ) (p : Patch) (names : Names) (base : Base) (time block_end fired : ℕ) (tally : Tally) (puts : CanPut p) (t u : Option (List ℕ)) (k : ℕ) (h h' : Option (List FileRow)) (f f' : ℕ) (counted : f ≤ f') where
+module _ (file : List ℕ) (p : Patch) (names : Names) (base : Base) (time block_end fired : ℕ) (tally : Tally) (ready : IsReady p) (t u : Option (List ℕ)) (k : ℕ) (h h' : Option (List FileRow)) (f f' : ℕ) (counted : f ≤ f') where
   abbrev s : Stage
   s = stage_with file p names base time block_end fired tally []
 
   pub stands : StandsAt p s
-  stands = record { net = refl; states = refl; puts = puts }
+  stands = record { net = refl; states = refl; puts = ready.puts; meet = ready.meet }
 
   -- its text was put
   abbrev saved : Made

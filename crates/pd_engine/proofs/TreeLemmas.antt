@@ -19,13 +19,16 @@ use Rattle.pd_growth.specs.Growing.{inside_grown}
 use Rattle.pd_growth.specs.Steps.{Stock, gives}
 use Rattle.pd_grove.specs.declared.grove.Grove.{Grove}
 use Rattle.pd_grove.specs.Forest.{IsForest}
-use Rattle.pd_grove.specs.Grafts.{HasPartMore}
+use Rattle.pd_grove.specs.Grafts.{HasPartMore, TakesBox}
 use Rattle.pd_grove.specs.OwnPaths.{sub_in, sub_step_in, sub_reached}
+use Rattle.pd_grove.specs.Places.{CanvasStands}
 use Rattle.pd_grove.specs.Room.{IsSameButRoom}
 use Rattle.pd_grove.specs.Standing.{node_seen, board_seen, Stands, GroveStands}
+use Rattle.pd_grove.specs.Telling.{inner_in}
 use Rattle.pd_grove.specs.TextOrder.{deep, Placed, placed_in_order}
 use Rattle.pd_grove.proofs.ComeLemmas.{part_more}
 use Rattle.pd_grove.proofs.GraftLemmas.{forest_more}
+use Rattle.pd_grove.proofs.PlaceLemmas.{seen_keys}
 use Rattle.pd_bind.specs.Naming.{owned_by}
 use Rattle.pd_bind.specs.Owning.{owners_in}
 use Rattle.pd_web.specs.declared.web.Web.{Web}
@@ -60,13 +63,20 @@ use Rattle.pd_block.specs.Nets as block
 use Rattle.pd_hearing.specs.Worlds.{Net, bare, net_of}
 use Rattle.pd_stage.specs.Choices.{Base, Made, Choice, Makes}
 use Rattle.pd_stage.specs.Stages.{Stage, with_ahead}
-use Rattle.pd_stage.specs.Lawful.{StandsAt, known_at, IsPutIn, IsUnputForRoom}
+use Rattle.pd_stage.specs.Lawful.{StandsAt, known_at, IsPutIn, IsTakenOut, IsUnputForRoom}
 use Rattle.pd_stage.specs.Events.{stage_by, with_net}
 use Rattle.pd_stage.specs.Times.{IsStageOf}
 use Rattle.pd_stage.specs.Trees.{HasTree, HasOwners}
 use Rattle.pd_stage.proofs.FedLemmas.{told_some}
 use Rattle.pd_stage.proofs.EditLemmas.{Changes, ButWires, but_wires, changed_stands, Alters}
+use Rattle.pd_taking.specs.Taking.{CanRemove}
+use Rattle.pd_taking.proofs.TakenLemmas.{owners_less, root_same, runs_less, tree_less}
+use Rattle.pd_taking_law.specs.Takes.{taken_at}
+use Rattle.pd_taking_law.specs.Taking.{TakesBoxAt}
+use Rattle.pd_taking_law.proofs.StandLemmas.{grove_less}
+use Rattle.pd_deleting.proofs.DeleteLemmas.{can_remove, leads_there}
 use Rattle.pd_engine.proofs.ComingLemmas.{WentTo, went_to}
+use Rattle.pd_engine.proofs.LessLemmas.{all_taken, deep_taken, weight_out, weight_taken}
 use Rattle.pd_engine.proofs.PutLemmas.{deep_put, weight_put, all_both, all_put, owned_anywhere}
 
 -- ---- where room was set aside, each box and each canvas is seen as it was
@@ -217,7 +227,7 @@ module _ (s : Stage) (t : HasTree s) (old : Patch) (at : StandsAt old s) where
 -- a box could have come, and there may be more room
 module _ (s : Stage) (t : HasTree s) (path : List ℕ) (e : Edit) (net : Net) (ahead : List Choice) (h : IsUnputForRoom (with_ahead s []) path e net) where
   stands_there : StandsAt h.old s
-  stands_there = record { net = h.stands.net; states = h.stands.states; puts = h.stands.puts }
+  stands_there = record { net = h.stands.net; states = h.stands.states; puts = h.stands.puts; meet = h.stands.meet }
 
   roomy : Stage
   roomy = with_net (with_ahead s ahead) net
@@ -267,7 +277,7 @@ module _ (s : Stage) (t : HasTree s) (path : List ℕ) (e : Edit) (m : Made) (ah
   C = b.put.comes
 
   stands_at : StandsAt h.old s
-  stands_at = record { net = h.stands.net; states = h.stands.states; puts = h.stands.puts }
+  stands_at = record { net = h.stands.net; states = h.stands.states; puts = h.stands.puts; meet = h.stands.meet }
 
   ready_stands : GroveStands ready.grove t.tree.sheet t.tree.boxes
   ready_stands = room_stands s t h.old stands_at ready b.room
@@ -395,12 +405,121 @@ module _ (s : Stage) (t : HasTree s) (path : List ℕ) (e : Edit) (m : Made) (ah
             });
       }
 
+-- ---- a box went
+
+owners_stay : (p q : Patch) (table : Names) (file : List ℕ) → q.names ≡ p.names → q.grove ≡ p.grove → OwnersStand p table file → OwnersStand q table file
+owners_stay p q table file names grove o = λ class name. rw (names, grove) (o class name)
+
+module _ (s : Stage) (t : HasTree s) (path : List ℕ) (number : ℕ) (m : Made) (ahead : List Choice) (h : IsTakenOut (with_ahead s []) path number m) where
+  abbrev key : ℕ
+  key = h.box.key
+
+  abbrev canvas : ℕ
+  canvas = h.box.canvas
+
+  abbrev spot : Place
+  spot = record { canvas = canvas; number = number }
+
+  abbrev roomed : Patch
+  roomed = h.deletes.ready
+
+  stands_first : StandsAt h.old s
+  stands_first = record { net = h.stands.net; states = h.stands.states; puts = h.stands.puts; meet = h.stands.meet }
+
+  could : CanRemove roomed spot key
+  could = can_remove h.old roomed path number canvas key h.deletes.room h.stands.puts h.stands.meet h.deletes.is
+
+  runs_on : CanPut h.new
+  runs_on = runs_less roomed h.new s.names spot key h.steps h.steps' h.deletes.removed could
+
+  takes : TakesBoxAt h.old.grove h.new.grove path canvas key number
+  takes =
+      let same : roomed.grove ≡ h.old.grove = h.deletes.room.grove in
+      record {
+        forest = h.stands.puts.forest;
+        leads = leads_there h.old.grove number (sub_reached h.old.grove (Some h.old.grove.root) path) canvas key h.deletes.is;
+        is = subst (λ (g : Grove). slice_get (keys_at g canvas) number ≡ Some key) same could.is;
+        node = h.deletes.removed.taken.goes.node;
+        takes = subst (λ (g : Grove). TakesBox (get g.nodes) (get h.new.grove.nodes) (get g.boards) (get h.new.grove.boards) canvas key h.deletes.removed.taken.goes.node
+            (take number (keys_at g canvas)) (drop (number + 1) (keys_at g canvas))) same (tree_less roomed h.new s.names spot key h.steps h.steps' h.deletes.removed);
+        root = root_same roomed h.new s.names spot key h.steps h.steps' h.deletes.removed ∙ ap (λ (g : Grove). g.root) same;
+      }
+
+  -- the tree without it
+  abbrev pub fewer_tree : Tree
+  fewer_tree = taken_at path number t.tree
+
+  stands_fewer : GroveStands h.new.grove fewer_tree.sheet fewer_tree.boxes
+  stands_fewer = grove_less h.old.grove h.new.grove path canvas key number t.tree takes (at_stands s t h.old stands_first)
+
+  counted_fewer : m.base.counts ≡ h.box.counts
+  counted_fewer = ap (λ (x : Base). x.counts) h.base
+
+  boxes_fewer : m.base.counts.boxes ≡ weight fewer_tree.boxes
+  boxes_fewer =
+      let g : Grove = h.old.grove in
+      let along = path_along g path canvas t.tree h.stands.puts.forest (at_stands s t h.old stands_first) takes.leads in
+      let u : Tree = along.0 in
+      let C : CanvasStands g canvas u = along.2 in
+      let at : slice_get C.keys number ≡ Some key = ap (λ (ks : List ℕ). slice_get ks number) (sym (seen_keys (get g.boards canvas) _ C.board)) ∙ takes.is in
+      let leaf : inner_in (get g.nodes key) ≡ None = subst (λ (x : Grove). inner_in (get x.nodes key) ≡ None) h.deletes.room.grove could.leaf in
+      let here = weight_out (get g.nodes) (get g.boards) canvas C.depth C.keys u.boxes number key C.stands at leaf in
+      let fewer : weight fewer_tree.boxes + 1 ≡ weight t.tree.boxes = weight_taken path number t.tree u along.1 here in
+      let one : m.base.counts.boxes ≡ s.base.counts.boxes - 1 = ap (λ (n : Counts). n.boxes) (counted_fewer ∙ h.deletes.counts) in
+      let was : s.base.counts.boxes ≡ weight t.tree.boxes = t.boxes in
+      omega (arith, fewer, one, was)
+
+  wires_fewer : m.base.counts.wires ≡ wires_told m.net.web
+  wires_fewer = ap (λ (n : Counts). n.wires) (counted_fewer ∙ h.deletes.counts) ∙ sym (ap (λ (n : Net). wires_told n.web) h.net)
+
+  pub lost_tree : HasTree (stage_by (with_ahead s ahead) (Makes m))
+  lost_tree = record {
+    patch = h.new;
+    tree = fewer_tree;
+    stands = stands_fewer;
+    of = stage_of h.new (stage_by (with_ahead s ahead) (Makes m)) h.net runs_on.runs;
+    shallow = (let less = deep_taken path number t.tree in let low = t.shallow in omega (arith, less, low));
+    boxes = boxes_fewer;
+    wires = wires_fewer;
+    within = h.within;
+    own = runs_on.forest.own;
+    apart = runs_on.apart;
+  }
+
+  abbrev Alike : Names → Names → Placed → Type 0
+  Alike names more p = owned_by more p.is_top p.cell ≡ owned_by names p.is_top p.cell
+
+  owners_first : (table : Names) → Extends table s.names → OwnersStand h.old table s.file → OwnAlike table s.names s.file t.tree.boxes → OwnersStand h.new s.names s.file
+  owners_first table on o same =
+      let low : deep t.tree.boxes ≤ 256 = (let l = t.shallow in omega (arith, l)) in
+      let before : OwnersStand h.old s.names s.file = λ class name.
+      o class name ∙ sym (owners_alike table s.names s.file h.old.grove t.tree.sheet t.tree.boxes class name (at_stands s t h.old stands_first) low same) in
+      owners_less roomed h.new s.names spot key h.steps h.steps' h.deletes.removed s.file (owners_stay h.old roomed s.names s.file h.deletes.room.names h.deletes.room.grove before)
+
+  pub lost_owners : HasOwners s t.patch t.tree → HasOwners (stage_by (with_ahead s ahead) (Makes m)) h.new fewer_tree
+  lost_owners o =
+      let q : HasOwners s h.old t.tree = at_owners s t h.old stands_first o in
+      let first : OwnAlike q.table s.names s.file t.tree.boxes = q.alike s.names q.goes_on in
+      record {
+        table = m.names;
+        goes_on = extends_same m.names;
+        owners = subst (λ (n : Names). OwnersStand h.new n s.file) (sym h.names) (owners_first q.table q.goes_on q.owners first);
+        alike = subst (λ (n : Names). (more : Names) → Extends n more → OwnAlike n more s.file fewer_tree.boxes) (sym h.names) (λ more x.
+            let further : OwnAlike q.table more s.file t.tree.boxes = q.alike more (extends_on q.table s.names more q.goes_on x) in
+            record {
+              root = further.root ∙ sym first.root;
+              boxes = all_taken (Alike s.names more) path number true t.tree
+                  (all_both (Alike q.table s.names) (Alike q.table more) (Alike s.names more) (λ p f g. g ∙ sym f) (placed_in_order true t.tree.boxes) first.boxes further.boxes);
+            });
+      }
+
 -- ---- any edit
 
 pub altered_tree : (s r : Stage) → Alters s r → HasTree s → HasTree r
 altered_tree s r (inl c) t = changed_tree s r c t
 altered_tree s r (inr (inl b)) t = subst HasTree (sym b.is) (new_tree s t b.path b.edit b.made b.ahead b.put)
-altered_tree s r (inr (inr l)) t = subst HasTree (sym l.is) (roomy_tree s t l.path l.edit l.net l.ahead l.short)
+altered_tree s r (inr (inr (inl b))) t = subst HasTree (sym b.is) (lost_tree s t b.path b.number b.made b.ahead b.taken)
+altered_tree s r (inr (inr (inr l))) t = subst HasTree (sym l.is) (roomy_tree s t l.path l.edit l.net l.ahead l.short)
 
 -- a tree that stands, with the owners of names
 pub record HasBoth (s : Stage) : Type 0 where
@@ -408,14 +527,19 @@ pub record HasBoth (s : Stage) : Type 0 where
   pub owners : HasOwners s tree.patch tree.tree
 
 pub altered_both : (s r : Stage) → Alters s r → HasBoth s → HasBoth r
-unfolding changed_tree new_tree roomy_tree
+unfolding changed_tree new_tree lost_tree roomy_tree
 altered_both s r (inl c) t = record { tree = changed_tree s r c t.tree; owners = changed_owners s r t.tree.patch t.tree.tree c t.owners }
 altered_both s r (inr (inl n)) t =
     subst HasBoth (sym n.is) (record {
       tree = new_tree s t.tree n.path n.edit n.made n.ahead n.put;
       owners = new_owners s t.tree n.path n.edit n.made n.ahead n.put t.owners;
     })
-altered_both s r (inr (inr l)) t =
+altered_both s r (inr (inr (inl b))) t =
+    subst HasBoth (sym b.is) (record {
+      tree = lost_tree s t.tree b.path b.number b.made b.ahead b.taken;
+      owners = lost_owners s t.tree b.path b.number b.made b.ahead b.taken t.owners;
+    })
+altered_both s r (inr (inr (inr l))) t =
     subst HasBoth (sym l.is) (record {
       tree = roomy_tree s t.tree l.path l.edit l.net l.ahead l.short;
       owners = roomy_owners s t.tree l.path l.edit l.net l.ahead l.short t.owners;

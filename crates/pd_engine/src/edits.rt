@@ -2,7 +2,9 @@
 
 ghost use Rattle.std.specs.Prelude.{◌≡◌, ◌<◌, ◌≤◌, ℕ, true, List, Option, None, length, slice_index_or, OnOk, OnErr, IfOk};
 ghost use Rattle.pd_io.specs.Stream.{grown, TookPart};
+ghost use Rattle.pd_io.specs.declared.files.FileRow.{FileRow};
 ghost use Rattle.pd_canvas.specs.declared.edits.Edit.{Edit as EditSeen};
+ghost use Rattle.pd_canvas.specs.declared.edits.Edit.TheVariants as edit;
 ghost use Rattle.pd_queue.specs.Entries.{wire_edit};
 ghost use Rattle.pd_script.specs.Edits.{puts_box};
 ghost use Rattle.pd_say.specs.Gathering.{HasCause};
@@ -11,7 +13,7 @@ ghost use Rattle.pd_wiring.specs.Changes.{CanRewire};
 ghost use Rattle.pd_stage.specs.Choices.{Wanted, Edits, Asks, Saves};
 ghost use Rattle.pd_stage.specs.Events.{edit_asked, edit_taken};
 ghost use Rattle.pd_stage.specs.Lawful.{why_of as why_so};
-ghost use Rattle.pd_stage.specs.Leads.{sinks, Comes, Stops};
+ghost use Rattle.pd_stage.specs.Leads.{sinks, Comes, Stops, SaysPart};
 ghost use Rattle.pd_stage.specs.Lines.{put_text};
 ghost use Rattle.pd_engine.specs.Stages.{stage_at};
 ghost use Rattle.pd_engine.specs.Edits.{EditsTo, edit_text, edit_outcome, IsTakenSo, IsEdited, IsSavedSo, IsOwn, AreAskedFor};
@@ -21,6 +23,7 @@ use crate::printing::print_refusal;
 use crate::refusals::{Outcome, unsaved};
 use crate::remarks::{print_loop, print_unmade};
 use pd_canvas::{Edit, Place};
+use pd_deleting::delete_box;
 use pd_edit::{EditRefusal, rewire};
 use pd_io::{Shelf, Sink, SinkFailed};
 use pd_order::Steps;
@@ -114,6 +117,9 @@ impl Engine {
         if edit.puts_box() {
             return self.put_own(path, edit, shelf, lines, steps);
         }
+        if let Some(number) = edit.deleted() {
+            return self.delete_own(path, number, lines, steps);
+        }
         let done = make(
             self.alloc,
             &mut self.patch,
@@ -123,6 +129,37 @@ impl Engine {
             steps,
         );
         self.tell(done, lines)
+    }
+
+    /// Deletes the box of a number in the canvas at a path of the patch's own document, or refuses it.
+    fn delete_own<L: Sink, K: Ledger>(
+        &mut self,
+        path: &[u32],
+        number: u32,
+        lines: &mut L,
+        steps: &mut Steps<K>,
+    ) -> Result<Outcome, SinkFailed>
+        ensures ok { IfOk result (λ outcome. (samples : Option (List ℕ)) (held : Option (List FileRow)) (faults : ℕ) → IsEdited path.now (edit.Delete number) outcome (stage_at self.old) (stage_at self.new) (sinks (L.taken lines.old) samples steps.old held faults) (sinks (L.taken lines.new) samples steps.new held faults)) }
+        ensures err { OnErr result (SaysPart (edit_taken (Edits None path.now (edit.Delete number))) (stage_at self.old) (L.taken lines.old) (L.taken lines.new) steps.old steps.new) }
+        ensures cause { HasCause (L.faults lines.old) (L.faults lines.new) result }
+        ensures stays { self.new.stopped ≡ self.old.stopped }
+    {
+        let done = delete_box(
+            self.alloc,
+            &mut self.patch,
+            self.counts,
+            path,
+            number,
+            &mut self.symbols,
+            steps,
+        );
+        match done {
+            Ok(gone) => {
+                self.counts = gone.counts;
+                self.tell(Ok(gone.canvas), lines)
+            }
+            Err(why) => self.tell(Err(why), lines),
+        }
     }
 
     /// Puts a box last into the canvas at a path of the patch's own document, or refuses it.
@@ -286,7 +323,7 @@ impl Engine {
 }
 
 /// Makes an edit of a patch that joins or cuts a wire, and keeps count of its wires. Gives the key of the edit's canvas.
-/// Edits of boxes aren't made.
+/// Other edits aren't made.
 fn make<K: Ledger>(
     alloc: Global,
     patch: &mut Patch,

@@ -14,7 +14,7 @@ ghost use Rattle.pd_stage.specs.Stages.{with_names};
 ghost use Rattle.pd_stage.specs.Leads.{sinks, Comes, Stops};
 ghost use Rattle.pd_stage.specs.Times.{advanced, finished};
 ghost use Rattle.pd_engine.specs.Commands.{commanded, IsCarriedOut};
-ghost use Rattle.pd_web.specs.Changes.{wires_told};
+ghost use Rattle.pd_web.specs.Changes.{wires_told, Meet};
 ghost use Rattle.pd_gather.specs.Gather.{AreProper};
 ghost use Rattle.pd_boxes.specs.Put.{CanPut};
 ghost use Rattle.pd_adding.specs.Coming.{own_zero};
@@ -63,6 +63,7 @@ pub struct Engine {
     pub(crate) tally: Tally,
     pub(crate) stopped: bool,
     ghost puts: { ∥ CanPut patch ∥₁ },
+    ghost meet: { ∥ Meet patch.web ∥₁ },
     ghost counted: { counts.wires ≡ wires_told patch.web },
     ghost within: { ∥ AreWithin counts ∥₁ },
     ghost zero: { own_zero patch ≤ 1000000000 },
@@ -109,9 +110,9 @@ impl Engine {
         read_by(&mut self.symbols, bytes, room)
     }
 
-    /// Carries out a command at the present time, and prints what it has to print. Edits of wires, edits that put a box without a canvas
-    /// inside, and saves of the patch's own document are made, also the edits that its messages ask for; others are refused, and there is
-    /// nothing to undo or redo.
+    /// Carries out a command at the present time, and prints what it has to print. Edits of wires, edits that put or delete a box without a
+    /// canvas inside, which is no port of a box around, and saves of the patch's own document are made, also the edits that its messages ask
+    /// for; others are refused, and there is nothing to undo or redo.
     ///
     /// # Errors
     ///

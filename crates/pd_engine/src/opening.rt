@@ -13,7 +13,7 @@ ghost use Rattle.pd_say.specs.Gathering.{HasCause};
 ghost use Rattle.pd_engine.specs.Causes.{HasOpeningCauses};
 ghost use Rattle.pd_stage.specs.Events.{event, Loading};
 ghost use Rattle.pd_stage.specs.Leads.{sinks, Comes, Stops};
-ghost use Rattle.pd_web.specs.Changes.{wires_told};
+ghost use Rattle.pd_web.specs.Changes.{wires_told, Meet};
 ghost use Rattle.pd_boxes.specs.Put.{CanPut};
 ghost use Rattle.pd_adding.specs.Coming.{own_zero};
 ghost use Rattle.pd_adding.specs.Counts.{AreWithin};
@@ -291,6 +291,7 @@ fn begin<H: Shelf, L: Sink>(
     lines: &mut L,
 ) -> Result<Engine, OpenRefusal>
     requires can { CanPut patch }
+    requires meet { Meet patch.web }
     requires counted { counts.wires ≡ wires_told patch.web }
     requires within { AreWithin counts }
     requires zero { own_zero patch ≤ 1000000000 }

@@ -1,5 +1,5 @@
 -- The edit that a change and a text are.
-use Rattle.std.specs.Prelude.{Bool, true, false, List}
+use Rattle.std.specs.Prelude.{ℕ, Bool, true, false, List, Option, Some, None}
 use Rattle.pd_atom.specs.declared.Atom.{Atom}
 use Rattle.pd_canvas.specs.declared.edits.Edit.{Edit}
 use Rattle.pd_canvas.specs.declared.edits.Edit.TheVariants as edit
@@ -24,3 +24,8 @@ puts_box (edit.Delete number) = false
 puts_box (edit.Retype number text) = false
 puts_box (edit.Move number x y) = false
 puts_box e = true
+
+-- the number of the box that an edit deletes
+abbrev pub deleted : Edit → Option ℕ
+deleted (edit.Delete number) = Some number
+deleted e = None

@@ -3,7 +3,7 @@
 ghost use Rattle.std.specs.Prelude.{◌≡◌, IfOk};
 ghost use Rattle.pd_queue.specs.Entries.{wire_edit};
 ghost use Rattle.pd_script.specs.Changes.{made_box as made_box_of};
-ghost use Rattle.pd_script.specs.Edits.{edit_of, puts_box};
+ghost use Rattle.pd_script.specs.Edits.{edit_of, puts_box, deleted};
 
 use crate::changes::{BoxVerb, Change};
 use crate::lists::{CommandAtoms, CommandPath};
@@ -80,6 +80,27 @@ impl CommandEdit {
             | Change::Delete { .. }
             | Change::Retype { .. }
             | Change::Move { .. } => false,
+        }
+    }
+
+    /// The number of the box that the edit deletes, where it deletes one.
+    pub fn deleted(&self) -> Option<u32>
+        ensures { result ≡ deleted self.now }
+    {
+        match self.change {
+            Change::Delete { number } => Some(number),
+            Change::Box { shape, .. } => match shape {
+                BoxVerb::Obj
+                | BoxVerb::Msg
+                | BoxVerb::Text
+                | BoxVerb::FloatAtom
+                | BoxVerb::SymbolAtom
+                | BoxVerb::Sub => None,
+            },
+            Change::Connect { .. }
+            | Change::Disconnect { .. }
+            | Change::Retype { .. }
+            | Change::Move { .. } => None,
         }
     }
 

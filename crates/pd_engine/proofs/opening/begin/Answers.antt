@@ -35,6 +35,9 @@ returns-clause-err g c =
 pub invariant_of-engine-clause-puts : goal.invariant_of-engine-clause-puts
 invariant_of-engine-clause-puts g c = ∣ c.requires.can ∣₁
 
+pub invariant_of-engine-clause-meet : goal.invariant_of-engine-clause-meet
+invariant_of-engine-clause-meet g c = ∣ c.requires.meet ∣₁
+
 pub invariant_of-engine-clause-within : goal.invariant_of-engine-clause-within
 invariant_of-engine-clause-within g c = ∣ c.requires.within ∣₁
 

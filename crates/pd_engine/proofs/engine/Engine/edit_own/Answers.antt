@@ -1,11 +1,11 @@
 use Rattle.std.proofs.Common.{◌≡◌, false, refl, sym, ◌∙◌, inl}
 use Rattle.std.specs.Prelude.{None}
 use Rattle.std.proofs.lemmas.Result.{on_err_weaker}
-use Rattle.pd_script.specs.Edits.{puts_box}
+use Rattle.pd_script.specs.Edits.{puts_box, deleted}
 use Rattle.pd_stage.specs.Choices.{base_of, Edits}
 use Rattle.pd_engine.specs.Stages.{stage_at}
 use Rattle.pd_engine.proofs.CommandLemmas.{if_ok_weaker}
-use Rattle.pd_engine.proofs.RewireLemmas.{IsKept, puts_sure}
+use Rattle.pd_engine.proofs.RewireLemmas.{IsKept, puts_sure, ready_sure}
 use Rattle.pd_engine.proofs.MakingLemmas.{own_wire, edited_so, edited_part, edits_kept, edits_within}
 use Rattle.pd_engine.proofs.engine.Engine.edit_own.Goals as goal
 
@@ -21,9 +21,10 @@ invariant_of-self g c =
     let d = c.make-done.ensures.edits c.args.edit.now (sym c.wire_edit.ensures) in
     let k : IsKept c.make-done.new.patch (record e.counts { wires = c.make-done.new.wires }) =
     edits_kept e.patch c.make-done.new.patch e.counts c.make-done.new.wires c.args.path.now c.args.edit.now c.make-done.result c.args.steps.now c.make-done.new.steps d c.make-done.ensures.rewires
-    c.make-done.ensures.counted (record { puts = e.puts; counted = e.counted; zero = e.zero }) in
+    c.make-done.ensures.counted (record { puts = e.puts; meet = e.meet; counted = e.counted; zero = e.zero }) in
     record {
       puts = k.puts;
+      meet = k.meet;
       counted = k.counted;
       within = edits_within e.patch c.make-done.new.patch e.counts c.make-done.new.wires c.args.path.now c.args.edit.now c.make-done.result c.args.steps.now c.make-done.new.steps d e.counted
           c.make-done.ensures.counted e.within;
@@ -35,16 +36,18 @@ pub returns-clause-ok : goal.returns-clause-ok
 returns-clause-ok g c =
     let e = c.args.self.now in
     let none : puts_box c.args.edit.now ≡ false = sym c.puts_box.ensures ∙ c.if-puts_box.false in
+    let stays : deleted c.args.edit.now ≡ None = sym c.deleted.ensures ∙ c.in_default.is in
     if_ok_weaker c.tell.result (λ o so samples. so samples (g.H.Shelf.holds c.args.shelf.now) (g.H.Shelf.faults c.args.shelf.now))
-    (edited_so c.tell.result (Edits None c.args.path.now c.args.edit.now) c.args.path.now c.args.edit.now (own_wire (Edits None c.args.path.now c.args.edit.now) c.args.path.now c.args.edit.now (inl refl) none) e.file.items e.symbols (base_of e.library e.counts) e.time e.block_end e.fired e.tally
+    (edited_so c.tell.result (Edits None c.args.path.now c.args.edit.now) c.args.path.now c.args.edit.now (own_wire (Edits None c.args.path.now c.args.edit.now) c.args.path.now c.args.edit.now (inl refl) none stays) e.file.items e.symbols (base_of e.library e.counts) e.time e.block_end e.fired e.tally
     e.patch c.make-done.new.patch c.make-done.new.wires e.counted c.make-done.ensures.counted (stage_at c.tell.new.self) c.make-done.result (g.L.Sink.taken c.args.lines.now) (g.L.Sink.taken c.tell.new.lines) c.args.steps.now c.make-done.new.steps
-    (puts_sure e.patch e.puts) c.make-done.ensures.rewires (c.make-done.ensures.edits c.args.edit.now (sym c.wire_edit.ensures)) c.tell.ensures.stage c.tell.ensures.ok c.tell.ensures.answer)
+    (ready_sure e.patch e.puts e.meet) c.make-done.ensures.rewires (c.make-done.ensures.edits c.args.edit.now (sym c.wire_edit.ensures)) c.tell.ensures.stage c.tell.ensures.ok c.tell.ensures.answer)
 
 pub returns-clause-err : goal.returns-clause-err
 returns-clause-err g c =
     let e = c.args.self.now in
     let none : puts_box c.args.edit.now ≡ false = sym c.puts_box.ensures ∙ c.if-puts_box.false in
+    let stays : deleted c.args.edit.now ≡ None = sym c.deleted.ensures ∙ c.in_default.is in
     on_err_weaker c.tell.result (λ so samples. so samples (g.H.Shelf.holds c.args.shelf.now) (g.H.Shelf.faults c.args.shelf.now))
-    (edited_part c.tell.result (Edits None c.args.path.now c.args.edit.now) c.args.path.now c.args.edit.now (own_wire (Edits None c.args.path.now c.args.edit.now) c.args.path.now c.args.edit.now (inl refl) none) e.file.items e.symbols (base_of e.library e.counts) e.time e.block_end e.fired e.tally
+    (edited_part c.tell.result (Edits None c.args.path.now c.args.edit.now) c.args.path.now c.args.edit.now (own_wire (Edits None c.args.path.now c.args.edit.now) c.args.path.now c.args.edit.now (inl refl) none stays) e.file.items e.symbols (base_of e.library e.counts) e.time e.block_end e.fired e.tally
     e.patch c.make-done.new.patch c.make-done.new.wires e.counted c.make-done.ensures.counted (stage_at c.tell.new.self) c.make-done.result (g.L.Sink.taken c.args.lines.now) (g.L.Sink.taken c.tell.new.lines) c.args.steps.now c.make-done.new.steps
-    (puts_sure e.patch e.puts) c.make-done.ensures.rewires (c.make-done.ensures.edits c.args.edit.now (sym c.wire_edit.ensures)) c.tell.ensures.stage c.tell.ensures.err)
+    (ready_sure e.patch e.puts e.meet) c.make-done.ensures.rewires (c.make-done.ensures.edits c.args.edit.now (sym c.wire_edit.ensures)) c.tell.ensures.stage c.tell.ensures.err)

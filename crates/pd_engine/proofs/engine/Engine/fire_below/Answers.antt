@@ -14,8 +14,8 @@ pub invariant_of-self : goal.invariant_of-self
 invariant_of-self g c =
     let e = c.loop-self.self in
     let k : IsKept c.next_clock.new.self e.counts =
-    clock_kept e.patch c.next_clock.new.self e.counts c.next_clock.ensures.tree c.next_clock.ensures.rest (record { puts = e.puts; counted = e.counted; zero = e.zero }) in
-    record { puts = k.puts; counted = k.counted; within = e.within; zero = k.zero; found = e.found }
+    clock_kept e.patch c.next_clock.new.self e.counts c.next_clock.ensures.tree c.next_clock.ensures.rest (record { puts = e.puts; meet = e.meet; counted = e.counted; zero = e.zero }) in
+    record { puts = k.puts; meet = k.meet; counted = k.counted; within = e.within; zero = k.zero; found = e.found }
 
 pub loop-self-init : goal.loop-self-init
 loop-self-init g c = record {

@@ -6,7 +6,7 @@ use Rattle.pd_script.specs.Edits.{puts_box}
 use Rattle.pd_wiring.specs.declared.refusals.EditRefusal.TheVariants.{NoMemory}
 use Rattle.pd_stage.specs.Leads.{sinks}
 use Rattle.pd_engine.specs.Stages.{stage_at}
-use Rattle.pd_engine.proofs.RewireLemmas.{puts_sure}
+use Rattle.pd_engine.proofs.RewireLemmas.{ready_sure}
 use Rattle.pd_engine.proofs.PuttingLemmas.{no_fault, unput_answered, unput_torn, asked_so, asked_torn, any_asked_so, any_asked_torn}
 use Rattle.pd_engine.proofs.engine.Engine.put_asked.Goals as goal
 
@@ -40,7 +40,7 @@ returns-in-Err-clause-ok g c =
     (λ samples. sinks (g.L.Sink.taken c.args.lines.now) samples c.args.steps.now (g.H.Shelf.holds c.args.shelf.now) (g.H.Shelf.faults c.args.shelf.now))
     (λ samples. sinks (g.L.Sink.taken c.tell.new.lines) samples c.args.steps.now (g.H.Shelf.holds c.args.shelf.now) (g.H.Shelf.faults c.args.shelf.now))
     (IsCopy c.args.copied)
-    (λ path edit one. unput_answered c.tell.result path edit one e.file.items e.symbols e.library e.counts e.time e.block_end e.fired e.tally e.patch e.patch (puts_sure e.patch e.puts)
+    (λ path edit one. unput_answered c.tell.result path edit one e.file.items e.symbols e.library e.counts e.time e.block_end e.fired e.tally e.patch e.patch (ready_sure e.patch e.puts e.meet)
     (g.L.Sink.taken c.args.lines.now) (g.L.Sink.taken c.tell.new.lines) c.args.steps.now c.args.steps.now refl (g.H.Shelf.holds c.args.shelf.now) (g.H.Shelf.holds c.args.shelf.now)
     (g.H.Shelf.faults c.args.shelf.now) (g.H.Shelf.faults c.args.shelf.now) refl (omega arith) (stage_at c.tell.new.self) NoMemory (λ is. absurd (no_fault is)) (inl (refl, inl refl))
     e.symbols e.library refl refl c.tell.ensures.stage c.tell.ensures.ok c.tell.ensures.answer)
@@ -52,6 +52,6 @@ returns-in-Err-clause-err g c =
     (λ samples. sinks (g.L.Sink.taken c.args.lines.now) samples c.args.steps.now (g.H.Shelf.holds c.args.shelf.now) (g.H.Shelf.faults c.args.shelf.now))
     (λ samples. sinks (g.L.Sink.taken c.tell.new.lines) samples c.args.steps.now (g.H.Shelf.holds c.args.shelf.now) (g.H.Shelf.faults c.args.shelf.now))
     (IsCopy c.args.copied)
-    (λ path edit one. unput_torn c.tell.result path edit one e.file.items e.symbols e.library e.counts e.time e.block_end e.fired e.tally e.patch e.patch (puts_sure e.patch e.puts)
+    (λ path edit one. unput_torn c.tell.result path edit one e.file.items e.symbols e.library e.counts e.time e.block_end e.fired e.tally e.patch e.patch (ready_sure e.patch e.puts e.meet)
     (g.L.Sink.taken c.args.lines.now) (g.L.Sink.taken c.tell.new.lines) c.args.steps.now c.args.steps.now refl (g.H.Shelf.holds c.args.shelf.now) (g.H.Shelf.holds c.args.shelf.now)
     (g.H.Shelf.faults c.args.shelf.now) (g.H.Shelf.faults c.args.shelf.now) refl (omega arith) (stage_at c.tell.new.self) NoMemory (λ is. absurd (no_fault is)) (inl (refl, inl refl)) c.tell.ensures.err)

@@ -3,7 +3,8 @@ use Rattle.pd_gather.specs.Gather.{known}
 use Rattle.pd_wiring.specs.declared.refusals.EditRefusal.{EditRefusal}
 use Rattle.pd_putting.specs.Adds.{AddsBox, IsNotAdded}
 use Rattle.pd_engine.specs.Stages.{stage_at}
-use Rattle.pd_engine.proofs.RewireLemmas.{puts_sure, within_sure}
+use Rattle.pd_engine.proofs.RewireLemmas.{puts_sure, ready_sure, within_sure}
+use Rattle.pd_engine.proofs.MakingLemmas.{put_meet, unput_meet}
 use Rattle.pd_engine.proofs.ProperLemmas.{found_sure}
 use Rattle.pd_engine.proofs.PuttingLemmas.{put_answered, put_torn, unput_answered, unput_torn}
 use Rattle.pd_engine.proofs.engine.Engine.put_copied.Goals as goal
@@ -20,6 +21,8 @@ add_box-done-requires-clause-found g c = found_sure c.args.self.now.symbols c.ar
 pub invariant_of-self : goal.invariant_of-self
 invariant_of-self g c = record {
   puts = ∣ c.add_box-done.ensures.goes_on ∣₁;
+  meet = put_meet c.args.self.now.patch c.add_box-done.new.patch c.args.self.now.counts _ c.args.path.now c.args.self.now.time c.args.edit.now (known c.args.self.now.library c.args.self.now.symbols)
+      (known c.add_box-done.new.library c.add_box-done.new.symbols) c.in-Ok.added c.in-Ok.ensures.added c.args.self.now.meet;
   counted = c.in-Ok.ensures.counted;
   within = ∣ c.in-Ok.ensures.within ∣₁;
   zero = subst (λ (n : ℕ). n ≤ 1000000000) (sym c.add_box-done.ensures.zero) c.args.self.now.zero;
@@ -29,6 +32,8 @@ invariant_of-self g c = record {
 pub invariant_of-self-in-Err-1 : goal.invariant_of-self-in-Err-1
 invariant_of-self-in-Err-1 g c = record {
   puts = ∣ c.add_box-done.ensures.goes_on ∣₁;
+  meet = unput_meet c.args.self.now.patch c.add_box-done.new.patch c.args.self.now.counts _ c.args.path.now c.args.edit.now (known c.args.self.now.library c.args.self.now.symbols)
+      c.in-Err.why c.in-Err.ensures.refused c.args.self.now.meet;
   counted = c.args.self.now.counted ∙ sym c.in-Err.ensures.as_many;
   within = c.args.self.now.within;
   zero = subst (λ (n : ℕ). n ≤ 1000000000) (sym c.add_box-done.ensures.zero) c.args.self.now.zero;
@@ -41,7 +46,7 @@ returns-in-Ok-clause-ok g c =
     let adds : AddsBox e.patch c.add_box-done.new.patch e.counts e.file.items c.args.path.now e.time c.args.edit.now (known e.library e.symbols) (known c.add_box-done.new.library c.add_box-done.new.symbols) c.in-Ok.added =
     subst (λ (n : List ℕ). AddsBox e.patch c.add_box-done.new.patch e.counts n c.args.path.now e.time c.args.edit.now (known e.library e.symbols) (known c.add_box-done.new.library c.add_box-done.new.symbols) c.in-Ok.added)
     c.as_slice.ensures.value c.in-Ok.ensures.added in
-    put_answered c.tell_put.result c.args.path.now c.args.edit.now c.requires e.file.items e.symbols e.library e.counts e.time e.block_end e.fired e.tally e.patch c.add_box-done.new.patch (puts_sure e.patch e.puts)
+    put_answered c.tell_put.result c.args.path.now c.args.edit.now c.requires e.file.items e.symbols e.library e.counts e.time e.block_end e.fired e.tally e.patch c.add_box-done.new.patch (ready_sure e.patch e.puts e.meet)
     (g.L.Sink.taken c.args.lines.now) (g.L.Sink.taken c.tell_put.new.lines) c.args.steps.now c.add_box-done.new.steps c.add_box-done.ensures.looks (g.H.Shelf.holds c.args.shelf.now) (g.H.Shelf.holds c.add_box-done.new.shelf)
     (g.H.Shelf.faults c.args.shelf.now) (g.H.Shelf.faults c.add_box-done.new.shelf) c.add_box-done.ensures.kept c.add_box-done.ensures.shelf_counted (stage_at c.tell_put.new.self)
     c.add_box-done.new.symbols c.add_box-done.new.library c.in-Ok.added adds c.add_box-done.ensures.extends c.in-Ok.ensures.within c.tell_put.ensures.stage c.tell_put.ensures.ok c.tell_put.ensures.answer
@@ -52,7 +57,7 @@ returns-in-Ok-clause-err g c =
     let adds : AddsBox e.patch c.add_box-done.new.patch e.counts e.file.items c.args.path.now e.time c.args.edit.now (known e.library e.symbols) (known c.add_box-done.new.library c.add_box-done.new.symbols) c.in-Ok.added =
     subst (λ (n : List ℕ). AddsBox e.patch c.add_box-done.new.patch e.counts n c.args.path.now e.time c.args.edit.now (known e.library e.symbols) (known c.add_box-done.new.library c.add_box-done.new.symbols) c.in-Ok.added)
     c.as_slice.ensures.value c.in-Ok.ensures.added in
-    put_torn c.tell_put.result c.args.path.now c.args.edit.now c.requires e.file.items e.symbols e.library e.counts e.time e.block_end e.fired e.tally e.patch c.add_box-done.new.patch (puts_sure e.patch e.puts)
+    put_torn c.tell_put.result c.args.path.now c.args.edit.now c.requires e.file.items e.symbols e.library e.counts e.time e.block_end e.fired e.tally e.patch c.add_box-done.new.patch (ready_sure e.patch e.puts e.meet)
     (g.L.Sink.taken c.args.lines.now) (g.L.Sink.taken c.tell_put.new.lines) c.args.steps.now c.add_box-done.new.steps c.add_box-done.ensures.looks (g.H.Shelf.holds c.args.shelf.now) (g.H.Shelf.holds c.add_box-done.new.shelf)
     (g.H.Shelf.faults c.args.shelf.now) (g.H.Shelf.faults c.add_box-done.new.shelf) c.add_box-done.ensures.kept c.add_box-done.ensures.shelf_counted (stage_at c.tell_put.new.self)
     c.add_box-done.new.symbols c.add_box-done.new.library c.in-Ok.added adds c.add_box-done.ensures.extends c.in-Ok.ensures.within c.tell_put.ensures.err
@@ -62,7 +67,7 @@ returns-in-Err-clause-ok g c =
     let e = c.args.self.now in
     let refused : IsNotAdded e.patch c.add_box-done.new.patch e.counts e.file.items c.args.path.now c.args.edit.now (known e.library e.symbols) c.in-Err.why =
     subst (λ (n : List ℕ). IsNotAdded e.patch c.add_box-done.new.patch e.counts n c.args.path.now c.args.edit.now (known e.library e.symbols) c.in-Err.why) c.as_slice.ensures.value c.in-Err.ensures.refused in
-    unput_answered c.tell.result c.args.path.now c.args.edit.now c.requires e.file.items e.symbols e.library e.counts e.time e.block_end e.fired e.tally e.patch c.add_box-done.new.patch (puts_sure e.patch e.puts)
+    unput_answered c.tell.result c.args.path.now c.args.edit.now c.requires e.file.items e.symbols e.library e.counts e.time e.block_end e.fired e.tally e.patch c.add_box-done.new.patch (ready_sure e.patch e.puts e.meet)
     (g.L.Sink.taken c.args.lines.now) (g.L.Sink.taken c.tell.new.lines) c.args.steps.now c.add_box-done.new.steps c.add_box-done.ensures.looks (g.H.Shelf.holds c.args.shelf.now) (g.H.Shelf.holds c.add_box-done.new.shelf)
     (g.H.Shelf.faults c.args.shelf.now) (g.H.Shelf.faults c.add_box-done.new.shelf) c.add_box-done.ensures.kept c.add_box-done.ensures.shelf_counted (stage_at c.tell.new.self)
     c.in-Err.why (λ is. c.in-Err.ensures.cause (ap (λ (x : EditRefusal). Err x) is)) refused c.add_box-done.new.symbols c.add_box-done.new.library c.in-Err.ensures.names c.in-Err.ensures.library
@@ -73,7 +78,7 @@ returns-in-Err-clause-err g c =
     let e = c.args.self.now in
     let refused : IsNotAdded e.patch c.add_box-done.new.patch e.counts e.file.items c.args.path.now c.args.edit.now (known e.library e.symbols) c.in-Err.why =
     subst (λ (n : List ℕ). IsNotAdded e.patch c.add_box-done.new.patch e.counts n c.args.path.now c.args.edit.now (known e.library e.symbols) c.in-Err.why) c.as_slice.ensures.value c.in-Err.ensures.refused in
-    unput_torn c.tell.result c.args.path.now c.args.edit.now c.requires e.file.items e.symbols e.library e.counts e.time e.block_end e.fired e.tally e.patch c.add_box-done.new.patch (puts_sure e.patch e.puts)
+    unput_torn c.tell.result c.args.path.now c.args.edit.now c.requires e.file.items e.symbols e.library e.counts e.time e.block_end e.fired e.tally e.patch c.add_box-done.new.patch (ready_sure e.patch e.puts e.meet)
     (g.L.Sink.taken c.args.lines.now) (g.L.Sink.taken c.tell.new.lines) c.args.steps.now c.add_box-done.new.steps c.add_box-done.ensures.looks (g.H.Shelf.holds c.args.shelf.now) (g.H.Shelf.holds c.add_box-done.new.shelf)
     (g.H.Shelf.faults c.args.shelf.now) (g.H.Shelf.faults c.add_box-done.new.shelf) c.add_box-done.ensures.kept c.add_box-done.ensures.shelf_counted (stage_at c.tell.new.self)
     c.in-Err.why (λ is. c.in-Err.ensures.cause (ap (λ (x : EditRefusal). Err x) is)) refused c.tell.ensures.err

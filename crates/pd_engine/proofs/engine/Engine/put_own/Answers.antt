@@ -10,7 +10,7 @@ use Rattle.pd_stage.specs.Leads.{sinks, Stops}
 use Rattle.pd_engine.specs.Edits.{IsEdited}
 use Rattle.pd_engine.specs.Stages.{stage_at}
 use Rattle.pd_engine.proofs.CommandLemmas.{if_ok_weaker}
-use Rattle.pd_engine.proofs.RewireLemmas.{puts_sure}
+use Rattle.pd_engine.proofs.RewireLemmas.{ready_sure}
 use Rattle.pd_engine.proofs.PuttingLemmas.{no_fault, unput_answered, unput_torn}
 use Rattle.pd_engine.proofs.engine.Engine.put_own.Goals as goal
 
@@ -37,7 +37,7 @@ pub returns-in-Err-clause-ok : goal.returns-in-Err-clause-ok
 returns-in-Err-clause-ok g c =
     let e = c.args.self.now in
     if_ok_weaker c.tell.result (λ o so. so (Edits None c.args.path.now c.args.edit.now) (inl refl))
-    (unput_answered c.tell.result c.args.path.now c.args.edit.now c.requires e.file.items e.symbols e.library e.counts e.time e.block_end e.fired e.tally e.patch e.patch (puts_sure e.patch e.puts)
+    (unput_answered c.tell.result c.args.path.now c.args.edit.now c.requires e.file.items e.symbols e.library e.counts e.time e.block_end e.fired e.tally e.patch e.patch (ready_sure e.patch e.puts e.meet)
     (g.L.Sink.taken c.args.lines.now) (g.L.Sink.taken c.tell.new.lines) c.args.steps.now c.args.steps.now refl (g.H.Shelf.holds c.args.shelf.now) (g.H.Shelf.holds c.args.shelf.now)
     (g.H.Shelf.faults c.args.shelf.now) (g.H.Shelf.faults c.args.shelf.now) refl (omega arith) (stage_at c.tell.new.self) NoMemory (λ is. absurd (no_fault is)) (inl (refl, inl refl))
     e.symbols e.library refl refl c.tell.ensures.stage c.tell.ensures.ok c.tell.ensures.answer)
@@ -46,6 +46,6 @@ pub returns-in-Err-clause-err : goal.returns-in-Err-clause-err
 returns-in-Err-clause-err g c =
     let e = c.args.self.now in
     on_err_weaker c.tell.result (λ so. so (Edits None c.args.path.now c.args.edit.now) (inl refl))
-    (unput_torn c.tell.result c.args.path.now c.args.edit.now c.requires e.file.items e.symbols e.library e.counts e.time e.block_end e.fired e.tally e.patch e.patch (puts_sure e.patch e.puts)
+    (unput_torn c.tell.result c.args.path.now c.args.edit.now c.requires e.file.items e.symbols e.library e.counts e.time e.block_end e.fired e.tally e.patch e.patch (ready_sure e.patch e.puts e.meet)
     (g.L.Sink.taken c.args.lines.now) (g.L.Sink.taken c.tell.new.lines) c.args.steps.now c.args.steps.now refl (g.H.Shelf.holds c.args.shelf.now) (g.H.Shelf.holds c.args.shelf.now)
     (g.H.Shelf.faults c.args.shelf.now) (g.H.Shelf.faults c.args.shelf.now) refl (omega arith) (stage_at c.tell.new.self) NoMemory (λ is. absurd (no_fault is)) (inl (refl, inl refl)) c.tell.ensures.err)

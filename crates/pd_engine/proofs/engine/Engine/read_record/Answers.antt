@@ -6,6 +6,7 @@ invariant_of-self c =
     let e = c.args.self.now in
     record {
       puts = e.puts;
+      meet = e.meet;
       counted = e.counted;
       within = e.within;
       zero = e.zero;

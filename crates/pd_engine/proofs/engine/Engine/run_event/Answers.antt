@@ -16,9 +16,9 @@ use Rattle.pd_engine.proofs.engine.Engine.run_event.Goals as goal
 pub invariant_of-self : goal.invariant_of-self
 invariant_of-self g c =
     let e = c.args.self.now in
-    let k : IsKept c.set_now.new.self e.counts = now_kept e.patch c.set_now.new.self e.counts c.set_now.ensures.rest (record { puts = e.puts; counted = e.counted; zero = e.zero }) in
+    let k : IsKept c.set_now.new.self e.counts = now_kept e.patch c.set_now.new.self e.counts c.set_now.ensures.rest (record { puts = e.puts; meet = e.meet; counted = e.counted; zero = e.zero }) in
     let l : IsKept c.deliver-delivered.new.patch e.counts = net_kept c.set_now.new.self c.deliver-delivered.new.patch e.counts c.deliver-delivered.ensures.net k in
-    record { puts = l.puts; counted = l.counted; within = e.within; zero = l.zero; found = found_more c.args.self.now.symbols c.deliver-delivered.new.symbols e.library c.deliver-delivered.ensures.extends c.len-before.ensures.table c.len-after.ensures.table e.found }
+    record { puts = l.puts; meet = l.meet; counted = l.counted; within = e.within; zero = l.zero; found = found_more c.args.self.now.symbols c.deliver-delivered.new.symbols e.library c.deliver-delivered.ensures.extends c.len-before.ensures.table c.len-after.ensures.table e.found }
 
 pub take_queued-requires : goal.take_queued-requires
 take_queued-requires g c =

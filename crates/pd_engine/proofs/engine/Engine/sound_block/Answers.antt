@@ -14,8 +14,8 @@ use Rattle.pd_engine.proofs.engine.Engine.sound_block.Goals as goal
 pub invariant_of-self : goal.invariant_of-self
 invariant_of-self g c =
     let e = c.args.self.now in
-    let k : IsKept c.run_block.new.patch e.counts = block_kept e.patch c.run_block.new.patch e.counts c.run_block.ensures.net (record { puts = e.puts; counted = e.counted; zero = e.zero }) in
-    record { puts = k.puts; counted = k.counted; within = e.within; zero = k.zero; found = e.found }
+    let k : IsKept c.run_block.new.patch e.counts = block_kept e.patch c.run_block.new.patch e.counts c.run_block.ensures.net (record { puts = e.puts; meet = e.meet; counted = e.counted; zero = e.zero }) in
+    record { puts = k.puts; meet = k.meet; counted = k.counted; within = e.within; zero = k.zero; found = e.found }
 
 pub returns-clause-ok : goal.returns-clause-ok
 returns-clause-ok g c =

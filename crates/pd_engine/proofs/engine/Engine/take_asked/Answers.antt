@@ -11,8 +11,8 @@ use Rattle.pd_stage.specs.Leads.{sinks, Comes, Stops}
 use Rattle.pd_engine.specs.Stages.{stage_at}
 use Rattle.pd_engine.proofs.AskedLemmas.{asked_at}
 use Rattle.pd_engine.proofs.CommandLemmas.{if_ok_weaker, if_ok_both}
-use Rattle.pd_engine.proofs.RewireLemmas.{IsKept, puts_sure}
-use Rattle.pd_engine.proofs.MakingLemmas.{own_wire, wire_puts_none, says_edit, part_edit, edits_kept, edits_within}
+use Rattle.pd_engine.proofs.RewireLemmas.{IsKept, puts_sure, ready_sure}
+use Rattle.pd_engine.proofs.MakingLemmas.{own_wire, wire_puts_none, wire_deletes_none, says_edit, part_edit, edits_kept, edits_within}
 use Rattle.pd_engine.proofs.engine.Engine.take_asked.Goals as goal
 
 pub make-done-requires-clause-rewires : goal.make-done-requires-clause-rewires
@@ -24,9 +24,10 @@ invariant_of-self-2 g c =
     let d = c.make-done.ensures.edits c.in-Some.asked.now.1 (sym c.wire_edit.ensures ∙ c.in-Some-wire_edit.is) in
     let k : IsKept c.make-done.new.patch (record e.counts { wires = c.make-done.new.wires }) =
     edits_kept e.patch c.make-done.new.patch e.counts c.make-done.new.wires c.path.result.now c.in-Some.asked.now.1 c.make-done.result c.args.steps.now c.make-done.new.steps d c.make-done.ensures.rewires
-    c.make-done.ensures.counted (record { puts = e.puts; counted = e.counted; zero = e.zero }) in
+    c.make-done.ensures.counted (record { puts = e.puts; meet = e.meet; counted = e.counted; zero = e.zero }) in
     record {
       puts = k.puts;
+      meet = k.meet;
       counted = k.counted;
       within = edits_within e.patch c.make-done.new.patch e.counts c.make-done.new.wires c.path.result.now c.in-Some.asked.now.1 c.make-done.result c.args.steps.now c.make-done.new.steps d e.counted
           c.make-done.ensures.counted e.within;
@@ -77,9 +78,9 @@ returns-in_err-tell-clause-err g c =
     (subst (λ (path : List ℕ). Stops (edit_taken (Asks path asked.1)) (stage_at e) (sinks (g.L.Sink.taken c.args.lines.now) samples c.args.steps.now (g.H.Shelf.holds c.args.shelf.now) (g.H.Shelf.faults c.args.shelf.now))
     (sinks (g.L.Sink.taken c.tell.new.lines) samples c.make-done.new.steps (g.H.Shelf.holds c.args.shelf.now) (g.H.Shelf.faults c.args.shelf.now)))
     c.path.ensures
-    (part_edit c.tell.result (Asks c.path.result.now asked.1) c.path.result.now asked.1 (own_wire (Asks c.path.result.now asked.1) c.path.result.now asked.1 (inr refl) (wire_puts_none asked.1 c.in-Some-wire_edit.edit some)) e.file.items e.symbols (base_of e.library e.counts) e.time e.block_end e.fired e.tally e.patch c.make-done.new.patch c.make-done.new.wires e.counted c.make-done.ensures.counted (stage_at c.tell.new.self)
+    (part_edit c.tell.result (Asks c.path.result.now asked.1) c.path.result.now asked.1 (own_wire (Asks c.path.result.now asked.1) c.path.result.now asked.1 (inr refl) (wire_puts_none asked.1 c.in-Some-wire_edit.edit some) (wire_deletes_none asked.1 c.in-Some-wire_edit.edit some)) e.file.items e.symbols (base_of e.library e.counts) e.time e.block_end e.fired e.tally e.patch c.make-done.new.patch c.make-done.new.wires e.counted c.make-done.ensures.counted (stage_at c.tell.new.self)
     c.make-done.result (g.L.Sink.taken c.args.lines.now) (g.L.Sink.taken c.tell.new.lines) c.args.steps.now c.make-done.new.steps
-    (puts_sure e.patch e.puts) c.make-done.ensures.rewires (c.make-done.ensures.edits asked.1 some) c.in_err-tell.ensures.stage c.in_err-tell.ensures.err
+    (ready_sure e.patch e.puts e.meet) c.make-done.ensures.rewires (c.make-done.ensures.edits asked.1 some) c.in_err-tell.ensures.stage c.in_err-tell.ensures.err
     samples (g.H.Shelf.holds c.args.shelf.now) (g.H.Shelf.faults c.args.shelf.now))))
 
 pub returns-clause-ok : goal.returns-clause-ok
@@ -93,7 +94,7 @@ returns-clause-ok g c = λ d samples.
     (subst (λ (path : List ℕ). Comes (edit_taken (Asks path asked.1)) (stage_at e) (stage_at c.tell.new.self) (sinks (g.L.Sink.taken c.args.lines.now) samples c.args.steps.now (g.H.Shelf.holds c.args.shelf.now) (g.H.Shelf.faults c.args.shelf.now))
     (sinks (g.L.Sink.taken c.tell.new.lines) samples c.make-done.new.steps (g.H.Shelf.holds c.args.shelf.now) (g.H.Shelf.faults c.args.shelf.now)))
     c.path.ensures
-    (says_edit c.tell.result (Asks c.path.result.now asked.1) c.path.result.now asked.1 (own_wire (Asks c.path.result.now asked.1) c.path.result.now asked.1 (inr refl) (wire_puts_none asked.1 c.in-Some-wire_edit.edit some)) e.file.items e.symbols (base_of e.library e.counts) e.time e.block_end e.fired e.tally e.patch c.make-done.new.patch c.make-done.new.wires e.counted c.make-done.ensures.counted (stage_at c.tell.new.self)
+    (says_edit c.tell.result (Asks c.path.result.now asked.1) c.path.result.now asked.1 (own_wire (Asks c.path.result.now asked.1) c.path.result.now asked.1 (inr refl) (wire_puts_none asked.1 c.in-Some-wire_edit.edit some) (wire_deletes_none asked.1 c.in-Some-wire_edit.edit some)) e.file.items e.symbols (base_of e.library e.counts) e.time e.block_end e.fired e.tally e.patch c.make-done.new.patch c.make-done.new.wires e.counted c.make-done.ensures.counted (stage_at c.tell.new.self)
     c.make-done.result (g.L.Sink.taken c.args.lines.now) (g.L.Sink.taken c.tell.new.lines) c.args.steps.now c.make-done.new.steps
-    (puts_sure e.patch e.puts) c.make-done.ensures.rewires (c.make-done.ensures.edits asked.1 some) c.in_ok-tell.ensures.stage c.in_ok-tell.ensures.ok
+    (ready_sure e.patch e.puts e.meet) c.make-done.ensures.rewires (c.make-done.ensures.edits asked.1 some) c.in_ok-tell.ensures.stage c.in_ok-tell.ensures.ok
     samples (g.H.Shelf.holds c.args.shelf.now) (g.H.Shelf.faults c.args.shelf.now)))
