@@ -1,14 +1,16 @@
--- In a run in which each edit is lawful the boxes that were there, and that no edit takes out, go on keeping what is of the same objects.
-use Rattle.std.proofs.Common.{◌≡◌, inl, inr, ◌+◌, ◌-◌, ℕ, zero, suc, Bool, true, false, nat_le, if◌then◌else◌, List, [], ◌∷◌, ◌++◌, Option, Some, None, IsSome, option_map, refl, sym, subst, ◌∙◌}
+-- In a run in which each edit is lawful the boxes that were there, and that no edit deletes, go on keeping what is of the same objects.
+use Rattle.std.proofs.Common.{◌≡◌, ◌≢◌, ◌+◌, ◌-◌, ℕ, zero, suc, Bool, true, false, nat_le, if◌then◌else◌, List, [], ◌∷◌, ◌++◌, Option, Some, None, IsSome, option_map, refl, sym, ap, subst, ◌∙◌}
 use Rattle.std.proofs.lemmas.Option.{none-some}
 use Rattle.pd_atom.specs.Names.{Names}
 use Rattle.pd_canvas.specs.declared.edits.Edit.{Edit}
+use Rattle.pd_canvas.specs.declared.edits.Edit.TheVariants as edit
 use Rattle.pd_clock.specs.Queue.{Clock}
 use Rattle.pd_script.specs.declared.commands.Command.{Command}
 use Rattle.pd_script.specs.declared.commands.Command.TheVariants as command
 use Rattle.pd_kind.specs.declared.states.State.{State}
 use Rattle.pd_kind.specs.Fit.{blank}
 use Rattle.pd_grove.specs.declared.nodes.Node.{Node}
+use Rattle.pd_grove.specs.Telling.{state_in}
 use Rattle.pd_turns.specs.Turns.{World}
 use Rattle.pd_hearing.specs.Worlds.{Kept, states_of}
 use Rattle.pd_patch.specs.declared.patch.Patch.{Patch}
@@ -17,10 +19,9 @@ use Rattle.pd_boxes.specs.Put.{node_of}
 use Rattle.pd_sized.specs.Alike.{AreAlike}
 use Rattle.pd_sized.proofs.AlikeRunLemmas.{outcome_alike}
 use Rattle.pd_sized.proofs.AlikeBlockLemmas.{block_alike}
-use Rattle.pd_stage.specs.Choices.{Base, Wanted, Asks, Made, Choice, Refuses, Lacks, Makes, first_choice, later}
-use Rattle.pd_stage.specs.Lawful.{IsPutIn, IsTakenOut, AreLawful}
+use Rattle.pd_stage.specs.Choices.{Base, Wanted, Edits, Asks, Saves, Undoes, Redoes, Choice, Refuses, Lacks, Makes, first_choice, later}
+use Rattle.pd_stage.specs.Lawful.{IsRewiringLawful, IsPutLawful, IsTakingLawful, IsEditLawful, IsSaveLawful, MayCome, AreLawful}
 use Rattle.pd_stage.proofs.LeadLemmas.{lawful_first, lawful_second}
-use Rattle.pd_stage.proofs.EditLemmas.{ButWires, but_wires, Alters, taken_alters}
 use Rattle.pd_stage.specs.Stages.{Stage, Passage, Taken, with_ahead, still, followed_by}
 use Rattle.pd_stage.specs.Events.{Beginning, Firing, begun, delivered, with_kept, after_deliveries, stage_by, edit_taken, edit_asked, edits_taken, event}
 use Rattle.pd_stage.specs.Times.{block_units, most_fired, next_clock, taken_off, with_taken, with_fired, fires, fires_or_not, fires_below, clocks_fire, block_net, sound_at, block_sounds, block_runs, blocks_run, time_is, comes_to, advanced}
@@ -28,10 +29,11 @@ use Rattle.pd_engine.specs.Commands.{commanded}
 use Rattle.pd_engine.specs.Opening.{first_stage, opened}
 use Rattle.pd_steady.specs.Runs.{own_ways}
 use Rattle.pd_steady.specs.Steps.{Step, Does, Learns, Comes, step_by, steps_by}
-use Rattle.pd_steady.specs.Serving.{LeavesBox, LeaveBox, StayAlike}
+use Rattle.pd_steady.specs.Serving.{deleted_in, deleted, LeavesBox, LeaveBox, StayAlike}
 use Rattle.pd_steady.proofs.EventLemmas.{start_of, outcome_is}
 use Rattle.pd_steady.proofs.KeyLemmas.{HasOneMore, one_more, more_alike}
-use Rattle.pd_steady.proofs.LessLemmas.{left_alike}
+use Rattle.pd_steady.proofs.LessLemmas.{HasOneLess}
+use Rattle.pd_steady.proofs.MadeLemmas.{take_at}
 use Rattle.pd_steady.proofs.TakeLemmas.{taken_less}
 use Rattle.pd_steady.proofs.OwnLemmas.{commanded_own, advanced_own}
 
@@ -52,7 +54,7 @@ still_there old (Some t) e h = refl
 still_there None None e h = h
 still_there (Some s) None e h = absurd (none-some (blank s) e)
 
--- of two lists of edits that leave a box each does
+-- of two lists of edits that leave a box in each does
 first_leave : (k : ℕ) (a b : List Taken) → LeaveBox k (a ++ b) → LeaveBox k a
 first_leave k [] b h = tt
 first_leave k (t ∷ a) b h = (h.0, first_leave k a b h.1)
@@ -75,52 +77,80 @@ if_lasts : (b : Bool) (s : Stage) (p q : Passage) → Leads s p → Leads s q �
 if_lasts true s p q f g = f
 if_lasts false s p q f g = g
 
--- each box that is there before an edit and after it
-abbrev AreLeft : (ℕ → Option State) → (ℕ → Option State) → Type 0
-AreLeft old new = (k : ℕ) → IsSome (old k) → IsSome (new k) → option_map blank (new k) ≡ option_map blank (old k)
-
-itself_left : (s : Stage) → AreLeft s.states s.states
-itself_left s k there left = refl
+-- a box keeps what is of the same objects
+abbrev IsSameAt : Stage → Stage → ℕ → Type 0
+IsSameAt s r k = option_map blank (r.states k) ≡ option_map blank (s.states k)
 
 -- other wires
-wires_left : (s r : Stage) → ButWires s r → AreLeft s.states r.states
-wires_left s r e = subst (λ (x : Stage). AreLeft s.states x.states) (sym e.is) (itself_left s)
+wires_same : (s : Stage) (ahead : List Choice) (path : List ℕ) (e : Edit) (c : Choice) → IsRewiringLawful (with_ahead s []) path e c → (k : ℕ) → IsSameAt s (stage_by (with_ahead s ahead) c) k
+wires_same s ahead path e (Refuses why) h k = refl
+wires_same s ahead path e (Lacks net) h k = refl
+wires_same s ahead path e (Makes m) h k = ap (λ (states : ℕ → Option State). option_map blank (states k)) h.states
 
 -- a box that was put
-put_left : (s : Stage) (path : List ℕ) (e : Edit) (m : Made) → IsPutIn (with_ahead s []) path e m → AreLeft s.states m.states
-put_left s path e m put =
-    let p = put.old in
-    let q = put.new in
-    let a = put.adds.added in
-    let b = put.adds.put in
+put_same : (s : Stage) (ahead : List Choice) (path : List ℕ) (e : Edit) (c : Choice) → IsPutLawful (with_ahead s []) path e c → (k : ℕ) → IsSome (s.states k)
+    → IsSameAt s (stage_by (with_ahead s ahead) c) k
+put_same s ahead path e (Refuses why) h k there = refl
+put_same s ahead path e (Lacks net) h k there = refl
+put_same s ahead path e (Makes m) h k there =
+    let p = h.old in
+    let q = h.new in
+    let a = h.adds.added in
+    let b = h.adds.put in
     let n : Node = node_of a.canvas b.seed in
-    let more : HasOneMore p q put.box.key n = one_more p b.ready q a.known.names (last_place p a.canvas) b.seed put.box.key b.room b.put in
-    subst (λ (x : ℕ → Option State). AreLeft s.states x) (sym put.states)
-    (subst (λ (x : ℕ → Option State). AreLeft x (states_of q)) (sym put.stands.states) (λ k there left. more_alike p q put.box.key n more k there))
+    let more : HasOneMore p q h.box.key n = one_more p b.ready q a.known.names (last_place p a.canvas) b.seed h.box.key b.room b.put in
+    subst (λ (states : ℕ → Option State). option_map blank (states k) ≡ option_map blank (s.states k)) (sym h.states)
+    (subst (λ (states : ℕ → Option State). IsSome (states k) → option_map blank (states_of q k) ≡ option_map blank (states k)) (sym h.stands.states)
+    (more_alike p q h.box.key n more k) there)
 
 -- a box that went
-take_left : (s : Stage) (path : List ℕ) (number : ℕ) (m : Made) → IsTakenOut (with_ahead s []) path number m → AreLeft s.states m.states
-take_left s path number m out =
-    subst (λ (x : ℕ → Option State). AreLeft s.states x) (sym out.states)
-    (subst (λ (x : ℕ → Option State). AreLeft x (states_of out.new)) (sym out.stands.states)
-    (λ k there left. left_alike out.old out.new out.box.key (taken_less (with_ahead s []) path number m out) k left))
+take_same : (s : Stage) (ahead : List Choice) (path : List ℕ) (number : ℕ) (wanted : Wanted) (c : Choice) → IsTakingLawful (with_ahead s []) path number c
+    → deleted s.net wanted ≡ deleted_in s.net path (edit.Delete number) → (k : ℕ) → LeavesBox k s.net wanted c → IsSameAt s (stage_by (with_ahead s ahead) c) k
+take_same s ahead path number wanted (Refuses why) h is k left = refl
+take_same s ahead path number wanted (Lacks net) h is k left = refl
+take_same s ahead path number wanted (Makes m) h is k left =
+    let less : HasOneLess h.old h.new h.box.key = taken_less (with_ahead s []) path number m h in
+    let other : k ≢ h.box.key = λ e. left (is ∙ take_at (with_ahead s []) path number m h ∙ ap (λ (x : ℕ). Some x) (sym e)) in
+    ap (λ (states : ℕ → Option State). option_map blank (states k)) h.states ∙ ap (λ (o : Option Node). option_map blank (state_in o)) (less.others k other)
+    ∙ sym (ap (λ (states : ℕ → Option State). option_map blank (states k)) h.stands.states)
 
-altered_left : (s r : Stage) → Alters s r → AreLeft s.states r.states
-altered_left s r (inl a) = wires_left s r (but_wires s r a)
-altered_left s r (inr (inl a)) = subst (λ (x : Stage). AreLeft s.states x.states) (sym a.is) (put_left s a.path a.edit a.made a.put)
-altered_left s r (inr (inr (inl a))) = subst (λ (x : Stage). AreLeft s.states x.states) (sym a.is) (take_left s a.path a.number a.made a.taken)
-altered_left s r (inr (inr (inr a))) = subst (λ (x : Stage). AreLeft s.states x.states) (sym a.is) (itself_left s)
+-- saves, and what is refused
+save_same : (s : Stage) (ahead : List Choice) (c : Choice) → IsSaveLawful (with_ahead s []) c → (k : ℕ) → IsSameAt s (stage_by (with_ahead s ahead) c) k
+save_same s ahead (Refuses why) h k = refl
+save_same s ahead (Lacks net) h k = absurd h
+save_same s ahead (Makes m) h k = ap (λ (states : ℕ → Option State). option_map blank (states k)) h.states
+
+refused_same : (s : Stage) (ahead : List Choice) (c : Choice) (why : _) → c ≡ Refuses why → (k : ℕ) → IsSameAt s (stage_by (with_ahead s ahead) c) k
+refused_same s ahead c why h k = subst (λ (x : Choice). IsSameAt s (stage_by (with_ahead s ahead) x) k) (sym h) refl
 
 -- edits
-left_there : (s : Stage) (c : Choice) (k : ℕ) → IsSome (s.states k) → LeavesBox k c → IsSome ((stage_by s c).states k)
-left_there s (Refuses why) k there left = there
-left_there s (Lacks net) k there left = there
-left_there s (Makes m) k there left = left
+edit_same : (s : Stage) (ahead : List Choice) (path : List ℕ) (e : Edit) (wanted : Wanted) (c : Choice) → IsEditLawful (with_ahead s []) path e c
+    → deleted s.net wanted ≡ deleted_in s.net path e → (k : ℕ) → IsSome (s.states k) → LeavesBox k s.net wanted c → IsSameAt s (stage_by (with_ahead s ahead) c) k
+edit_same s ahead path (edit.Connect v) wanted c h is k there left = wires_same s ahead path (edit.Connect v) c h k
+edit_same s ahead path (edit.Disconnect v) wanted c h is k there left = wires_same s ahead path (edit.Disconnect v) c h k
+edit_same s ahead path (edit.Delete number) wanted c h is k there left = take_same s ahead path number wanted c h is k left
+edit_same s ahead path (edit.Retype number text) wanted c h is k there left = refused_same s ahead c _ h k
+edit_same s ahead path (edit.Move number x y) wanted c h is k there left = refused_same s ahead c _ h k
+edit_same s ahead path (edit.Obj x y text) wanted c h is k there left = put_same s ahead path (edit.Obj x y text) c h k there
+edit_same s ahead path (edit.Msg x y text) wanted c h is k there left = put_same s ahead path (edit.Msg x y text) c h k there
+edit_same s ahead path (edit.Comment x y text) wanted c h is k there left = put_same s ahead path (edit.Comment x y text) c h k there
+edit_same s ahead path (edit.FloatBox x y text) wanted c h is k there left = put_same s ahead path (edit.FloatBox x y text) c h k there
+edit_same s ahead path (edit.SymbolBox x y text) wanted c h is k there left = put_same s ahead path (edit.SymbolBox x y text) c h k there
+edit_same s ahead path (edit.Sub x y name) wanted c h is k there left = put_same s ahead path (edit.Sub x y name) c h k there
+
+choice_same : (wanted : Wanted) (s : Stage) (ahead : List Choice) (c : Choice) → MayCome wanted (with_ahead s []) c → (k : ℕ) → IsSome (s.states k) → LeavesBox k s.net wanted c
+    → IsSameAt s (stage_by (with_ahead s ahead) c) k
+choice_same (Edits None path e) s ahead c h k there left = edit_same s ahead path e (Edits None path e) c h refl k there left
+choice_same (Edits (Some document) path e) s ahead c h k there left = refused_same s ahead c _ h k
+choice_same (Asks path e) s ahead c h k there left = edit_same s ahead path e (Asks path e) c h refl k there left
+choice_same (Saves None) s ahead c h k there left = save_same s ahead c h k
+choice_same (Saves (Some document)) s ahead c h k there left = refused_same s ahead c _ h k
+choice_same Undoes s ahead c h k there left = refused_same s ahead c _ h k
+choice_same Redoes s ahead c h k there left = refused_same s ahead c _ h k
 
 taken_lasts : (wanted : Wanted) (s : Stage) → Leads s (edit_taken wanted s)
 unfolding edit_taken
-taken_lasts wanted s = λ l k there left.
-    altered_left s (edit_taken wanted s).stage (taken_alters wanted s l) k there (left_there (with_ahead s (later s.ahead)) (first_choice s.ahead) k there left.0)
+taken_lasts wanted s = λ l k there left. choice_same wanted s (later s.ahead) (first_choice s.ahead) l.0 k there left.0
 
 edits_last : (waiting : List (List ℕ × Edit)) (s : Stage) → Leads s (edits_taken waiting s)
 unfolding edits_taken

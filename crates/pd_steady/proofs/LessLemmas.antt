@@ -193,10 +193,3 @@ module _ (p q : Patch) (key : ℕ) (less : HasOneLess p q key) where
   left_keys n old =
       by_key (λ k. n ≤ k → states_of q k ≡ None) key (λ far. ap (λ (o : Option Node). state_in o) less.gone)
       (λ k other far. ap (λ (o : Option Node). state_in o) (less.others k other) ∙ old k far)
-
-  -- each box that is left keeps what it kept
-  pub left_alike : (k : ℕ) → IsSome (states_of q k) → option_map blank (states_of q k) ≡ option_map blank (states_of p k)
-  left_alike =
-      by_key (λ k. IsSome (states_of q k) → option_map blank (states_of q k) ≡ option_map blank (states_of p k)) key
-      (λ there. absurd (true≢false (sym there ∙ ap (λ (o : Option Node). is_some (state_in o)) less.gone)))
-      (λ k other there. ap (λ (o : Option Node). option_map blank (state_in o)) (less.others k other))

@@ -48,6 +48,7 @@ use Rattle.pd_stage.specs.Times.{with_wires, IsStageOf}
 use Rattle.pd_stage.proofs.EditLemmas.{AsksAlike}
 use Rattle.pd_engine.specs.Commands.{led_to}
 use Rattle.pd_engine.proofs.ShowLemmas.{led_is}
+use Rattle.pd_steady.specs.Serving.{deleted_in}
 use Rattle.pd_steady.specs.Told.{TellsLoop}
 use Rattle.pd_steady.proofs.AddedLemmas.{added_at}
 use Rattle.pd_steady.proofs.NetLemmas.{TellsOf, same_net}
@@ -258,6 +259,27 @@ box_at g c number (Some key) x h = plain_at (is_plain g c key) (c, key) x h
 going_at : (g : Grove) (number : ℕ) (o : Option ℕ) (x : ℕ × ℕ) → going_in g number o ≡ Ok x → o ≡ Some x.0
 going_at g number None x h = absurd (cc)
 going_at g number (Some c) x h = ap (λ (y : ℕ). Some y) (box_at g c number (slice_get (keys_at g c) number) x h)
+
+-- and it is the one of the number
+plain_key : (is : Bool) (x y : ℕ × ℕ) → cond is (Ok x) (Err NoDocument) ≡ Ok y → x.1 ≡ y.1
+plain_key true x y h = ap (λ (z : ℕ × ℕ). z.1) (ok_same x y (Ok x) refl h)
+plain_key false x y h = absurd (cc)
+
+box_key : (g : Grove) (c number : ℕ) (o : Option ℕ) (x : ℕ × ℕ) → going_box g c number o ≡ Ok x → o ≡ Some x.1
+box_key g c number None x h = absurd (cc)
+box_key g c number (Some key) x h = ap (λ (y : ℕ). Some y) (plain_key (is_plain g c key) (c, key) x h)
+
+going_key : (g : Grove) (number : ℕ) (o : Option ℕ) (x : ℕ × ℕ) → going_in g number o ≡ Ok x → option_and_then (λ c. slice_get (keys_at g c) number) o ≡ Some x.1
+going_key g number None x h = absurd (cc)
+going_key g number (Some c) x h = box_key g c number (slice_get (keys_at g c) number) x h
+
+pub take_at : (s : Stage) (path : List ℕ) (number : ℕ) (m : Made) → (h : IsTakenOut s path number m) → deleted_in s.net path (edit.Delete number) ≡ Some h.box.key
+take_at s path number m h =
+    let g : Grove = h.old.grove in
+    let found : sub_reached g (Some g.root) path ≡ Some h.box.canvas = going_at g number (sub_reached g (Some g.root) path) (h.box.canvas, h.box.key) h.deletes.is in
+    let same : led_to (net_of h.old) (Some g.root) path ≡ sub_reached g (Some g.root) path = led_is h.old (Some g.root) path ∙ sub_leads g path (Some g.root) h.box.canvas found ∙ sym found in
+    ap (λ (n : Net). deleted_in n path (edit.Delete number)) h.stands.net ∙ ap (λ (o : Option ℕ). option_and_then (λ c. slice_get (keys_at g c) number) o) same
+    ∙ going_key g number (sub_reached g (Some g.root) path) (h.box.canvas, h.box.key) h.deletes.is
 
 pub take_short : (s : Stage) (path : List ℕ) (number : ℕ) (m : Made) → HasTree s → (h : IsTakenOut s path number m) → (o : Listing) → order_in h.new.orders.items h.box.canvas ≡ Some o
     → length o.chain + length o.stuck ≤ most_boxes

@@ -2,7 +2,6 @@
 use Rattle.std.proofs.Common.{arith, ◌≡◌, ◌≢◌, ◌<◌, ◌≤◌, ◌^◌, ◌-◌, ℕ, List, [], Option, Some, None, IfSome, option_map, refl, sym, ap, subst, ◌∙◌}
 use Rattle.std.specs.List.{AllByRecursion}
 use Rattle.std.proofs.lemmas.Option.{same_Some}
-use Rattle.slab.specs.Slab.{get}
 use Rattle.pd_atom.specs.Names.{Names, Extends}
 use Rattle.pd_canvas.specs.declared.edits.Edit.{Edit}
 use Rattle.pd_gather.specs.Gather.{Known}
@@ -20,20 +19,18 @@ use Rattle.pd_grove.specs.Telling.{kind_in, state_in}
 use Rattle.pd_patch.specs.declared.patch.Patch.{Patch}
 use Rattle.pd_boxes.specs.Room.{SameButRoom}
 use Rattle.pd_boxes.specs.Put.{node_of}
-use Rattle.pd_putting.specs.Adds.{IsBoxPut, last_place}
+use Rattle.pd_putting.specs.Adds.{last_place}
 use Rattle.pd_hearing.specs.Worlds.{Net, bare, net_of, states_of}
 use Rattle.pd_channels_law.specs.Channels.{HasFewChannels}
 use Rattle.pd_guards.specs.Order.{HasFirst, IsKept, IsKind}
-use Rattle.pd_guards.specs.Worlds.{AreKept, AreKinds}
-use Rattle.pd_guards.specs.Sounds.{AreValues, HasValues, HaveValues}
+use Rattle.pd_guards.specs.Sounds.{AreValues, HasValues}
 use Rattle.pd_guards.proofs.FactLemmas.{some-weaker}
 use Rattle.pd_guards.proofs.MoreLemmas.{longer, first_more, kind_more, kept_more}
 use Rattle.pd_sized.specs.Kinds.{blank_of, KeepsOfKind}
-use Rattle.pd_sized.specs.Sizes.{HasSizes, HaveSizes, IsBlock}
+use Rattle.pd_sized.specs.Sizes.{HasSizes, IsBlock}
 use Rattle.pd_sized.proofs.StartLemmas.{made_sized}
-use Rattle.pd_ends_law.specs.Ends.{AreOpen}
 use Rattle.pd_ends_law.proofs.OpenLemmas.{all_open, first_open}
-use Rattle.pd_stage.specs.Choices.{Base, Made, Choice, Makes, Lacks}
+use Rattle.pd_stage.specs.Choices.{Base, Made, Choice, Makes}
 use Rattle.pd_stage.specs.Stages.{Stage, with_ahead}
 use Rattle.pd_stage.specs.Events.{with_net, stage_by}
 use Rattle.pd_stage.specs.Times.{block_units}

@@ -1,28 +1,45 @@
 -- That boxes find what they look for, and what they keep.
-use Rattle.std.specs.Prelude.{◌≡◌, ℕ, List, Option, Some, IsSome, option_map}
+use Rattle.std.specs.Prelude.{◌≡◌, ◌≢◌, ℕ, List, slice_get, Option, Some, None, IsSome, option_map, option_and_then}
 use Rattle.std.specs.List.{AllByRecursion}
+use Rattle.slab.specs.Slab.{get}
+use Rattle.pd_canvas.specs.declared.edits.Edit.{Edit}
+use Rattle.pd_canvas.specs.declared.edits.Edit.TheVariants as edit
 use Rattle.pd_object.specs.declared.kinds.Kind.{Kind}
 use Rattle.pd_kind.specs.declared.states.State.{State}
 use Rattle.pd_kind.specs.Fit.{blank}
+use Rattle.pd_grove.specs.Telling.{keys_in}
+use Rattle.pd_hearing.specs.Worlds.{Net}
 use Rattle.pd_block.specs.Blocks.{owner_of}
 use Rattle.pd_sized.specs.Sizes.{Finds}
-use Rattle.pd_stage.specs.Choices.{Choice, Refuses, Lacks, Makes}
+use Rattle.pd_stage.specs.Choices.{Wanted, Edits, Asks, Choice, Refuses, Lacks, Makes}
 use Rattle.pd_stage.specs.Stages.{Stage, Taken}
+use Rattle.pd_engine.specs.Commands.{led_to}
 
 -- a box that looks for another one finds it in the first owner of the name
 abbrev pub OwnersServe : Stage → Type 0
 OwnersServe s = (k : Kind) (o : ℕ) → owner_of s.net.owners k ≡ Some o → Finds k (s.states o)
 
--- an edit that comes to this leaves a box in: it makes no patch in which nothing is kept under the box's key
-abbrev pub LeavesBox : ℕ → Choice → Type 0
-LeavesBox k (Refuses reason) = Unit {0}
-LeavesBox k (Lacks net) = Unit {0}
-LeavesBox k (Makes m) = IsSome (m.states k)
+-- the box that an edit in the canvas at a path deletes, where it is made
+abbrev pub deleted_in : Net → List ℕ → Edit → Option ℕ
+deleted_in net path (edit.Delete number) = option_and_then (λ c. slice_get (keys_in (get net.boards c)) number) (led_to net (Some net.root) path)
+deleted_in net path e = None
 
--- each of these edits leaves the box in
+-- the same of all that is wanted of the patch's own document
+abbrev pub deleted : Net → Wanted → Option ℕ
+deleted net (Edits None path e) = deleted_in net path e
+deleted net (Asks path e) = deleted_in net path e
+deleted net wanted = None
+
+-- what comes to this leaves a box in: it isn't made, or doesn't delete that box
+abbrev pub LeavesBox : ℕ → Net → Wanted → Choice → Type 0
+LeavesBox k net wanted (Refuses reason) = Unit {0}
+LeavesBox k net wanted (Lacks more) = Unit {0}
+LeavesBox k net wanted (Makes m) = deleted net wanted ≢ Some k
+
+-- none of these edits deletes the box
 abbrev pub LeaveBox : ℕ → List Taken → Type 0
-LeaveBox k edits = AllByRecursion (λ (t : Taken). LeavesBox k t.choice) edits
+LeaveBox k edits = AllByRecursion (λ (t : Taken). LeavesBox k t.found.net t.wanted t.choice) edits
 
--- each box that was there, and that these edits leave in, keeps what is of the same objects as what it kept: only its values are others
+-- each box that was there, and that none of these edits deletes, keeps what is of the same objects as what it kept: only its values are others
 abbrev pub StayAlike : List Taken → (ℕ → Option State) → (ℕ → Option State) → Type 0
 StayAlike edits old new = (k : ℕ) → IsSome (old k) → LeaveBox k edits → option_map blank (new k) ≡ option_map blank (old k)

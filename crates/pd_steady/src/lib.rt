@@ -20,8 +20,8 @@
 //! canvas's order tell all its boxes (`lines_tell_all_boxes`), and so does the line of each signal loop, where a
 //! patch opens and where an edit makes one (`loops_tell_all_boxes`).
 //!
-//! Where each edit is lawful, what each box keeps is of the objects of what it kept at first, until an edit takes it
-//! out. And a box that looks for a bus, a sum or a delay line finds one in the first owner of its name, wherever a run
+//! Where each edit is lawful, what each box keeps is of the objects of what it kept at first, until an edit deletes
+//! it. And a box that looks for a bus, a sum or a delay line finds one in the first owner of its name, wherever a run
 //! has come to in which each table of names that is read goes on (`owners_go_on`).
 //!
 //! Definitions: `Steady`, `Runs` and `Steps` (a run where it is given what events and blocks come to), `Freely`
