@@ -30,14 +30,18 @@ ghost use Rattle.pd_deleting.specs.declared.deleting.OldBox.{OldBox};
 ghost use Rattle.pd_deleting.specs.Deletes.{DeletesBox};
 
 /// Where an edit deleted a box, the box of that number went from the canvas to which the path leads. Of the wires of the other boxes those to it
-/// are gone, and under the key of each box stands its number. The document of the patch is the one after the edit.
+/// are gone, and under the key of each box stands its number.
 pub fn deletes_take_boxes()
     ensures tree { (old new : Patch) (n : Counts) (table : Names) (path : List ℕ) (number steps steps' : ℕ) (b : OldBox) →
         DeletesBox old new n table path number steps steps' b → CanPut old → TakesBoxAt old.grove new.grove path b.canvas b.key number }
     ensures wires { (old new : Patch) (n : Counts) (table : Names) (path : List ℕ) (number steps steps' : ℕ) (b : OldBox) →
         DeletesBox old new n table path number steps steps' b → CanPut old → Meet old.web →
         CutsBox old.grove new.grove old.web new.web old.numbers.items new.numbers.items b.key }
-    ensures document { (old new : Patch) (n : Counts) (table : Names) (path : List ℕ) (number steps steps' : ℕ) (b : OldBox) →
+{}
+
+/// The document of the patch is then the one after the edit that deletes the box.
+pub fn documents_follow_edits()
+    ensures { (old new : Patch) (n : Counts) (table : Names) (path : List ℕ) (number steps steps' : ℕ) (b : OldBox) →
         DeletesBox old new n table path number steps steps' b → CanPut old → Meet old.web →
         present_document new ≡ edit_at path (edited (edit.Delete number)) (present_document old) }
 {}
@@ -53,7 +57,8 @@ pub fn boxes_go_from_trees()
     ensures zeros { (old new : Patch) (n : Counts) (table : Names) (path : List ℕ) (number steps steps' : ℕ) (b : OldBox) (t : Tree) →
         DeletesBox old new n table path number steps steps' b → CanPut old → RunsAs old.grove t → zeros_of (taken_at path number t) ≡ zeros_of t }
     ensures holds { (old new : Patch) (n : Counts) (table : Names) (path : List ℕ) (number steps steps' : ℕ) (b : OldBox) (t : Tree) →
-        DeletesBox old new n table path number steps steps' b → CanPut old → HoldsWires old t → HoldsWires new (taken_at path number t) }
+        DeletesBox old new n table path number steps steps' b → CanPut old → RunsAs old.grove t → HoldsWires old t →
+        HoldsWires new (taken_at path number t) }
     ensures fit { (old new : Patch) (n : Counts) (table : Names) (path : List ℕ) (number steps steps' : ℕ) (b : OldBox) →
         DeletesBox old new n table path number steps steps' b → CanPut old → Meet old.web → WiresFit old → WiresFit new }
     ensures wires { (old new : Patch) (n : Counts) (table : Names) (path : List ℕ) (number steps steps' : ℕ) (b : OldBox) →

@@ -1,0 +1,124 @@
+-- The wires to inlets, where a box went.
+use Rattle.std.proofs.Common.{◌≡◌, ◌≢◌, ℕ, zero, suc, Bool, true, false, cond, List, [], ◌∷◌, filter, slice_get, Option, Some, None, refl, sym, ap, ◌∙◌, inl, inr, arith}
+use Rattle.std.specs.Prelude.{option_map}
+use mathlib.Core.Logic.{⊎_elim}
+use Rattle.std.proofs.lemmas.Bool.Decides.{nat_tests}
+use Rattle.std.proofs.lemmas.Bool.{cases_eq}
+use Rattle.std.proofs.lemmas.Option.{none-some, same_Some, slice_get-map}
+use Rattle.pd_atom.specs.Names.{Names}
+use Rattle.pd_web.specs.declared.lines.Line.{Line}
+use Rattle.pd_web.specs.declared.sockets.Spot.{Spot}
+use Rattle.pd_web.specs.declared.web.Hop.{Hop}
+use Rattle.pd_web.specs.declared.web.Web.{Web}
+use Rattle.pd_web.specs.Changes.{hop_at, line_by, line_told}
+use Rattle.pd_web.specs.Hops.{feed_hops, feed_keys, hop_by, hop_from}
+use Rattle.pd_web.specs.Wiring.{source_at}
+use Rattle.pd_patch.specs.declared.patch.Patch.{Patch}
+use Rattle.pd_alike_law.specs.Feeds.{FedOnce}
+use Rattle.pd_adding.specs.declared.counts.Counts.{Counts}
+use Rattle.pd_taking.specs.Loosening.{is_of_other, IsAt}
+use Rattle.pd_taking.proofs.TakenLemmas.{feeds_less, no_wires}
+use Rattle.pd_deleting.specs.declared.deleting.OldBox.{OldBox}
+use Rattle.pd_deleting.specs.Deletes.{DeletesBox}
+
+-- Lists.
+
+nothing_there : {X : Type 0} (x : X) (i : ℕ) → slice_get [] i ≡ Some x → ⊥
+nothing_there x zero h = none-some x h
+nothing_there x (suc i) h = none-some x h
+
+-- what is left passes and stood in the list
+pub record Passed {X : Type 0} (p : X → Bool) (xs : List X) (x : X) : Type 0 where
+  pub place : ℕ
+  pub stood : slice_get xs place ≡ Some x
+  pub passes : p x ≡ true
+
+pub passed : {X : Type 0} (p : X → Bool) (xs : List X) (x : X) (n : ℕ) → slice_get (filter p xs) n ≡ Some x → Passed p xs x
+passed p [] x n e = absurd (nothing_there x n e)
+passed {X} p (y ∷ xs) x n e = step (p y) refl n e (λ m a. passed p xs x m a)
+  where
+    later : Passed p xs x → Passed p (y ∷ xs) x
+    later r = record { place = suc r.place; stood = r.stood; passes = r.passes }
+
+    step : (b : Bool) → p y ≡ b → (n : ℕ) → slice_get (cond b (y ∷ filter p xs) (filter p xs)) n ≡ Some x
+        → ((m : ℕ) → slice_get (filter p xs) m ≡ Some x → Passed p xs x) → Passed p (y ∷ xs) x
+    step true t zero e r = record { place = 0; stood = e; passes = ap p (sym (same_Some y x e)) ∙ t }
+    step true t (suc n) e r = later (r n e)
+    step false t n e r = later (r n e)
+
+-- what stood once is left once
+left_once : {X : Type 0} (p : X → Bool) (xs : List X) (x : X) → ((i j : ℕ) → slice_get xs i ≡ Some x → slice_get xs j ≡ Some x → i ≡ j)
+    → (i j : ℕ) → slice_get (filter p xs) i ≡ Some x → slice_get (filter p xs) j ≡ Some x → i ≡ j
+left_once p [] x once i j a b = absurd (nothing_there x i a)
+left_once {X} p (y ∷ xs) x once i j a b = step (p y) i j a b (left_once p xs x (λ m n c d. less m n (once (suc m) (suc n) c d)))
+  where
+    less : (m n : ℕ) → suc m ≡ suc n → m ≡ n
+    less m n e = omega (arith, e)
+
+    twice : (n : ℕ) → y ≡ x → slice_get (filter p xs) n ≡ Some x → ⊥
+    twice n e at = let q = passed p xs x n at in let same = once 0 (suc q.place) (ap (λ z. Some z) e) q.stood in omega (arith, same)
+
+    step : (b : Bool) (i j : ℕ) → slice_get (cond b (y ∷ filter p xs) (filter p xs)) i ≡ Some x → slice_get (cond b (y ∷ filter p xs) (filter p xs)) j ≡ Some x
+        → ((m n : ℕ) → slice_get (filter p xs) m ≡ Some x → slice_get (filter p xs) n ≡ Some x → m ≡ n) → i ≡ j
+    step true zero zero a b rest = refl
+    step true zero (suc j) a b rest = absurd (twice j (same_Some y x a) b)
+    step true (suc i) zero a b rest = absurd (twice i (same_Some y x b) a)
+    step true (suc i) (suc j) a b rest = ap suc (rest i j a b)
+    step false i j a b rest = rest i j a b
+
+-- Wires and their keys.
+
+hop_key : (k : ℕ) (o : Option Spot) → (hop_by k o).key ≡ k
+hop_key k None = refl
+hop_key k (Some s) = refl
+
+key_at : (w : Web) (node inlet i k : ℕ) → slice_get (feed_keys w node inlet) i ≡ Some k → slice_get (feed_hops w node inlet) i ≡ Some (hop_from w k)
+key_at w node inlet i k e = slice_get-map (hop_from w) (feed_keys w node inlet) i ∙ ap (option_map (hop_from w)) e
+
+some_key : (w : Web) (o : Option ℕ) (h : Hop) → option_map (hop_from w) o ≡ Some h → o ≡ Some h.key
+some_key w None h e = absurd (none-some h e)
+some_key w (Some k) h e = ap (λ x. Some x) (sym (hop_key k (slice_get w.spots.items (source_at w.book k))) ∙ ap (λ (x : Hop). x.key) (same_Some (hop_from w k) h e))
+
+key_of : (w : Web) (node inlet i : ℕ) (h : Hop) → slice_get (feed_hops w node inlet) i ≡ Some h → slice_get (feed_keys w node inlet) i ≡ Some h.key
+key_of w node inlet i h e = some_key w (slice_get (feed_keys w node inlet) i) h (sym (slice_get-map (hop_from w) (feed_keys w node inlet) i) ∙ e)
+
+-- the wires of a list of feeds, of which those from one box are gone
+pub once_left : (w v : Web) (key node inlet : ℕ) → feed_hops v node inlet ≡ filter (is_of_other key) (feed_hops w node inlet)
+    → ((i j k : ℕ) → slice_get (feed_keys w node inlet) i ≡ Some k → slice_get (feed_keys w node inlet) j ≡ Some k → i ≡ j)
+    → (i j k : ℕ) → slice_get (feed_keys v node inlet) i ≡ Some k → slice_get (feed_keys v node inlet) j ≡ Some k → i ≡ j
+once_left w v key node inlet same once i j k a b =
+    let x = hop_from v k in
+    left_once (is_of_other key) (feed_hops w node inlet) x (λ m n c d. once m n x.key (key_of w node inlet m x c) (key_of w node inlet n x d)) i j
+    (ap (λ (hs : List Hop). slice_get hs i) (sym same) ∙ key_at v node inlet i k a) (ap (λ (hs : List Hop). slice_get hs j) (sym same) ∙ key_at v node inlet j k b)
+
+pub from_other : (key : ℕ) (h : Hop) → is_of_other key h ≡ true → h.node ≢ key
+from_other key h t e = grind (arith, nat_tests)
+
+module _ (old new : Patch) (n : Counts) (table : Names) (path : List ℕ) (number steps steps' : ℕ) (b : OldBox) (D : DeletesBox old new n table path number steps steps' b) where
+  pub feeds_gone : (node inlet : ℕ) → node ≢ b.key → feed_hops new.web node inlet ≡ filter (is_of_other b.key) (feed_hops old.web node inlet)
+  feeds_gone node inlet d = feeds_less D.ready new table (record { canvas = b.canvas; number = number }) b.key steps steps' D.removed node inlet d
+      ∙ ap (filter (is_of_other b.key)) (D.room.web.feeds node inlet)
+
+  none_fed : (inlet : ℕ) → feed_hops new.web b.key inlet ≡ []
+  none_fed inlet = (no_wires D.ready new table (record { canvas = b.canvas; number = number }) b.key steps steps' D.removed).feeds inlet
+
+  line_left : (k : ℕ) (l : Line) → (IsAt b.key l → ⊥) → line_told old.web k ≡ Some l → line_told new.web k ≡ Some l
+  line_left k l d e = D.removed.taken.goes.ports.lines k ∙ D.removed.wires.other_lines k l d (D.room.web.lines k ∙ e)
+
+  pub still_fed : FedOnce old.web → FedOnce new.web
+  still_fed F = record {
+    lines = λ node inlet i h e. ⊎_elim
+        (λ (s : node ≡ b.key). absurd (nothing_there h i (ap (λ (hs : List Hop). slice_get hs i) (sym (ap (λ k. feed_hops new.web k inlet) s ∙ none_fed inlet)) ∙ e)))
+        (λ (d : node ≢ b.key).
+        let p = passed (is_of_other b.key) (feed_hops old.web node inlet) h i (ap (λ (hs : List Hop). slice_get hs i) (sym (feeds_gone node inlet d)) ∙ e) in
+        line_left h.key (line_by h (hop_at h.key node inlet)) (apart node inlet h d (from_other b.key h p.passes)) (F.lines node inlet p.place h p.stood))
+        (cases_eq node b.key);
+    once = λ node inlet i j k x y. ⊎_elim
+        (λ (s : node ≡ b.key). absurd (nothing_there (hop_from new.web k) i (ap (λ (hs : List Hop). slice_get hs i) (sym (ap (λ z. feed_hops new.web z inlet) s ∙ none_fed inlet)) ∙ key_at new.web node inlet i k x)))
+        (λ (d : node ≢ b.key). once_left old.web new.web b.key node inlet (feeds_gone node inlet d) (F.once node inlet) i j k x y)
+        (cases_eq node b.key);
+  }
+    where
+      apart : (node inlet : ℕ) (h : Hop) → node ≢ b.key → h.node ≢ b.key → IsAt b.key (line_by h (hop_at h.key node inlet)) → ⊥
+      apart node inlet h d e (inl s) = e s
+      apart node inlet h d e (inr s) = d s

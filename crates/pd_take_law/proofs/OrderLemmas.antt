@@ -1,0 +1,120 @@
+-- The order of the wires to inlets, where a box went.
+use Rattle.std.proofs.Common.{◌≡◌, ◌≢◌, ℕ, zero, suc, ◌<◌, ◌≤◌, Bool, true, false, cond, List, [], ◌∷◌, filter, slice_get, Option, Some, None, sym, ap, ◌∙◌, subst, inl, inr, arith}
+use mathlib.Core.Logic.{⊎_elim}
+use Rattle.std.proofs.lemmas.Bool.Decides.{nat_tests}
+use Rattle.std.proofs.lemmas.Bool.{cases_eq}
+use Rattle.std.proofs.lemmas.Option.{none-some, same_Some}
+use Rattle.slab.specs.Slab.{get}
+use Rattle.pd_atom.specs.Names.{Names}
+use Rattle.pd_canvas.specs.Wiring.{lowered}
+use Rattle.pd_grove.specs.declared.boards.Board.{Board}
+use Rattle.pd_grove.specs.declared.grove.Grove.{Grove}
+use Rattle.pd_grove.specs.Telling.{inner_in, keys_in}
+use Rattle.pd_web.specs.declared.web.Hop.{Hop}
+use Rattle.pd_web.specs.Canvases.{keys_at}
+use Rattle.pd_web.specs.Changes.{hop_at, Meet}
+use Rattle.pd_web.specs.Hops.{fan_hops, feed_hops}
+use Rattle.pd_seek.specs.Places.{label_at, AreInOrder, IsNoLater}
+use Rattle.pd_patch.specs.declared.patch.Patch.{Patch}
+use Rattle.pd_patch.specs.Linked.{ShareCanvas}
+use Rattle.pd_patch.specs.Listing.{IsThere}
+use Rattle.pd_wiring.proofs.HeardLemmas.{all_at}
+use Rattle.pd_boxes.specs.Put.{CanPut}
+use Rattle.pd_alike_law.specs.Feeds.{FeedsInOrder}
+use Rattle.pd_taking_law.specs.Taking.{TakesBoxAt, CutsBox}
+use Rattle.pd_taking_law.proofs.StayLemmas.{keys_less}
+use Rattle.pd_adding.specs.declared.counts.Counts.{Counts}
+use Rattle.pd_taking.specs.Loosening.{is_of_other}
+use Rattle.pd_deleting.specs.declared.deleting.OldBox.{OldBox}
+use Rattle.pd_deleting.specs.Deletes.{DeletesBox}
+use Rattle.pd_deleting.proofs.DeleteLemmas.{can_remove}
+use Rattle.pd_take_law.proofs.GoneLemmas.{box_gone, was_there, wires_gone}
+use Rattle.pd_take_law.proofs.FitLemmas.{less_at, not_key}
+use Rattle.pd_take_law.proofs.FeedLemmas.{feeds_gone, from_other, passed}
+
+-- what is in order stays so where some go
+order_kept : (R : Hop → Hop → Type 0) (p : Hop → Bool) (xs : List Hop) → ((i j : ℕ) (g h : Hop) → i ≤ j → slice_get xs i ≡ Some g → slice_get xs j ≡ Some h → R g h)
+    → (i j : ℕ) (g h : Hop) → i ≤ j → slice_get (filter p xs) i ≡ Some g → slice_get (filter p xs) j ≡ Some h → R g h
+order_kept R p [] order i j g h l a b = order i j g h l a b
+order_kept R p (y ∷ xs) order i j g h l a b = step (p y) i j l a b (order_kept R p xs (λ m n u v k c d. order (suc m) (suc n) u v (omega (arith, k)) c d))
+  where
+    step : (b : Bool) (i j : ℕ) → i ≤ j → slice_get (cond b (y ∷ filter p xs) (filter p xs)) i ≡ Some g → slice_get (cond b (y ∷ filter p xs) (filter p xs)) j ≡ Some h
+        → ((m n : ℕ) (u v : Hop) → m ≤ n → slice_get (filter p xs) m ≡ Some u → slice_get (filter p xs) n ≡ Some v → R u v) → R g h
+    step true zero zero l a b rest = order 0 0 g h (omega arith) a b
+    step true zero (suc j) l a b rest = let q = passed p xs h j b in order 0 (suc q.place) g h (omega arith) a q.stood
+    step true (suc i) zero l a b rest = absurd (omega (arith, l))
+    step true (suc i) (suc j) l a b rest = rest i j g h (omega (arith, l)) a b
+    step false i j l a b rest = rest i j g h l a b
+
+label_is : (labels : List ℕ) (k i : ℕ) → slice_get labels k ≡ Some i → label_at labels k ≡ i
+label_is [] k i e = absurd (nothing k e)
+  where
+    nothing : (k : ℕ) → slice_get [] k ≡ Some i → ⊥
+    nothing zero h = none-some i h
+    nothing (suc k) h = none-some i h
+label_is (x ∷ xs) zero i e = same_Some x i e
+label_is (x ∷ xs) (suc k) i e = label_is xs k i e
+
+-- numbers that fall by one behind a number are in the same order
+lowered_less : (n a b : ℕ) → a ≢ n → b ≢ n → a < b → lowered n a < lowered n b
+lowered_less n a b d e l = grind (arith, nat_tests)
+
+later_by : (labels labels' : List ℕ) (g h : Hop) (f : ℕ → ℕ) → label_at labels' g.node ≡ f (label_at labels g.node) → label_at labels' h.node ≡ f (label_at labels h.node)
+    → (label_at labels g.node < label_at labels h.node → f (label_at labels g.node) < f (label_at labels h.node)) → IsNoLater labels g h → IsNoLater labels' g h
+later_by labels labels' g h f a b up (inl l) = inl (let m = up l in omega (arith, a, b, m))
+later_by labels labels' g h f a b up (inr e) = inr (a ∙ ap f e.0 ∙ sym b, e.1)
+
+module _ (old new : Patch) (n : Counts) (table : Names) (path : List ℕ) (number steps steps' : ℕ) (b : OldBox) (D : DeletesBox old new n table path number steps steps' b) (C : CanPut old) (meet : Meet old.web) where
+  B : TakesBoxAt old.grove new.grove path b.canvas b.key number
+  B = box_gone old new n table path number steps steps' b D C
+
+  W : CutsBox old.grove new.grove old.web new.web old.numbers.items new.numbers.items b.key
+  W = wires_gone old new n table path number steps steps' b D C meet
+
+  -- what feeds a box of a canvas lies in it
+  pub feeder_there : (c k inlet i : ℕ) (g : Hop) → IsThere (keys_at old.grove c) k → slice_get (feed_hops old.web k inlet) i ≡ Some g → IsThere (keys_at old.grove c) g.node
+  feeder_there c k inlet i g t e =
+      let f = meet.fanned k inlet i g e in
+      let s = all_at (λ (x : Hop). ShareCanvas old.grove g.node x.node) (fan_hops old.web g.node g.port) f.0 (hop_at g.key k inlet) (C.runs.inside g.node g.port) f.1 in
+      let same : s.canvas ≡ c = same_Some s.canvas c (sym (C.forest.own.home s.canvas s.other.0 k s.other.1) ∙ C.forest.own.home c t.0 k t.1) in
+      (s.one.0, ap (λ x. slice_get (keys_at old.grove x) s.one.0) (sym same) ∙ s.one.1)
+
+  label_here : (k : ℕ) → IsThere (keys_at old.grove b.canvas) k → k ≢ b.key → (label_at new.numbers.items k ≡ lowered number (label_at old.numbers.items k)) × (label_at old.numbers.items k ≢ number)
+  label_here k t d =
+      let was : label_at old.numbers.items k ≡ t.0 = label_is old.numbers.items k t.0 (C.runs.numbers b.canvas t.0 k t.1) in
+      let apart : t.0 ≢ number = (λ e. d (same_Some k b.key (sym t.1 ∙ ap (slice_get (keys_at old.grove b.canvas)) e ∙ B.is))) in
+      let at : slice_get (keys_at new.grove b.canvas) (lowered number t.0) ≡ Some k =
+      ap (λ (ks : List ℕ). slice_get ks (lowered number t.0)) (keys_less old.grove new.grove path b.canvas b.key number B) ∙ less_at (keys_at old.grove b.canvas) number t.0 apart ∙ t.1 in
+      (label_is new.numbers.items k (lowered number t.0) (W.renumbered b.canvas (lowered number t.0) k at) ∙ ap (lowered number) (sym was), λ e. apart (sym was ∙ e))
+
+  label_aside : (c k : ℕ) → c ≢ b.canvas → IsThere (keys_at old.grove c) k → label_at new.numbers.items k ≡ label_at old.numbers.items k
+  label_aside c k d t =
+      let bare : inner_in (get old.grove.nodes b.key) ≡ None =
+      ap (λ (g : Grove). inner_in (get g.nodes b.key)) (sym D.room.grove) ∙ (can_remove old D.ready path number b.canvas b.key D.room C meet D.is).leaf in
+      let stays : get new.grove.boards c ≡ get old.grove.boards c = B.takes.boards_stay c d (λ L. none-some L.0 (sym bare ∙ L.1)) in
+      let at : slice_get (keys_at new.grove c) t.0 ≡ Some k = ap (λ (o : Option Board). slice_get (keys_in o) t.0) stays ∙ t.1 in
+      label_is new.numbers.items k t.0 (W.renumbered c t.0 k at) ∙ sym (label_is old.numbers.items k t.0 (C.runs.numbers c t.0 k t.1))
+
+  pub still_ordered : (c : ℕ) → FeedsInOrder old c → FeedsInOrder new c
+  still_ordered c F = record { all = λ i k inlet at. one i k inlet at }
+    where
+      relabel : (g h : Hop) → IsThere (keys_at old.grove c) g.node → IsThere (keys_at old.grove c) h.node → g.node ≢ b.key → h.node ≢ b.key → IsNoLater old.numbers.items g h → IsNoLater new.numbers.items g h
+      relabel g h s t d e later = ⊎_elim
+          (λ (same : c ≡ b.canvas).
+          let x = label_here g.node (subst (λ z. IsThere (keys_at old.grove z) g.node) same s) d in
+          let y = label_here h.node (subst (λ z. IsThere (keys_at old.grove z) h.node) same t) e in
+          later_by old.numbers.items new.numbers.items g h (lowered number) x.0 y.0 (λ l. lowered_less number (label_at old.numbers.items g.node) (label_at old.numbers.items h.node) x.1 y.1 l) later)
+          (λ (apart : c ≢ b.canvas). later_by old.numbers.items new.numbers.items g h (λ z. z) (label_aside c g.node apart s) (label_aside c h.node apart t) (λ l. l) later)
+          (cases_eq c b.canvas)
+
+      one : (i k inlet : ℕ) → slice_get (keys_at new.grove c) i ≡ Some k → AreInOrder new.numbers.items (feed_hops new.web k inlet)
+      one i k inlet at x y g h l u v =
+          let d = not_key old new n table path number steps steps' b D C meet c i k at in
+          let t = was_there old new n table path number steps steps' b D C c i k at in
+          let hops = feeds_gone old new n table path number steps steps' b D k inlet d in
+          let u' = ap (λ (hs : List Hop). slice_get hs x) (sym hops) ∙ u in
+          let v' = ap (λ (hs : List Hop). slice_get hs y) (sym hops) ∙ v in
+          let p = passed (is_of_other b.key) (feed_hops old.web k inlet) g x u' in
+          let q = passed (is_of_other b.key) (feed_hops old.web k inlet) h y v' in
+          relabel g h (feeder_there c k inlet p.place g t p.stood) (feeder_there c k inlet q.place h t q.stood) (from_other b.key g p.passes) (from_other b.key h q.passes)
+          (order_kept (λ r s. IsNoLater old.numbers.items r s) (is_of_other b.key) (feed_hops old.web k inlet) (F.all t.0 k inlet t.1) x y g h l u' v')
