@@ -1,5 +1,5 @@
 -- What the words ask for, played with nothing passed over.
-use Rattle.std.proofs.Common.{◌⊎◌, inl, inr, ℕ, List, Option, Some, None}
+use Rattle.std.proofs.Common.{inl, inr, ℕ, List, Option, Some, None}
 use Rattle.pd_clock.specs.declared.times.Rate.{Rate}
 use Rattle.pd_stage.specs.Leads.{Sinks}
 use Rattle.pd_words.specs.Grammar.{Asked}

@@ -1,12 +1,11 @@
 -- A made patch grows within the limits, and its script is commands up to its `end`.
-use Rattle.std.proofs.Common.{◌≡◌, ◌≤◌, ◌+◌, ◌*◌, ◌==◌, ℕ, ℤ, suc, pos, Bool, true, false, nat_lt, if◌then◌else◌, List, [], ◌∷◌, ◌++◌, length, Option, Some, None, refl, sym, ap, ◌∙◌, arith}
+use Rattle.std.proofs.Common.{◌≡◌, ◌≤◌, ◌+◌, ◌*◌, ◌==◌, ℕ, ℤ, suc, pos, Bool, false, if◌then◌else◌, List, [], ◌∷◌, ◌++◌, length, Option, Some, None, refl, sym, ap, ◌∙◌, arith}
 use Rattle.std.specs.Prelude.{codes, decimal}
 use Rattle.std.specs.List.{AllByRecursion, flat_map}
 use Rattle.std.proofs.lemmas.Bool.{le-ltb}
 use Rattle.std.proofs.lemmas.Bool.Decides.{nat_tests}
 use Rattle.pd_io.specs.declared.files.FileRow.{FileRow}
 use Rattle.pd_atom.specs.Names.{Names}
-use Rattle.pd_canvas.specs.Pages.{Page}
 use Rattle.pd_canvas.specs.declared.edits.Edit.TheVariants.{Connect, Disconnect}
 use Rattle.pd_feed.specs.Script.{Script as Text, script_of}
 use Rattle.pd_feed.specs.declared.feed.Fed.TheVariants as fed
