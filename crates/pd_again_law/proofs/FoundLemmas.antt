@@ -331,7 +331,7 @@ module _ (library : List (ℕ × Answer)) (rate : Rate) (name : List ℕ) where
     held_less = record {
       stands = goes_on_running.stands;
       fit = takes.fit x.old x.new s.base.counts s.names path number x.steps x.steps' x.box x.deletes x.stands.puts x.stands.meet stood.fit;
-      holds = takes.holds x.old x.new s.base.counts s.names path number x.steps x.steps' x.box h.tree x.deletes x.stands.puts stood.holds;
+      holds = takes.holds x.old x.new s.base.counts s.names path number x.steps x.steps' x.box h.tree x.deletes x.stands.puts ran stood.holds;
       owners = takes.owners x.old x.new s.base.counts s.names path number x.steps x.steps' x.box x.deletes s.file stood.owners;
       contents = takes.contents x.old x.new s.base.counts s.names path number x.steps x.steps' x.box s.names x.deletes x.stands.puts
           (subst (λ (f : ℕ → Option State). Settled x.old s.names f) x.stands.states stood.contents);

@@ -29,7 +29,7 @@ pub record TakeLaws : Type 0 where
   pub zeros : (old new : Patch) (n : Counts) (table : Names) (path : List ℕ) (number steps steps' : ℕ) (b : OldBox) (t : Tree)
       → DeletesBox old new n table path number steps steps' b → CanPut old → RunsAs old.grove t → zeros_of (taken_at path number t) ≡ zeros_of t
   pub holds : (old new : Patch) (n : Counts) (table : Names) (path : List ℕ) (number steps steps' : ℕ) (b : OldBox) (t : Tree)
-      → DeletesBox old new n table path number steps steps' b → CanPut old → HoldsWires old t → HoldsWires new (taken_at path number t)
+      → DeletesBox old new n table path number steps steps' b → CanPut old → RunsAs old.grove t → HoldsWires old t → HoldsWires new (taken_at path number t)
   pub fit : (old new : Patch) (n : Counts) (table : Names) (path : List ℕ) (number steps steps' : ℕ) (b : OldBox)
       → DeletesBox old new n table path number steps steps' b → CanPut old → Meet old.web → WiresFit old → WiresFit new
   pub owners : (old new : Patch) (n : Counts) (table : Names) (path : List ℕ) (number steps steps' : ℕ) (b : OldBox)
