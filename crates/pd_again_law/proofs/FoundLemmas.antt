@@ -32,6 +32,7 @@ use Rattle.pd_regrowth_law.proofs.StepLemmas.{extends_same}
 use Rattle.pd_regrowth_law.proofs.AgainLemmas.{library_more}
 use Rattle.pd_reload_law.specs.Reloading.{RunsAs}
 use Rattle.pd_putting_law.specs.Again.{StandsAgain}
+use Rattle.pd_taking_law.specs.Takes.{taken_at}
 use Rattle.pd_putting_law.proofs.AgainLemmas.{stands_on}
 use Rattle.pd_boxes.specs.Put.{CanPut}
 use Rattle.pd_put_law.specs.Coming.{with_leaf}
@@ -50,7 +51,7 @@ use Rattle.pd_contents_law.proofs.BlockLemmas.{block_kept}
 use Rattle.pd_proper_law.specs.Saves.{IsWritten}
 use Rattle.pd_proper_law.proofs.SavableLemmas.{kinds_savable}
 use Rattle.pd_stage.specs.Choices.{Base, base_of, Wanted, Edits, Asks, Saves, Undoes, Redoes, Made, Choice, Refuses, Lacks, Makes, first_choice, later}
-use Rattle.pd_stage.specs.Lawful.{StandsAt, known_at, IsMade, IsShort, IsRewiringLawful, IsPutIn, IsUnputForRoom, IsPutLawful, IsEditLawful, IsSaved, MayCome}
+use Rattle.pd_stage.specs.Lawful.{StandsAt, known_at, IsMade, IsShort, IsRewiringLawful, IsPutIn, IsUnputForRoom, IsPutLawful, IsTakenOut, IsLeftInForRoom, IsTakingLawful, IsEditLawful, IsSaved, MayCome}
 use Rattle.pd_stage.specs.Stages.{Stage, Taken, Passage, with_names, with_ahead, still, followed_by}
 use Rattle.pd_stage.specs.Events.{Beginning, Message, Firing, Loading, with_net, stage_by, edit_taken, edit_asked, edits_taken, begun, delivered, with_kept, event}
 use Rattle.pd_stage.specs.Times.{block_units, most_fired, first_clock, next_clock, taken_off, with_taken, with_fired, fires, fires_or_not, fires_below, clocks_fire, block_net, sound_at, block_sounds, block_runs, blocks_run, time_is, comes_to, advanced, finished}
@@ -70,6 +71,7 @@ use Rattle.pd_steady.proofs.TreeLemmas.{taken_owned}
 use Rattle.pd_steady.proofs.TimeLemmas.{below_limit, fires_end, within, below, same_end, ends_soon, steady_longer, fired_steady, timed_steady, sounds_steady}
 use Rattle.pd_again_law.proofs.NumberLemmas.{HasFirstNumbers, leaf_first, goes_behind}
 use Rattle.pd_again_law.proofs.HeldLemmas.{Settled, IsHeld, bare_kind, NetHeld, told, held_in, held_edit, held_room}
+use Rattle.pd_again_law.proofs.TakeLemmas.{TakeLaws, less_first, same_rate}
 
 -- ---- what is so of a stage of a run
 
@@ -298,6 +300,70 @@ module _ (library : List (ℕ × Answer)) (rate : Rate) (name : List ℕ) where
         held = held_in s.file s.names s.states h.tree x.new net x.net_is held;
       }
 
+  -- an edit that took a box out
+  module _ (takes : TakeLaws) (most : ℕ) (s : Stage) (path : List ℕ) (number : ℕ) (m : Made) (x : IsTakenOut s path number m) (steady : IsSteady most s) (h : IsStanding s) where
+    abbrev less : Tree
+    less = taken_at path number h.tree
+
+    stood : IsHeld s.file s.names s.states h.tree x.old
+    stood = held_at s x.old h x.stands
+
+    ran : RunsAs x.old.grove h.tree
+    ran = runs_at most s x.old h steady x.stands
+
+    goes_on_running : RunsAs x.new.grove less
+    goes_on_running = takes.runs x.old x.new s.base.counts s.names path number x.steps x.steps' x.box h.tree x.deletes x.stands.puts ran
+
+    grows_less : StandsAgain (answer_in s.base.files) s.file s.names less
+    grows_less =
+        takes.again x.old x.new s.base.counts s.names path number x.steps x.steps' x.box h.tree x.deletes x.stands.puts ran
+        (answer_in s.base.files) s.file s.names h.again
+
+    fewer_counted : HasCounted rate (base_of s.base.files x.box.counts) less
+    fewer_counted = record {
+      boxes = takes.boxes x.old x.new s.base.counts s.names path number x.steps x.steps' x.box h.tree x.deletes x.stands.puts ran h.counted.boxes;
+      sound = subst (λ (r : Rate). x.box.counts.sound ≡ sound_of r less.boxes) (rate_at s x.old h x.stands)
+          (takes.sound x.old x.new s.base.counts s.names path number x.steps x.steps' x.box h.tree x.deletes x.stands.puts ran
+          (subst (λ (r : Rate). s.base.counts.sound ≡ sound_of r h.tree.boxes) (sym (rate_at s x.old h x.stands)) h.counted.sound));
+    }
+
+    held_less : IsHeld s.file s.names (states_of x.new) less x.new
+    held_less = record {
+      stands = goes_on_running.stands;
+      fit = takes.fit x.old x.new s.base.counts s.names path number x.steps x.steps' x.box x.deletes x.stands.puts x.stands.meet stood.fit;
+      holds = takes.holds x.old x.new s.base.counts s.names path number x.steps x.steps' x.box h.tree x.deletes x.stands.puts ran stood.holds;
+      owners = takes.owners x.old x.new s.base.counts s.names path number x.steps x.steps' x.box x.deletes s.file stood.owners;
+      contents = takes.contents x.old x.new s.base.counts s.names path number x.steps x.steps' x.box s.names x.deletes x.stands.puts
+          (subst (λ (f : ℕ → Option State). Settled x.old s.names f) x.stands.states stood.contents);
+    }
+
+    take_stands : IsStanding (stage_by s (Makes m))
+    take_stands = record {
+      file = h.file;
+      rates = ap (λ (n : Net). n.rate) x.net ∙ same_rate x.old x.new s.base.counts s.names path number x.steps x.steps' x.box x.deletes ∙ rate_at s x.old h x.stands;
+      six = subst (λ (ns : Names). 6 ≤ length ns) (sym x.names) h.six;
+      tree = less;
+      low = goes_on_running.shallow;
+      again = subst (λ (b : Base). StandsAgain (answer_in b.files) s.file m.names less) (sym x.base)
+          (subst (λ (ns : Names). StandsAgain (answer_in s.base.files) s.file ns less) (sym x.names) grows_less);
+      proper = subst (λ (ns : Names). StaysProper ns less) (sym x.names) (λ more on table.
+          takes.proper x.old x.new s.base.counts s.names path number x.steps x.steps' x.box h.tree more x.deletes x.stands.puts ran (h.proper more on table));
+      numbers = less_first h.tree less (takes.zeros x.old x.new s.base.counts s.names path number x.steps x.steps' x.box h.tree x.deletes x.stands.puts ran) h.numbers;
+      files = subst (λ (b : Base). GoesOn library b.files) (sym x.base) h.files;
+      counted = subst (λ (b : Base). HasCounted rate b less) (sym x.base) fewer_counted;
+      held = held_in s.file m.names m.states less x.new m.net x.net
+          (subst (λ (ns : Names). IsHeld s.file ns m.states less x.new) (sym x.names)
+          (subst (λ (f : ℕ → Option State). IsHeld s.file s.names f less x.new) (sym x.states) held_less));
+    }
+
+  -- a box could have gone
+  left_stands : (s : Stage) (path : List ℕ) (number : ℕ) (net : Net) → IsLeftInForRoom s path number net → IsStanding s → IsStanding (with_net s net)
+  left_stands s path number net x h =
+      let held : IsHeld s.file s.names s.states h.tree x.new =
+      held_room s.file s.names s.states h.tree h.low x.old x.new x.short.room (held_at s x.old h x.stands) in
+      let rest = rewired_stands s net s.base x.old x.new h x.stands x.net_is x.short.room.rate refl refl refl held in
+      record { file = h.file; rates = rest.3; six = h.six; tree = h.tree; low = h.low; again = rest.0; proper = h.proper; numbers = h.numbers; files = h.files; counted = rest.1; held = rest.2 }
+
   saved_stands : (s : Stage) (m : Made) → IsSaved s m → IsStanding s → IsStanding (stage_by s (Makes m))
   saved_stands s m x h = record {
     file = h.file;
@@ -316,7 +382,7 @@ module _ (library : List (ℕ × Answer)) (rate : Rate) (name : List ℕ) where
   }
 
   -- what is asked for, at a stage whose edits to come are these
-  module _ (most : ℕ) (s : Stage) (ahead : List Choice) (steady : IsSteady most (with_ahead s [])) (h : IsStanding (with_ahead s [])) where
+  module _ (takes : TakeLaws) (most : ℕ) (s : Stage) (ahead : List Choice) (steady : IsSteady most (with_ahead s [])) (h : IsStanding (with_ahead s [])) where
     on_ahead : (r : Stage) → IsStanding r → IsStanding (with_ahead r ahead)
     on_ahead r k = ahead_stands r ahead k
 
@@ -330,6 +396,11 @@ module _ (library : List (ℕ × Answer)) (rate : Rate) (name : List ℕ) where
     box_stands path e (Lacks net) x = on_ahead (with_net (with_ahead s []) net) (unput_stands most (with_ahead s []) path e net x steady h)
     box_stands path e (Makes m) x = on_ahead (stage_by (with_ahead s []) (Makes m)) (put_stands most (with_ahead s []) path e m x steady h)
 
+    gone_stands : (path : List ℕ) (number : ℕ) (c : Choice) → IsTakingLawful (with_ahead s []) path number c → IsStanding (stage_by (with_ahead s ahead) c)
+    gone_stands path number (Refuses why) x = on_ahead (with_ahead s []) h
+    gone_stands path number (Lacks net) x = on_ahead (with_net (with_ahead s []) net) (left_stands (with_ahead s []) path number net x h)
+    gone_stands path number (Makes m) x = on_ahead (stage_by (with_ahead s []) (Makes m)) (take_stands takes most (with_ahead s []) path number m x steady h)
+
     save_stands : (c : Choice) → MayCome (Saves None) (with_ahead s []) c → IsStanding (stage_by (with_ahead s ahead) c)
     save_stands (Refuses why) x = on_ahead (with_ahead s []) h
     save_stands (Lacks net) x = absurd x
@@ -341,7 +412,7 @@ module _ (library : List (ℕ × Answer)) (rate : Rate) (name : List ℕ) where
     edit_stands : (path : List ℕ) (e : Edit) (c : Choice) → IsEditLawful (with_ahead s []) path e c → IsStanding (stage_by (with_ahead s ahead) c)
     edit_stands path (edit.Connect v) c x = wire_stands path (edit.Connect v) c x
     edit_stands path (edit.Disconnect v) c x = wire_stands path (edit.Disconnect v) c x
-    edit_stands path (edit.Delete number) c x = none_stands c _ x
+    edit_stands path (edit.Delete number) c x = gone_stands path number c x
     edit_stands path (edit.Retype number text) c x = none_stands c _ x
     edit_stands path (edit.Move number a b) c x = none_stands c _ x
     edit_stands path (edit.Obj a b text) c x = box_stands path (edit.Obj a b text) c x
@@ -369,7 +440,7 @@ module _ (library : List (ℕ × Answer)) (rate : Rate) (name : List ℕ) where
     fair_stands wanted c (inl l) = choice_stands wanted c l
     fair_stands wanted c (inr r) = refused_stands c r
 
-  module _ (g : Guards) (most : ℕ) (top : most ≤ 2 ^ 101) where
+  module _ (g : Guards) (takes : TakeLaws) (most : ℕ) (top : most ≤ 2 ^ 101) where
     abbrev pub Leads : Stage → Passage → Type 0
     Leads s q = IsGood most s → AreFair q.edits → EndsWell most q
 
@@ -394,7 +465,7 @@ module _ (library : List (ℕ × Answer)) (rate : Rate) (name : List ℕ) where
     unfolding edit_taken
     taken_good wanted s l h = record {
       steady = altered_steady most s (edit_taken wanted s).stage h.steady (taken_left wanted s l) (taken_owned wanted s l (owned_at most s h.steady));
-      stands = fair_stands most s (later s.ahead) (bare_good s h).steady (bare_good s h).stands wanted (first_choice s.ahead) l.0;
+      stands = fair_stands takes most s (later s.ahead) (bare_good s h).steady (bare_good s h).stands wanted (first_choice s.ahead) l.0;
     }
 
     taken_found : (wanted : Wanted) (s : Stage) → IsGood most s → AreFound most (edit_taken wanted s).edits
@@ -643,33 +714,33 @@ module _ (library : List (ℕ × Answer)) (rate : Rate) (name : List ℕ) where
   same_most : (n : ℕ) → n + block_units ≤ n + block_units
   same_most n = omega arith
 
-  pub last_found : (g : Guards) (most : ℕ) → most + block_units ≤ 2 ^ 101 → (r : Stage) → IsGood most r → AreFair (finished_by own_ways r).edits
+  pub last_found : (g : Guards) (takes : TakeLaws) (most : ℕ) → most + block_units ≤ 2 ^ 101 → (r : Stage) → IsGood most r → AreFair (finished_by own_ways r).edits
       → AreFound (most + block_units) (finished_by own_ways r).edits
-  last_found g most top r h l =
-      (same_leads g (most + block_units) top r (finished_by own_ways r) (finished r) (finished_own r)
-      (finished_leads g (most + block_units) top r most h.steady.time (same_most most)) (good_longer most (most + block_units) (one_block most) r h) l).found
+  last_found g takes most top r h l =
+      (same_leads g takes (most + block_units) top r (finished_by own_ways r) (finished r) (finished_own r)
+      (finished_leads g takes (most + block_units) top r most h.steady.time (same_most most)) (good_longer most (most + block_units) (one_block most) r h) l).found
 
   -- two parts, the second of which may be longer
   pub both_found : (most more : ℕ) → most ≤ more → (a b : List Taken) → AreFound most a → AreFound more b → AreFound more (a ++ b)
   both_found most more l a b h k = all-append (λ t. IsGood more t.found) a b (longer_found most more l a h) k
 
   -- opening, and then steps
-  pub steps_found : (g : Guards) (file : List ℕ) (p : Patch) (table : Names) (base : Base) (ahead : List Choice) (xs : List Step) (most : ℕ) → most ≤ 2 ^ 101
+  pub steps_found : (g : Guards) (takes : TakeLaws) (file : List ℕ) (p : Patch) (table : Names) (base : Base) (ahead : List Choice) (xs : List Step) (most : ℕ) → most ≤ 2 ^ 101
       → IsGood most (first_stage file p table base ahead) → AreSteps most xs (opened file p table base ahead).stage
       → AreFair (followed_by (opened file p table base ahead) (steps_by own_ways xs)).edits → EndsWell most (followed_by (opened file p table base ahead) (steps_by own_ways xs))
-  steps_found g file p table base ahead xs most low h k l =
-      followed g most low (first_stage file p table base ahead) (opened file p table base ahead) (steps_by own_ways xs) (opened_leads g most low file p table base ahead)
-      (steps_lead g most low xs (opened file p table base ahead).stage k) h l
+  steps_found g takes file p table base ahead xs most low h k l =
+      followed g takes most low (first_stage file p table base ahead) (opened file p table base ahead) (steps_by own_ways xs) (opened_leads g takes most low file p table base ahead)
+      (steps_lead g takes most low xs (opened file p table base ahead).stage k) h l
 
-  pub run_found : (g : Guards) (file : List ℕ) (p : Patch) (table : Names) (base : Base) (ahead : List Choice) (xs : List Step) (most : ℕ) → most + block_units ≤ 2 ^ 101
+  pub run_found : (g : Guards) (takes : TakeLaws) (file : List ℕ) (p : Patch) (table : Names) (base : Base) (ahead : List Choice) (xs : List Step) (most : ℕ) → most + block_units ≤ 2 ^ 101
       → IsGood most (first_stage file p table base ahead) → AreSteps most xs (opened file p table base ahead).stage → AreFair (run_by own_ways file p table base ahead xs).edits
       → AreFound (most + block_units) (run_by own_ways file p table base ahead xs).edits
-  run_found g file p table base ahead xs most top h k l =
+  run_found g takes file p table base ahead xs most top h k l =
       let o : Passage = opened file p table base ahead in
       let b : Passage = followed_by o (steps_by own_ways xs) in
       let last : Passage = finished_by own_ways b.stage in
       let low : most ≤ 2 ^ 101 = in_time most top in
       let first : EndsWell most b =
-      steps_found g file p table base ahead xs most low h k (fair_first b.edits last.edits l) in
+      steps_found g takes file p table base ahead xs most low h k (fair_first b.edits last.edits l) in
       both_found most (most + block_units) (one_block most) b.edits last.edits first.found
-      (last_found g most top b.stage first.stage (fair_second b.edits last.edits l))
+      (last_found g takes most top b.stage first.stage (fair_second b.edits last.edits l))

@@ -1,4 +1,5 @@
 pub mod NumberLemmas
 pub mod HeldLemmas
+pub mod TakeLemmas
 pub mod FoundLemmas
 pub mod AgainLemmas

@@ -4,6 +4,7 @@ use Rattle.pd_steady.specs.Runs.{own_ways}
 use Rattle.pd_steady.specs.Steps.{run_by}
 use Rattle.pd_steady.proofs.EventLemmas.{Guards}
 use Rattle.pd_steady.proofs.FairLemmas.{lawful_fair}
+use Rattle.pd_again_law.proofs.TakeLemmas.{TakeLaws}
 use Rattle.pd_again_law.proofs.FoundLemmas.{run_found}
 use Rattle.pd_again_law.proofs.AgainLemmas.{first_good, all_again}
 use Rattle.pd_again_law.proofs.laws.saves_open_again.Goals as goal
@@ -20,7 +21,19 @@ returns c = λ holds name rate d names table p base most steps ahead x top k l.
       sounds = c.blocks_stay_in_order.ensures.sounds;
       begins = λ names name atoms first n h. c.commands_begin_in_order.ensures.message names name atoms first n h;
     } in
+    let takes : TakeLaws = record {
+      runs = c.boxes_go_from_trees.ensures.runs;
+      again = c.boxes_go_from_trees.ensures.again;
+      zeros = c.boxes_go_from_trees.ensures.zeros;
+      holds = c.boxes_go_from_trees.ensures.holds;
+      fit = c.boxes_go_from_trees.ensures.fit;
+      owners = c.boxes_go_from_trees.ensures.owners;
+      boxes = c.counts_follow_deletes.ensures.boxes;
+      sound = c.counts_follow_deletes.ensures.sound;
+      proper = c.shorter_documents_can_be_saved.ensures.proper;
+      contents = c.shorter_documents_can_be_saved.ensures.contents;
+    } in
     all_again c.documents_tell_trees.ensures.document c.written_read.ensures x.files.files rate name (most + block_units) (run_by own_ways name p table base ahead steps).edits
-    (run_found x.files.files rate name guards name p table base ahead steps most top
+    (run_found x.files.files rate name guards takes name p table base ahead steps most top
     (first_good holds name rate d names p table base x most ahead (c.opening_is_steady.ensures.first holds name rate d names table p base most ahead x))
     k (lawful_fair _ l))

@@ -21,6 +21,18 @@ returns-clause-opened c = opened_free (record {
   freely = c.opening_is_steady.ensures.freely;
 }) (record {
   first = c.opening_is_steady.ensures.first;
+  takes = record {
+    runs = c.boxes_go_from_trees.ensures.runs;
+    again = c.boxes_go_from_trees.ensures.again;
+    zeros = c.boxes_go_from_trees.ensures.zeros;
+    holds = c.boxes_go_from_trees.ensures.holds;
+    fit = c.boxes_go_from_trees.ensures.fit;
+    owners = c.boxes_go_from_trees.ensures.owners;
+    boxes = c.counts_follow_deletes.ensures.boxes;
+    sound = c.counts_follow_deletes.ensures.sound;
+    proper = c.shorter_documents_can_be_saved.ensures.proper;
+    contents = c.shorter_documents_can_be_saved.ensures.contents;
+  };
   tells = c.documents_tell_trees.ensures.document;
   reads = c.written_read.ensures;
 })
@@ -45,6 +57,18 @@ returns-clause-made c = made_free (record {
   freely = c.opening_is_steady.ensures.freely;
 }) (record {
   first = c.opening_is_steady.ensures.first;
+  takes = record {
+    runs = c.boxes_go_from_trees.ensures.runs;
+    again = c.boxes_go_from_trees.ensures.again;
+    zeros = c.boxes_go_from_trees.ensures.zeros;
+    holds = c.boxes_go_from_trees.ensures.holds;
+    fit = c.boxes_go_from_trees.ensures.fit;
+    owners = c.boxes_go_from_trees.ensures.owners;
+    boxes = c.counts_follow_deletes.ensures.boxes;
+    sound = c.counts_follow_deletes.ensures.sound;
+    proper = c.shorter_documents_can_be_saved.ensures.proper;
+    contents = c.shorter_documents_can_be_saved.ensures.contents;
+  };
   tells = c.documents_tell_trees.ensures.document;
   reads = c.written_read.ensures;
 })
