@@ -1,5 +1,5 @@
 -- A made patch: why its run ends, and what it leads to.
-use Rattle.std.proofs.Common.{◌≡◌, ◌≢◌, ◌<◌, ◌≤◌, ◌⊎◌, inl, inr, ℕ, Bool, true, false, List, [], length, Option, Some, None, Result, Ok, Err, refl, sym, ap, subst, ◌∙◌, arith}
+use Rattle.std.proofs.Common.{◌≡◌, ◌≢◌, ◌≤◌, ◌⊎◌, inl, inr, ℕ, Bool, true, false, List, length, Option, Some, Result, Ok, Err, refl, sym, ap, subst, ◌∙◌, arith}
 use Rattle.std.specs.Prelude.{nat_lt}
 use Rattle.std.proofs.lemmas.Bool.{ltb-true, ltb-false}
 use Rattle.pd_io.specs.Faults.{Rose}
@@ -22,7 +22,7 @@ use Rattle.pd_play.specs.Causes.{HasOpenCauses, HasRunCauses, HasMadeCauses, Has
 use Rattle.pd_play.specs.Ending.{is_end, last_line, opened_as}
 use Rattle.pd_play.specs.Made.{made_names, summary_at, summary_line}
 use Rattle.pd_play.specs.Refusing.{IsMadeRefusal}
-use Rattle.pd_play.specs.Patches.{started, once_open, OpensMade, PlaysScript, PlaysMade}
+use Rattle.pd_play.specs.Patches.{started, OpensMade, PlaysScript}
 use Rattle.pd_play.specs.Telling.{Outcome, told, done_with, ends_with, Answers}
 use Rattle.pd_play.specs.declared.status.Status.{Status}
 use Rattle.pd_play.specs.declared.status.Status.TheVariants.{Done, Usage, PatchAbsent, PatchBad, ScriptBad, ReadFault, WriteFault, ShelfFault, NoMemory}

@@ -1,5 +1,5 @@
 -- The samples of a run are added up.
-use Rattle.std.proofs.Common.{◌≡◌, ◌+◌, ◌*◌, ◌==◌, ℕ, ℤ, Bool, true, false, List, [], ◌∷◌, ◌++◌, length, Option, Some, None, refl}
+use Rattle.std.proofs.Common.{◌≡◌, ◌+◌, ◌*◌, ◌==◌, ℕ, ℤ, Bool, true, false, List, [], ◌∷◌, length, Option, Some, None, refl}
 use Rattle.std.specs.Prelude.{nat_lt, if◌then◌else◌}
 use Rattle.pd_atom.specs.Names.{Names}
 use Rattle.pd_feed.specs.Script.{Script as Text}
@@ -16,14 +16,14 @@ use Rattle.pd_made.specs.Tallies.{nothing, tallied}
 use Rattle.pd_kind.specs.Forming.{cut_atoms}
 use Rattle.pd_stage.specs.Items.{samples_of}
 use Rattle.pd_stage.specs.Choices.{Base, Choice}
-use Rattle.pd_stage.specs.Stages.{Stage, Passage, with_names, saying, joined}
+use Rattle.pd_stage.specs.Stages.{Stage, Passage, with_names, saying}
 use Rattle.pd_stage.specs.Events.{event, Message, Loading}
 use Rattle.pd_stage.specs.Sums.{AddsUp}
 use Rattle.pd_stage.proofs.SumLemmas.{still_adds, saying_adds, joined_adds, edit_adds, event_adds, advanced_adds, finished_adds}
 use Rattle.pd_engine.specs.Messages.{message_in}
 use Rattle.pd_engine.specs.Commands.{cut_text, commanded}
 use Rattle.pd_engine.specs.Opening.{first_stage, opened}
-use Rattle.pd_play.specs.Runs.{Point, Run, Ending, Whole, Broken, most_time, at_time, at_stage, counted, bad, behind, reached, done, end_reached, carried_out, said_run, timed_run, millionths, read_run, record_run, records_run, end_run, run_of}
+use Rattle.pd_play.specs.Runs.{Point, Run, Ending, Whole, Broken, most_time, at_time, at_stage, counted, bad, behind, reached, done, carried_out, said_run, timed_run, millionths, read_run, record_run, records_run, end_run, run_of}
 use Rattle.pd_play.specs.Patches.{start}
 
 -- what is true of a command

@@ -1,5 +1,5 @@
 -- A patch that was played by a script, and the line that tells how that ended: the one of a file name by a script that is read, or a made one by its own.
-use Rattle.std.specs.Prelude.{◌≡◌, ◌≤◌, ◌⊎◌, ℕ, List, [], Option, Some, None, IfSome}
+use Rattle.std.specs.Prelude.{◌≡◌, ◌≤◌, ◌⊎◌, ℕ, List, Option, Some, None, IfSome}
 use Rattle.pd_io.specs.Faults.{Rose}
 use Rattle.pd_io.specs.Stream.{with_front}
 use Rattle.pd_io.specs.declared.files.FileRow.{FileRow}

@@ -9,9 +9,10 @@
 //! the end of the script the block that has begun runs, and the status is `Done`. Status, lines, samples and files
 //! are those of the run, and then comes the line of the status.
 //!
-//! Edits of wires, edits that put a box without a canvas inside, and saves of the patch's own document are made: what
-//! each came to stands in the run, and it is lawful (pd_stage's `Lawful`). Other edits and saves are refused so far,
-//! with their lines, and there is nothing to undo or redo; then the run goes on.
+//! Edits of wires and edits that put a box without a canvas inside, which the script or a message asks for, and saves of
+//! the patch's own document are made: what each came to stands in the run, and it is lawful (pd_stage's `Lawful`).
+//! Other edits and saves are refused so far, with their lines, and there is nothing to undo or redo; then the run goes
+//! on.
 //!
 //! Where the source fails, the script is what it gave until then: its whole records are run, and the status is
 //! `ReadFault`. Lines and samples of the run and the files that are put, with the line of the status, stand in one list
@@ -21,8 +22,8 @@
 //! read, no sample is written and no file is put.
 //!
 //! Opening leaves what the folder holds. After the run it holds what it held with the files that were put, one
-//! after the other, where it still tells what it holds. A save that fails for a fault of the folder is refused with
-//! its line, and the count of such faults rose. Where nothing is played, the folder holds what it held. A status
+//! after the other, where it still tells what it holds. A save or an edit that fails for a fault of the folder is
+//! refused with its line, and the count of such faults rose. Where nothing is played, the folder holds what it held. A status
 //! that tells of a fault comes only where that count of faults rose (`causes`). The usage line is told where the
 //! words are none of the command, unless memory is short or the line isn't taken
 //! (`unplayed`); then the folder, the source of the script and the samples' sink are as they were (`untouched`).

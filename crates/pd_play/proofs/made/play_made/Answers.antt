@@ -1,8 +1,5 @@
 use Rattle.std.proofs.Common.{ap, Some, refl}
-use Rattle.pd_engine.specs.Stages.{stage_at}
-use Rattle.pd_play.specs.Made.{summary_line}
 use Rattle.pd_play.specs.Playing.{point_at}
-use Rattle.pd_play.specs.Telling.{ends_with}
 use Rattle.pd_play.specs.declared.status.Status.{Status}
 use Rattle.pd_play.proofs.MadeLemmas.{run_causes}
 use Rattle.pd_play.proofs.OpenedLemmas.{ends_opened}

@@ -1,7 +1,7 @@
 use Rattle.std.proofs.Common.{inl, inr, refl}
 use Rattle.pd_engine.specs.Stages.{stage_at}
 use Rattle.pd_play.proofs.MadeLemmas.{open_causes, later_causes, short_causes, made_plays}
-use Rattle.pd_play.proofs.PatchLemmas.{answers_on, no_made_memory, told_short}
+use Rattle.pd_play.proofs.PatchLemmas.{answers_on, no_made_memory}
 use Rattle.pd_play.proofs.made.run_made.Goals as goal
 
 pub returns-in_default-clause-causes : goal.returns-in_default-clause-causes

@@ -1,6 +1,6 @@
 use Rattle.std.proofs.Common.{map, string_bytes, refl}
 use Rattle.pd_play.proofs.PatchLemmas.{asked_plays, words_told}
-use Rattle.pd_play.proofs.WordLemmas.{asked_few, some_asked, asked_if, unasked_if, always_if}
+use Rattle.pd_play.proofs.WordLemmas.{asked_few, some_asked, asked_if, always_if}
 use Rattle.pd_play.proofs.player.play.Goals as goal
 
 pub play_asked-requires-clause-few : goal.play_asked-requires-clause-few
