@@ -1,0 +1,3 @@
+pub mod ShellLemmas
+pub mod OpenedLemmas
+pub mod BeforeLemmas
