@@ -1,3 +1,5 @@
 pub mod ShellLemmas
 pub mod OpenedLemmas
 pub mod BeforeLemmas
+pub mod RunLemmas
+pub mod LawLemmas
