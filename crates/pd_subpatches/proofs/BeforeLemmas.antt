@@ -38,14 +38,9 @@ use Rattle.pd_boxes.specs.Put.{node_of, keys_before, keys_behind, ComesIn, IsNoP
 use Rattle.pd_boxes.proofs.BuiltLemmas.{still_wired}
 use Rattle.pd_boxes.proofs.SignalLemmas.{lacks_box}
 use Rattle.pd_subpatches.specs.Shell.{ShellComesIn}
-use Rattle.pd_subpatches.proofs.OpenedLemmas.{between, nodes_between, boards_between, keys_kept, owners_kept}
+use Rattle.pd_subpatches.proofs.OpenedLemmas.{between, canvas_came, box_came, no_ports_of, keys_kept, owners_kept}
 
--- a canvas box that holds nothing has no ports, and is none
-
-pub no_ports_of : (side : Side) → kind_jacks side kind.Canvas ≡ []
-no_ports_of Inlets = refl
-no_ports_of Outlets = refl
-
+-- a canvas box is no port
 pub no_port : (k : Kind) → k ≡ kind.Canvas → (side : Side) → port_signal side k ≡ None
 no_port k e Inlets = ap (port_signal Inlets) e
 no_port k e Outlets = ap (port_signal Outlets) e
@@ -58,20 +53,10 @@ module _ (p q : Patch) (table : Names) (place : Place) (s : Seed) (key : ℕ) (C
   before = patch_between p q key C.canvas (node_of place.canvas s)
 
   pub opened : HasCanvasMore (get before.grove.nodes) (get q.grove.nodes) (get before.grove.boards) (get q.grove.boards) key C.canvas (node_of place.canvas s) C.board
-  opened =
-      let G = C.grove in
-      subst (λ (f : ℕ → Option Node). HasCanvasMore f (get q.grove.nodes) (get before.grove.boards) (get q.grove.boards) key C.canvas (node_of place.canvas s) C.board)
-      (nodes_between q.grove key C.canvas (node_of place.canvas s) C.board G.nodes_between G.boards_between G.canvas)
-      (subst (λ (f : ℕ → Option Board). HasCanvasMore G.nodes_between (get q.grove.nodes) f (get q.grove.boards) key C.canvas (node_of place.canvas s) C.board)
-      (boards_between q.grove key C.canvas (node_of place.canvas s) C.board G.nodes_between G.boards_between G.canvas) G.canvas)
+  opened = canvas_came (get p.grove.nodes) (get p.grove.boards) q.grove place.canvas key C.canvas (node_of place.canvas s) C.board (keys_before p place) (keys_behind p place) C.grove
 
   pub came : HasBoxMore (get p.grove.nodes) (get before.grove.nodes) (get p.grove.boards) (get before.grove.boards) place.canvas key (node_of place.canvas s) (keys_before p place) (keys_behind p place)
-  came =
-      let G = C.grove in
-      subst (λ (f : ℕ → Option Node). HasBoxMore (get p.grove.nodes) f (get p.grove.boards) (get before.grove.boards) place.canvas key (node_of place.canvas s) (keys_before p place) (keys_behind p place))
-      (nodes_between q.grove key C.canvas (node_of place.canvas s) C.board G.nodes_between G.boards_between G.canvas)
-      (subst (λ (f : ℕ → Option Board). HasBoxMore (get p.grove.nodes) G.nodes_between (get p.grove.boards) f place.canvas key (node_of place.canvas s) (keys_before p place) (keys_behind p place))
-      (boards_between q.grove key C.canvas (node_of place.canvas s) C.board G.nodes_between G.boards_between G.canvas) G.box)
+  came = box_came (get p.grove.nodes) (get p.grove.boards) q.grove place.canvas key C.canvas (node_of place.canvas s) C.board (keys_before p place) (keys_behind p place) C.grove
 
   pub same_keys : (x : ℕ) → keys_at q.grove x ≡ keys_at before.grove x
   same_keys = keys_kept before.grove q.grove key C.canvas (node_of place.canvas s) C.board opened

@@ -3,3 +3,4 @@ pub mod OpenedLemmas
 pub mod BeforeLemmas
 pub mod RunLemmas
 pub mod LawLemmas
+pub mod PutLemmas

@@ -26,7 +26,7 @@ use Rattle.pd_grove.specs.Keys.{AreLabelled}
 use Rattle.pd_grove.specs.Standing.{node_seen, with_inner}
 use Rattle.pd_grove.specs.Telling.{keys_in}
 use Rattle.pd_grove.specs.Ports.{spot_at, with_spot, node_spot, ports_among}
-use Rattle.pd_grove.specs.Grafts.{HasCanvasMore}
+use Rattle.pd_grove.specs.Grafts.{HasBoxMore, HasCanvasMore}
 use Rattle.pd_grove.specs.TextOrder.{is_sub, keys_inside, spot, box_spots, spots_among, spots_in_order, keys_of_spots, cell_under}
 use Rattle.pd_grove.proofs.SpotLemmas.{spots_none, spots_suc}
 use Rattle.pd_bind.specs.Naming.{owned_by}
@@ -42,9 +42,15 @@ use Rattle.pd_patch.specs.Built.{HasPorts}
 use Rattle.pd_patch.specs.Linked.{ShareCanvas, StayInside}
 use Rattle.pd_patch.specs.Listing.{IsThere}
 use Rattle.pd_boxes.proofs.WireLemmas.{all_imply}
+use Rattle.pd_subpatches.specs.Grove.{HasShellMore}
 
 pub same_functions : {A B : Type 0} (f g : A → B) → ((x : A) → f x ≡ g x) → f ≡ g
 same_functions f g h = λ i x. h x i
+
+-- a canvas box that holds nothing has no ports
+pub no_ports_of : (side : Side) → kind_jacks side kind.Canvas ≡ []
+no_ports_of Inlets = refl
+no_ports_of Outlets = refl
 
 -- The grove before the canvas came into the box.
 
@@ -104,11 +110,24 @@ module _ (g : Grove) (k j : ℕ) (n : Node) (b : Board) (nodes : ℕ → Option 
       (λ (d : x ≢ j). sym (M.stay x d) ∙ sym (get_or-set_other g.boards.slots j x None None d))
       (cases_eq x j)
 
-  pub nodes_between : nodes ≡ get (between g k j n).nodes
+  nodes_between : nodes ≡ get (between g k j n).nodes
   nodes_between = same_functions nodes (get (between g k j n).nodes) node_between
 
-  pub boards_between : boards ≡ get (between g k j n).boards
+  boards_between : boards ≡ get (between g k j n).boards
   boards_between = same_functions boards (get (between g k j n).boards) board_between
+
+-- the box came first, and then its canvas
+module _ (nodes : ℕ → Option Node) (boards : ℕ → Option Board) (g : Grove) (c k j : ℕ) (n : Node) (b : Board) (before behind : List ℕ)
+    (H : HasShellMore nodes (get g.nodes) boards (get g.boards) c k j n b before behind) where
+  pub canvas_came : HasCanvasMore (get (between g k j n).nodes) (get g.nodes) (get (between g k j n).boards) (get g.boards) k j n b
+  canvas_came =
+      subst (λ (f : ℕ → Option Node). HasCanvasMore f (get g.nodes) (get (between g k j n).boards) (get g.boards) k j n b) (nodes_between g k j n b H.nodes_between H.boards_between H.canvas)
+      (subst (λ (f : ℕ → Option Board). HasCanvasMore H.nodes_between (get g.nodes) f (get g.boards) k j n b) (boards_between g k j n b H.nodes_between H.boards_between H.canvas) H.canvas)
+
+  pub box_came : HasBoxMore nodes (get (between g k j n).nodes) boards (get (between g k j n).boards) c k n before behind
+  box_came =
+      subst (λ (f : ℕ → Option Node). HasBoxMore nodes f boards (get (between g k j n).boards) c k n before behind) (nodes_between g k j n b H.nodes_between H.boards_between H.canvas)
+      (subst (λ (f : ℕ → Option Board). HasBoxMore nodes H.nodes_between boards f c k n before behind) (boards_between g k j n b H.nodes_between H.boards_between H.canvas) H.box)
 
 -- The grove m before, and g after.
 
@@ -220,12 +239,8 @@ module _ (m g : Grove) (k j : ℕ) (n : Node) (b : Board) (M : HasCanvasMore (ge
         (λ (d : l ≢ k). ap (jacks_in side g) (M.others l d) ∙ in_kept side (get m.nodes l))
         (cases_eq l k)
       where
-        of_kind : (side : Side) → kind_jacks side kind.Canvas ≡ []
-        of_kind Inlets = refl
-        of_kind Outlets = refl
-
         none : (side : Side) → jacks_at side m k ≡ []
-        none side = ap (jacks_in side m) M.was ∙ ap (jacks_by side m n.kind) M.bare ∙ ap (kind_jacks side) plain ∙ of_kind side
+        none side = ap (jacks_in side m) M.was ∙ ap (jacks_by side m n.kind) M.bare ∙ ap (kind_jacks side) plain ∙ no_ports_of side
 
     pub made_kept : (l : ℕ) → made_in (get g.nodes l) ≡ made_in (get m.nodes l)
     made_kept = alike made_in (sym (ap (made_by n.kind) M.bare ∙ ap is_made plain))

@@ -27,6 +27,7 @@ use Rattle.pd_grove.proofs.NestLemmas.{board_there, node_there}
 use Rattle.pd_grove.proofs.GraftLemmas.{is_some}
 use Rattle.pd_boxes.specs.Put.{node_of}
 use Rattle.pd_subpatches.specs.Grove.{HasShellMore}
+use Rattle.pd_subpatches.specs.Shell.{IsShell}
 
 live_node : (o : Option Node) → IsSome o → (n : Node) × (o ≡ Some n)
 live_node None s = absurd (not_both {A = Node} None refl s)
@@ -207,14 +208,14 @@ none_stand nodes boards j d [] S = refl
 none_stand nodes boards j d (k ∷ ks) S = absurd S
 
 -- the box that a seed becomes, with the canvas that it holds
-pub record ShellIn (nodes nodes' : ℕ → Option Node) (boards boards' : ℕ → Option Board) (c k : ℕ) (s : Seed) (sheet : Sheet) (before behind : List ℕ) : Type 0 where
-  pub canvas : ℕ
-  pub board : Board
-  pub sheet_is : board.sheet ≡ sheet
-  pub more : HasShellMore nodes nodes' boards boards' c k canvas (node_of c s) board before behind
+record ShellIn (nodes nodes' : ℕ → Option Node) (boards boards' : ℕ → Option Board) (c k : ℕ) (s : Seed) (sheet : Sheet) (before behind : List ℕ) : Type 0 where
+  canvas : ℕ
+  board : Board
+  sheet_is : board.sheet ≡ sheet
+  more : HasShellMore nodes nodes' boards boards' c k canvas (node_of c s) board before behind
 
 -- where a part came whose first box holds a canvas without boxes, that box and that canvas came
-pub shell_comes : (nodes nodes' : ℕ → Option Node) (boards boards' : ℕ → Option Board) (root c k : ℕ) (s : Seed) (rest : List Seed) (cell : Cell) (sheet : Sheet) (before behind : List ℕ)
+shell_comes : (nodes nodes' : ℕ → Option Node) (boards boards' : ℕ → Option Board) (root c k : ℕ) (s : Seed) (rest : List Seed) (cell : Cell) (sheet : Sheet) (before behind : List ℕ)
     → HasPartMore nodes nodes' boards boards' c k before behind → IsForest nodes boards root → depth_of (boards c) + 1 < 257
     → Stands nodes' boards' c (depth_of (boards c)) (k ∷ []) (Holder cell sheet Done Done) → Uses nodes nodes' (s ∷ []) rest
     → ShellIn nodes nodes' boards boards' c k s sheet before behind
@@ -246,3 +247,37 @@ shell_comes nodes nodes' boards boards' root c k s rest cell sheet before behind
           sheet_is = ap (λ (x : BoardSeen). x.sheet) q;
           more = with_canvas nodes nodes' boards boards' root c k j before behind P F holds empty (node_of c s) is refl refl b e deep (omega (arith, deep, low));
         }
+
+sheet_there : (o : Option Sheet) → IsSome o → (x : Sheet) × (o ≡ Some x)
+sheet_there None s = absurd (not_both {A = Sheet} None refl s)
+sheet_there (Some x) s = (x, refl)
+
+shell_stand : (s : Seed) (sheet : Sheet) (rest : List Seed) → s.row.sheet ≡ Some sheet → s.row.boxes ≡ 0 → rest ≡ []
+    → one (seed_stand s) (stands_ready rest) ≡ stands_of (Holder (seed_stand s).cell sheet Done Done) ++ []
+shell_stand s sheet rest has empty none =
+    ap (λ (ss : List Seed). seed_stand s ∷ stands_ready ss) none
+    ∙ ap (λ (x : Option Sheet). record { cell = (seed_stand s).cell; sheet = x; boxes = s.row.boxes } ∷ []) has
+    ∙ ap (λ (m : ℕ). record { cell = (seed_stand s).cell; sheet = Some sheet; boxes = m } ∷ []) empty
+
+-- the seed's sheet, and the box that it became, with the canvas that it holds
+pub record ShellThere (nodes nodes' : ℕ → Option Node) (boards boards' : ℕ → Option Board) (c k : ℕ) (s : Seed) (before behind : List ℕ) : Type 0 where
+  pub canvas : ℕ
+  pub board : Board
+  pub sheet : s.row.sheet ≡ Some board.sheet
+  pub more : HasShellMore nodes nodes' boards boards' c k canvas (node_of c s) board before behind
+
+-- what planting a seed says of the box and the canvas that come, where nothing is to come inside
+pub shell_in : (nodes nodes' : ℕ → Option Node) (boards boards' : ℕ → Option Board) (root c k : ℕ) (s : Seed) (rest left : List Seed) (before behind : List ℕ)
+    → IsShell s → rest ≡ [] → IsForest nodes boards root → depth_of (boards c) + 1 < 257
+    → ((t : Trees) (more : List Stand) → one (seed_stand s) (stands_ready rest) ≡ stands_of t ++ more → width t ≡ 1 → depth_of (boards c) + deep t < 257 → HasPartMore nodes nodes' boards boards' c k before behind)
+    → ((t : Trees) (more : List Stand) → one (seed_stand s) (stands_ready rest) ≡ stands_of t ++ more → width t ≡ 1 →
+    Stands nodes' boards' c (depth_of (boards c)) (k ∷ []) t × (stands_ready left ≡ more))
+    → Uses nodes nodes' (s ∷ rest) left → ShellThere nodes nodes' boards boards' c k s before behind
+shell_in nodes nodes' boards boards' root c k s rest left before behind shell none F low part stands U =
+    let cell = (seed_stand s).cell in
+    let has = sheet_there s.row.sheet shell.sheet in
+    let is = shell_stand s has.0 rest has.1 shell.no_boxes none in
+    let I = shell_comes nodes nodes' boards boards' root c k s left cell has.0 before behind (part (Holder cell has.0 Done Done) [] is refl low) F low
+    ((stands (Holder cell has.0 Done Done) [] is refl).0)
+    (subst (λ (ss : List Seed). Uses nodes nodes' (s ∷ ss) left) none U) in
+    record { canvas = I.canvas; board = I.board; sheet = has.1 ∙ ap (λ x. Some x) (sym I.sheet_is); more = I.more }
