@@ -4,3 +4,4 @@ pub mod BeforeLemmas
 pub mod RunLemmas
 pub mod LawLemmas
 pub mod PutLemmas
+pub mod OrderLemmas
