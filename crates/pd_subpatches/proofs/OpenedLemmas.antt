@@ -1,8 +1,8 @@
 -- A canvas without boxes has come into a box without ports: what trees, ports, owners and numbers tell stays.
-use Rattle.std.proofs.Common.{◌≡◌, ◌≢◌, ℕ, zero, suc, ◌+◌, ◌<◌, ◌≤◌, Bool, true, ◌&&◌, List, [], ◌∷◌, ◌++◌, map, filter, length, Option, Some, None, IsSome, refl, sym, ap, ◌∙◌, subst, inl, inr, arith}
-use Rattle.std.specs.Prelude.{slice_get, slice_set, slice_index_or, option_map, option_and_then}
+use Rattle.std.proofs.Common.{◌≡◌, ◌≢◌, ℕ, zero, suc, ◌<◌, ◌≤◌, Bool, true, ◌&&◌, List, [], ◌∷◌, ◌++◌, map, filter, length, Option, Some, None, IsSome, refl, sym, ap, ◌∙◌, subst, arith}
+use Rattle.std.specs.Prelude.{slice_get, slice_set, option_map, option_and_then}
 use mathlib.Core.Logic.{⊎_elim}
-use Rattle.std.specs.List.{flat_map, AllByRecursion}
+use Rattle.std.specs.List.{flat_map}
 use Rattle.std.proofs.lemmas.Bool.{cases_eq, cases_lt}
 use Rattle.std.proofs.lemmas.List.{get_or-set_same, get_or-set_other, get_or_past, length-set}
 use Rattle.std.proofs.lemmas.Option.{none-some, same_Some}
@@ -27,7 +27,7 @@ use Rattle.pd_grove.specs.Standing.{node_seen, with_inner}
 use Rattle.pd_grove.specs.Telling.{keys_in}
 use Rattle.pd_grove.specs.Ports.{spot_at, with_spot, node_spot, ports_among}
 use Rattle.pd_grove.specs.Grafts.{HasBoxMore, HasCanvasMore}
-use Rattle.pd_grove.specs.TextOrder.{is_sub, keys_inside, spot, box_spots, spots_among, spots_in_order, keys_of_spots, cell_under}
+use Rattle.pd_grove.specs.TextOrder.{is_sub, keys_inside, spot, box_spots, spots_among, spots_in_order, keys_of_spots}
 use Rattle.pd_grove.proofs.SpotLemmas.{spots_none, spots_suc}
 use Rattle.pd_bind.specs.Naming.{owned_by}
 use Rattle.pd_bind.specs.Owning.{is_owned, owned_at, root_owning, boxes_owning, owners_in}
@@ -35,9 +35,9 @@ use Rattle.pd_web.specs.declared.jacks.Jack.{Jack}
 use Rattle.pd_web.specs.declared.web.Hop.{Hop}
 use Rattle.pd_web.specs.declared.web.Web.{Web}
 use Rattle.pd_web.specs.Canvases.{keys_at}
-use Rattle.pd_web.specs.Homes.{IsPortOf, inner_in as box_in}
+use Rattle.pd_web.specs.Homes.{inner_in as box_in}
 use Rattle.pd_web.specs.Hops.{fan_hops}
-use Rattle.pd_web.specs.Jacks.{KindsSmall, spot_jack, kind_jacks, canvas_jacks, jacks_by, jacks_in, jacks_at, made_by, made_in}
+use Rattle.pd_web.specs.Jacks.{KindsSmall, spot_jack, kind_jacks, jacks_by, jacks_in, jacks_at, made_by, made_in}
 use Rattle.pd_patch.specs.Built.{HasPorts}
 use Rattle.pd_patch.specs.Linked.{ShareCanvas, StayInside}
 use Rattle.pd_patch.specs.Listing.{IsThere}

@@ -1,15 +1,13 @@
 -- A box came with an empty canvas inside, and the signal orders of canvases.
-use Rattle.std.proofs.Common.{◌≡◌, ◌≢◌, ℕ, ◌<◌, ◌≤◌, true, List, [], ◌∷◌, filter, length, Option, Some, None, IsSome, refl, sym, ap, ◌∙◌, subst, arith}
-use Rattle.std.specs.Prelude.{slice_get}
+use Rattle.std.proofs.Common.{◌≡◌, ◌≢◌, ℕ, true, List, [], length, Option, Some, sym, ap, ◌∙◌, subst, arith}
 use mathlib.Core.Logic.{⊎_elim}
 use Rattle.std.proofs.lemmas.Bool.{cases_eq}
 use Rattle.std.proofs.lemmas.Option.{none-some, same_Some}
 use Rattle.slab.specs.Slab.{get}
 use Rattle.pd_atom.specs.Names.{Names}
 use Rattle.pd_object.specs.declared.kinds.Kind.TheVariants as kind
-use Rattle.pd_order.specs.Graph.{tally, take_out, IsLawful}
+use Rattle.pd_order.specs.Graph.{take_out, IsLawful}
 use Rattle.pd_order.specs.Listing.{Listing}
-use Rattle.pd_grove.specs.declared.boards.Board.{Board}
 use Rattle.pd_grove.specs.declared.seeds.Seed.{Seed}
 use Rattle.pd_grove.specs.Owning.{board_in}
 use Rattle.pd_grove.specs.Telling.{inner_in, keys_in}
@@ -35,7 +33,7 @@ use Rattle.pd_boxes.specs.declared.room.Place.{Place}
 use Rattle.pd_boxes.specs.Put.{node_of}
 use Rattle.pd_boxes.proofs.BuiltLemmas.{still_forest, still_rewires}
 use Rattle.pd_boxes.proofs.SignalLemmas.{is_there, is_loose, lacks_box, still_last}
-use Rattle.pd_subpatches.specs.Shell.{ShellComesIn, IsShellPut}
+use Rattle.pd_subpatches.specs.Shell.{ShellComesIn}
 use Rattle.pd_subpatches.proofs.BeforeLemmas.{before, opened, came, same_keys, comes, none, put}
 use Rattle.pd_subpatches.proofs.RunLemmas.{wired_after}
 use Rattle.pd_subpatches.proofs.LawLemmas.{opens}

@@ -1,5 +1,5 @@
 -- A box that comes with an empty canvas inside, layer by layer.
-use Rattle.std.proofs.Common.{◌≡◌, ◌≢◌, ℕ, ◌+◌, ◌<◌, ◌≤◌, ◌^◌, true, List, [], ◌∷◌, length, replicate, Option, Some, None, IsSome, refl, sym, ap, ◌∙◌, subst}
+use Rattle.std.proofs.Common.{◌≡◌, ℕ, ◌+◌, ◌<◌, ◌≤◌, ◌^◌, true, List, [], ◌∷◌, length, replicate, Option, Some, None, IsSome, refl, sym, ap, ◌∙◌, subst}
 use Rattle.std.specs.Prelude.{slice_get}
 use Rattle.std.proofs.lemmas.Option.{none-some}
 use Rattle.slab.specs.Slab.{get}
@@ -7,9 +7,7 @@ use Rattle.pd_atom.specs.Names.{Names}
 use Rattle.pd_kind.specs.States.{silent_block}
 use Rattle.pd_name.specs.declared.Class.{Class}
 use Rattle.pd_name.specs.Rows.{Row, owners_of}
-use Rattle.pd_object.specs.declared.kinds.Kind.TheVariants as kind
 use Rattle.pd_tree.specs.Trees.{stand_of}
-use Rattle.pd_grove.specs.declared.nodes.Node.{Node}
 use Rattle.pd_grove.specs.declared.grove.Grove.{Grove}
 use Rattle.pd_grove.specs.declared.spots.Spot.{Spot}
 use Rattle.pd_grove.specs.declared.ports.Side.{Side}
@@ -33,7 +31,7 @@ use Rattle.pd_patch.specs.declared.patch.Patch.{Patch}
 use Rattle.pd_patch.specs.Numbers.{AreUnder, AreApart, IsOut}
 use Rattle.pd_patch.specs.Values.{block_count}
 use Rattle.pd_boxes.specs.declared.room.Room.{Room}
-use Rattle.pd_boxes.specs.Rows.{NumbersFrom, PutsUnder}
+use Rattle.pd_boxes.specs.Rows.{NumbersFrom}
 use Rattle.pd_boxes.specs.Room.{TakesBox}
 use Rattle.pd_boxes.specs.Put.{node_of, keys_before, keys_behind, CanPut, IsLeaf, HasOwners}
 use Rattle.pd_boxes.proofs.PutLemmas as box

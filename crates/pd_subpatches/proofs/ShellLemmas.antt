@@ -1,5 +1,5 @@
 -- A box that came and holds a canvas without boxes came with that canvas alone.
-use Rattle.std.proofs.Common.{◌≡◌, ◌≢◌, ℕ, zero, suc, ◌+◌, ◌<◌, ◌≤◌, Bool, cond, List, [], ◌∷◌, ◌++◌, length, nat_eq, Option, Some, None, IsSome, refl, sym, ap, ◌∙◌, subst, arith}
+use Rattle.std.proofs.Common.{◌≡◌, ◌≢◌, ℕ, zero, suc, ◌+◌, ◌<◌, ◌≤◌, cond, List, [], ◌∷◌, ◌++◌, length, nat_eq, Option, Some, None, IsSome, refl, sym, ap, ◌∙◌, subst, arith}
 use Rattle.std.specs.Prelude.{slice_get, option_map, option_and_then}
 use mathlib.Core.Logic.{⊎_elim}
 use Rattle.std.proofs.lemmas.Bool.{cases_eq, eq-eqb, ne_eqb}
@@ -19,7 +19,7 @@ use Rattle.pd_grove.specs.Telling.{inner_in, keys_in}
 use Rattle.pd_grove.specs.Owning.{board_in}
 use Rattle.pd_grove.specs.TextOrder.{deep}
 use Rattle.pd_grove.specs.Forest.{holder_in, IsForest}
-use Rattle.pd_grove.specs.Grafts.{HasOtherKeys, HasBoxMore, HasCanvasMore, HasPartMore, sheet_in}
+use Rattle.pd_grove.specs.Grafts.{HasOtherKeys, HasPartMore, sheet_in}
 use Rattle.pd_grove.specs.Planting.{IsMadeOf, Uses, seed_stand, stands_ready, one}
 use Rattle.pd_grove.proofs.UseLemmas.{none_or_some, not_both}
 use Rattle.pd_grove.proofs.ForestLemmas.{box_there, live_board}
