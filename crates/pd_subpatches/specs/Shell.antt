@@ -23,7 +23,7 @@ use Rattle.pd_placing.specs.Room.{IsEmptyOrder}
 use Rattle.pd_boxes.specs.declared.room.Place.{Place}
 use Rattle.pd_boxes.specs.declared.room.Room.{Room}
 use Rattle.pd_boxes.specs.Rows.{PutsUnder}
-use Rattle.pd_boxes.specs.Room.{TakesBox}
+use Rattle.pd_boxes.specs.Room.{SameButRoom, TakesBox}
 use Rattle.pd_boxes.specs.Put.{node_of, keys_before, keys_behind, HasOwners}
 use Rattle.pd_subpatches.specs.Grove.{HasShellMore}
 
@@ -74,3 +74,9 @@ pub record IsShellPut (p q : Patch) (table : Names) (place : Place) (s : Seed) (
   pub order : HasOrder q.grove q.web (get q.grove.boards place.canvas) (order_in q.orders.items place.canvas)
   pub own_order : IsEmptyOrder (order_in q.orders.items comes.canvas)
   pub other_orders : (c : ℕ) → c ≢ place.canvas → c ≢ comes.canvas → order_in q.orders.items c ≡ order_in p.orders.items c
+
+-- room was set aside, and then a box of a seed came in with the canvas that it holds
+pub record AddsShell (old new : Patch) (table : Names) (place : Place) (s : Seed) (key : ℕ) : Type 0 where
+  pub ready : Patch
+  pub room : SameButRoom old ready
+  pub put : IsShellPut ready new table place s key

@@ -5,7 +5,7 @@
 //! new key, with its canvas under another, which lies one deeper and has its sheet and no boxes; without ports, wires and blocks;
 //! among the owners of the name that it owns, with its number and with room for a clock; in the order of the canvas around, and
 //! with an order of no boxes for its own. It can't fail, and every other box and what it keeps, every wire, clock and block, and the
-//! orders of the other canvases stay.
+//! orders of the other canvases stay. `add_shell` is the one after the other.
 //!
 //! Law: a patch that runs goes on to be one, and is ready for more boxes (`shells_run_on`).
 //!
@@ -14,10 +14,12 @@
 //! Definitions: `Grove` (the box and its canvas under keys), `Shell` (what comes and what stays).
 #![tactic(auto)]
 
+mod adding;
 mod laws;
 mod putting;
 mod reserving;
 
+pub use adding::add_shell;
 pub use laws::shells_run_on;
 pub use putting::put_shell;
 pub use reserving::reserve_shell;
