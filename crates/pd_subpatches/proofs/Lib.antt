@@ -5,3 +5,4 @@ pub mod RunLemmas
 pub mod LawLemmas
 pub mod PutLemmas
 pub mod OrderLemmas
+pub mod PartLemmas

@@ -7,7 +7,8 @@
 //! with an order of no boxes for its own. It can't fail, and every other box and what it keeps, every wire, clock and block, and the
 //! orders of the other canvases stay. `add_shell` is the one after the other.
 //!
-//! Law: a patch that runs goes on to be one, and is ready for more boxes (`shells_run_on`).
+//! Laws: a patch that runs goes on to be one, and is ready for more boxes (`shells_run_on`). What came is a part of the tree: one box that
+//! holds a canvas without boxes (`shells_are_parts`).
 //!
 //! Free: want of memory in `reserve_shell`, and the two keys.
 //!
@@ -20,6 +21,6 @@ mod putting;
 mod reserving;
 
 pub use adding::add_shell;
-pub use laws::shells_run_on;
+pub use laws::{shells_are_parts, shells_run_on};
 pub use putting::put_shell;
 pub use reserving::reserve_shell;
