@@ -6,3 +6,4 @@ pub mod LawLemmas
 pub mod PutLemmas
 pub mod OrderLemmas
 pub mod PartLemmas
+pub mod PathLemmas

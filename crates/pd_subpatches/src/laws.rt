@@ -1,6 +1,6 @@
 //! Laws over a running patch into which a box with an empty canvas inside came.
 
-ghost use Rattle.std.specs.Prelude.{◌≡◌, ℕ, List, [], ◌∷◌, Some, None};
+ghost use Rattle.std.specs.Prelude.{◌≡◌, ◌+◌, ◌<◌, ℕ, List, [], ◌∷◌, Some, None, length};
 ghost use Rattle.slab.specs.Slab.{get};
 ghost use Rattle.pd_atom.specs.Names.{Names};
 ghost use Rattle.pd_clock.specs.declared.times.Rate.{Rate};
@@ -10,13 +10,14 @@ ghost use Rattle.pd_tree.specs.Trees.{Done, Holder, stand_of};
 ghost use Rattle.pd_grove.specs.declared.nodes.Node.{Node};
 ghost use Rattle.pd_grove.specs.declared.seeds.Seed.{Seed};
 ghost use Rattle.pd_grove.specs.Grafts.{HasPartMore};
+ghost use Rattle.pd_grove.specs.OwnPaths.{sub_reached};
 ghost use Rattle.pd_grove.specs.Standing.{Stands, depth_of};
 ghost use Rattle.pd_grove.specs.States.{IsFresh};
 ghost use Rattle.pd_patch.specs.declared.patch.Patch.{Patch};
 ghost use Rattle.pd_patch.specs.Built.{IsBuilt};
 ghost use Rattle.pd_boxes.specs.declared.room.Place.{Place};
 ghost use Rattle.pd_boxes.specs.Put.{CanPut, keys_before, keys_behind};
-ghost use Rattle.pd_subpatches.specs.Shell.{IsShell, IsShellPut};
+ghost use Rattle.pd_subpatches.specs.Shell.{IsShallow, IsShell, IsShellPut};
 
 /// A patch into which a box with an empty canvas inside came is ready for more boxes, and a patch that runs goes on to be one.
 pub fn shells_run_on()
@@ -35,4 +36,11 @@ pub fn shells_are_parts()
         (Holder (stand_of s.row).cell i.comes.board.sheet Done Done) }
     ensures fresh { (p q : Patch) (table : Names) (place : Place) (s : Seed) (key : ℕ) (rate : Rate) (now : ℕ) → IsShellPut p q table place s key → IsFresh rate now s →
         (k : ℕ) (n : Node) → get p.grove.nodes k ≡ None → get q.grove.nodes k ≡ Some n → n.state ≡ Some (started (start_of n.kind rate) now) }
+{}
+
+/// The canvas to which a path leads through subpatches lies as deep as the path is long, and so a canvas may lie in it where the path is short
+/// enough.
+pub fn paths_are_depths()
+    ensures { (p : Patch) (path : List ℕ) (place : Place) → CanPut p → sub_reached p.grove (Some p.grove.root) path ≡ Some place.canvas →
+        length path + 1 < 257 → IsShallow p place }
 {}

@@ -8,7 +8,7 @@
 //! orders of the other canvases stay. `add_shell` is the one after the other.
 //!
 //! Laws: a patch that runs goes on to be one, and is ready for more boxes (`shells_run_on`). What came is a part of the tree: one box that
-//! holds a canvas without boxes (`shells_are_parts`).
+//! holds a canvas without boxes (`shells_are_parts`). A canvas may lie in one to which a short enough path leads (`paths_are_depths`).
 //!
 //! Free: want of memory in `reserve_shell`, and the two keys.
 //!
@@ -21,6 +21,6 @@ mod putting;
 mod reserving;
 
 pub use adding::add_shell;
-pub use laws::{shells_are_parts, shells_run_on};
+pub use laws::{paths_are_depths, shells_are_parts, shells_run_on};
 pub use putting::put_shell;
 pub use reserving::reserve_shell;
