@@ -1,5 +1,5 @@
 -- A box that comes with an empty canvas inside, layer by layer.
-use Rattle.std.proofs.Common.{◌≡◌, ℕ, ◌+◌, ◌<◌, ◌≤◌, ◌^◌, true, List, [], ◌∷◌, length, replicate, Option, Some, None, IsSome, refl, sym, ap, ◌∙◌, subst}
+use Rattle.std.proofs.Common.{◌≡◌, ℕ, ◌+◌, ◌<◌, ◌≤◌, ◌^◌, true, List, [], ◌∷◌, ◌++◌, length, replicate, Option, Some, None, IsSome, refl, sym, ap, ◌∙◌, subst}
 use Rattle.std.specs.Prelude.{slice_get}
 use Rattle.std.proofs.lemmas.Option.{none-some}
 use Rattle.slab.specs.Slab.{get}
@@ -7,13 +7,17 @@ use Rattle.pd_atom.specs.Names.{Names}
 use Rattle.pd_kind.specs.States.{silent_block}
 use Rattle.pd_name.specs.declared.Class.{Class}
 use Rattle.pd_name.specs.Rows.{Row, owners_of}
-use Rattle.pd_tree.specs.Trees.{stand_of}
+use Rattle.pd_tree.specs.Trees.{Trees, Stand, width, stands_of, stand_of}
 use Rattle.pd_grove.specs.declared.grove.Grove.{Grove}
 use Rattle.pd_grove.specs.declared.spots.Spot.{Spot}
 use Rattle.pd_grove.specs.declared.ports.Side.{Side}
 use Rattle.pd_grove.specs.declared.ports.Side.TheVariants.{Inlets, Outlets}
+use Rattle.pd_grove.specs.declared.seeds.Seeds.{Seeds}
+use Rattle.pd_grove.specs.Planting.{seeds_in, seed_stand, stands_ready, one, Uses}
+use Rattle.pd_grove.specs.Standing.{Stands, depth_of}
+use Rattle.pd_grove.specs.TextOrder.{deep}
 use Rattle.pd_grove.specs.Forest.{IsForest}
-use Rattle.pd_grove.specs.Grafts.{HasBoxMore, HasCanvasMore}
+use Rattle.pd_grove.specs.Grafts.{HasBoxMore, HasCanvasMore, HasPartMore}
 use Rattle.pd_grove.proofs.OpenLemmas.{forest_opened}
 use Rattle.pd_bind.specs.Naming.{Owned, owned_by}
 use Rattle.pd_bind.specs.Owning.{root_owner, owned_at, owners_in}
@@ -35,8 +39,8 @@ use Rattle.pd_boxes.specs.Rows.{NumbersFrom}
 use Rattle.pd_boxes.specs.Room.{TakesBox}
 use Rattle.pd_boxes.specs.Put.{node_of, keys_before, keys_behind, CanPut, IsLeaf, HasOwners}
 use Rattle.pd_boxes.proofs.PutLemmas as box
-use Rattle.pd_subpatches.specs.Shell.{IsShell}
-use Rattle.pd_subpatches.proofs.ShellLemmas.{ShellThere}
+use Rattle.pd_subpatches.specs.Shell.{IsShallow, IsShell}
+use Rattle.pd_subpatches.proofs.ShellLemmas.{ShellThere, shell_in}
 use Rattle.pd_subpatches.proofs.OpenedLemmas.{between, canvas_came, box_came, no_ports_of, keys_kept, owned_kept, owners_kept, small_kept, live_kept, no_jacks}
 use Rattle.pd_subpatches.proofs.LawLemmas.{small_canvas}
 
@@ -44,8 +48,18 @@ use Rattle.pd_subpatches.proofs.LawLemmas.{small_canvas}
 abbrev room_alone : Room → Room
 room_alone r = record r { seed = record r.seed { row = record r.seed.row { sheet = None } } }
 
-module _ (p : Patch) (room : Room) (table : Names) (C : CanPut p) (T : TakesBox p room table) (S : IsShell room.seed) (g : Grove) (key : ℕ) (vacant : key ≡ p.grove.nodes.vacant_key)
-    (I : ShellThere (get p.grove.nodes) (get g.nodes) (get p.grove.boards) (get g.boards) room.place.canvas key room.seed (keys_before p room.place) (keys_behind p room.place)) where
+module _ (p : Patch) (room : Room) (table : Names) (C : CanPut p) (T : TakesBox p room table) (S : IsShell room.seed) (low : IsShallow p room.place) (g : Grove) (key : ℕ) (left : Seeds)
+    (vacant : key ≡ p.grove.nodes.vacant_key)
+    (part : (t : Trees) (more : List Stand) → one (seed_stand room.seed) (stands_ready (seeds_in room.inside)) ≡ stands_of t ++ more → width t ≡ 1 → depth_of (get p.grove.boards room.place.canvas) + deep t < 257
+    → HasPartMore (get p.grove.nodes) (get g.nodes) (get p.grove.boards) (get g.boards) room.place.canvas key (keys_before p room.place) (keys_behind p room.place))
+    (stands : (t : Trees) (more : List Stand) → one (seed_stand room.seed) (stands_ready (seeds_in room.inside)) ≡ stands_of t ++ more → width t ≡ 1
+    → Stands (get g.nodes) (get g.boards) room.place.canvas (depth_of (get p.grove.boards room.place.canvas)) (key ∷ []) t × (stands_ready (seeds_in left) ≡ more))
+    (uses : Uses (get p.grove.nodes) (get g.nodes) (room.seed ∷ seeds_in room.inside) (seeds_in left)) where
+  -- the box that came, with its canvas
+  pub there : ShellThere (get p.grove.nodes) (get g.nodes) (get p.grove.boards) (get g.boards) room.place.canvas key room.seed (keys_before p room.place) (keys_behind p room.place)
+  there = shell_in (get p.grove.nodes) (get g.nodes) (get p.grove.boards) (get g.boards) p.grove.root room.place.canvas key room.seed (seeds_in room.inside) (seeds_in left)
+      (keys_before p room.place) (keys_behind p room.place) S T.inside C.forest low part stands uses
+
   leaf : IsLeaf (room_alone room).seed
   leaf = record { no_sheet = refl; no_boxes = S.no_boxes; roomy = S.roomy; small = small_canvas room.seed.row.kind S.canvas }
 
@@ -54,17 +68,17 @@ module _ (p : Patch) (room : Room) (table : Names) (C : CanPut p) (T : TakesBox 
 
   -- the grove before the box got its canvas
   abbrev bare_grove : Grove
-  bare_grove = between g key I.canvas (node_of room.place.canvas room.seed)
+  bare_grove = between g key there.canvas (node_of room.place.canvas room.seed)
 
   came : HasBoxMore (get p.grove.nodes) (get bare_grove.nodes) (get p.grove.boards) (get bare_grove.boards) room.place.canvas key (node_of room.place.canvas room.seed)
       (keys_before p room.place) (keys_behind p room.place)
-  came = box_came (get p.grove.nodes) (get p.grove.boards) g room.place.canvas key I.canvas (node_of room.place.canvas room.seed) I.board (keys_before p room.place) (keys_behind p room.place) I.more
+  came = box_came (get p.grove.nodes) (get p.grove.boards) g room.place.canvas key there.canvas (node_of room.place.canvas room.seed) there.board (keys_before p room.place) (keys_behind p room.place) there.more
 
-  opened : HasCanvasMore (get bare_grove.nodes) (get g.nodes) (get bare_grove.boards) (get g.boards) key I.canvas (node_of room.place.canvas room.seed) I.board
-  opened = canvas_came (get p.grove.nodes) (get p.grove.boards) g room.place.canvas key I.canvas (node_of room.place.canvas room.seed) I.board (keys_before p room.place) (keys_behind p room.place) I.more
+  opened : HasCanvasMore (get bare_grove.nodes) (get g.nodes) (get bare_grove.boards) (get g.boards) key there.canvas (node_of room.place.canvas room.seed) there.board
+  opened = canvas_came (get p.grove.nodes) (get p.grove.boards) g room.place.canvas key there.canvas (node_of room.place.canvas room.seed) there.board (keys_before p room.place) (keys_behind p room.place) there.more
 
   same_keys : (x : ℕ) → keys_at g x ≡ keys_at bare_grove x
-  same_keys = keys_kept bare_grove g key I.canvas (node_of room.place.canvas room.seed) I.board opened
+  same_keys = keys_kept bare_grove g key there.canvas (node_of room.place.canvas room.seed) there.board opened
 
   pub key_low : key < T.end
   key_low = box.key_low p (room_alone room) table C takes leaf bare_grove key vacant came
@@ -76,11 +90,11 @@ module _ (p : Patch) (room : Room) (table : Names) (C : CanPut p) (T : TakesBox 
   is_live = subst (λ o. IsSome o) (sym opened.is) refl
 
   pub forest : g.root ≡ p.grove.root → IsForest (get g.nodes) (get g.boards) g.root
-  forest root = forest_opened (get bare_grove.nodes) (get g.nodes) (get bare_grove.boards) (get g.boards) g.root key I.canvas (node_of room.place.canvas room.seed) I.board opened
+  forest root = forest_opened (get bare_grove.nodes) (get g.nodes) (get bare_grove.boards) (get g.boards) g.root key there.canvas (node_of room.place.canvas room.seed) there.board opened
       (box.forest p (room_alone room) table C takes leaf bare_grove key vacant came root)
 
   pub small : KindsSmall g
-  small = small_kept bare_grove g key I.canvas (node_of room.place.canvas room.seed) I.board opened (box.small p (room_alone room) table C takes leaf bare_grove key vacant came)
+  small = small_kept bare_grove g key there.canvas (node_of room.place.canvas room.seed) there.board opened (box.small p (room_alone room) table C takes leaf bare_grove key vacant came)
 
   pub apart : get g.nodes root_owner ≡ None
   apart =
@@ -89,14 +103,14 @@ module _ (p : Patch) (room : Room) (table : Names) (C : CanPut p) (T : TakesBox 
 
   pub near : (k : ℕ) → IsSome (get g.nodes k) → HasWebRoom p.web (k + 1) 0 0
   near k live = box.near p (room_alone room) table C takes leaf bare_grove key vacant came k
-      (live_kept bare_grove g key I.canvas (node_of room.place.canvas room.seed) I.board opened k live)
+      (live_kept bare_grove g key there.canvas (node_of room.place.canvas room.seed) there.board opened k live)
 
   pub bare : (side : Side) → ports_told p.web side key ≡ []
   bare = box.bare p (room_alone room) table C takes leaf bare_grove key vacant came
 
   -- the box has no ports
   none : (side : Side) → jacks_at side g key ≡ []
-  none = no_jacks bare_grove g key I.canvas (node_of room.place.canvas room.seed) I.board opened
+  none = no_jacks bare_grove g key there.canvas (node_of room.place.canvas room.seed) there.board opened
 
   kind_none : (side : Side) → kind_jacks side room.seed.row.kind ≡ []
   kind_none side = ap (kind_jacks side) S.canvas ∙ no_ports_of side
@@ -123,7 +137,7 @@ module _ (p : Patch) (room : Room) (table : Names) (C : CanPut p) (T : TakesBox 
   -- Names.
 
   same_owned : (spot : Spot) → owned_at table (get g.nodes) spot ≡ owned_at table (get bare_grove.nodes) spot
-  same_owned = owned_kept bare_grove g key I.canvas (node_of room.place.canvas room.seed) I.board opened table
+  same_owned = owned_kept bare_grove g key there.canvas (node_of room.place.canvas room.seed) there.board opened table
 
   pub owner_fits : (spot : Spot) → spot.node ≡ key → HasRoom p.names (owned_at table (get g.nodes) spot) 1
   owner_fits spot e = subst (λ (o : Option Owned). HasRoom p.names o 1) (sym (same_owned spot)) (box.owner_fits p (room_alone room) table C takes leaf bare_grove key vacant came spot e)
@@ -133,7 +147,7 @@ module _ (p : Patch) (room : Room) (table : Names) (C : CanPut p) (T : TakesBox 
       (subst (λ (o : Option Owned). OthersStay p.names names o) (same_owned spot) h)
 
   same_owners : (file : List ℕ) (class : Class) (name : ℕ) → owners_in table file g class name ≡ owners_in table file bare_grove class name
-  same_owners = owners_kept bare_grove g key I.canvas (node_of room.place.canvas room.seed) I.board opened refl table
+  same_owners = owners_kept bare_grove g key there.canvas (node_of room.place.canvas room.seed) there.board opened refl table
 
   -- the names of a patch with the box are bound as those of the patch were
   pub owners : (names : List Row) (spot : Spot) → spot.node ≡ key → g.root ≡ p.grove.root
