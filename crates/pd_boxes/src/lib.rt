@@ -27,4 +27,4 @@ pub use laws::{patches_run_on, putting_asks_alike, room_changes_nothing};
 pub use putting::put;
 pub use reserving::reserve_box;
 pub use room::{Place, Room};
-pub use rows::{Blocks, reach_numbers, reach_values, silent_blocks};
+pub use rows::{Blocks, number_boxes, put_blocks, reach_numbers, reach_values, silent_blocks};

@@ -17,11 +17,11 @@ pub struct Place {
 /// A box that is ready to come, with what it takes along.
 #[derive(Drop)]
 pub struct Room {
-    pub(crate) place: Place,
-    pub(crate) seed: Seed,
-    pub(crate) ports: PortRoom,
-    pub(crate) blocks: Blocks,
-    pub(crate) inside: Seeds,
+    pub place: Place,
+    pub seed: Seed,
+    pub ports: PortRoom,
+    pub blocks: Blocks,
+    pub inside: Seeds,
 }
 
 impl Room {

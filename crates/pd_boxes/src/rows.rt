@@ -63,7 +63,7 @@ pub fn silent_blocks(alloc: Global, count: u32) -> Result<Blocks, AllocError>
 }
 
 /// Gives the boxes of a canvas from a number on their numbers.
-pub(crate) fn number_boxes(numbers: &mut Vec<u32>, grove: &Grove, place: Place)
+pub fn number_boxes(numbers: &mut Vec<u32>, grove: &Grove, place: Place)
     requires apart { AreApart (keys_at grove.now place.canvas) }
     requires few { length (keys_at grove.now place.canvas) < 2 ^ 32 }
     requires reach { (i k : ℕ) → slice_get (keys_at grove.now place.canvas) i ≡ Some k → k < length numbers.old.items }
@@ -96,7 +96,7 @@ fn put_number(numbers: &mut Vec<u32>, key: u32, number: u32)
 }
 
 /// Puts the blocks of a box under its key.
-pub(crate) fn put_blocks(values: &mut Vec<Blocks>, key: u32, blocks: Blocks)
+pub fn put_blocks(values: &mut Vec<Blocks>, key: u32, blocks: Blocks)
     requires { key < length values.old.items }
     ensures { PutsUnder (map (λ b. b.items) values.old.items) (map (λ b. b.items) values.new.items) key blocks.items }
 {

@@ -1,0 +1,2 @@
+pub mod Grove
+pub mod Shell
