@@ -1,6 +1,9 @@
 //! A case, and its answer.
 
+ghost use Rattle.pd_object.specs.Ports.{IsSmallNamed};
+
 use crate::harms::Harm;
+use crate::hearing::Event;
 use crate::{documents, edits, harms, hearing, naming, orders, playing, refusals, shown, trees};
 use anyhow::{Result, bail};
 use pd_atom::Symbols;
@@ -73,11 +76,18 @@ fn case_of(line: &str) -> Option<Case<'_>> {
 /// What a box says. The first text is the box's, and each other one is of an event.
 fn said(alloc: Global, texts: &str, symbols: &mut Symbols) -> Result<String> {
     let (text, texts) = texts.split_once(" | ").unwrap_or((texts, ""));
-    let named = naming::named_of(alloc, text, symbols)?;
     let events = hearing::events_of(alloc, texts, symbols)?;
-    match &named {
-        Named::Kind(kind) => hearing::said(alloc, kind, events.as_slice(), symbols),
-        _ => bail!("no box: {text}"),
+    let named = naming::named_of(alloc, text, symbols)?;
+    said_of(alloc, &named, events.as_slice(), symbols)
+}
+
+/// What the box of a name says of events.
+fn said_of(alloc: Global, named: &Named, events: &[Event], symbols: &mut Symbols) -> Result<String>
+    requires { IsSmallNamed named.now }
+{
+    match named {
+        Named::Kind(kind) => hearing::said(alloc, kind, events, symbols),
+        Named::Abstraction(_) | Named::Nothing => bail!("no box"),
     }
 }
 
