@@ -1,5 +1,5 @@
 -- What is told of a box that an edit deletes, or of why none is deleted.
-use Rattle.std.proofs.Common.{◌≡◌, ◌≤◌, ◌+◌, ◌⊎◌, arith, Bool, true, false, cond, ℕ, List, [], refl, sym, ◌∙◌, ap, subst, inl, inr, slice_get, Option, Some, None, Result, Ok, Err, OnErr, OnOk, IfOk}
+use Rattle.std.proofs.Common.{◌≡◌, arith, Bool, true, false, cond, ℕ, List, [], refl, sym, ◌∙◌, ap, subst, inl, inr, slice_get, Option, Some, None, Result, Ok, Err, OnErr, OnOk, IfOk}
 use Rattle.std.proofs.lemmas.Result.{on_err_weaker}
 use Rattle.slab.specs.Slab.{get}
 use Rattle.pd_io.specs.Stream.{grown, TookPart}
@@ -16,7 +16,6 @@ use Rattle.pd_grove.specs.Owning.{board_in}
 use Rattle.pd_grove.specs.OwnPaths.{sub_reached}
 use Rattle.pd_web.specs.Canvases.{keys_at}
 use Rattle.pd_patch.specs.declared.patch.Patch.{Patch}
-use Rattle.pd_say.specs.Lines.{refusal_text}
 use Rattle.pd_wiring.specs.declared.refusals.EditRefusal.{EditRefusal}
 use Rattle.pd_wiring.specs.declared.refusals.EditRefusal.TheVariants as refusal
 use Rattle.pd_wiring.specs.Changes.{CanRewire, SameButRoom}
@@ -27,7 +26,7 @@ use Rattle.pd_taking.specs.Loosening.{looks_for}
 use Rattle.pd_taking.specs.Taking.{CanRemove}
 use Rattle.pd_taking.proofs.TakenLemmas.{clocks_less}
 use Rattle.pd_deleting.specs.declared.deleting.OldBox.{OldBox}
-use Rattle.pd_deleting.specs.Deletes.{going, going_in, going_box, is_plain, DeletesBox, IsNotDeleted, IsShortOfRoom}
+use Rattle.pd_deleting.specs.Deletes.{going, going_in, going_box, is_plain, DeletesBox, IsNotDeleted}
 use Rattle.pd_deleting.proofs.DeleteLemmas.{can_remove}
 use Rattle.pd_hearing.specs.Worlds.{net_of, states_of}
 use Rattle.pd_stage.specs.Choices.{base_of, Wanted, Edits, Made, Choice, faults_of_why}
@@ -42,7 +41,7 @@ use Rattle.pd_engine.specs.declared.refusals.Outcome.TheVariants.{Done}
 use Rattle.pd_engine.specs.Edits.{edit_text, edit_outcome, IsEdited}
 use Rattle.pd_engine.proofs.ClockLemmas.{stage_with}
 use Rattle.pd_engine.proofs.RewireLemmas.{IsReady}
-use Rattle.pd_engine.proofs.MakingLemmas.{Came, Told, told_so, told_part, outcome_by, both_ok}
+use Rattle.pd_engine.proofs.MakingLemmas.{Told, told_so, told_part, outcome_by, both_ok}
 
 -- ---- the edit that deletes a box
 

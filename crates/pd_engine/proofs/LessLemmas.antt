@@ -1,15 +1,14 @@
 -- A tree with one box less, which holds no canvas.
-use Rattle.std.proofs.Common.{◌≡◌, ◌≤◌, ℕ, zero, suc, ◌+◌, max, Bool, ◌&&◌, List, [], ◌∷◌, ◌++◌, slice_get, Option, Some, None, refl, sym, ◌∙◌, ap, arith}
+use Rattle.std.proofs.Common.{◌≡◌, ◌≤◌, ℕ, zero, suc, ◌+◌, max, Bool, ◌&&◌, List, [], ◌∷◌, slice_get, Option, Some, None, refl, sym, ◌∙◌, ap, arith}
 use Rattle.std.specs.Prelude.{option_map, option_and_then}
 use Rattle.std.specs.List.{AllByRecursion}
 use Rattle.std.proofs.lemmas.Option.{none-some, same_Some}
-use Rattle.pd_tree.specs.declared.rows.Sheet.{Sheet}
 use Rattle.pd_tree.specs.Trees.{Cell, Trees, Done, Leaf, Holder, Tree, weight}
 use Rattle.pd_grove.specs.declared.nodes.Node.{Node}
 use Rattle.pd_grove.specs.declared.boards.Board.{Board}
 use Rattle.pd_grove.specs.Standing.{NodeSeen, node_seen, Stands}
 use Rattle.pd_grove.specs.Telling.{inner_in}
-use Rattle.pd_grove.specs.TextOrder.{deep, is_sub, Placed, placed, placed_in_order}
+use Rattle.pd_grove.specs.TextOrder.{deep, is_sub, Placed, placed_in_order}
 use Rattle.pd_regrowth_law.specs.Canvases.{canvas_with, own_in_box, own_along}
 use Rattle.pd_putting_law.specs.Puts.{change_inside, change_at}
 use Rattle.pd_taking_law.specs.Takes.{boxes_less, less_box, taken_at}

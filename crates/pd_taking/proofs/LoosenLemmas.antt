@@ -100,13 +100,13 @@ loosens_none p box looks R meet = record {
 }
 
 -- what taking a wire out tells
-pub record Detaches_so (q r : Patch) (key : ℕ) (l : Line) (steps steps' : ℕ) : Type 0 where
+pub record TakesOut (q r : Patch) (key : ℕ) (l : Line) (steps steps' : ℕ) : Type 0 where
   pub done : Detached q r key l
   pub control : is_signal_line q.web l ≡ false → steps' ≡ steps
   pub looks : (c : ℕ) → board_in (get q.grove.nodes l.source) ≡ Some c → steps'
       ≤ steps + most_mending (add_wire (graph_in r c) l.source l.sink) l.sink (order_in q.orders.items c) (order_in r.orders.items c)
 
-module _ (q r : Patch) (key : ℕ) (l : Line) (steps steps' : ℕ) (D : Detaches_so q r key l steps steps') where
+module _ (q r : Patch) (key : ℕ) (l : Line) (steps steps' : ℕ) (D : TakesOut q r key l steps steps') where
   looks_one : (c : ℕ) → board_in (get q.grove.nodes l.source) ≡ Some c → steps' ≤ steps + most_looks (Detaches c key l) q r
   looks_one c lies = step (is_signal_line q.web l) refl
     where
@@ -118,7 +118,7 @@ module _ (q r : Patch) (key : ℕ) (l : Line) (steps steps' : ℕ) (D : Detaches
       step false e = let same = D.control e in omega (arith, same)
 
 module _ (p q r : Patch) (box key : ℕ) (l : Line) (s s' s'' : ℕ) (L : Loosens p q box s s') (is : IsWeb q.web) (told : line_told q.web key ≡ Some l) (at : IsAt box l) (A : LeadsAlong q.web key l)
-    (D : Detaches_so q r key l s' s'') where
+    (D : TakesOut q r key l s' s'') where
   here : (c : ℕ) → board_in (get p.grove.nodes box) ≡ Some c → board_in (get q.grove.nodes l.source) ≡ Some c
   here c lies = same_canvas q box key l L.rewires at A ∙ ap (λ (g : Grove). board_in (get g.nodes box)) L.rest.grove ∙ lies
 
@@ -162,7 +162,7 @@ module _ (p q r : Patch) (side : Side) (box port : ℕ) (h : Hop) (key : ℕ) (l
   leads_first =
       subst (λ m. LeadsAlong q.web key m) (sym line_is) (subst (λ k. LeadsAlong q.web k (line_at side box port h)) (sym key_is) (leads_so q.web side box port h L.web.meet first))
 
-  pub first_more : Detaches_so q r key l s' s'' → Loosens p r box s s''
+  pub first_more : TakesOut q r key l s' s'' → Loosens p r box s s''
   first_more D = loosens_more p q r box key l s s' s'' L is
       (ap (line_told q.web) key_is ∙ told_so q.web side box port h is first ∙ ap (λ (m : Line). Some m) (sym line_is))
       (subst (IsAt box) (sym line_is) (at_box side box port h)) leads_first D

@@ -109,7 +109,7 @@ drop_taken ks bs zero l = refl
 drop_taken [] bs (suc n) l = absurd (omega (arith, l))
 drop_taken (y ∷ ks) bs (suc n) l = drop_taken ks bs n (omega (arith, l))
 
-drop_at : (xs : List ℕ) (n j x : ℕ) → slice_get (drop n xs) j ≡ Some x → slice_get xs (n + j) ≡ Some x
+pub drop_at : (xs : List ℕ) (n j x : ℕ) → slice_get (drop n xs) j ≡ Some x → slice_get xs (n + j) ≡ Some x
 drop_at xs zero j x h = let e : 0 + j ≡ j = omega arith in ap (slice_get xs) e ∙ h
 drop_at [] (suc n) j x h = absurd (nothing_at x j h)
   where

@@ -1,9 +1,9 @@
 -- What a patch has as long as it runs, where a box went.
-use Rattle.std.proofs.Common.{◌≡◌, ◌≢◌, ℕ, zero, suc, ◌+◌, ◌<◌, false, is_some, List, [], ◌∷◌, filter, take, drop, length, slice_get, replicate, Option, Some, None, IsSome, refl, sym, ap, ◌∙◌, subst, arith}
+use Rattle.std.proofs.Common.{◌≡◌, ◌≢◌, ℕ, ◌+◌, ◌<◌, false, is_some, List, [], filter, take, drop, length, slice_get, replicate, Option, Some, None, IsSome, refl, sym, ap, ◌∙◌, subst, arith}
 use Rattle.std.specs.Prelude.{option_map, option_and_then, ◌⊎◌}
 use mathlib.Core.Logic.{⊎_elim}
 use Rattle.std.proofs.lemmas.Bool.{cases_eq}
-use Rattle.std.proofs.lemmas.Option.{none-some, same_Some}
+use Rattle.std.proofs.lemmas.Option.{same_Some}
 use Rattle.slab.specs.Slab.{get}
 use Rattle.pd_atom.specs.Names.{Names}
 use Rattle.pd_clock.specs.Queue.{without}
@@ -41,7 +41,7 @@ use Rattle.pd_boxes.specs.Put.{CanPut, HasOwners, IsNoPort, keys_before}
 use Rattle.pd_boxes.proofs.AskingLemmas.{put_rewired}
 use Rattle.pd_taking.specs.Loosening.{Loosens, is_of_other}
 use Rattle.pd_taking.specs.Taking.{keys_past, CanRemove, CanTake, DropsUnder, IsRemoved, IsTaken}
-use Rattle.pd_taking.proofs.TakeLemmas.{back, forest_left, ports_left, inside_left, linked_left}
+use Rattle.pd_taking.proofs.TakeLemmas.{drop_at, back, forest_left, ports_left, inside_left, linked_left}
 
 -- Where one box lost its ports, all wires stand.
 
@@ -64,12 +64,6 @@ pub as_many : (w v : Web) → ((k : ℕ) → line_told v k ≡ line_told w k) �
 as_many w v same = held_alike w.book.wires v.book.wires (λ k. sym (told_some v k) ∙ ap is_some (same k) ∙ told_some w k)
 
 -- A box without wires went.
-
-drop_at : (xs : List ℕ) (n j x : ℕ) → slice_get (drop n xs) j ≡ Some x → slice_get xs (n + j) ≡ Some x
-drop_at xs zero j x h = let e : 0 + j ≡ j = omega arith in ap (slice_get xs) e ∙ h
-drop_at [] (suc n) zero x h = absurd (none-some x h)
-drop_at [] (suc n) (suc j) x h = absurd (none-some x h)
-drop_at (y ∷ xs) (suc n) j x h = let e : suc n + j ≡ suc (n + j) = omega arith in ap (slice_get (y ∷ xs)) e ∙ drop_at xs n j x h
 
 module _ (p q : Patch) (table : Names) (place : Place) (key : ℕ) (C : CanTake p place key) (I : IsTaken p q table place key) where
   still_forest : IsForest (get q.grove.nodes) (get q.grove.boards) p.grove.root
