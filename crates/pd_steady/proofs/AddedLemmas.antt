@@ -22,11 +22,11 @@ use Rattle.pd_grove.specs.OwnPaths.{sub_reached}
 use Rattle.pd_grove.specs.TextOrder.{is_sub}
 use Rattle.pd_growth.specs.declared.growing.Stop.{Stop}
 use Rattle.pd_growth.specs.Steps.{Stock, Step, gives}
-use Rattle.pd_growth.specs.Suits.{TextSuits, RowSuits}
+use Rattle.pd_growth.specs.Suits.{TextSuits}
 use Rattle.pd_growth.specs.Growth.{box_grown, around_root, without_ending}
 use Rattle.pd_growth.specs.Growing.{inside_grown}
 use Rattle.pd_fit.specs.Fitting.{wires_inside}
-use Rattle.pd_gather.specs.Gather.{Known, known, Gathering, Asks, Gathered, Full, asked_of, gathered}
+use Rattle.pd_gather.specs.Gather.{Known, known, Gathering, Asks, Gathered, Full}
 use Rattle.pd_gather.specs.declared.fetching.Fetch.{Fetch}
 use Rattle.pd_patch.specs.declared.patch.Patch.{Patch}
 use Rattle.pd_patch.specs.Sounds.{sound_of}
@@ -36,8 +36,8 @@ use Rattle.pd_adding.specs.declared.counts.Counts.{Counts}
 use Rattle.pd_adding.specs.Boxes.{settled_edit, box_put}
 use Rattle.pd_adding.specs.Coming.{coming_in, coming_by, coming, own_zero}
 use Rattle.pd_adding.specs.Counts.{with_boxes, stock_by}
-use Rattle.pd_adding.specs.Growing.{Added, growth_of, totalled, grown_to, gathered_to}
-use Rattle.pd_adding.specs.Adding.{growth_at, coming_to, adding, ComesTo}
+use Rattle.pd_adding.specs.Growing.{Added, growth_of, grown_to, gathered_to}
+use Rattle.pd_adding.specs.Adding.{growth_at, coming_to, ComesTo}
 use Rattle.pd_putting.specs.Adds.{IsBoxPut}
 use Rattle.pd_regrowth_law.proofs.StepLemmas.{box_went, counted_takes}
 use Rattle.pd_guards.specs.Order.{HasFirst}

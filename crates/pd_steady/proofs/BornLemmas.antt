@@ -1,10 +1,10 @@
 -- A box that grows without a canvas in the patch's own document is of a kind in order, where its text is of the table.
-use Rattle.std.proofs.Common.{◌≡◌, ℕ, ◌+◌, ◌≤◌, Bool, true, false, cond, List, [], ◌∷◌, length, drop, map, slice_get, Option, Some, None, Result, Ok, Err, IfOk, IfSome, refl, sym, ap, subst, ◌∙◌, nat_lt, true≢false, arith}
-use Rattle.std.specs.List.{All, AllByRecursion}
+use Rattle.std.proofs.Common.{◌≡◌, ℕ, ◌+◌, ◌≤◌, Bool, true, false, cond, List, [], ◌∷◌, length, drop, Option, Some, None, Result, Ok, Err, IfOk, refl, sym, ap, subst, nat_lt, true≢false, arith}
+use Rattle.std.specs.List.{AllByRecursion}
 use Rattle.pd_atom.specs.declared.Atom.{Atom}
 use Rattle.pd_atom.specs.declared.Expanded.{Expanded}
 use Rattle.pd_atom.specs.declared.SymbolRefusal.{SymbolRefusal}
-use Rattle.pd_atom.specs.Names.{Names, Outcome, given, name_of}
+use Rattle.pd_atom.specs.Names.{Names, given, name_of}
 use Rattle.pd_atom.specs.Atoms.{IsOf, HoldsNumber}
 use Rattle.pd_atom.specs.Expansion.{expanded}
 use Rattle.pd_object.specs.declared.kinds.Kind.{Kind}
@@ -20,12 +20,12 @@ use Rattle.pd_tree.specs.declared.rows.Fault.{Fault}
 use Rattle.pd_tree.specs.declared.rows.Fault.TheVariants.{Unknown, InsideItself, BadFile, TooDeep}
 use Rattle.pd_tree.specs.Trees.{Cell, Trees, Done, Leaf, Holder}
 use Rattle.pd_growth.specs.declared.growing.Stop.{Stop}
-use Rattle.pd_growth.specs.Steps.{Stock, Step, gives, numbered, named_step, outcome_after, outcome_then, text_expanded}
+use Rattle.pd_growth.specs.Steps.{Stock, gives, numbered, named_step, outcome_after, outcome_then, text_expanded}
 use Rattle.pd_growth.specs.Making.{Around, Making, Plain, Subpatch, File, unmade, is_inside, has_slash, file_made, answer_made, abstraction_made, nothing_made, object_made, made, is_expanded}
-use Rattle.pd_growth.specs.Growth.{Inner, cell_of, canvas_grown, receiver_brought, around_instance, box_made, own_text, box_grown, around_root}
+use Rattle.pd_growth.specs.Growth.{Inner, cell_of, canvas_grown, receiver_brought, around_instance, box_made, box_grown, around_root}
 use Rattle.pd_regrowth_law.proofs.StepLemmas.{gives_same, gives_stock, chain, named_went, box_went}
 use Rattle.pd_regrowth_law.proofs.TakeLemmas.{canvas_went}
-use Rattle.pd_guards.specs.Order.{HasFirst, IsAtom, AreAtoms, IsList}
+use Rattle.pd_guards.specs.Order.{HasFirst, AreAtoms, IsList}
 use Rattle.pd_guards.specs.Growing.{IsBorn}
 use Rattle.pd_guards.proofs.FactLemmas.{either}
 use Rattle.pd_guards.proofs.BaseLemmas.{no_number}

@@ -1,5 +1,5 @@
 -- Over deliveries the table of names goes on, whatever begins them.
-use Rattle.std.proofs.Common.{◌≡◌, ℕ, Bool, List, [], ◌∷◌, ℤ, Option, Some, None, Result, Ok, Err, refl, sym, subst, nat_le, ◌^◌, ◌&&◌}
+use Rattle.std.proofs.Common.{◌≡◌, ℕ, List, [], ◌∷◌, ℤ, Option, Some, None, Result, Ok, Err, refl, sym, subst, nat_le, ◌^◌, ◌&&◌}
 use Rattle.std.specs.List.{AllByRecursion, slice_split}
 use Rattle.pd_atom.specs.Names.{Names, Extends}
 use Rattle.pd_atom.specs.Expansion.{expanded}
@@ -19,7 +19,7 @@ use Rattle.pd_kind.specs.Messages.{sort_of}
 use Rattle.pd_kind.specs.Said.{Said}
 use Rattle.pd_message.specs.declared.pieces.Receiver.{Receiver}
 use Rattle.pd_message.specs.declared.pieces.Receiver.TheVariants as receiver
-use Rattle.pd_message.specs.Texts.{is_comma, is_semi, Run, Filling, with_atom, expanded_with, filled_with, started, noted, missing_notices, receiver_at, filled_run, piece_run, pieces_run, segment_run, received, named_run, named_runs, segments_run, text_run}
+use Rattle.pd_message.specs.Texts.{is_comma, is_semi, Run, Filling, with_atom, expanded_with, filled_with, started, noted, missing_notices, receiver_at, piece_run, pieces_run, segment_run, received, named_run, named_runs, segments_run}
 use Rattle.pd_message.specs.Rows.{heard_as, first_run, message_row}
 use Rattle.pd_glue.specs.Rows.{Hearing, quiet, glue_heard, heard as control_heard}
 use Rattle.pd_turns.specs.Turns.{World}
@@ -29,7 +29,7 @@ use Rattle.pd_walk.specs.Acts.{asked_for, kept_after, caused, rules}
 use Rattle.pd_walk.specs.Outcome.{ran, after_deed, told_by, all_loaded, named_tasks, outcome}
 use Rattle.pd_hearing.specs.Worlds.{Net, Kept}
 use Rattle.pd_hearing.specs.Guards.{is_message, is_table, is_small, is_open}
-use Rattle.pd_hearing.specs.Hearing.{Reply, heard_line, heard_other, heard_by, heard_kind, heard_in, heard_with, heard_at, resumed_in, resumed_with, resumed_at, fired_at, loaded_at}
+use Rattle.pd_hearing.specs.Hearing.{Reply, heard_other, heard_by, heard_kind, heard_in, heard_with, heard_at, resumed_in, resumed_with, resumed_at, fired_at, loaded_at}
 use Rattle.pd_hearing.specs.Deeds.{done, replied}
 use Rattle.pd_stack.specs.Tasks.{Task, Deliver, Ask, Resume, Nobody}
 use Rattle.pd_regrowth_law.proofs.StepLemmas.{extends_same, extends_on, expanded_extends}

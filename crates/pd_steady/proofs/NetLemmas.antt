@@ -2,7 +2,7 @@
 use Rattle.std.proofs.Common.{◌≡◌, ap}
 use Rattle.pd_patch.specs.declared.patch.Patch.{Patch}
 use Rattle.pd_patch.specs.Values.{Blocks}
-use Rattle.pd_hearing.specs.Worlds.{Net, net_of}
+use Rattle.pd_hearing.specs.Worlds.{Net}
 use Rattle.pd_block.specs.Nets as block
 use Rattle.pd_stage.specs.Stages.{Stage}
 use Rattle.pd_stage.specs.Times.{block_net}

@@ -1,21 +1,21 @@
 -- An atom as its spelling reads holds a number in range, whatever number it held, and so it does with its dollars replaced where there are no arguments.
-use Rattle.std.proofs.Common.{◌≡◌, ◌⊎◌, inl, inr, ℕ, zero, suc, ℤ, pos, negsuc, ◌+◌, ◌*◌, ◌-◌, ◌/◌, ◌%◌, ◌^◌, ◌<◌, ◌≤◌, ◌==◌, Bool, true, false, cond, List, [], ◌∷◌, ◌++◌, length, map, Option, Some, None, IfSome, Result, Ok, Err, IfOk, decimal, refl, sym, ap, ◌∙◌, subst, append_assoc, length-append, arith}
+use Rattle.std.proofs.Common.{◌≡◌, inl, inr, ℕ, zero, suc, ℤ, pos, negsuc, ◌+◌, ◌*◌, ◌-◌, ◌/◌, ◌%◌, ◌^◌, ◌<◌, ◌==◌, Bool, true, false, cond, List, [], ◌∷◌, ◌++◌, length, map, Option, Some, None, IfSome, Result, Ok, Err, IfOk, decimal, refl, sym, ap, ◌∙◌, subst, append_assoc, length-append, arith}
 use Rattle.std.specs.Prelude.{min, nat_eq}
-use Rattle.std.specs.Char.{is_ascii_digit, digit_value}
+use Rattle.std.specs.Char.{is_ascii_digit}
 use Rattle.std.specs.Fmt.{digit_glyph, digits_onto, digits}
 use Rattle.std.specs.List.{AllByRecursion}
 use Rattle.std.proofs.lemmas.Bool.{cases_lt}
 use Rattle.std.proofs.lemmas.Bool.Decides.{nat_tests}
 use Rattle.std.proofs.lemmas.List.{append-nil}
 use Rattle.std.proofs.Math.Nat.{mod-lt}
-use Rattle.pd_num.specs.Numeral.{AreDigits, Numeral, fraction_digits, fraction_text, minus_text, spelling, value_of}
+use Rattle.pd_num.specs.Numeral.{AreDigits, Numeral, fraction_digits, fraction_text, minus_text, value_of}
 use Rattle.pd_num.specs.Printing.{places_text, printed}
 use Rattle.pd_num.specs.Reading.{number_at}
 use Rattle.pd_num.proofs.ReadLemmas.{number_at-spelling}
 use Rattle.pd_num.proofs.DigitLemmas.{power_pos}
 use Rattle.pd_num.proofs.PlaceLemmas.{place_step}
 use Rattle.pd_atom.specs.Names.{Names, name_of, Outcome, answer_map, interned}
-use Rattle.pd_atom.specs.Atoms.{IsOf, HoldsNumber, spelled}
+use Rattle.pd_atom.specs.Atoms.{HoldsNumber, spelled}
 use Rattle.pd_atom.specs.Tokens.{has_argument, nameless, named, atom_read, settled, answer_or}
 use Rattle.pd_atom.specs.Expansion.{argument, dollar_expanded, expanded, expanded_name, first_missing, runs_of}
 use Rattle.pd_atom.specs.declared.Atom.{Atom}

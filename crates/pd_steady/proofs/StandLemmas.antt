@@ -2,20 +2,16 @@
 -- of their kinds.
 use Rattle.std.proofs.Common.{◌≡◌, ℕ, Option, Some, None, option_map, refl, sym, ap, subst, ◌∙◌}
 use Rattle.slab.specs.Slab.{get}
-use Rattle.pd_object.specs.declared.kinds.Kind.{Kind}
-use Rattle.pd_kind.specs.declared.states.State.{State}
-use Rattle.pd_kind.specs.Fit.{blank}
-use Rattle.pd_name.specs.Rows.{Row}
 use Rattle.pd_grove.specs.declared.nodes.Node.{Node}
 use Rattle.pd_grove.specs.Telling.{kind_in}
 use Rattle.pd_patch.specs.declared.patch.Patch.{Patch}
-use Rattle.pd_hearing.specs.Worlds.{Net, bare}
+use Rattle.pd_hearing.specs.Worlds.{bare}
 use Rattle.pd_block.specs.Nets as block
 use Rattle.pd_block.specs.Blocks.{owner_of}
 use Rattle.pd_guards.specs.Near.{AreNear}
 use Rattle.pd_sized.specs.Kinds.{blank_of, KeepsOfKind}
 use Rattle.pd_stage.specs.Stages.{Stage}
-use Rattle.pd_stage.specs.Times.{block_net, with_wires}
+use Rattle.pd_stage.specs.Times.{with_wires}
 use Rattle.pd_stage.specs.Trees.{HasTree, HasOwners}
 use Rattle.pd_steady.specs.Serving.{OwnersServe}
 use Rattle.pd_steady.proofs.NetLemmas.{same_net}

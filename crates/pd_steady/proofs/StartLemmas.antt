@@ -1,5 +1,5 @@
 -- What a box keeps at first, whenever it comes.
-use Rattle.std.proofs.Common.{◌≡◌, ℕ, ◌≤◌, Option, Some, None, IfSome, refl}
+use Rattle.std.proofs.Common.{◌≡◌, ℕ, refl}
 use Rattle.pd_clock.specs.declared.times.Rate.{Rate}
 use Rattle.pd_clock.specs.declared.times.Rate.TheVariants.{R44100}
 use Rattle.pd_atom.specs.Names.{Names}
