@@ -1,0 +1,60 @@
+-- A box that an edit moves in a canvas of the patch's own document.
+use Rattle.std.specs.Prelude.{◌≡◌, ℕ, ℤ, Bool, false, ◌&&◌, is_some, cond, List, slice_get, Option, Some, None, Result, Ok, Err}
+use Rattle.slab.specs.Slab.{get}
+use Rattle.pd_canvas.specs.Edits.{is_array}
+use Rattle.pd_canvas.specs.Views.{entry_of}
+use Rattle.pd_grove.specs.declared.grove.Grove.{Grove}
+use Rattle.pd_grove.specs.declared.nodes.Node.{Node}
+use Rattle.pd_grove.specs.Forest.{holder_in}
+use Rattle.pd_grove.specs.OwnPaths.{sub_reached}
+use Rattle.pd_grove.specs.Refits.{at_place, Alters}
+use Rattle.pd_web.specs.Canvases.{keys_at}
+use Rattle.pd_patch.specs.declared.patch.Patch.{Patch}
+use Rattle.pd_wiring.specs.declared.refusals.EditRefusal.{EditRefusal}
+use Rattle.pd_wiring.specs.declared.refusals.EditRefusal.TheVariants.{NoDocument, NoCanvas, NoBox}
+use Rattle.pd_deleting.specs.Deletes.{is_port_in}
+
+-- whether a box is an array, which no edit moves
+abbrev pub is_array_in : Option Node → Bool
+is_array_in None = false
+is_array_in (Some n) = is_array (entry_of n.element).head.form
+
+-- whether a box of a canvas is a port of the box around; such a box doesn't move yet, as its place among the ports may change with it
+abbrev pub is_port_around : Grove → ℕ → ℕ → Bool
+is_port_around g canvas key = is_some (holder_in (get g.boards canvas)) && is_port_in (get g.nodes key)
+
+abbrev pub moving_box : Grove → ℕ → ℕ → Option ℕ → Result (ℕ × ℕ) EditRefusal
+moving_box g canvas number None = Err (NoBox number)
+moving_box g canvas number (Some key) =
+    cond (is_array_in (get g.nodes key)) (Err (NoBox number)) (cond (is_port_around g canvas key) (Err NoDocument) (Ok (canvas, key)))
+
+abbrev pub moving_in : Grove → ℕ → Option ℕ → Result (ℕ × ℕ) EditRefusal
+moving_in g number None = Err NoCanvas
+moving_in g number (Some canvas) = moving_box g canvas number (slice_get (keys_at g canvas) number)
+
+-- the keys of the canvas at a path of the patch's own document and of its box of a number, or the first reason why that can't move
+abbrev pub moving : Patch → List ℕ → ℕ → Result (ℕ × ℕ) EditRefusal
+moving p path number = moving_in p.grove number (sub_reached p.grove (Some p.grove.root) path)
+
+-- all of a patch but its tree stays
+pub record StaysButTree (old new : Patch) : Type 0 where
+  pub web : new.web ≡ old.web
+  pub names : new.names ≡ old.names
+  pub timers : new.timers ≡ old.timers
+  pub links : new.links ≡ old.links
+  pub orders : new.orders ≡ old.orders
+  pub numbers : new.numbers ≡ old.numbers
+  pub values : new.values ≡ old.values
+  pub rate : new.rate ≡ old.rate
+  pub present : new.present ≡ old.present
+
+-- the box of a number in the canvas at a path, which has this key, stands at this place of its window now; all else stays
+pub record MovesBox (old new : Patch) (path : List ℕ) (number : ℕ) (x y : ℤ) (key : ℕ) : Type 0 where
+  pub canvas : ℕ
+  pub is : moving old path number ≡ Ok (canvas, key)
+  pub box : Alters old.grove new.grove key (at_place x y)
+  pub rest : StaysButTree old new
+
+-- it is refused for this, and the patch stays
+abbrev pub IsNotMoved : Patch → Patch → List ℕ → ℕ → EditRefusal → Type 0
+IsNotMoved old new path number why = (new ≡ old) × (moving old path number ≡ Err why)
