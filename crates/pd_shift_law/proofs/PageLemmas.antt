@@ -31,14 +31,7 @@ entry_moved : (x y : ℤ) (in1 : ℕ → Page) (o : Option Node) → IsSome o �
 entry_moved x y in1 None live = cc
 entry_moved x y in1 (Some n) live = refl
 
-module _ (g h : Grove) (canvas key number : ℕ) (x y : ℤ) (F : Forest g) (is : slice_get (keys_at g canvas) number ≡ Some key) (A : Alters g h key (standing_at x y))
-    (w : Web) (numbers : List ℕ) where
-  abbrev old : ℕ → ℕ → Page
-  old n c = page_within w numbers (get g.nodes) (get g.boards) n c
-
-  abbrev new : ℕ → ℕ → Page
-  new n c = page_within w numbers (get h.nodes) (get g.boards) n c
-
+module _ (g : Grove) (canvas key number : ℕ) (F : Forest g) (is : slice_get (keys_at g canvas) number ≡ Some key) where
   -- a box of another canvas is another box, and so is one of another number
   pub elsewhere : (c i k : ℕ) → c ≢ canvas → slice_get (keys_at g c) i ≡ Some k → k ≢ key
   elsewhere c i k apart at same =
@@ -46,6 +39,14 @@ module _ (g h : Grove) (canvas key number : ℕ) (x y : ℤ) (F : Forest g) (is 
 
   pub beside : (i k : ℕ) → i ≢ number → slice_get (keys_at g canvas) i ≡ Some k → k ≢ key
   beside i k apart at same = apart (F.own.once canvas i number k at (is ∙ ap (λ z. Some z) (sym same)))
+
+module _ (g h : Grove) (canvas key number : ℕ) (x y : ℤ) (F : Forest g) (is : slice_get (keys_at g canvas) number ≡ Some key) (A : Alters g h key (standing_at x y))
+    (w : Web) (numbers : List ℕ) where
+  abbrev old : ℕ → ℕ → Page
+  old n c = page_within w numbers (get g.nodes) (get g.boards) n c
+
+  abbrev new : ℕ → ℕ → Page
+  new n c = page_within w numbers (get h.nodes) (get g.boards) n c
 
   box_aside : (n k : ℕ) → k ≢ key → ((j : ℕ) → inner_in (get g.nodes k) ≡ Some j → new n j ≡ old n j) → entry_at (new n) (get h.nodes k) ≡ entry_at (old n) (get g.nodes k)
   box_aside n k d inner = ap (entry_at (new n)) (A.others k d) ∙ entry_same (old n) (new n) (get g.nodes k) inner
@@ -56,7 +57,7 @@ module _ (g h : Grove) (canvas key number : ℕ) (x y : ℤ) (F : Forest g) (is 
       within_suc w numbers (get h.nodes) (get g.boards) n c
       ∙ page_same w w numbers numbers (get g.nodes) (get h.nodes) (old n) (new n) (get g.boards c)
       (map_same (λ k. entry_at (old n) (get g.nodes k)) (λ k. entry_at (new n) (get h.nodes k)) (keys_at g c) (λ i k at.
-      box_aside n k (elsewhere c i k (not_same g canvas c a) at) (λ j holds. page_aside n j (not_inside g canvas c i k j a at holds))))
+      box_aside n k (elsewhere g canvas key number F is c i k (not_same g canvas c a) at) (λ j holds. page_aside n j (not_inside g canvas c i k j a at holds))))
       refl
       ∙ sym (within_suc w numbers (get g.nodes) (get g.boards) n c)
 
@@ -71,7 +72,7 @@ module _ (g h : Grove) (canvas key number : ℕ) (x y : ℤ) (F : Forest g) (is 
       ∙ page_changed w w numbers numbers (get g.nodes) (get h.nodes) (old n) (new n) (moved x y) number key (get g.boards canvas) is
       (map_changed (λ k. entry_at (old n) (get g.nodes k)) (λ k. entry_at (new n) (get h.nodes k)) (moved x y) number (keys_at g canvas)
       (λ k at. subst (λ z. entry_at (new n) (get h.nodes z) ≡ moved x y (entry_at (old n) (get g.nodes z))) (same_Some key k (sym is ∙ at)) (box_here n))
-      (λ i k away at. box_aside n k (beside i k away at) (λ j holds. page_aside n j (not_below g F canvas i k j at holds))))
+      (λ i k away at. box_aside n k (beside g canvas key number F is i k away at) (λ j holds. page_aside n j (not_below g F canvas i k j at holds))))
       refl
       ∙ sym (ap (change_box number (moved x y)) (within_suc w numbers (get g.nodes) (get g.boards) n canvas))
 
@@ -93,9 +94,9 @@ module _ (g h : Grove) (canvas key number : ℕ) (x y : ℤ) (F : Forest g) (is 
       ∙ page_changed w w numbers numbers (get g.nodes) (get h.nodes) (old n) (new n) (inside change) i s.key (get g.boards c) s.is
       (map_changed (λ k. entry_at (old n) (get g.nodes k)) (λ k. entry_at (new n) (get h.nodes k)) (inside change) i (keys_at g c)
       (λ k at. subst (λ z. entry_at (new n) (get h.nodes z) ≡ inside change (entry_at (old n) (get g.nodes z))) (same_Some s.key k (sym s.is ∙ at))
-      (ap (entry_at (new n)) (A.others s.key (elsewhere c i s.key apart s.is))
+      (ap (entry_at (new n)) (A.others s.key (elsewhere g canvas key number F is c i s.key apart s.is))
       ∙ sub_entry (old n) (new n) (get g.nodes s.key) s.inner change s.sub (page_moved m n s.inner path s.on (fewer n (length path) m low))))
-      (λ i2 k away at. box_aside n k (elsewhere c i2 k apart at) (λ j inner. page_aside n j (not_beside g F c i path canvas i2 k j way away at inner))))
+      (λ i2 k away at. box_aside n k (elsewhere g canvas key number F is c i2 k apart at) (λ j inner. page_aside n j (not_beside g F c i path canvas i2 k j way away at inner))))
       refl
       ∙ sym (ap (λ (p : Page). with_elements (at_place i (inside change) (listed p.boxes)) p) (within_suc w numbers (get g.nodes) (get g.boards) n c))
     where
