@@ -5,7 +5,6 @@ use Rattle.std.proofs.lemmas.Option.{none-some, same_Some}
 use mathlib.Core.Logic.{⊎_elim}
 use Rattle.std.proofs.lemmas.Bool.{cases_eq}
 use Rattle.slab.specs.Slab.{Slab, get}
-use Rattle.pd_canvas.specs.Pages.{Head}
 use Rattle.pd_object.specs.declared.kinds.Kind.{Kind}
 use Rattle.pd_object.specs.declared.kinds.Kind.TheVariants as kind
 use Rattle.pd_kind.specs.declared.states.State.{State}
