@@ -9,6 +9,7 @@ ghost use Rattle.pd_clock.specs.declared.times.Rate.{Rate};
 ghost use Rattle.pd_tree.specs.Trees.{Tree, weight, zeros_of};
 ghost use Rattle.pd_web.specs.Changes.{wires_told, Meet};
 ghost use Rattle.pd_patch.specs.declared.patch.Patch.{Patch};
+ghost use Rattle.pd_patch.specs.Built.{IsBuilt};
 ghost use Rattle.pd_patch.specs.Document.{present_document};
 ghost use Rattle.pd_patch.specs.Sounds.{sound_of};
 ghost use Rattle.pd_boxes.specs.Put.{CanPut, HasOwners};
@@ -46,4 +47,10 @@ pub fn wires_follow_moves()
         HasOwners old table file → HasOwners new table file }
     ensures zero { (old new : Patch) (path : List ℕ) (number : ℕ) (x y : ℤ) (key : ℕ) → MovesBox old new path number x y key →
         own_zero new ≡ own_zero old }
+{}
+
+/// A patch that runs goes on to be one.
+pub fn patches_run_on_moved()
+    ensures { (old new : Patch) (path : List ℕ) (number : ℕ) (x y : ℤ) (key : ℕ) → MovesBox old new path number x y key → CanPut old →
+        (names : Names) (file : List ℕ) (rate : Rate) → IsBuilt old names file rate → IsBuilt new names file rate }
 {}
