@@ -1,5 +1,5 @@
 -- A patch of which a box stands at another place.
-use Rattle.std.proofs.Common.{◌≡◌, ℕ, suc, ℤ, Bool, true, false, cond, ◌&&◌, ◌||◌, is_some, List, [], ◌∷◌, map, filter, slice_get, Option, Some, None, IsSome, inl, inr, refl, sym, ap, ◌∙◌, subst, ◌≢◌, arith}
+use Rattle.std.proofs.Common.{◌≡◌, ℕ, suc, ℤ, Bool, true, false, cond, ◌&&◌, ◌||◌, is_some, List, [], ◌∷◌, map, slice_get, Option, Some, None, IsSome, inl, inr, refl, sym, ap, ◌∙◌, subst, ◌≢◌}
 use Rattle.std.specs.Prelude.{◌⊎◌, Result, Ok, Err, option_map}
 use Rattle.std.specs.List.{AllByRecursion}
 use Rattle.std.proofs.lemmas.Option.{none-some, same_Some}
@@ -20,8 +20,8 @@ use Rattle.pd_grove.specs.declared.ports.Side.{Side}
 use Rattle.pd_grove.specs.declared.ports.Side.TheVariants.{Inlets, Outlets}
 use Rattle.pd_grove.specs.Forest.{IsForest, holder_in}
 use Rattle.pd_grove.specs.OwnPaths.{sub_reached}
-use Rattle.pd_grove.specs.Owning.{AreOwn, board_in}
-use Rattle.pd_grove.specs.Ports.{node_spot, port_signal, ports_among, spot_at, spot_by, with_spot}
+use Rattle.pd_grove.specs.Owning.{board_in}
+use Rattle.pd_grove.specs.Ports.{port_signal, ports_among, spot_at, spot_by, with_spot}
 use Rattle.pd_grove.specs.Refits.{at_place, Alters}
 use Rattle.pd_grove.specs.Standing.{depth_of}
 use Rattle.pd_grove.specs.Telling.{inner_in, keys_in, kind_in}
@@ -36,7 +36,7 @@ use Rattle.pd_web.specs.Hops.{fan_hops}
 use Rattle.pd_web.specs.Jacks.{KindsSmall, spot_jack, jacks_in, jacks_at, made_in}
 use Rattle.pd_patch.specs.declared.patch.Patch.{Patch}
 use Rattle.pd_patch.specs.Built.{HasPorts}
-use Rattle.pd_patch.specs.Linked.{HasLinks, StayInside, ShareCanvas}
+use Rattle.pd_patch.specs.Linked.{StayInside, ShareCanvas}
 use Rattle.pd_patch.specs.Orders.{is_signal_node, signal_among, signal_wires_among, HasOrder, AreOrdered}
 use Rattle.pd_patch.specs.Telling.{order_in}
 use Rattle.pd_wiring.specs.declared.refusals.EditRefusal.{EditRefusal}

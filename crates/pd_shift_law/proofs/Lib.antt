@@ -1,0 +1,5 @@
+pub mod BuiltLemmas
+pub mod CountLemmas
+pub mod OwnerLemmas
+pub mod PageLemmas
+pub mod StandLemmas

@@ -1,0 +1,56 @@
+//! Laws over a running patch of which an edit moved a box, and its tree.
+
+ghost use Rattle.std.specs.Prelude.{◌≡◌, ℕ, ℤ, List};
+ghost use Rattle.pd_atom.specs.Names.{Names};
+ghost use Rattle.pd_canvas.specs.Edits.{edited};
+ghost use Rattle.pd_canvas.specs.Paths.{edit_at};
+ghost use Rattle.pd_canvas.specs.declared.edits.Edit.TheVariants as edit;
+ghost use Rattle.pd_clock.specs.declared.times.Rate.{Rate};
+ghost use Rattle.pd_tree.specs.Trees.{Tree, weight, zeros_of};
+ghost use Rattle.pd_web.specs.Changes.{wires_told, Meet};
+ghost use Rattle.pd_patch.specs.declared.patch.Patch.{Patch};
+ghost use Rattle.pd_patch.specs.Built.{IsBuilt};
+ghost use Rattle.pd_patch.specs.Document.{present_document};
+ghost use Rattle.pd_patch.specs.Sounds.{sound_of};
+ghost use Rattle.pd_boxes.specs.Put.{CanPut, HasOwners};
+ghost use Rattle.pd_adding.specs.Coming.{own_zero};
+ghost use Rattle.pd_reload_law.specs.Reloading.{RunsAs};
+ghost use Rattle.pd_saved_law.specs.Fitting.{WiresFit};
+ghost use Rattle.pd_shifting.specs.Moves.{MovesBox};
+ghost use Rattle.pd_shift_law.specs.Shifts.{shifted_at};
+
+/// Where an edit moved a box, the document of the patch is the one after the edit.
+pub fn documents_follow_moves()
+    ensures { (old new : Patch) (path : List ℕ) (number : ℕ) (x y : ℤ) (key : ℕ) → MovesBox old new path number x y key → CanPut old →
+        present_document new ≡ edit_at path (edited (edit.Move number x y)) (present_document old) }
+{}
+
+/// The tree that stood stands with the box at its place. It has as many boxes, as many values of tables, arrays and delay lines, and the same
+/// `$0` numbers.
+pub fn trees_follow_moves()
+    ensures runs { (old new : Patch) (path : List ℕ) (number : ℕ) (x y : ℤ) (key : ℕ) (t : Tree) → MovesBox old new path number x y key → CanPut old →
+        RunsAs old.grove t → RunsAs new.grove (shifted_at path number x y t) }
+    ensures boxes { (path : List ℕ) (number : ℕ) (x y : ℤ) (t : Tree) → weight (shifted_at path number x y t).boxes ≡ weight t.boxes }
+    ensures sound { (rate : Rate) (path : List ℕ) (number : ℕ) (x y : ℤ) (t : Tree) → sound_of rate (shifted_at path number x y t).boxes ≡ sound_of rate t.boxes }
+    ensures zeros { (path : List ℕ) (number : ℕ) (x y : ℤ) (t : Tree) → zeros_of (shifted_at path number x y t) ≡ zeros_of t }
+{}
+
+/// The wires are those that there were: they meet and fit. Each name has its owners, and the patch's own document its `$0`.
+pub fn wires_follow_moves()
+    ensures wires { (old new : Patch) (path : List ℕ) (number : ℕ) (x y : ℤ) (key : ℕ) → MovesBox old new path number x y key →
+        wires_told new.web ≡ wires_told old.web }
+    ensures meet { (old new : Patch) (path : List ℕ) (number : ℕ) (x y : ℤ) (key : ℕ) → MovesBox old new path number x y key →
+        Meet old.web → Meet new.web }
+    ensures fit { (old new : Patch) (path : List ℕ) (number : ℕ) (x y : ℤ) (key : ℕ) → MovesBox old new path number x y key →
+        WiresFit old → WiresFit new }
+    ensures owners { (old new : Patch) (path : List ℕ) (number : ℕ) (x y : ℤ) (key : ℕ) (table : Names) (file : List ℕ) → MovesBox old new path number x y key →
+        HasOwners old table file → HasOwners new table file }
+    ensures zero { (old new : Patch) (path : List ℕ) (number : ℕ) (x y : ℤ) (key : ℕ) → MovesBox old new path number x y key →
+        own_zero new ≡ own_zero old }
+{}
+
+/// A patch that runs goes on to be one.
+pub fn patches_run_on_moved()
+    ensures { (old new : Patch) (path : List ℕ) (number : ℕ) (x y : ℤ) (key : ℕ) → MovesBox old new path number x y key → CanPut old →
+        (names : Names) (file : List ℕ) (rate : Rate) → IsBuilt old names file rate → IsBuilt new names file rate }
+{}
