@@ -18,12 +18,6 @@ cd "$folder" || exit 2
 
 run() { "$program" main.pd; }
 
-# The least seconds of five runs of the script.
-least() {
-  local i
-  for ((i = 0; i < 5; i++)); do once run; done | sort -n | head -n 1
-}
-
 printf '%-12s %8s %12s %12s %7s\n' box number time each times
 for words in 'f' 'osc~ 220' 'msg'; do
   case $words in
@@ -32,13 +26,13 @@ for words in 'f' 'osc~ 220' 'msg'; do
   esac
   echo "#N canvas 0 50 450 300 12; #X obj 0 0 r go; #X obj 0 0 until; #X msg 0 0 \\; pd-main.pd $asks; #X connect 0 0 1 0; #X connect 1 0 2 0;" >main.pd
   : >script
-  idle=$(least)
+  idle=$(least 5 run)
   before=
   for count in 1000 2000 4000 8000 16000; do
     for ((i = 0; i < count; i += burst)); do echo "0 send go $burst;"; done >script
     said=$("$program" main.pd <script | head -n 1)
     [ -z "$said" ] || { echo "bench: $words, $count boxes: $said" >&2; exit 1; }
-    now=$(least)
+    now=$(least 5 run)
     awk -v f="$words" -v c="$count" -v t="$now" -v i="$idle" -v b="$before" 'BEGIN {
       t -= i
       printf "%-12s %8d %9.1f ms %9.2f us %7s\n", f, c, t * 1e3, t * 1e6 / c, (b > 0 ? sprintf("%.1f", t / b) : "-")

@@ -18,12 +18,6 @@ cd "$folder" || exit 2
 
 run() { "$program" main.pd; }
 
-# The least seconds of nine runs of the script.
-least() {
-  local i
-  for ((i = 0; i < 9; i++)); do once run; done | sort -n | head -n 1
-}
-
 # The patch of so many voices with the boxes of a text behind the box before FIRST: patch VOICES FIRST TEXT
 patch() {
   awk -v voices="$1" -v first="$2" -v text="$3" -v more="$edits" '
@@ -53,11 +47,11 @@ for text in f 'osc~ 110'; do
       esac
       patch "$voices" "$first" "$text" >main.pd
       : >script
-      idle=$(least)
+      idle=$(least 9 run)
       for ((i = 0; i < edits; i++)); do echo "0 edit . / delete $((first + (last ? edits - 1 - i : 0)));"; done >script
       said=$("$program" main.pd <script | head -n 1)
       [ -z "$said" ] || { echo "bench: $text, $where, $voices voices: $said" >&2; exit 1; }
-      awk -v b="$text" -v w="$where" -v c="$((2 * voices + 1))" -v n="$edits" -v t="$(least)" -v i="$idle" 'BEGIN {
+      awk -v b="$text" -v w="$where" -v c="$((2 * voices + 1))" -v n="$edits" -v t="$(least 9 run)" -v i="$idle" 'BEGIN {
         printf "%-8s %-7s %7d %9.2f us\n", b, w, c, (t - i) * 1e6 / n
       }'
     done

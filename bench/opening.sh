@@ -27,10 +27,9 @@ run() { "$program" main.pd; }
 
 # The least seconds of five runs over a patch of a form and so many boxes.
 seconds_of() {
-  local i
   mkdir "$folder/patch" && cd "$folder/patch" || exit 2
   { echo '#N canvas 0 0 400 300 12;'; "$1" "$2"; } >main.pd
-  for ((i = 0; i < 5; i++)); do once run; done | sort -n | head -n 1
+  least 5 run
   cd "$folder" && rm -rf patch
 }
 

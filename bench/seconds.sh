@@ -7,6 +7,12 @@ once() {
   { TIMEFORMAT='%U %S'; time "$@" >/dev/null 2>&1 </dev/stdin; } 2>&1 <"$folder/script" | awk '{ print $1 + $2 }'
 }
 
+# The least time of so many runs of a command: least RUNS COMMAND..
+least() {
+  local i
+  for ((i = 0; i < $1; i++)); do once "${@:2}"; done | sort -n | head -n 1
+}
+
 # Two commands, given as the names of functions, in an odd number $1 of turns, so that both meet the same machine: the least times of the two,
 # and then the times in the middle.
 in_turn() {
