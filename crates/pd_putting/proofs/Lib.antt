@@ -5,3 +5,4 @@ mod StayLemmas
 mod PlainLemmas
 mod SeedLemmas
 mod AddLemmas
+pub mod SubLemmas

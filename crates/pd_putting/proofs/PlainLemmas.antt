@@ -95,6 +95,17 @@ pub rows_small : (names : Names) (rows : List Row) → AllByRecursion (RowSuits 
 rows_small names [] s = tt
 rows_small names (r ∷ rows) s = (s.0.1, rows_small names rows s.1)
 
+module _ (p : Patch) (g : Grown) (a : Added) (A : IsAdded g a) (seed : Seed) (is : stand_of seed.row ∷ [] ≡ stands_in g.rows.items) where
+  suits_by : (names : Names) (rows : List Row) → stand_of seed.row ∷ [] ≡ stands_in rows → AllByRecursion (RowSuits names) rows → RowSuits names seed.row
+  unfolding first
+  suits_by names [] e s = absurd (omega (arith, ap (λ (ss : List Stand). length ss) e))
+  suits_by names (row ∷ rows) e s =
+      let same : stand_of seed.row ≡ stand_of row = ap (first (stand_of seed.row)) e in
+      subst (λ (x : Stand). TextSuits names x.cell.text × IsSmallKind x.cell.kind) (sym same) s.0
+
+  pub seed_suits : RowSuits a.known.names seed.row
+  seed_suits = suits_by a.known.names g.rows.items is A.suit
+
 module _ (p : Patch) (g : Grown) (a : Added) (A : IsAdded g a) (P : IsPlain p a) (seed : Seed) (is : stand_of seed.row ∷ [] ≡ stands_in g.rows.items) where
   pub seed_stand : stand_of seed.row ≡ alone P.cell
   unfolding first
@@ -107,13 +118,6 @@ module _ (p : Patch) (g : Grown) (a : Added) (A : IsAdded g a) (P : IsPlain p a)
   seed_no_port = subst (λ (k : Kind). IsNoPort p (last_place p g.canvas) k) (sym (ap (λ (s : Stand). s.cell.kind) seed_stand))
       (subst (λ (c : ℕ). IsNoPort p (last_place p c) P.cell.kind) (sym A.canvas) P.no_port)
 
-  suits_by : (names : Names) (rows : List Row) → stand_of seed.row ∷ [] ≡ stands_in rows → AllByRecursion (RowSuits names) rows → RowSuits names seed.row
-  unfolding first
-  suits_by names [] e s = absurd (omega (arith, ap (λ (ss : List Stand). length ss) e))
-  suits_by names (row ∷ rows) e s =
-      let same : stand_of seed.row ≡ stand_of row = ap (first (stand_of seed.row)) e in
-      subst (λ (x : Stand). TextSuits names x.cell.text × IsSmallKind x.cell.kind) (sym same) s.0
-
   -- what came in is the box that grew
   pub box_put : (q : Patch) (now : ℕ) (table : Names) (key : ℕ) → a.known.names ≡ table → IsLeaf seed → IsFresh p.rate now seed → CanPut q → PutsLast p q table g.canvas seed key → IsBoxPut p q now a key
   box_put q now table key names leaf fresh can L = record {
@@ -122,7 +126,7 @@ module _ (p : Patch) (g : Grown) (a : Added) (A : IsAdded g a) (P : IsPlain p a)
     room = L.room;
     seed = seed;
     is_row = seed_stand;
-    suits = suits_by a.known.names g.rows.items is A.suit;
+    suits = seed_suits p g a A seed is;
     leaf = leaf;
     fresh = fresh;
     put = subst (λ (t : Names). IsPut L.ready q t (last_place p a.canvas) seed key) (sym names)

@@ -1,7 +1,8 @@
 -- The first of seeds that were made ready.
-use Rattle.std.proofs.Common.{◌≡◌, ℕ, suc, List, [], ◌∷◌, length, None, sym, ap, ◌∙◌, subst, arith}
+use Rattle.std.proofs.Common.{◌≡◌, ℕ, suc, List, [], ◌∷◌, length, None, IsSome, sym, ap, ◌∙◌, subst, arith}
 use Rattle.std.proofs.lemmas.List.{length-map}
 use Rattle.pd_clock.specs.declared.times.Rate.{Rate}
+use Rattle.pd_object.specs.declared.kinds.Kind.TheVariants as kind
 use Rattle.pd_tree.specs.declared.rows.Row.{Row}
 use Rattle.pd_tree.specs.Trees.{Stand, stand_of, stands_in}
 use Rattle.pd_grove.specs.declared.seeds.Seed.{Seed}
@@ -9,6 +10,7 @@ use Rattle.pd_grove.specs.declared.seeds.Seeds.{Seeds}
 use Rattle.pd_grove.specs.Planting.{seeds_in, seed_stand, stands_ready, AreRoomy}
 use Rattle.pd_grove.specs.States.{IsFresh, AreFresh, SeedsSmall}
 use Rattle.pd_boxes.specs.Put.{IsLeaf}
+use Rattle.pd_subpatches.specs.Shell.{IsShell}
 
 -- as many seeds as rows
 count_ready : (rows : List Row) (seeds : List Seed) → length rows ≡ 1 → stands_ready seeds ≡ stands_in rows → length seeds ≡ 1
@@ -41,3 +43,8 @@ next_leaf seeds rest s roomy small is sheet boxes =
     let rooms : AreRoomy (s ∷ seeds_in rest) = subst AreRoomy is roomy in
     let smalls : SeedsSmall (s ∷ seeds_in rest) = subst SeedsSmall is small in
     record { no_sheet = sheet; no_boxes = boxes; roomy = rooms.0; small = smalls.0 }
+
+pub next_shell : (seeds rest : Seeds) (s : Seed) → AreRoomy (seeds_in seeds) → seeds_in seeds ≡ s ∷ seeds_in rest → IsSome s.row.sheet → s.row.boxes ≡ 0 → s.row.kind ≡ kind.Canvas → IsShell s
+next_shell seeds rest s roomy is sheet boxes canvas =
+    let rooms : AreRoomy (s ∷ seeds_in rest) = subst AreRoomy is roomy in
+    record { sheet = sheet; no_boxes = boxes; canvas = canvas; roomy = rooms.0 }

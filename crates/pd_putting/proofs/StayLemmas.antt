@@ -10,9 +10,10 @@ use Rattle.pd_object.specs.declared.kinds.Kind.{Kind}
 use Rattle.pd_order.specs.Listing.{Listing}
 use Rattle.pd_grove.specs.declared.boards.Board.{Board}
 use Rattle.pd_grove.specs.declared.grove.Grove.{Grove}
+use Rattle.pd_grove.proofs.UseLemmas.{not_both}
 use Rattle.pd_grove.specs.declared.ports.Side.{Side}
 use Rattle.pd_grove.specs.declared.seeds.Seed.{Seed}
-use Rattle.pd_grove.specs.Forest.{holder_in}
+use Rattle.pd_grove.specs.Forest.{holder_in, IsForest}
 use Rattle.pd_grove.specs.Grafts.{HasOtherKeys}
 use Rattle.pd_grove.specs.Ports.{port_signal}
 use Rattle.pd_grove.specs.Standing.{BoardSeen, board_seen}
@@ -33,6 +34,7 @@ use Rattle.pd_boxes.specs.Room.{SameButRoom, IsFor}
 use Rattle.pd_boxes.specs.Put.{CanPut, ComesIn, IsPut, IsNoPort}
 use Rattle.pd_boxes.proofs.ReserveLemmas.{same_grove, same_web, same_order, longer_self}
 use Rattle.pd_boxes.proofs.RoomLemmas.{keys_same}
+use Rattle.pd_subpatches.specs.Shell.{ShellComesIn}
 use Rattle.pd_adding.specs.Coming.{zero_in, own_zero}
 use Rattle.pd_putting.specs.Adds.{last_place}
 use Rattle.pd_putting.specs.Last.{PutsLast}
@@ -127,6 +129,24 @@ module _ (p q : Patch) (table : Names) (place : Place) (s : Seed) (key : ℕ) (I
 
   pub more_wires : wires_told q.web ≡ wires_told p.web
   more_wires = wires_stay p.web q.web key _ _ I.ports
+
+-- ---- a box that came with an empty canvas inside
+
+module _ (p q : Patch) (table : Names) (place : Place) (s : Seed) (key : ℕ) (I : ShellComesIn p q table place s key) where
+  root_other : IsForest (get p.grove.nodes) (get p.grove.boards) p.grove.root → p.grove.root ≢ I.canvas
+  root_other F e = ⊎_elim
+      (λ (f : I.canvas ≡ place.canvas). none-some I.grove.box.keys.after (sym I.grove.canvas.vacant ∙ ap I.grove.boards_between f ∙ I.grove.box.keys.is))
+      (λ (d : I.canvas ≢ place.canvas). not_both (get p.grove.boards p.grove.root) (ap (get p.grove.boards) e ∙ sym (I.grove.box.keys.others I.canvas d) ∙ I.grove.canvas.vacant) F.rooted.0)
+      (cases_eq I.canvas place.canvas)
+
+  pub shell_zero : CanPut p → own_zero q ≡ own_zero p
+  shell_zero P =
+      ap (λ (r : ℕ). zero_in (get q.grove.boards r)) I.root
+      ∙ ap zero_in (I.grove.canvas.stay p.grove.root (root_other P.forest))
+      ∙ zero_more (get p.grove.boards) I.grove.boards_between place.canvas _ _ I.grove.box.keys p.grove.root
+
+  pub shell_wires : wires_told q.web ≡ wires_told p.web
+  shell_wires = wires_stay p.web q.web key _ _ I.ports
 
 -- ---- both
 

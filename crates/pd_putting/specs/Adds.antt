@@ -1,8 +1,10 @@
 -- A box that an edit puts into a canvas of a running patch.
-use Rattle.std.specs.Prelude.{◌≡◌, ◌⊎◌, ℕ, List, length, None, Ok, Err, IfSome}
+use Rattle.std.specs.Prelude.{◌≡◌, ◌⊎◌, ℕ, List, length, Some, None, Ok, Err, IfSome}
 use Rattle.pd_atom.specs.Names.{IsTable}
 use Rattle.pd_canvas.specs.declared.edits.Edit.{Edit}
-use Rattle.pd_tree.specs.Trees.{Cell, Done, Leaf, stand_of}
+use Rattle.pd_object.specs.declared.kinds.Kind.TheVariants as kind
+use Rattle.pd_tree.specs.declared.rows.Sheet.{Sheet}
+use Rattle.pd_tree.specs.Trees.{Cell, Done, Leaf, Holder, stand_of}
 use Rattle.pd_growth.specs.Suits.{RowSuits}
 use Rattle.pd_gather.specs.Gather.{Known, AreProper}
 use Rattle.pd_grove.specs.declared.seeds.Seed.{Seed}
@@ -14,6 +16,7 @@ use Rattle.pd_wiring.specs.declared.refusals.EditRefusal.TheVariants.{NoDocument
 use Rattle.pd_boxes.specs.declared.room.Place.{Place}
 use Rattle.pd_boxes.specs.Room.{SameButRoom}
 use Rattle.pd_boxes.specs.Put.{CanPut, IsLeaf, IsNoPort, IsPut}
+use Rattle.pd_subpatches.specs.Shell.{IsShallow, IsShell, IsShellPut}
 use Rattle.pd_adding.specs.declared.counts.Counts.{Counts}
 use Rattle.pd_adding.specs.Boxes.{IsKnown, CanBeWritten, settled_edit, box_put}
 use Rattle.pd_adding.specs.Coming.{coming, IsComing}
@@ -25,11 +28,23 @@ use Rattle.pd_putting.specs.declared.adding.NewBox.{NewBox}
 abbrev pub last_place : Patch → ℕ → Place
 last_place p canvas = record { canvas = canvas; number = length (keys_at p.grove canvas) }
 
--- What grew is one box without a canvas, and no port of a box around. Other boxes aren't put yet.
+-- What grew is one box without a canvas, and no port of a box around.
 pub record IsPlain (p : Patch) (a : Added) : Type 0 where
   pub cell : Cell
   pub single : a.boxes ≡ Leaf cell Done
   pub no_port : IsNoPort p (last_place p a.canvas) cell.kind
+
+-- What grew is one box that holds a canvas without boxes, which isn't too deep.
+pub record IsSub (p : Patch) (a : Added) : Type 0 where
+  pub cell : Cell
+  pub sheet : Sheet
+  pub single : a.boxes ≡ Holder cell sheet Done Done
+  pub canvas : cell.kind ≡ kind.Canvas
+  pub shallow : IsShallow p (last_place p a.canvas)
+
+-- What grew is one or the other. Other boxes aren't put yet.
+abbrev pub CanCome : Patch → Added → Type 0
+CanCome p a = IsPlain p a ⊎ IsSub p a
 
 -- What grew came in as the last box of its canvas, under this key, and keeps what its kind keeps at first. All else of the patch stays, but that
 -- there is more room.
@@ -45,6 +60,23 @@ pub record IsBoxPut (old new : Patch) (now : ℕ) (a : Added) (key : ℕ) : Type
   pub put : IsPut ready new a.known.names (last_place old a.canvas) seed key
   pub goes_on : CanPut new
 
+-- The same of a box that holds a canvas without boxes.
+pub record IsSubPut (old new : Patch) (now : ℕ) (a : Added) (key : ℕ) : Type 0 where
+  pub sub : IsSub old a
+  pub ready : Patch
+  pub room : SameButRoom old ready
+  pub seed : Seed
+  pub is_row : stand_of seed.row ≡ record { cell = sub.cell; sheet = Some sub.sheet; boxes = 0 }
+  pub suits : RowSuits a.known.names seed.row
+  pub shell : IsShell seed
+  pub fresh : IsFresh old.rate now seed
+  pub put : IsShellPut ready new a.known.names (last_place old a.canvas) seed key
+  pub goes_on : CanPut new
+
+-- what grew came in
+abbrev pub HasCome : Patch → Patch → ℕ → Added → ℕ → Type 0
+HasCome old new now a key = IsBoxPut old new now a key ⊎ IsSubPut old new now a key
+
 -- An edit put a box, with this known after it, as what grew: `k` was known before it, `n` were the counts of the patch, and it is this time. The
 -- documents that were found before it are proper. It grew where the files were known for which it asked.
 pub record AddsBox (old new : Patch) (n : Counts) (name path : List ℕ) (now : ℕ) (e : Edit) (k after : Known) (b : NewBox) : Type 0 where
@@ -56,7 +88,7 @@ pub record AddsBox (old new : Patch) (n : Counts) (name path : List ℕ) (now : 
   pub comes : ComesTo None old n name path e k (Ok added)
   pub files : Known
   pub grew : GrewWith old n name path e k files added
-  pub put : IsBoxPut old new now added b.key
+  pub put : HasCome old new now added b.key
   pub canvas : b.canvas ≡ added.canvas
   pub counts : b.counts ≡ added.counts
   pub known_is : after ≡ added.known
@@ -66,7 +98,7 @@ pub record AddsBox (old new : Patch) (n : Counts) (name path : List ℕ) (now : 
 pub record IsNotPutYet (p : Patch) (n : Counts) (name path : List ℕ) (e : Edit) (k : Known) : Type 0 where
   pub added : Added
   pub comes : ComesTo None p n name path e k (Ok added)
-  pub other : IsPlain p added → ⊥
+  pub other : CanCome p added → ⊥
 
 -- Why an edit that puts a box is refused: memory was wanting; or the folder gave no file for which growing the box asks; or it comes to this refusal;
 -- or its text names what the table hasn't, or such a box isn't put yet.
@@ -79,7 +111,7 @@ IsNotPut p n name path e k why =
 pub record IsShortOfRoom (old new : Patch) (n : Counts) (name path : List ℕ) (e : Edit) (k : Known) : Type 0 where
   pub added : Added
   pub comes : ComesTo None old n name path e k (Ok added)
-  pub plain : IsPlain old added
+  pub can_come : CanCome old added
   pub room : SameButRoom old new
   pub goes_on : CanPut new
 

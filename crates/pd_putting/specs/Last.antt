@@ -6,17 +6,26 @@ use Rattle.pd_patch.specs.declared.patch.Patch.{Patch}
 use Rattle.pd_wiring.specs.declared.refusals.EditRefusal.{EditRefusal}
 use Rattle.pd_wiring.specs.declared.refusals.EditRefusal.TheVariants.{NoDocument, NoMemory}
 use Rattle.pd_boxes.specs.Room.{SameButRoom}
-use Rattle.pd_boxes.specs.Put.{IsPut}
+use Rattle.pd_boxes.specs.Put.{IsLeaf, IsNoPort, IsPut}
+use Rattle.pd_subpatches.specs.Shell.{AddsShell, IsShallow, IsShell}
 use Rattle.pd_adding.specs.declared.adding.Grown.{Grown}
 use Rattle.pd_adding.specs.Growing.{Added}
 use Rattle.pd_adding.specs.Adding.{IsAdded}
-use Rattle.pd_putting.specs.Adds.{last_place, IsPlain}
+use Rattle.pd_putting.specs.Adds.{last_place, CanCome}
 
 -- room was set aside, and then a box of a seed came in as the last one of a canvas
 pub record PutsLast (old new : Patch) (table : Names) (canvas : ℕ) (s : Seed) (key : ℕ) : Type 0 where
   pub ready : Patch
   pub room : SameButRoom old ready
   pub put : IsPut ready new table (last_place old canvas) s key
+
+-- the same of a box that holds a canvas without boxes
+abbrev pub PutsSubLast : Patch → Patch → Names → ℕ → Seed → ℕ → Type 0
+PutsSubLast old new table canvas s key = AddsShell old new table (last_place old canvas) s key
+
+-- a seed whose box can come in last
+abbrev pub IsReady : Patch → ℕ → Seed → Type 0
+IsReady p canvas s = (IsLeaf s × IsNoPort p (last_place p canvas) s.row.kind) ⊎ (IsShell s × IsShallow p (last_place p canvas))
 
 -- what grew aside is this, with these names
 pub record HasGrown (g : Grown) (names : Names) : Type 0 where
@@ -27,4 +36,4 @@ pub record HasGrown (g : Grown) (names : Names) : Type 0 where
 -- What grew doesn't come in: memory was wanting, and there may be more room; or it is a box that isn't put yet, and the patch stays.
 abbrev pub StaysOut : Patch → Patch → Added → EditRefusal → Type 0
 StaysOut old new a why =
-    ((why ≡ NoMemory) × (IsPlain old a × SameButRoom old new)) ⊎ ((why ≡ NoDocument) × ((new ≡ old) × (IsPlain old a → ⊥)))
+    ((why ≡ NoMemory) × (CanCome old a × SameButRoom old new)) ⊎ ((why ≡ NoDocument) × ((new ≡ old) × (CanCome old a → ⊥)))

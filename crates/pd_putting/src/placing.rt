@@ -1,9 +1,11 @@
 //! What grew aside, put into its canvas as the last box.
 
-ghost use Rattle.std.specs.Prelude.{◌≡◌, ◌||◌, ◌∷◌, [], true, false, length, is_some, None, IfOk, IfErr, OnErr};
+ghost use Rattle.std.specs.Prelude.{◌≡◌, ◌||◌, ◌⊎◌, ◌∷◌, [], true, false, nat_lt, length, is_some, None, IsSome, IfOk, IfErr, OnErr};
 ghost use Rattle.slab.specs.Slab.{get, ContainsKey};
+ghost use Rattle.pd_object.specs.declared.kinds.Kind.TheVariants.{Canvas};
 ghost use Rattle.pd_grove.specs.declared.ports.Side.TheVariants.{Inlets, Outlets};
 ghost use Rattle.pd_grove.specs.Forest.{holder_in};
+ghost use Rattle.pd_grove.specs.Standing.{depth_of};
 ghost use Rattle.pd_grove.specs.Ports.{port_signal};
 ghost use Rattle.pd_grove.specs.States.{AreSmall, IsFresh};
 ghost use Rattle.pd_tree.specs.Trees.{Cell, Done, Leaf, stand_of, stands_of, stands_in};
@@ -14,8 +16,9 @@ ghost use Rattle.pd_boxes.specs.Put.{CanPut, IsLeaf, IsNoPort};
 ghost use Rattle.pd_adding.specs.Adding.{IsAdded};
 ghost use Rattle.pd_adding.specs.Coming.{own_zero};
 ghost use Rattle.pd_adding.specs.Growing.{Added};
-ghost use Rattle.pd_putting.specs.Adds.{last_place, IsPlain, IsBoxPut};
-ghost use Rattle.pd_putting.specs.Last.{PutsLast, HasGrown, StaysOut};
+ghost use Rattle.pd_subpatches.specs.Shell.{IsShallow, IsShell};
+ghost use Rattle.pd_putting.specs.Adds.{last_place, CanCome, HasCome, IsPlain, IsSub};
+ghost use Rattle.pd_putting.specs.Last.{HasGrown, IsReady, PutsLast, PutsSubLast, StaysOut};
 
 use crate::adding::NewBox;
 use pd_adding::{Grown, single_boxes};
@@ -26,12 +29,14 @@ use pd_grove::{Seed, Seeds};
 use pd_kind::{Glue, Kind, Signal};
 use pd_order::Steps;
 use pd_patch::Patch;
+use pd_subpatches::add_shell;
 use pd_tree::Row;
 use pd_wiring::EditRefusal;
 use std::alloc::{AllocError, Global};
 use std::sync::ledger::Ledger;
 
-/// Puts what grew aside into its canvas as the last box, where it is one box without a canvas inside and no port of a box around.
+/// Puts what grew aside into its canvas as the last box, where it is one box, which has no canvas inside and is no port of a box around, or has an
+/// empty canvas inside.
 ///
 /// # Errors
 ///
@@ -47,7 +52,7 @@ pub(crate) fn put_grown<L: Ledger>(
     requires can { CanPut patch.old }
     requires here { ContainsKey patch.old.grove.boards grown.canvas }
     requires grown { HasGrown grown symbols.old }
-    ensures put { IfOk result (λ b. (a : Added) → IsAdded grown a → a.known.names ≡ symbols.old → IsBoxPut patch.old patch.new now a b.key) }
+    ensures put { IfOk result (λ b. (a : Added) → IsAdded grown a → a.known.names ≡ symbols.old → HasCome patch.old patch.new now a b.key) }
     ensures canvas { IfOk result (λ b. b.canvas ≡ grown.canvas) }
     ensures counts { IfOk result (λ b. b.counts ≡ grown.counts) }
     ensures refused { IfErr result (λ why. (a : Added) → IsAdded grown a → StaysOut patch.old patch.new a why) }
@@ -57,7 +62,7 @@ pub(crate) fn put_grown<L: Ledger>(
     ensures table { symbols.new ≡ symbols.old }
     ensures looks { steps.new ≡ steps.old }
 {
-    if !is_plain(patch, &grown) {
+    if !can_come(patch, &grown) {
         return Err(EditRefusal::NoDocument);
     }
     let canvas = grown.canvas;
@@ -65,7 +70,7 @@ pub(crate) fn put_grown<L: Ledger>(
     let Ok(seed) = seed_of(alloc, grown.rows, patch.rate, now) else {
         return Err(EditRefusal::NoMemory);
     };
-    let Ok(key) = put_last(alloc, patch, canvas, seed, symbols, steps) else {
+    let Ok(key) = put_seed(alloc, patch, canvas, seed, symbols, steps) else {
         return Err(EditRefusal::NoMemory);
     };
     Ok(NewBox {
@@ -73,6 +78,51 @@ pub(crate) fn put_grown<L: Ledger>(
         canvas,
         counts,
     })
+}
+
+/// Whether what grew is one box that can be put.
+fn can_come(patch: &Patch, grown: &Grown) -> bool
+    ensures yes { result ≡ true → (a : Added) → IsAdded grown.now a → CanCome patch.now a }
+    ensures no { result ≡ false → (a : Added) → IsAdded grown.now a → CanCome patch.now a → ⊥ }
+{
+    is_plain(patch, grown) || is_sub(patch, grown)
+}
+
+/// Whether what grew is one box that holds a canvas without boxes, which isn't too deep.
+fn is_sub(patch: &Patch, grown: &Grown) -> bool
+    ensures yes { result ≡ true → (a : Added) → IsAdded grown.now a → IsSub patch.now a }
+    ensures no { result ≡ false → (a : Added) → IsAdded grown.now a → IsSub patch.now a → ⊥ }
+{
+    let rows = grown.rows.as_slice();
+    if rows.len() != 1 {
+        return false;
+    }
+    let row = &rows[0];
+    if !row.sheet.is_some() {
+        return false;
+    }
+    if !is_canvas(&row.kind) {
+        return false;
+    }
+    is_shallow(patch, grown.canvas)
+}
+
+/// Whether the boxes of a kind hold canvases.
+fn is_canvas(kind: &Kind) -> bool
+    ensures yes { result ≡ true → kind.now ≡ Canvas }
+    ensures no { result ≡ false → kind.now ≡ Canvas → ⊥ }
+{
+    matches!(kind, Kind::Canvas)
+}
+
+/// Whether a canvas may lie in a canvas.
+fn is_shallow(patch: &Patch, canvas: u32) -> bool
+    ensures { result ≡ nat_lt (depth_of (get patch.now.grove.boards canvas)) 256 }
+{
+    match patch.grove.board(canvas) {
+        Some(board) => board.depth < 256,
+        None => true,
+    }
 }
 
 /// Whether what grew is one box without a canvas inside, and no port of a box around.
@@ -115,7 +165,7 @@ fn is_port(kind: &Kind) -> bool
     }
 }
 
-/// The seed of the one box of a list, which holds no canvas.
+/// The seed of the one box of a list.
 ///
 /// # Errors
 ///
@@ -126,12 +176,76 @@ fn seed_of(alloc: Global, rows: Vec<Row>, rate: Rate, now: Time) -> Result<Seed,
     ensures stand { IfOk result (λ s. stand_of s.row ∷ [] ≡ stands_in rows.items) }
     ensures fresh { IfOk result (IsFresh rate now) }
     ensures leaf { IfOk result (λ s. s.row.sheet ≡ None → s.row.boxes ≡ 0 → IsLeaf s) }
+    ensures shell { IfOk result (λ s. IsSome s.row.sheet → s.row.boxes ≡ 0 → s.row.kind ≡ Canvas → IsShell s) }
 {
     let mut seeds = Seeds::prepare(alloc, rows, rate, now)?;
     match seeds.next() {
         Some(seed) => Ok(seed),
         None => unreachable!(),
     }
+}
+
+/// Puts the box of a seed last into a live canvas, and gives its key.
+///
+/// # Errors
+///
+/// `AllocError` where memory ran out, or where the canvas has as many boxes as can be counted.
+fn put_seed<L: Ledger>(
+    alloc: Global,
+    patch: &mut Patch,
+    canvas: u32,
+    seed: Seed,
+    symbols: &mut Symbols,
+    steps: &mut Steps<L>,
+) -> Result<u32, AllocError>
+    requires can { CanPut patch.old }
+    requires here { ContainsKey patch.old.grove.boards canvas }
+    requires ready { IsReady patch.old canvas seed }
+    ensures put { seed.row.sheet ≡ None → IfOk result (PutsLast patch.old patch.new symbols.old canvas seed) }
+    ensures sub { IsSome seed.row.sheet → IfOk result (PutsSubLast patch.old patch.new symbols.old canvas seed) }
+    ensures short { OnErr result (SameButRoom patch.old patch.new) }
+    ensures goes_on { CanPut patch.new }
+    ensures as_many { wires_told patch.new.web ≡ wires_told patch.old.web }
+    ensures zero { own_zero patch.new ≡ own_zero patch.old }
+    ensures table { symbols.new ≡ symbols.old }
+    ensures looks { steps.new ≡ steps.old }
+{
+    if seed.row.sheet.is_some() {
+        put_sub_last(alloc, patch, canvas, seed, symbols, steps)
+    } else {
+        put_last(alloc, patch, canvas, seed, symbols, steps)
+    }
+}
+
+/// Sets room aside for a box with an empty canvas inside that comes last in a live canvas, puts it in, and gives its key.
+///
+/// # Errors
+///
+/// `AllocError` where memory ran out, or where the canvas has as many boxes as can be counted.
+fn put_sub_last<L: Ledger>(
+    alloc: Global,
+    patch: &mut Patch,
+    canvas: u32,
+    seed: Seed,
+    symbols: &mut Symbols,
+    steps: &mut Steps<L>,
+) -> Result<u32, AllocError>
+    requires can { CanPut patch.old }
+    requires here { ContainsKey patch.old.grove.boards canvas }
+    requires shell { IsShell seed }
+    requires shallow { IsShallow patch.old (last_place patch.old canvas) }
+    ensures put { IfOk result (PutsSubLast patch.old patch.new symbols.old canvas seed) }
+    ensures short { OnErr result (SameButRoom patch.old patch.new) }
+    ensures goes_on { CanPut patch.new }
+    ensures as_many { wires_told patch.new.web ≡ wires_told patch.old.web }
+    ensures zero { own_zero patch.new ≡ own_zero patch.old }
+    ensures table { symbols.new ≡ symbols.old }
+    ensures looks { steps.new ≡ steps.old }
+{
+    let number = next_number(patch, canvas)?;
+    let place = Place { canvas, number };
+    let key = add_shell(alloc, patch, place, seed, symbols, steps)?;
+    Ok(key)
 }
 
 /// Sets room aside for a box that comes last in a live canvas, puts it in, and gives its key.

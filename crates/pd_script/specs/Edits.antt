@@ -1,5 +1,5 @@
 -- The edit that a change and a text are.
-use Rattle.std.specs.Prelude.{ℕ, Bool, true, false, List, Option, Some, None}
+use Rattle.std.specs.Prelude.{ℕ, ℤ, Bool, true, false, List, Option, Some, None}
 use Rattle.pd_atom.specs.declared.Atom.{Atom}
 use Rattle.pd_canvas.specs.declared.edits.Edit.{Edit}
 use Rattle.pd_canvas.specs.declared.edits.Edit.TheVariants as edit
@@ -29,3 +29,8 @@ puts_box e = true
 abbrev pub deleted : Edit → Option ℕ
 deleted (edit.Delete number) = Some number
 deleted e = None
+
+-- the number of the box that an edit moves, and its new place in its window
+abbrev pub moved : Edit → Option (ℕ × ℤ × ℤ)
+moved (edit.Move number x y) = Some (number, x, y)
+moved e = None

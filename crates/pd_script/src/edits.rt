@@ -3,7 +3,7 @@
 ghost use Rattle.std.specs.Prelude.{◌≡◌, IfOk};
 ghost use Rattle.pd_queue.specs.Entries.{wire_edit};
 ghost use Rattle.pd_script.specs.Changes.{made_box as made_box_of};
-ghost use Rattle.pd_script.specs.Edits.{edit_of, puts_box, deleted};
+ghost use Rattle.pd_script.specs.Edits.{edit_of, puts_box, deleted, moved};
 
 use crate::changes::{BoxVerb, Change};
 use crate::lists::{CommandAtoms, CommandPath};
@@ -101,6 +101,27 @@ impl CommandEdit {
             | Change::Disconnect { .. }
             | Change::Retype { .. }
             | Change::Move { .. } => None,
+        }
+    }
+
+    /// The number of the box that the edit moves, and its new place in its window, where it moves one.
+    pub fn moved(&self) -> Option<(u32, Num, Num)>
+        ensures { result ≡ moved self.now }
+    {
+        match self.change {
+            Change::Move { number, x, y } => Some((number, x, y)),
+            Change::Box { shape, .. } => match shape {
+                BoxVerb::Obj
+                | BoxVerb::Msg
+                | BoxVerb::Text
+                | BoxVerb::FloatAtom
+                | BoxVerb::SymbolAtom
+                | BoxVerb::Sub => None,
+            },
+            Change::Connect { .. }
+            | Change::Disconnect { .. }
+            | Change::Delete { .. }
+            | Change::Retype { .. } => None,
         }
     }
 

@@ -1,5 +1,9 @@
-use Rattle.std.proofs.Common.{inl, inr, refl}
-use Rattle.pd_putting.proofs.PlainLemmas.{rows_small, rows_one, seed_leaf, seed_no_port, box_put}
+use Rattle.std.proofs.Common.{inl, inr, refl, ap}
+use mathlib.Core.Logic.{⊎_elim}
+use Rattle.pd_tree.specs.Trees.{Stand}
+use Rattle.pd_putting.specs.Adds.{IsPlain, IsSub}
+use Rattle.pd_putting.proofs.PlainLemmas.{rows_small, seed_stand, seed_leaf, box_put}
+use Rattle.pd_putting.proofs.SubLemmas.{one_box, seed_ready, seed_shell, seed_sheet, sub_put}
 use Rattle.pd_putting.proofs.StayLemmas.{same_patch}
 use Rattle.pd_putting.proofs.placing.put_grown.Goals as goal
 
@@ -9,34 +13,33 @@ seed_of-requires-clause-small g c = rows_small c.requires.grown.added.known.name
 pub seed_of-requires-clause-one : goal.seed_of-requires-clause-one
 seed_of-requires-clause-one g c =
     let h = c.requires.grown in
-    rows_one c.args.patch.now c.args.grown h.added h.is (c.is_plain.ensures.yes c.if-not-is_plain.false h.added h.is)
+    one_box c.args.patch.now c.args.grown h.added h.is (c.can_come.ensures.yes c.if-not-can_come.false h.added h.is)
 
-pub put_last-requires-clause-leaf : goal.put_last-requires-clause-leaf
-put_last-requires-clause-leaf g c =
+pub put_seed-requires-clause-ready : goal.put_seed-requires-clause-ready
+put_seed-requires-clause-ready g c =
     let h = c.requires.grown in
-    let plain = c.is_plain.ensures.yes c.if-not-is_plain.false h.added h.is in
-    seed_leaf c.args.patch.now c.args.grown h.added h.is plain c.in-Ok.seed c.in-Ok.ensures.stand c.in-Ok.ensures.leaf
+    seed_ready c.args.patch.now c.args.grown h.added h.is c.in-Ok.seed c.in-Ok.ensures.stand c.in-Ok.ensures.leaf c.in-Ok.ensures.shell
+    (c.can_come.ensures.yes c.if-not-can_come.false h.added h.is)
 
-pub put_last-requires-clause-plain : goal.put_last-requires-clause-plain
-put_last-requires-clause-plain g c =
-    let h = c.requires.grown in
-    let plain = c.is_plain.ensures.yes c.if-not-is_plain.false h.added h.is in
-    seed_no_port c.args.patch.now c.args.grown h.added h.is plain c.in-Ok.seed c.in-Ok.ensures.stand
-
-pub returns-then-not-is_plain-clause-refused : goal.returns-then-not-is_plain-clause-refused
-returns-then-not-is_plain-clause-refused g c = λ a A. inr (refl, (refl, c.is_plain.ensures.no c.if-not-is_plain.true a A))
+pub returns-then-not-can_come-clause-refused : goal.returns-then-not-can_come-clause-refused
+returns-then-not-can_come-clause-refused g c = λ a A. inr (refl, (refl, c.can_come.ensures.no c.if-not-can_come.true a A))
 
 pub returns-clause-put : goal.returns-clause-put
 returns-clause-put g c = λ a A names.
     let p = c.args.patch.now in
-    let plain = c.is_plain.ensures.yes c.if-not-is_plain.false a A in
     let seed = c.in-Ok.seed in
     let stand = c.in-Ok.ensures.stand in
-    box_put p c.args.grown a A plain seed stand c.put_last.new.patch c.args.now c.args.symbols.now c.in-Ok-put_last.key names
-    (seed_leaf p c.args.grown a A plain seed stand c.in-Ok.ensures.leaf) c.in-Ok.ensures.fresh c.put_last.ensures.goes_on c.in-Ok-put_last.ensures.put
+    ⊎_elim
+    (λ (P : IsPlain p a). inl (box_put p c.args.grown a A P seed stand c.put_seed.new.patch c.args.now c.args.symbols.now c.in-Ok-put_seed.key names
+    (seed_leaf p c.args.grown a A P seed stand c.in-Ok.ensures.leaf) c.in-Ok.ensures.fresh c.put_seed.ensures.goes_on
+    (c.in-Ok-put_seed.ensures.put (ap (λ (s : Stand). s.sheet) (seed_stand p c.args.grown a A P seed stand)))))
+    (λ (S : IsSub p a). inr (sub_put p c.args.grown a A seed stand c.put_seed.new.patch c.args.now c.args.symbols.now c.in-Ok-put_seed.key S names
+    (seed_shell p c.args.grown a A seed stand c.in-Ok.ensures.shell S) c.in-Ok.ensures.fresh c.put_seed.ensures.goes_on
+    (c.in-Ok-put_seed.ensures.sub (seed_sheet p c.args.grown a A seed stand S))))
+    (c.can_come.ensures.yes c.if-not-can_come.false a A)
 
 pub returns-in_default-clause-refused : goal.returns-in_default-clause-refused
-returns-in_default-clause-refused g c = λ a A. inl (refl, (c.is_plain.ensures.yes c.if-not-is_plain.false a A, same_patch c.args.patch.now))
+returns-in_default-clause-refused g c = λ a A. inl (refl, (c.can_come.ensures.yes c.if-not-can_come.false a A, same_patch c.args.patch.now))
 
-pub returns-in_default-put_last-clause-refused : goal.returns-in_default-put_last-clause-refused
-returns-in_default-put_last-clause-refused g c = λ a A. inl (refl, (c.is_plain.ensures.yes c.if-not-is_plain.false a A, c.in_default-put_last.ensures.short))
+pub returns-in_default-put_seed-clause-refused : goal.returns-in_default-put_seed-clause-refused
+returns-in_default-put_seed-clause-refused g c = λ a A. inl (refl, (c.can_come.ensures.yes c.if-not-can_come.false a A, c.in_default-put_seed.ensures.short))

@@ -1,4 +1,4 @@
-use Rattle.pd_putting.proofs.SeedLemmas.{next_stand, next_fresh, next_leaf, never_none}
+use Rattle.pd_putting.proofs.SeedLemmas.{next_stand, next_fresh, next_leaf, next_shell, never_none}
 use Rattle.pd_putting.proofs.placing.seed_of.Goals as goal
 
 pub returns-clause-stand : goal.returns-clause-stand
@@ -14,3 +14,6 @@ returns-clause-leaf c = λ sheet boxes.
 
 pub unreachable-requires : goal.unreachable-requires
 unreachable-requires c = never_none c.args.rows.items c.in_ok-seeds.seeds c.requires.one c.in_ok-seeds.ensures.ready c.in-None.ensures.0
+
+pub returns-clause-shell : goal.returns-clause-shell
+returns-clause-shell c = λ sheet boxes canvas. next_shell c.in_ok-seeds.seeds c.next.new.self c.in-Some.seed c.in_ok-seeds.ensures.roomy c.in-Some.ensures sheet boxes canvas
