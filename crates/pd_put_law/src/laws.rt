@@ -24,7 +24,7 @@ ghost use Rattle.pd_putting_law.specs.Again.{StandsAgain};
 ghost use Rattle.pd_adding.specs.declared.counts.Counts.{Counts};
 ghost use Rattle.pd_putting.specs.declared.adding.NewBox.{NewBox};
 ghost use Rattle.pd_putting.specs.Adds.{AddsBox};
-ghost use Rattle.pd_put_law.specs.Coming.{with_leaf};
+ghost use Rattle.pd_putting_law.specs.Puts.{put_at};
 
 /// Where room was set aside for boxes the same tree stands, its wires hold and fit, and there are as many; each name has its owners, and what a save
 /// writes of boxes stays.
@@ -45,12 +45,12 @@ pub fn boxes_come_into_trees()
         AddsBox old new n name path now e k after b → Extends k.names after.names }
     ensures runs { (old new : Patch) (n : Counts) (name path : List ℕ) (now : ℕ) (e : Edit) (k after : Known) (b : NewBox) (t : Tree) →
         (adds : AddsBox old new n name path now e k after b) → CanPut old → RunsAs old.grove t → StandsAgain (answer_in k.files) name k.names t →
-        RunsAs new.grove (with_leaf path adds.put.plain.cell t) }
+        RunsAs new.grove (put_at path adds.added.boxes t) }
     ensures again { (old new : Patch) (n : Counts) (name path : List ℕ) (now : ℕ) (e : Edit) (k after : Known) (b : NewBox) (t : Tree) →
         (adds : AddsBox old new n name path now e k after b) → CanPut old → RunsAs old.grove t → StandsAgain (answer_in k.files) name k.names t →
-        StandsAgain (answer_in after.files) name after.names (with_leaf path adds.put.plain.cell t) }
+        StandsAgain (answer_in after.files) name after.names (put_at path adds.added.boxes t) }
     ensures holds { (old new : Patch) (n : Counts) (name path : List ℕ) (now : ℕ) (e : Edit) (k after : Known) (b : NewBox) (t : Tree) →
-        (adds : AddsBox old new n name path now e k after b) → CanPut old → HoldsWires old t → HoldsWires new (with_leaf path adds.put.plain.cell t) }
+        (adds : AddsBox old new n name path now e k after b) → CanPut old → HoldsWires old t → HoldsWires new (put_at path adds.added.boxes t) }
     ensures fit { (old new : Patch) (n : Counts) (name path : List ℕ) (now : ℕ) (e : Edit) (k after : Known) (b : NewBox) →
         AddsBox old new n name path now e k after b → CanPut old → WiresFit old → WiresFit new }
     ensures wires { (old new : Patch) (n : Counts) (name path : List ℕ) (now : ℕ) (e : Edit) (k after : Known) (b : NewBox) →
@@ -64,12 +64,12 @@ pub fn boxes_come_into_trees()
 pub fn counts_follow_boxes()
     ensures boxes { (old new : Patch) (n : Counts) (name path : List ℕ) (now : ℕ) (e : Edit) (k after : Known) (b : NewBox) (t : Tree) →
         (adds : AddsBox old new n name path now e k after b) → CanPut old → RunsAs old.grove t → n.boxes ≡ weight t.boxes →
-        b.counts.boxes ≡ weight (with_leaf path adds.put.plain.cell t).boxes }
+        b.counts.boxes ≡ weight (put_at path adds.added.boxes t).boxes }
     ensures wires { (old new : Patch) (n : Counts) (name path : List ℕ) (now : ℕ) (e : Edit) (k after : Known) (b : NewBox) →
         AddsBox old new n name path now e k after b → b.counts.wires ≡ n.wires }
     ensures sound { (old new : Patch) (n : Counts) (name path : List ℕ) (now : ℕ) (e : Edit) (k after : Known) (b : NewBox) (t : Tree) →
         (adds : AddsBox old new n name path now e k after b) → CanPut old → RunsAs old.grove t → n.sound ≡ sound_of old.rate t.boxes →
-        b.counts.sound ≡ sound_of old.rate (with_leaf path adds.put.plain.cell t).boxes }
+        b.counts.sound ≡ sound_of old.rate (put_at path adds.added.boxes t).boxes }
 {}
 
 /// The document of the tree with the box is proper where that of the tree was, within the limits of a patch, in each table that goes on; and what a
@@ -77,8 +77,8 @@ pub fn counts_follow_boxes()
 pub fn boxes_can_be_saved()
     ensures proper { (old new : Patch) (n : Counts) (name path : List ℕ) (now : ℕ) (e : Edit) (k after : Known) (b : NewBox) (t : Tree) (later : Names) →
         (adds : AddsBox old new n name path now e k after b) → CanPut old → RunsAs old.grove t → StandsAgain (answer_in k.files) name k.names t →
-        Extends after.names later → IsTable later → weight (with_leaf path adds.put.plain.cell t).boxes ≤ 16384 →
-        IsProper later (document_in t) → IsProper later (document_in (with_leaf path adds.put.plain.cell t)) }
+        Extends after.names later → IsTable later → weight (put_at path adds.added.boxes t).boxes ≤ 16384 →
+        IsProper later (document_in t) → IsProper later (document_in (put_at path adds.added.boxes t)) }
     ensures contents { (old new : Patch) (n : Counts) (name path : List ℕ) (now : ℕ) (e : Edit) (k after : Known) (b : NewBox) (t : Tree) →
         AddsBox old new n name path now e k after b → CanPut old → RunsAs old.grove t → StandsAgain (answer_in k.files) name k.names t →
         HaveContents (IsWritten old.grove) (counts_of (kinds_of old)) k.names (states_of old) →

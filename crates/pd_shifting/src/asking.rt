@@ -10,21 +10,15 @@ ghost use Rattle.pd_grove.specs.Ports.{port_signal};
 ghost use Rattle.pd_deleting.specs.Deletes.{is_port_in};
 ghost use Rattle.pd_shifting.specs.Moves.{is_array_in, is_port_around as is_port_so, moving};
 
+use crate::shifting::MovedBox;
 use pd_canvas::Form;
 use pd_grove::Grove;
 use pd_kind::{Glue, Kind, Signal};
 use pd_patch::Patch;
 use pd_wiring::EditRefusal;
 
-/// A box that moves: the key of its canvas, and its own.
-#[derive(Clone, Copy)]
-pub(crate) struct Moving {
-    pub canvas: u32,
-    pub key: u32,
-}
-
 /// The box of a number of the canvas at a path, where it can move.
-pub(crate) fn box_to_move(patch: &Patch, path: &[u32], number: u32) -> Result<Moving, EditRefusal>
+pub(crate) fn box_to_move(patch: &Patch, path: &[u32], number: u32) -> Result<MovedBox, EditRefusal>
     ensures is { IfOk result (λ b. moving patch.now path.now number ≡ Ok (b.canvas, b.key)) }
     ensures refused { IfErr result (λ why. moving patch.now path.now number ≡ Err why) }
 {
@@ -40,7 +34,7 @@ pub(crate) fn box_to_move(patch: &Patch, path: &[u32], number: u32) -> Result<Mo
     if is_port_around(&patch.grove, canvas, key) {
         return Err(EditRefusal::NoDocument);
     }
-    Ok(Moving { canvas, key })
+    Ok(MovedBox { canvas, key })
 }
 
 /// Whether a box is an array.

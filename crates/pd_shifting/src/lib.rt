@@ -11,4 +11,4 @@
 mod asking;
 mod shifting;
 
-pub use shifting::move_box;
+pub use shifting::{MovedBox, move_box};

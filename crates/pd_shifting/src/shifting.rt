@@ -1,16 +1,24 @@
 //! A box that an edit moves in the running patch.
 
-ghost use Rattle.std.specs.Prelude.{◌≡◌, IfOk, IfErr};
+ghost use Rattle.std.specs.Prelude.{◌≡◌, Ok, IfOk, IfErr};
 ghost use Rattle.pd_web.specs.Changes.{Meet};
 ghost use Rattle.pd_boxes.specs.Put.{CanPut};
-ghost use Rattle.pd_shifting.specs.Moves.{IsNotMoved, MovesBox};
+ghost use Rattle.pd_adding.specs.Coming.{own_zero};
+ghost use Rattle.pd_shifting.specs.Moves.{moving, IsNotMoved, MovesBox};
 
 use crate::asking::box_to_move;
 use pd_num::Num;
 use pd_patch::Patch;
 use pd_wiring::EditRefusal;
 
-/// Moves the box of a number in the canvas at a path of the patch's own document to another place in its window, and tells its key. No memory
+/// A box that an edit moved: the key of its canvas, and its own.
+#[derive(Clone, Copy, Debug, PartialEq, Eq)]
+pub struct MovedBox {
+    pub canvas: u32,
+    pub key: u32,
+}
+
+/// Moves the box of a number in the canvas at a path of the patch's own document to another place in its window, and tells its keys. No memory
 /// is taken.
 ///
 /// # Errors
@@ -23,14 +31,16 @@ pub fn move_box(
     number: u32,
     x: Num,
     y: Num,
-) -> Result<u32, EditRefusal>
+) -> Result<MovedBox, EditRefusal>
     requires can { CanPut patch.old }
-    ensures moved { IfOk result (λ key. MovesBox patch.old patch.new path.now number x y key) }
+    ensures moved { IfOk result (λ b. MovesBox patch.old patch.new path.now number x y b.key) }
+    ensures keys { IfOk result (λ b. moving patch.old path.now number ≡ Ok (b.canvas, b.key)) }
     ensures refused { IfErr result (λ why. IsNotMoved patch.old patch.new path.now number why) }
     ensures goes_on { CanPut patch.new }
     ensures meet { Meet patch.old.web → Meet patch.new.web }
+    ensures zero { own_zero patch.new ≡ own_zero patch.old }
 {
-    let moving = box_to_move(patch, path, number)?;
-    patch.grove.move_box(moving.key, x, y);
-    Ok(moving.key)
+    let moved = box_to_move(patch, path, number)?;
+    patch.grove.move_box(moved.key, x, y);
+    Ok(moved)
 }

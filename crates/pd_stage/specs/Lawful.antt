@@ -1,5 +1,5 @@
 -- What an edit may come to.
-use Rattle.std.specs.Prelude.{◌≡◌, ◌⊎◌, ℕ, List, [], ◌∷◌, Some, None, Ok, Err}
+use Rattle.std.specs.Prelude.{◌≡◌, ◌⊎◌, ℕ, ℤ, List, [], ◌∷◌, Some, None, Ok, Err}
 use Rattle.std.specs.List.{AllByRecursion}
 use Rattle.pd_atom.specs.Names.{IsTable, Extends}
 use Rattle.pd_canvas.specs.declared.edits.Edit.{Edit}
@@ -23,6 +23,7 @@ use Rattle.pd_taking.specs.Loosening.{looks_for}
 use Rattle.pd_deleting.specs.Deletes as deleting
 use Rattle.pd_deleting.specs.Deletes.{going, DeletesBox}
 use Rattle.pd_deleting.specs.declared.deleting.OldBox.{OldBox}
+use Rattle.pd_shifting.specs.Moves.{moving, MovesBox}
 use Rattle.pd_say.specs.declared.refusals.Why.{Why}
 use Rattle.pd_say.specs.declared.refusals.Why.TheVariants as why
 use Rattle.pd_hearing.specs.Worlds.{Net, net_of, states_of}
@@ -186,13 +187,44 @@ IsTakingLawful s path number (Refuses reason) = IsLeftIn s path number reason
 IsTakingLawful s path number (Lacks net) = IsLeftInForRoom s path number net
 IsTakingLawful s path number (Makes m) = IsTakenOut s path number m
 
--- an edit of the patch's own document: wires and boxes come and go; other edits aren't made yet
+-- An edit moved a box in its canvas: what the boxes keep, their clocks, names, files and counts stay, and a loop of its canvas is told. It looks at no
+-- signal wire.
+pub record IsMovedTo (s : Stage) (path : List ℕ) (number : ℕ) (x y : ℤ) (m : Made) : Type 0 where
+  pub old : Patch
+  pub new : Patch
+  pub key : ℕ
+  pub stands : StandsAt old s
+  pub moves : MovesBox old new path number x y key
+  pub net : m.net ≡ net_of new
+  pub states : m.states ≡ states_of new
+  pub clocks : m.clocks ≡ s.clocks
+  pub names : m.names ≡ s.names
+  pub base : m.base ≡ s.base
+  pub lines : m.lines ≡ loops_text new moves.canvas
+  pub files : m.files ≡ []
+  pub looks : m.looks ≡ 0
+
+-- no box moves, for this reason
+pub record IsLeftAt (s : Stage) (path : List ℕ) (number : ℕ) (reason : Why) : Type 0 where
+  pub patch : Patch
+  pub cause : EditRefusal
+  pub stands : StandsAt patch s
+  pub refused : moving patch path number ≡ Err cause
+  pub reason_is : reason ≡ why_of cause
+
+-- a move takes no memory
+abbrev pub IsMovingLawful : Stage → List ℕ → ℕ → (x y : ℤ) → Choice → Type 0
+IsMovingLawful s path number x y (Refuses reason) = IsLeftAt s path number reason
+IsMovingLawful s path number x y (Lacks net) = ⊥
+IsMovingLawful s path number x y (Makes m) = IsMovedTo s path number x y m
+
+-- an edit of the patch's own document: wires and boxes come and go, and boxes move; other edits aren't made yet
 abbrev pub IsEditLawful : Stage → List ℕ → Edit → Choice → Type 0
 IsEditLawful s path (edit.Connect v) c = IsRewiringLawful s path (edit.Connect v) c
 IsEditLawful s path (edit.Disconnect v) c = IsRewiringLawful s path (edit.Disconnect v) c
 IsEditLawful s path (edit.Delete number) c = IsTakingLawful s path number c
 IsEditLawful s path (edit.Retype number text) c = c ≡ Refuses why.NoDocument
-IsEditLawful s path (edit.Move number x y) c = c ≡ Refuses why.NoDocument
+IsEditLawful s path (edit.Move number x y) c = IsMovingLawful s path number x y c
 IsEditLawful s path e c = IsPutLawful s path e c
 
 -- The patch's document is put under the name of its file, by a table of names; each wire of the patch stands once; and all else stays.
