@@ -1,5 +1,5 @@
 -- Edits that are taken.
-use Rattle.std.proofs.Common.{◌≡◌, ◌≤◌, ◌+◌, ◌<◌, ◌⊎◌, inl, inr, drop, length, get_or, arith, ℕ, suc, List, [], ◌∷◌, refl, sym, ◌∙◌, ap, subst, Option, Some, None}
+use Rattle.std.proofs.Common.{◌≡◌, ◌≤◌, ◌+◌, ◌<◌, ◌⊎◌, inl, inr, drop, length, get_or, arith, ℕ, ℤ, suc, List, [], ◌∷◌, refl, sym, ◌∙◌, ap, subst, Option, Some, None}
 use Rattle.std.proofs.Math.Seq.{drop-cons}
 use Rattle.std.specs.declared.vec.Vec.{Vec}
 use Rattle.std.specs.declared.alloc.Global.{Global}
@@ -22,7 +22,7 @@ use Rattle.pd_hearing.specs.Worlds.{Kept, Net, bare, net_of}
 use Rattle.pd_block.specs.Nets as block
 use Rattle.pd_stage.specs.Choices.{Base, Wanted, Edits, Asks, Saves, Undoes, Redoes, Made, Choice, Refuses, Lacks, Makes, first_choice, later, text_of_choice, looks_of_choice, faults_of_choice}
 use Rattle.pd_stage.specs.Stages.{Stage, Taken, still, saying, with_ahead, followed_by}
-use Rattle.pd_stage.specs.Lawful.{StandsAt, with_wire_count, IsMade, IsShort, IsRewiringLawful, IsPutIn, IsUnputForRoom, IsPutLawful, IsTakenOut, IsLeftInForRoom, IsTakingLawful, IsEditLawful, IsSaved, MayCome, AreLawful}
+use Rattle.pd_stage.specs.Lawful.{StandsAt, with_wire_count, IsMade, IsShort, IsRewiringLawful, IsPutIn, IsUnputForRoom, IsPutLawful, IsTakenOut, IsLeftInForRoom, IsTakingLawful, IsMovedTo, IsMovingLawful, IsEditLawful, IsSaved, MayCome, AreLawful}
 use Rattle.pd_stage.specs.Leads.{Sinks, sinks, Took, Leads, Comes, Stops}
 use Rattle.pd_stage.specs.Events.{Beginning, with_net, stage_by, files_put, edit_by, edit_taken, edit_asked, edits_taken, delivered, with_kept, event}
 use Rattle.pd_stage.specs.Times.{with_wires, IsStageOf}
@@ -351,6 +351,17 @@ pub record HasLostBox (s r : Stage) : Type 0 where
   pub taken : IsTakenOut (with_ahead s []) path number made
   pub is : r ≡ stage_by (with_ahead s ahead) (Makes made)
 
+-- a box moved in its canvas
+pub record HasMovedBox (s r : Stage) : Type 0 where
+  pub path : List ℕ
+  pub number : ℕ
+  pub x : ℤ
+  pub y : ℤ
+  pub made : Made
+  pub ahead : List Choice
+  pub moved : IsMovedTo (with_ahead s []) path number x y made
+  pub is : r ≡ stage_by (with_ahead s ahead) (Makes made)
+
 -- a box could have come, and there may be more room
 pub record HasMoreRoom (s r : Stage) : Type 0 where
   pub path : List ℕ
@@ -362,11 +373,11 @@ pub record HasMoreRoom (s r : Stage) : Type 0 where
 
 -- what any edit makes of a stage
 abbrev pub Alters : Stage → Stage → Type 0
-Alters s r = Changes s r ⊎ (HasNewBox s r ⊎ (HasLostBox s r ⊎ HasMoreRoom s r))
+Alters s r = Changes s r ⊎ (HasNewBox s r ⊎ (HasLostBox s r ⊎ (HasMovedBox s r ⊎ HasMoreRoom s r)))
 
 put_alters : (s : Stage) (ahead : List Choice) (path : List ℕ) (e : Edit) (c : Choice) → IsPutLawful (with_ahead s []) path e c → Alters s (stage_by (with_ahead s ahead) c)
 put_alters s ahead path e (Refuses why) h = inl (inl (record { ahead = ahead; is = refl }))
-put_alters s ahead path e (Lacks net) h = inr (inr (inr (record { path = path; edit = e; net = net; ahead = ahead; short = h; is = refl })))
+put_alters s ahead path e (Lacks net) h = inr (inr (inr (inr (record { path = path; edit = e; net = net; ahead = ahead; short = h; is = refl }))))
 put_alters s ahead path e (Makes m) h = inr (inl (record { path = path; edit = e; made = m; ahead = ahead; put = h; is = refl }))
 
 take_alters : (s : Stage) (ahead : List Choice) (path : List ℕ) (number : ℕ) (c : Choice) → IsTakingLawful (with_ahead s []) path number c → Alters s (stage_by (with_ahead s ahead) c)
@@ -374,12 +385,19 @@ take_alters s ahead path number (Refuses why) h = inl (inl (record { ahead = ahe
 take_alters s ahead path number (Lacks net) h = inl (inr (stay_short s ahead path number net h))
 take_alters s ahead path number (Makes m) h = inr (inr (inl (record { path = path; number = number; made = m; ahead = ahead; taken = h; is = refl })))
 
+move_alters : (s : Stage) (ahead : List Choice) (path : List ℕ) (number : ℕ) (x y : ℤ) (c : Choice) → IsMovingLawful (with_ahead s []) path number x y c
+    → Alters s (stage_by (with_ahead s ahead) c)
+move_alters s ahead path number x y (Refuses why) h = inl (inl (record { ahead = ahead; is = refl }))
+move_alters s ahead path number x y (Lacks net) h = absurd h
+move_alters s ahead path number x y (Makes m) h =
+    inr (inr (inr (inl (record { path = path; number = number; x = x; y = y; made = m; ahead = ahead; moved = h; is = refl }))))
+
 edit_alters : (s : Stage) (ahead : List Choice) (path : List ℕ) (e : Edit) (c : Choice) → IsEditLawful (with_ahead s []) path e c → Alters s (stage_by (with_ahead s ahead) c)
 edit_alters s ahead path (edit.Connect v) c h = inl (wire_changes s ahead path (edit.Connect v) c h)
 edit_alters s ahead path (edit.Disconnect v) c h = inl (wire_changes s ahead path (edit.Disconnect v) c h)
 edit_alters s ahead path (edit.Delete number) c h = take_alters s ahead path number c h
 edit_alters s ahead path (edit.Retype number text) c h = inl (refused_changes s ahead c _ h)
-edit_alters s ahead path (edit.Move number x y) c h = inl (refused_changes s ahead c _ h)
+edit_alters s ahead path (edit.Move number x y) c h = move_alters s ahead path number x y c h
 edit_alters s ahead path (edit.Obj x y text) c h = put_alters s ahead path (edit.Obj x y text) c h
 edit_alters s ahead path (edit.Msg x y text) c h = put_alters s ahead path (edit.Msg x y text) c h
 edit_alters s ahead path (edit.Comment x y text) c h = put_alters s ahead path (edit.Comment x y text) c h
