@@ -1,6 +1,7 @@
 -- A box that an edit moves in a canvas of the patch's own document.
 use Rattle.std.specs.Prelude.{◌≡◌, ℕ, ℤ, Bool, false, ◌&&◌, is_some, cond, List, slice_get, Option, Some, None, Result, Ok, Err}
 use Rattle.slab.specs.Slab.{get}
+use Rattle.pd_num.specs.Scale.{millionths, IsInRange}
 use Rattle.pd_canvas.specs.Edits.{is_array}
 use Rattle.pd_canvas.specs.Views.{entry_of}
 use Rattle.pd_grove.specs.declared.grove.Grove.{Grove}
@@ -48,12 +49,14 @@ pub record StaysButTree (old new : Patch) : Type 0 where
   pub rate : new.rate ≡ old.rate
   pub present : new.present ≡ old.present
 
--- the box of a number in the canvas at a path, which has this key, stands at this place of its window now; all else stays
+-- the box of a number in the canvas at a path, which has this key, stands at this place of its window now, which numbers can tell; all else stays
 pub record MovesBox (old new : Patch) (path : List ℕ) (number : ℕ) (x y : ℤ) (key : ℕ) : Type 0 where
   pub canvas : ℕ
   pub is : moving old path number ≡ Ok (canvas, key)
   pub box : Alters old.grove new.grove key (at_place x y)
   pub rest : StaysButTree old new
+  pub x_told : IsInRange millionths x
+  pub y_told : IsInRange millionths y
 
 -- it is refused for this, and the patch stays
 abbrev pub IsNotMoved : Patch → Patch → List ℕ → ℕ → EditRefusal → Type 0

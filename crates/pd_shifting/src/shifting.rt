@@ -40,6 +40,9 @@ pub fn move_box(
     ensures meet { Meet patch.old.web → Meet patch.new.web }
     ensures zero { own_zero patch.new ≡ own_zero patch.old }
 {
+    // They are called for what they say of the place, which the proof cites.
+    let _x = x.micros();
+    let _y = y.micros();
     let moved = box_to_move(patch, path, number)?;
     patch.grove.move_box(moved.key, x, y);
     Ok(moved)

@@ -20,6 +20,8 @@ returns-clause-goes_on c =
       is = c.in_ok-moved.ensures.is;
       box = c.move_box.ensures;
       rest = record { web = refl; names = refl; timers = refl; links = refl; orders = refl; numbers = refl; values = refl; rate = refl; present = refl };
+      x_told = c.micros-x.ensures.in_range;
+      y_told = c.micros-y.ensures.in_range;
     })
     c.requires.can
 
