@@ -6,6 +6,8 @@ use Rattle.std.proofs.lemmas.Option.{none-some, same_Some}
 use mathlib.Core.Logic.{⊎_elim}
 use Rattle.slab.specs.Slab.{get}
 use Rattle.pd_atom.specs.Names.{Names}
+use Rattle.pd_canvas.specs.Pages.{Sub}
+use Rattle.pd_canvas.specs.Views.{shape_of}
 use Rattle.pd_object.specs.declared.kinds.Kind.TheVariants as kind
 use Rattle.pd_tree.specs.declared.rows.Row.{Row}
 use Rattle.pd_tree.specs.declared.rows.Sheet.{Sheet}
@@ -69,13 +71,15 @@ module _ (p : Patch) (g : Grown) (a : Added) (A : IsAdded g a) where
   unfolding first
   row_sub row r S = ap (first (stand_of row)) (sym (ap stands_in r) ∙ A.rows ∙ ap stands_of S.single)
 
-  pub sub_is : (row : Row) → g.rows.items ≡ row ∷ [] → is_some row.sheet ≡ true → row.kind ≡ kind.Canvas → nat_lt (depth_of (get p.grove.boards g.canvas)) 256 ≡ true → IsSub p a
-  sub_is row r some canvas shallow =
+  pub sub_is : (row : Row) → g.rows.items ≡ row ∷ [] → is_some row.sheet ≡ true → shape_of row.element.form ≡ Sub → row.kind ≡ kind.Canvas
+      → nat_lt (depth_of (get p.grove.boards g.canvas)) 256 ≡ true → IsSub p a
+  sub_is row r some form canvas shallow =
       let has = sheet_some row.sheet some in
       record {
         cell = (stand_of row).cell;
         sheet = has.0;
         single = holder_alone a.boxes (stand_of row) has.0 A.one (sym (ap stands_in r) ∙ A.rows) has.1;
+        form = form;
         canvas = canvas;
         shallow = subst (λ (c : ℕ). IsShallow p (last_place p c)) A.canvas (below (depth_of (get p.grove.boards g.canvas)) shallow);
       }
@@ -85,6 +89,9 @@ module _ (p : Patch) (g : Grown) (a : Added) (A : IsAdded g a) where
 
   pub sub_sheet : (row : Row) → g.rows.items ≡ row ∷ [] → IsSub p a → is_some row.sheet ≡ true
   sub_sheet row r S = ap (λ (s : Stand). is_some s.sheet) (row_sub row r S)
+
+  pub sub_form : (row : Row) → g.rows.items ≡ row ∷ [] → IsSub p a → shape_of row.element.form ≡ Sub
+  sub_form row r S = ap (λ (s : Stand). s.cell.head.form) (row_sub row r S) ∙ S.form
 
   pub sub_kind : (row : Row) → g.rows.items ≡ row ∷ [] → IsSub p a → row.kind ≡ kind.Canvas
   sub_kind row r S = ap (λ (s : Stand). s.cell.kind) (row_sub row r S) ∙ S.canvas

@@ -2,6 +2,7 @@
 use Rattle.std.specs.Prelude.{◌≡◌, ◌⊎◌, ℕ, List, length, Some, None, Ok, Err, IfSome}
 use Rattle.pd_atom.specs.Names.{IsTable}
 use Rattle.pd_canvas.specs.declared.edits.Edit.{Edit}
+use Rattle.pd_canvas.specs.Pages.{Sub}
 use Rattle.pd_object.specs.declared.kinds.Kind.TheVariants as kind
 use Rattle.pd_tree.specs.declared.rows.Sheet.{Sheet}
 use Rattle.pd_tree.specs.Trees.{Cell, Done, Leaf, Holder, stand_of}
@@ -34,11 +35,12 @@ pub record IsPlain (p : Patch) (a : Added) : Type 0 where
   pub single : a.boxes ≡ Leaf cell Done
   pub no_port : IsNoPort p (last_place p a.canvas) cell.kind
 
--- What grew is one box that holds a canvas without boxes, which isn't too deep.
+-- What grew is one subpatch without boxes, which isn't too deep. An abstraction is none, though its file may have no boxes: it has a `$0` of its own.
 pub record IsSub (p : Patch) (a : Added) : Type 0 where
   pub cell : Cell
   pub sheet : Sheet
   pub single : a.boxes ≡ Holder cell sheet Done Done
+  pub form : cell.head.form ≡ Sub
   pub canvas : cell.kind ≡ kind.Canvas
   pub shallow : IsShallow p (last_place p a.canvas)
 
@@ -60,7 +62,7 @@ pub record IsBoxPut (old new : Patch) (now : ℕ) (a : Added) (key : ℕ) : Type
   pub put : IsPut ready new a.known.names (last_place old a.canvas) seed key
   pub goes_on : CanPut new
 
--- The same of a box that holds a canvas without boxes.
+-- The same of a subpatch without boxes.
 pub record IsSubPut (old new : Patch) (now : ℕ) (a : Added) (key : ℕ) : Type 0 where
   pub sub : IsSub old a
   pub ready : Patch

@@ -42,7 +42,7 @@ pub struct NewBox {
 }
 
 /// Puts a box that an edit names last into a canvas of the patch's own document: one without a canvas inside, which is no port of a box
-/// around, or one with an empty canvas inside. `counts` are the counts of the patch.
+/// around, or a subpatch without boxes. `counts` are the counts of the patch.
 ///
 /// # Errors
 ///

@@ -2,6 +2,8 @@
 
 ghost use Rattle.std.specs.Prelude.{◌≡◌, ◌||◌, ◌⊎◌, ◌∷◌, [], true, false, nat_lt, length, is_some, None, IsSome, IfOk, IfErr, OnErr};
 ghost use Rattle.slab.specs.Slab.{get, ContainsKey};
+ghost use Rattle.pd_canvas.specs.Pages.{Sub};
+ghost use Rattle.pd_canvas.specs.Views.{shape_of};
 ghost use Rattle.pd_object.specs.declared.kinds.Kind.TheVariants.{Canvas};
 ghost use Rattle.pd_grove.specs.declared.ports.Side.TheVariants.{Inlets, Outlets};
 ghost use Rattle.pd_grove.specs.Forest.{holder_in};
@@ -24,6 +26,7 @@ use crate::adding::NewBox;
 use pd_adding::{Grown, single_boxes};
 use pd_atom::Symbols;
 use pd_boxes::{Place, patches_run_on, put, reserve_box, room_changes_nothing};
+use pd_canvas::Form;
 use pd_clock::{Rate, Time};
 use pd_grove::{Seed, Seeds};
 use pd_kind::{Glue, Kind, Signal};
@@ -35,8 +38,8 @@ use pd_wiring::EditRefusal;
 use std::alloc::{AllocError, Global};
 use std::sync::ledger::Ledger;
 
-/// Puts what grew aside into its canvas as the last box, where it is one box, which has no canvas inside and is no port of a box around, or has an
-/// empty canvas inside.
+/// Puts what grew aside into its canvas as the last box, where it is one box, which has no canvas inside and is no port of a box around, or is a
+/// subpatch without boxes.
 ///
 /// # Errors
 ///
@@ -88,7 +91,7 @@ fn can_come(patch: &Patch, grown: &Grown) -> bool
     is_plain(patch, grown) || is_sub(patch, grown)
 }
 
-/// Whether what grew is one box that holds a canvas without boxes, which isn't too deep.
+/// Whether what grew is one subpatch without boxes, which isn't too deep.
 fn is_sub(patch: &Patch, grown: &Grown) -> bool
     ensures yes { result ≡ true → (a : Added) → IsAdded grown.now a → IsSub patch.now a }
     ensures no { result ≡ false → (a : Added) → IsAdded grown.now a → IsSub patch.now a → ⊥ }
@@ -101,10 +104,21 @@ fn is_sub(patch: &Patch, grown: &Grown) -> bool
     if !row.sheet.is_some() {
         return false;
     }
+    if !is_subpatch(&row.element.form) {
+        return false;
+    }
     if !is_canvas(&row.kind) {
         return false;
     }
     is_shallow(patch, grown.canvas)
+}
+
+/// Whether an element of a form is a subpatch.
+fn is_subpatch(form: &Form) -> bool
+    ensures yes { result ≡ true → shape_of form.now ≡ Sub }
+    ensures no { result ≡ false → shape_of form.now ≡ Sub → ⊥ }
+{
+    matches!(form, Form::Sub(_))
 }
 
 /// Whether the boxes of a kind hold canvases.
