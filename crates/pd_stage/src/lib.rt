@@ -23,7 +23,8 @@
 //! could not be made, and a loop of its canvas; or it is refused for one of those reasons; or memory was wanting. An
 //! edit that deletes a box comes to what `pd_deleting` tells (`DeletesBox`, `going`): the box goes with its wires and
 //! its clock, all other boxes keep what they kept, and a loop of its canvas is told; or it is refused; or memory was
-//! wanting.
+//! wanting. An edit that moves a box comes to what `pd_shifting` tells (`MovesBox`, `moving`): the box stands at
+//! another place of its canvas, all else stays, and a loop of its canvas is told; or it is refused.
 //! It makes no difference whether a command or a message asks for an edit. A save of that document puts its text under
 //! the name of its file, and nothing else changes; or it is refused for a fault of the folder or for want of memory.
 //! All other edits and saves are refused, and there is nothing to undo or redo.
