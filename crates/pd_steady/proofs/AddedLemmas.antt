@@ -1,5 +1,5 @@
 -- What is known of a box that an edit put: its kind is in order, and its table or delay line is small.
-use Rattle.std.proofs.Common.{arith, ◌≡◌, ℕ, zero, suc, ℤ, ◌+◌, ◌<◌, ◌≤◌, ◌-◌, Bool, true, false, cond, List, [], ◌∷◌, length, map, Option, Some, None, Result, Ok, Err, refl, sym, ap, subst, ◌∙◌, nat_lt, ◌&&◌}
+use Rattle.std.proofs.Common.{arith, ◌≡◌, inl, inr, ℕ, zero, suc, ℤ, ◌+◌, ◌<◌, ◌≤◌, ◌-◌, Bool, true, false, cond, List, [], ◌∷◌, length, map, Option, Some, None, Result, Ok, Err, refl, sym, ap, subst, ◌∙◌, nat_lt, ◌&&◌}
 use Rattle.std.specs.List.{All, AllByRecursion}
 use Rattle.std.proofs.lemmas.Bool.Decides.{nat_tests}
 use Rattle.std.proofs.lemmas.Option.{none-some, same_Some}
@@ -10,6 +10,7 @@ use Rattle.pd_atom.specs.Atoms.{IsOf}
 use Rattle.pd_atom.specs.Tokens.{settled}
 use Rattle.pd_clock.specs.declared.times.Rate.{Rate}
 use Rattle.pd_object.specs.declared.kinds.Kind.{Kind}
+use Rattle.pd_object.specs.declared.kinds.Kind.TheVariants as kind
 use Rattle.pd_kind.specs.States.{size_of}
 use Rattle.pd_canvas.specs.declared.edits.Edit.{Edit}
 use Rattle.pd_canvas.specs.declared.edits.Edit.TheVariants as edit
@@ -38,12 +39,13 @@ use Rattle.pd_adding.specs.Coming.{coming_in, coming_by, coming, own_zero}
 use Rattle.pd_adding.specs.Counts.{with_boxes, stock_by}
 use Rattle.pd_adding.specs.Growing.{Added, growth_of, grown_to, gathered_to}
 use Rattle.pd_adding.specs.Adding.{growth_at, coming_to, ComesTo}
-use Rattle.pd_putting.specs.Adds.{IsBoxPut}
+use Rattle.pd_putting.specs.Adds.{HasCome}
 use Rattle.pd_regrowth_law.proofs.StepLemmas.{box_went, counted_takes}
 use Rattle.pd_guards.specs.Order.{HasFirst}
 use Rattle.pd_guards.specs.Growing.{IsBorn}
 use Rattle.pd_steady.proofs.NumberLemmas.{all_settled}
 use Rattle.pd_steady.proofs.BornLemmas.{HoldNumbers, IsPlainForm, TextIn, leaf_born}
+use Rattle.pd_steady.proofs.ComeLemmas.{come_seed}
 
 -- ---- the box that an edit puts
 
@@ -150,7 +152,7 @@ gathered_by rate n canvas grows (Gathered k) a h =
     }
 
 -- it came, and grew to this
-record HasCome (p : Patch) (n : Counts) (name path : List ℕ) (e : Edit) (k : Known) (a : Added) : Type 0 where
+record HasGrown (p : Patch) (n : Counts) (name path : List ℕ) (e : Edit) (k : Known) (a : Added) : Type 0 where
   entry : Entry
   canvas : ℕ
   is : box_put (settled_edit k.names e) ≡ Some entry
@@ -158,7 +160,7 @@ record HasCome (p : Patch) (n : Counts) (name path : List ℕ) (e : Edit) (k : K
   grown : HasGrownTo p.rate canvas (growth_at p n name path entry) a
 
 come_to : (p : Patch) (n : Counts) (name path : List ℕ) (e : Edit) (k : Known) (fetches : List Fetch) (r : Coming) (a : Added) → coming k.names p path e ≡ r → coming_to p n name path k fetches r ≡ Ok a
-    → HasCome p n name path e k a
+    → HasGrown p n name path e k a
 come_to p n name path e k fetches (Err why) a is h = absurd (cc)
 come_to p n name path e k fetches (Ok c) a is h = record {
   entry = c.1;
@@ -168,8 +170,8 @@ come_to p n name path e k fetches (Ok c) a is h = record {
   grown = gathered_by p.rate n c.0 (growth_at p n name path c.1) _ a h;
 }
 
-has_come : (p : Patch) (n : Counts) (name path : List ℕ) (e : Edit) (k : Known) (a : Added) → ComesTo None p n name path e k (Ok a) → HasCome p n name path e k a
-has_come p n name path e k a h = come_to p n name path e k h.fetches (coming k.names p path e) a refl h.comes
+has_grown : (p : Patch) (n : Counts) (name path : List ℕ) (e : Edit) (k : Known) (a : Added) → ComesTo None p n name path e k (Ok a) → HasGrown p n name path e k a
+has_grown p n name path e k a h = come_to p n name path e k h.fetches (coming k.names p path e) a refl h.comes
 
 -- ---- the box that came
 
@@ -196,7 +198,7 @@ growth_born own n name left e k c fine is first text =
 leaf_small : (rate : Rate) (t : Trees) (c : Cell) → t ≡ Leaf c Done → sound_of rate t ≤ 16777216 → size_of c.kind rate ≤ 16777216
 leaf_small rate t c e h = let l : sound_of rate (Leaf c Done) ≤ 16777216 = subst (λ (x : Trees). sound_of rate x ≤ 16777216) e h in omega (arith, l)
 
-added_well : (p : Patch) (n : Counts) (name path : List ℕ) (e : Edit) (k : Known) (a : Added) (c : Cell) → HasCome p n name path e k a → a.boxes ≡ Leaf c Done → HasFirst a.known.names
+added_well : (p : Patch) (n : Counts) (name path : List ℕ) (e : Edit) (k : Known) (a : Added) (c : Cell) → HasGrown p n name path e k a → a.boxes ≡ Leaf c Done → HasFirst a.known.names
     → TextIn a.known.names c.text → IsAddedWell a.known.names p.rate c.kind
 added_well p n name path e k a c h single first text =
     let g = h.grown in
@@ -213,15 +215,21 @@ added_well p n name path e k a c h single first text =
 row_told : (row : Row) (c : Cell) → stand_of row ≡ record { cell = c; sheet = None; boxes = 0 } → (c.text ≡ row.text) × (c.kind ≡ row.kind)
 row_told row c h = (ap (λ (s : Stand). s.cell.text) (sym h), ap (λ (s : Stand). s.cell.kind) (sym h))
 
+-- a box that holds a canvas is well of itself
+canvas_well : (names : Names) (rate : Rate) (k : Kind) → k ≡ kind.Canvas → IsAddedWell names rate k
+canvas_well names rate k e =
+    subst (IsAddedWell names rate) (sym e) (record { born = record { kind = tt; kept = λ now rate l. tt; values = λ rate. tt }; small = omega arith })
+
 -- what an edit put is added well
-pub put_well : (old new : Patch) (n : Counts) (name path : List ℕ) (now : ℕ) (e : Edit) (k : Known) (a : Added) (key : ℕ) → ComesTo None old n name path e k (Ok a) → (h : IsBoxPut old new now a key) → HasFirst a.known.names
-    → IsAddedWell a.known.names old.rate h.seed.row.kind
-put_well old new n name path now e k a key comes h first =
+pub put_well : (old new : Patch) (n : Counts) (name path : List ℕ) (now : ℕ) (e : Edit) (k : Known) (a : Added) (key : ℕ) → ComesTo None old n name path e k (Ok a) → (h : HasCome old new now a key) → HasFirst a.known.names
+    → IsAddedWell a.known.names old.rate (come_seed old new now a key h).row.kind
+put_well old new n name path now e k a key comes (inl h) first =
     let told = row_told h.seed.row h.plain.cell h.is_row in
     let suits : TextSuits a.known.names h.seed.row.text = h.suits.0 in
     let text : TextIn a.known.names h.seed.row.text = record { of = by_recursion (IsOf a.known.names) h.seed.row.text suits.0; few = suits.1 } in
     subst (λ (j : Kind). IsAddedWell a.known.names old.rate j) told.1
-    (added_well old n name path e k a h.plain.cell (has_come old n name path e k a comes) h.plain.single first (subst (TextIn a.known.names) (sym told.0) text))
+    (added_well old n name path e k a h.plain.cell (has_grown old n name path e k a comes) h.plain.single first (subst (TextIn a.known.names) (sym told.0) text))
+put_well old new n name path now e k a key comes (inr h) first = canvas_well a.known.names old.rate h.seed.row.kind h.shell.canvas
 
 -- ---- where it came, and that there was room for it
 
@@ -245,7 +253,7 @@ pub record IsAddedAt (p : Patch) (n : Counts) (path : List ℕ) (a : Added) : Ty
 
 pub added_at : (p : Patch) (n : Counts) (name path : List ℕ) (e : Edit) (k : Known) (a : Added) → ComesTo None p n name path e k (Ok a) → IsAddedAt p n path a
 added_at p n name path e k a comes =
-    let h = has_come p n name path e k a comes in
+    let h = has_grown p n name path e k a comes in
     record {
       leads = h.leads ∙ ap (λ (c : ℕ). Some c) (sym h.grown.at);
       room = growth_room (own_zero p) n name (255 - length path) h.entry h.grown.from a.boxes h.grown.is;

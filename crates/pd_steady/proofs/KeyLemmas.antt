@@ -11,6 +11,7 @@ use Rattle.pd_order.specs.Graph.{tally}
 use Rattle.pd_order.proofs.Basics.{by_test, same_node, other_node}
 use Rattle.pd_grove.specs.declared.nodes.Node.{Node}
 use Rattle.pd_grove.specs.declared.ports.Side.TheVariants.{Outlets}
+use Rattle.pd_grove.specs.Standing.{with_inner}
 use Rattle.pd_grove.specs.Telling.{kind_in, state_in}
 use Rattle.pd_web.specs.declared.jacks.Jack.{Jack}
 use Rattle.pd_web.specs.declared.web.Hop.{Hop}
@@ -27,6 +28,7 @@ use Rattle.pd_boxes.specs.declared.room.Place.{Place}
 use Rattle.pd_boxes.specs.Rows.{IsLonger, PutsUnder}
 use Rattle.pd_boxes.specs.Room.{SameButRoom}
 use Rattle.pd_boxes.specs.Put.{node_of, IsPut}
+use Rattle.pd_subpatches.specs.Shell.{IsShellPut}
 use Rattle.pd_grove.specs.declared.seeds.Seed.{Seed}
 use Rattle.pd_guards.proofs.FactLemmas.{all-append, all-at, all-from}
 use Rattle.pd_guards.specs.Sounds.{AreValues}
@@ -123,32 +125,77 @@ room_all p r P room none h = longer_all P [] (blocks_told p) (blocks_told r) roo
 low_key : (key : ℕ) → key < 4294967295 → key < 2 ^ 32
 low_key key l = omega arith
 
-put_blocks : (r q : Patch) (table : Names) (place : Place) (seed : Seed) (key : ℕ) → IsPut r q table place seed key → HasBlocks r.web (blocks_told r) → HasBlocks q.web (blocks_told q)
-put_blocks r q table place seed key put h =
+-- a box came under a key, with silent blocks and no wires, and all other boxes stay
+pub record ComesUnder (p q : Patch) (key : ℕ) (n : Node) : Type 0 where
+  pub is : get q.grove.nodes key ≡ Some n
+  pub vacant : get p.grove.nodes key ≡ None
+  pub others : (k : ℕ) → k ≢ key → get q.grove.nodes k ≡ get p.grove.nodes k
+  pub low : key < 4294967295
+  pub lines : (k : ℕ) → line_told q.web k ≡ line_told p.web k
+  pub feeds : (node inlet : ℕ) → feed_hops q.web node inlet ≡ feed_hops p.web node inlet
+  pub ports : (k : ℕ) → k ≢ key → ports_told q.web Outlets k ≡ ports_told p.web Outlets k
+  pub blocks : PutsUnder (blocks_told p) (blocks_told q) key (first_blocks q.web key)
+
+-- one without a canvas inside
+pub box_under : (p q : Patch) (table : Names) (place : Place) (seed : Seed) (key : ℕ) → IsPut p q table place seed key → ComesUnder p q key (node_of place.canvas seed)
+box_under p q table place seed key put =
+    let c = put.comes in
+    record {
+      is = c.grove.is;
+      vacant = c.grove.vacant;
+      others = c.grove.others;
+      low = c.low;
+      lines = c.ports.lines;
+      feeds = c.ports.feeds;
+      ports = c.ports.other_ports Outlets;
+      blocks = c.blocks;
+    }
+
+-- one that holds a canvas without boxes
+pub shell_under : (p q : Patch) (table : Names) (place : Place) (seed : Seed) (key : ℕ) → (put : IsShellPut p q table place seed key)
+    → ComesUnder p q key (with_inner put.comes.canvas (node_of place.canvas seed))
+shell_under p q table place seed key put =
+    let c = put.comes in
+    record {
+      is = c.grove.canvas.is;
+      vacant = c.grove.box.vacant;
+      others = λ k other. c.grove.canvas.others k other ∙ c.grove.box.others k other;
+      low = c.low;
+      lines = c.ports.lines;
+      feeds = c.ports.feeds;
+      ports = c.ports.other_ports Outlets;
+      blocks = record {
+        is = c.blocks.is ∙ ap (λ (js : List Jack). Some (replicate (block_count js) silent_block)) (sym (c.ports.ports Outlets));
+        others = c.blocks.others;
+      };
+    }
+
+put_blocks : (r q : Patch) (key : ℕ) (n : Node) → ComesUnder r q key n → HasBlocks r.web (blocks_told r) → HasBlocks q.web (blocks_told q)
+put_blocks r q key n c h =
     by_key (HasBlock q) key
-    (λ o sounds. subst (λ (row : Option (List (List ℤ))). IsSome (option_and_then (λ (own : List (List ℤ)). slice_get own o) row)) (sym put.comes.blocks.is) (first_there q.web key o sounds))
-    (λ k other o sounds. subst (λ (row : Option (List (List ℤ))). IsSome (option_and_then (λ (own : List (List ℤ)). slice_get own o) row)) (sym (put.comes.blocks.others k other))
-    (h k o (ap (λ (js : List Jack). signal_in (slice_get js o)) (sym (put.comes.ports.other_ports Outlets k other)) ∙ sounds)))
+    (λ o sounds. subst (λ (row : Option (List (List ℤ))). IsSome (option_and_then (λ (own : List (List ℤ)). slice_get own o) row)) (sym c.blocks.is) (first_there q.web key o sounds))
+    (λ k other o sounds. subst (λ (row : Option (List (List ℤ))). IsSome (option_and_then (λ (own : List (List ℤ)). slice_get own o) row)) (sym (c.blocks.others k other))
+    (h k o (ap (λ (js : List Jack). signal_in (slice_get js o)) (sym (c.ports k other)) ∙ sounds)))
 
 -- what holds of the blocks of all boxes, and of those of the new one
-all_put : (p r q : Patch) (table : Names) (place : Place) (seed : Seed) (key : ℕ) → SameButRoom p r → IsPut r q table place seed key → (P : List (List ℤ) → Type 0) → P [] → P (first_blocks q.web key)
+all_put : (p r q : Patch) (key : ℕ) (n : Node) → SameButRoom p r → ComesUnder r q key n → (P : List (List ℤ) → Type 0) → P [] → P (first_blocks q.web key)
     → AllByRecursion P (blocks_told p) → AllByRecursion P (blocks_told q)
-all_put p r q table place seed key room put P none first h = put_all P (blocks_told r) (blocks_told q) key (first_blocks q.web key) put.comes.blocks first (room_all p r P room none h)
+all_put p r q key n room c P none first h = put_all P (blocks_told r) (blocks_told q) key (first_blocks q.web key) c.blocks first (room_all p r P room none h)
 
 -- the first blocks of a box are silent
 first_silent : (P : List ℤ → Type 0) (q : Patch) (key : ℕ) → P silent_block → AllByRecursion P (first_blocks q.web key)
 first_silent P q key h = all-same P (block_count (ports_told q.web Outlets key)) silent_block h
 
-pub one_more : (p r q : Patch) (table : Names) (place : Place) (seed : Seed) (key : ℕ) → SameButRoom p r → IsPut r q table place seed key → HasOneMore p q key (node_of place.canvas seed)
-one_more p r q table place seed key room put = record {
-  is = put.comes.grove.is;
-  vacant = sym (room.grove.nodes key) ∙ put.comes.grove.vacant;
-  others = λ k other. put.comes.grove.others k other ∙ room.grove.nodes k;
-  low = low_key key put.comes.low;
-  fed = λ h. fed_same r.web q.web put.comes.ports.lines put.comes.ports.feeds (room_fed p r room h);
-  blocks = λ h. put_blocks r q table place seed key put (room_blocks p r room h);
-  values = λ h. all_put p r q table place seed key room put (AllByRecursion AreValues) tt (first_silent AreValues q key silent_values) h;
-  sizes = λ h. all_put p r q table place seed key room put (AllByRecursion IsBlock) tt (first_silent IsBlock q key silent_count) h;
+pub one_more : (p r q : Patch) (key : ℕ) (n : Node) → SameButRoom p r → ComesUnder r q key n → HasOneMore p q key n
+one_more p r q key n room c = record {
+  is = c.is;
+  vacant = sym (room.grove.nodes key) ∙ c.vacant;
+  others = λ k other. c.others k other ∙ room.grove.nodes k;
+  low = low_key key c.low;
+  fed = λ h. fed_same r.web q.web c.lines c.feeds (room_fed p r room h);
+  blocks = λ h. put_blocks r q key n c (room_blocks p r room h);
+  values = λ h. all_put p r q key n room c (AllByRecursion AreValues) tt (first_silent AreValues q key silent_values) h;
+  sizes = λ h. all_put p r q key n room c (AllByRecursion IsBlock) tt (first_silent IsBlock q key silent_count) h;
 }
 
 -- what boxes keep is of their kinds, where what the new box keeps is of its kind

@@ -1,5 +1,5 @@
 -- In a run in which each edit is lawful the boxes that were there, and that no edit deletes, go on keeping what is of the same objects.
-use Rattle.std.proofs.Common.{◌≡◌, ◌≢◌, ◌+◌, ◌-◌, ℕ, zero, suc, Bool, true, false, nat_le, if◌then◌else◌, List, [], ◌∷◌, ◌++◌, Option, Some, None, IsSome, option_map, refl, sym, ap, subst, ◌∙◌}
+use Rattle.std.proofs.Common.{◌≡◌, ◌≢◌, ◌+◌, ◌-◌, ℕ, ℤ, zero, suc, Bool, true, false, nat_le, if◌then◌else◌, List, [], ◌∷◌, ◌++◌, Option, Some, None, IsSome, option_map, refl, sym, ap, subst, ◌∙◌}
 use Rattle.std.proofs.lemmas.Option.{none-some}
 use Rattle.pd_atom.specs.Names.{Names}
 use Rattle.pd_canvas.specs.declared.edits.Edit.{Edit}
@@ -14,13 +14,11 @@ use Rattle.pd_grove.specs.Telling.{state_in}
 use Rattle.pd_turns.specs.Turns.{World}
 use Rattle.pd_hearing.specs.Worlds.{Kept, states_of}
 use Rattle.pd_patch.specs.declared.patch.Patch.{Patch}
-use Rattle.pd_putting.specs.Adds.{last_place}
-use Rattle.pd_boxes.specs.Put.{node_of}
 use Rattle.pd_sized.specs.Alike.{AreAlike}
 use Rattle.pd_sized.proofs.AlikeRunLemmas.{outcome_alike}
 use Rattle.pd_sized.proofs.AlikeBlockLemmas.{block_alike}
 use Rattle.pd_stage.specs.Choices.{Base, Wanted, Edits, Asks, Saves, Undoes, Redoes, Choice, Refuses, Lacks, Makes, first_choice, later}
-use Rattle.pd_stage.specs.Lawful.{IsRewiringLawful, IsPutLawful, IsTakingLawful, IsEditLawful, IsSaveLawful, MayCome, AreLawful}
+use Rattle.pd_stage.specs.Lawful.{IsRewiringLawful, IsPutLawful, IsTakingLawful, IsMovingLawful, IsEditLawful, IsSaveLawful, MayCome, AreLawful}
 use Rattle.pd_stage.proofs.LeadLemmas.{lawful_first, lawful_second}
 use Rattle.pd_stage.specs.Stages.{Stage, Passage, Taken, with_ahead, still, followed_by}
 use Rattle.pd_stage.specs.Events.{Beginning, Firing, begun, delivered, with_kept, after_deliveries, stage_by, edit_taken, edit_asked, edits_taken, event}
@@ -31,10 +29,12 @@ use Rattle.pd_steady.specs.Runs.{own_ways}
 use Rattle.pd_steady.specs.Steps.{Step, Does, Learns, Comes, step_by, steps_by}
 use Rattle.pd_steady.specs.Serving.{deleted_in, deleted, LeavesBox, LeaveBox, StayAlike}
 use Rattle.pd_steady.proofs.EventLemmas.{start_of, outcome_is}
-use Rattle.pd_steady.proofs.KeyLemmas.{HasOneMore, one_more, more_alike}
+use Rattle.pd_steady.proofs.ComeLemmas.{come_node, come_more}
+use Rattle.pd_steady.proofs.KeyLemmas.{HasOneMore, more_alike}
 use Rattle.pd_steady.proofs.LessLemmas.{HasOneLess}
 use Rattle.pd_steady.proofs.MadeLemmas.{take_at}
 use Rattle.pd_steady.proofs.TakeLemmas.{taken_less}
+use Rattle.pd_steady.proofs.MoveLemmas.{moved_state}
 use Rattle.pd_steady.proofs.OwnLemmas.{commanded_own, advanced_own}
 
 -- so it is along a part of a run whose edits are lawful
@@ -96,9 +96,8 @@ put_same s ahead path e (Makes m) h k there =
     let p = h.old in
     let q = h.new in
     let a = h.adds.added in
-    let b = h.adds.put in
-    let n : Node = node_of a.canvas b.seed in
-    let more : HasOneMore p q h.box.key n = one_more p b.ready q a.known.names (last_place p a.canvas) b.seed h.box.key b.room b.put in
+    let n : Node = come_node p q s.time a h.box.key h.adds.put in
+    let more : HasOneMore p q h.box.key n = come_more p q s.time a h.box.key h.adds.put in
     subst (λ (states : ℕ → Option State). option_map blank (states k) ≡ option_map blank (s.states k)) (sym h.states)
     (subst (λ (states : ℕ → Option State). IsSome (states k) → option_map blank (states_of q k) ≡ option_map blank (states k)) (sym h.stands.states)
     (more_alike p q h.box.key n more k) there)
@@ -112,6 +111,15 @@ take_same s ahead path number wanted (Makes m) h is k left =
     let less : HasOneLess h.old h.new h.box.key = taken_less (with_ahead s []) path number m h in
     let other : k ≢ h.box.key = λ e. left (is ∙ take_at (with_ahead s []) path number m h ∙ ap (λ (x : ℕ). Some x) (sym e)) in
     ap (λ (states : ℕ → Option State). option_map blank (states k)) h.states ∙ ap (λ (o : Option Node). option_map blank (state_in o)) (less.others k other)
+    ∙ sym (ap (λ (states : ℕ → Option State). option_map blank (states k)) h.stands.states)
+
+-- a box that moved
+move_same : (s : Stage) (ahead : List Choice) (path : List ℕ) (number : ℕ) (x y : ℤ) (c : Choice) → IsMovingLawful (with_ahead s []) path number x y c → (k : ℕ)
+    → IsSameAt s (stage_by (with_ahead s ahead) c) k
+move_same s ahead path number x y (Refuses why) h k = refl
+move_same s ahead path number x y (Lacks net) h k = absurd h
+move_same s ahead path number x y (Makes m) h k =
+    ap (λ (states : ℕ → Option State). option_map blank (states k)) h.states ∙ ap (λ (o : Option State). option_map blank o) (moved_state h.old h.new path number x y h.key h.moves k)
     ∙ sym (ap (λ (states : ℕ → Option State). option_map blank (states k)) h.stands.states)
 
 -- saves, and what is refused
@@ -130,7 +138,7 @@ edit_same s ahead path (edit.Connect v) wanted c h is k there left = wires_same 
 edit_same s ahead path (edit.Disconnect v) wanted c h is k there left = wires_same s ahead path (edit.Disconnect v) c h k
 edit_same s ahead path (edit.Delete number) wanted c h is k there left = take_same s ahead path number wanted c h is k left
 edit_same s ahead path (edit.Retype number text) wanted c h is k there left = refused_same s ahead c _ h k
-edit_same s ahead path (edit.Move number x y) wanted c h is k there left = refused_same s ahead c _ h k
+edit_same s ahead path (edit.Move number x y) wanted c h is k there left = move_same s ahead path number x y c h k
 edit_same s ahead path (edit.Obj x y text) wanted c h is k there left = put_same s ahead path (edit.Obj x y text) c h k there
 edit_same s ahead path (edit.Msg x y text) wanted c h is k there left = put_same s ahead path (edit.Msg x y text) c h k there
 edit_same s ahead path (edit.Comment x y text) wanted c h is k there left = put_same s ahead path (edit.Comment x y text) c h k there

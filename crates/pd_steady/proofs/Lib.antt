@@ -7,11 +7,13 @@ pub mod ShortLemmas
 pub mod StartLemmas
 pub mod NetLemmas
 pub mod KeyLemmas
+pub mod ComeLemmas
 pub mod LessLemmas
 pub mod StandLemmas
 pub mod ExtendLemmas
 pub mod PutLemmas
 pub mod TakeLemmas
+pub mod MoveLemmas
 pub mod OwnLemmas
 pub mod FairLemmas
 pub mod TreeLemmas

@@ -1,10 +1,9 @@
 -- In a run the line that an edit tells of a signal loop tells all boxes of the loop.
-use Rattle.std.proofs.Common.{arith, ◌≡◌, ◌<◌, ◌≤◌, ◌+◌, ◌++◌, ℕ, suc, Bool, true, false, List, [], ◌∷◌, length, Option, Some, None, IfSome, refl, sym, ap, subst, ◌∙◌}
+use Rattle.std.proofs.Common.{arith, ◌≡◌, ◌<◌, ◌≤◌, ◌+◌, ◌++◌, ℕ, ℤ, suc, Bool, true, false, List, [], ◌∷◌, length, Option, Some, None, IfSome, refl, sym, ap, subst, ◌∙◌}
 use Rattle.std.specs.Prelude.{cond, option_and_then, option_map, slice_get, Result, Ok, Err}
-use Rattle.std.proofs.lemmas.Option.{none-some, same_Some}
+use Rattle.std.proofs.lemmas.Option.{none-some}
 use Rattle.slab.specs.Slab.{get}
 use Rattle.slab.specs.Slab.{Slab}
-use Rattle.pd_atom.specs.Names.{Names}
 use Rattle.pd_canvas.specs.Views.{entry_of}
 use Rattle.pd_canvas.specs.declared.edits.Edit.{Edit}
 use Rattle.pd_canvas.specs.declared.edits.Edit.TheVariants as edit
@@ -13,8 +12,7 @@ use Rattle.pd_order.specs.Listing.{Listing}
 use Rattle.pd_tree.specs.Trees.{weight}
 use Rattle.pd_grove.specs.declared.nodes.Node.{Node}
 use Rattle.pd_grove.specs.declared.boards.Board.{Board}
-use Rattle.pd_grove.specs.declared.seeds.Seed.{Seed}
-use Rattle.pd_grove.specs.Standing.{BoardSeen, board_seen}
+use Rattle.pd_grove.specs.Standing.{board_seen}
 use Rattle.pd_grove.specs.declared.grove.Grove.{Grove}
 use Rattle.pd_grove.specs.Telling.{keys_in, inner_in, step_in, reached}
 use Rattle.pd_grove.specs.TextOrder.{is_sub}
@@ -27,21 +25,19 @@ use Rattle.pd_patch.specs.declared.report.Remark.TheVariants.{Loop}
 use Rattle.pd_patch.specs.Telling.{order_in}
 use Rattle.pd_wiring.specs.declared.asking.WireRefusal.{WireRefusal}
 use Rattle.pd_wiring.specs.declared.refusals.EditRefusal.{EditRefusal}
-use Rattle.pd_wiring.specs.declared.refusals.EditRefusal.TheVariants.{TooManyWires, NoDocument}
+use Rattle.pd_wiring.specs.declared.refusals.EditRefusal.TheVariants.{TooManyWires, NoDocument, NoBox}
 use Rattle.pd_wiring.specs.Changes.{CanRewire}
 use Rattle.pd_wiring.specs.Plans.{Plan, Attaches, Detaches, canvas_of, attaching, wire_found, detaching, connecting, disconnecting, planned, IsCarriedOut, IsRewired}
-use Rattle.pd_boxes.specs.declared.room.Place.{Place}
-use Rattle.pd_boxes.specs.Room.{SameButRoom as BoxRoom}
-use Rattle.pd_boxes.specs.Put.{IsPut, keys_before, keys_behind}
+use Rattle.pd_boxes.specs.Put.{keys_before}
 use Rattle.pd_boxes.proofs.PutLemmas.{longer_by_one}
-use Rattle.pd_putting.specs.Adds.{last_place}
 use Rattle.pd_taking.specs.Taking.{keys_past}
 use Rattle.pd_deleting.specs.Deletes.{going_box, going_in, is_plain}
+use Rattle.pd_shifting.specs.Moves.{is_array_in, is_port_around, moving_box, moving_in}
 use Rattle.pd_hearing.specs.Worlds.{Net, bare, net_of}
 use Rattle.pd_block.specs.Nets as block
 use Rattle.pd_stage.specs.Choices.{Made}
 use Rattle.pd_stage.specs.Stages.{Stage}
-use Rattle.pd_stage.specs.Lawful.{known_at, IsMade, IsPutIn, IsTakenOut}
+use Rattle.pd_stage.specs.Lawful.{known_at, IsMade, IsPutIn, IsTakenOut, IsMovedTo}
 use Rattle.pd_stage.specs.Trees.{HasTree}
 use Rattle.pd_stage.specs.Lines.{most_boxes}
 use Rattle.pd_stage.specs.Times.{with_wires, IsStageOf}
@@ -51,8 +47,9 @@ use Rattle.pd_engine.proofs.ShowLemmas.{led_is}
 use Rattle.pd_steady.specs.Serving.{deleted_in}
 use Rattle.pd_steady.specs.Told.{TellsLoop}
 use Rattle.pd_steady.proofs.AddedLemmas.{added_at}
+use Rattle.pd_steady.proofs.ComeLemmas.{HasLonger, come_longer}
 use Rattle.pd_steady.proofs.NetLemmas.{TellsOf, same_net}
-use Rattle.pd_steady.proofs.ShortLemmas.{order_short, canvas_few}
+use Rattle.pd_steady.proofs.ShortLemmas.{order_short, order_keys, canvas_few}
 use Rattle.pd_steady.proofs.StandLemmas.{patch_now}
 use Rattle.pd_steady.proofs.ToldLemmas.{led_other}
 use Rattle.pd_steady.proofs.LoopLemmas.{stuck_told}
@@ -186,24 +183,6 @@ made_told q canvas short = stuck_told q (order_in q.orders.items canvas) short
 
 -- ---- the order of the canvas into which an edit put a box
 
--- the keys of a canvas are what is seen of it
-seen_keys : (o r : Option Board) → option_map board_seen r ≡ option_map board_seen o → keys_in r ≡ keys_in o
-seen_keys None None e = refl
-seen_keys (Some b) None e = absurd (none-some (board_seen b) e)
-seen_keys None (Some b) e = absurd (none-some (board_seen b) (sym e))
-seen_keys (Some b) (Some d) e = ap (λ (x : BoardSeen). x.keys) (same_Some (board_seen d) (board_seen b) e)
-
--- with one box more
-one_longer : (now with_it apart had : ℕ) → now ≡ with_it → with_it ≡ suc apart → had ≡ apart → now ≡ had + 1
-one_longer now with_it apart had e f g = omega (arith, e, f, g)
-
-grown_keys : (p r q : Patch) (table : Names) (place : Place) (seed : Seed) (key : ℕ) → BoxRoom p r → (put : IsPut r q table place seed key) → length put.comes.grove.keys.after.nodes.items ≡ length (keys_at p.grove place.canvas) + 1
-grown_keys p r q table place seed key room put =
-    let k = put.comes.grove.keys in
-    one_longer (length k.after.nodes.items) (length (keys_before r place ++ key ∷ keys_behind r place)) (length (keys_before r place ++ keys_behind r place)) (length (keys_at p.grove place.canvas))
-    (ap (λ (ks : List ℕ). length ks) k.has) (longer_by_one (keys_before r place) (keys_behind r place) key)
-    (ap (λ (ks : List ℕ). length ks) (sym (seen_keys (get p.grove.boards place.canvas) (get r.grove.boards place.canvas) (room.grove.boards place.canvas)) ∙ ap (λ (o : Option Board). keys_in o) k.was ∙ k.had))
-
 -- the boxes of a stage's canvases
 boards_same : (s : Stage) (t : HasTree s) (p : Patch) → s.net ≡ net_of p → p.grove.boards ≡ t.patch.grove.boards
 boards_same s t p e = sym (ap (λ (n : Net). n.boards) e) ∙ ap (λ (n : block.Net). n.boards) t.of.net
@@ -225,21 +204,19 @@ put_short s path e m t h o order =
     let p : Patch = h.old in
     let q : Patch = h.new in
     let a = h.adds.added in
-    let b = h.adds.put in
     let c : ℕ = a.canvas in
     let came = added_at p s.base.counts s.file path e (known_at s) a h.adds.comes in
     let leads : reached p.grove (Some p.grove.root) path ≡ Some c = sub_leads p.grove path (Some p.grove.root) c came.leads in
     let there : reached t.patch.grove (Some t.patch.grove.root) path ≡ Some c = led_at (patch_now s t) p s path c h.stands.net t.of.net leads in
     let few : length (keys_at t.patch.grove c) ≤ weight t.tree.boxes = canvas_few t.patch.grove t.tree t.stands path c there in
     let same : keys_at p.grove c ≡ keys_at t.patch.grove c = ap (λ (boards : Slab Board). keys_in (get boards c)) (boards_same s t p h.stands.net) in
-    let k = b.put.comes.grove.keys in
+    let k : HasLonger p q c = come_longer p q s.time a h.box.key h.adds.put in
     let all : length k.after.nodes.items ≤ 16384 =
     few_put s.base.counts.boxes (weight t.tree.boxes) (length (keys_at p.grove c)) (length k.after.nodes.items)
-    (subst (λ (ks : List ℕ). length ks ≤ weight t.tree.boxes) (sym same) few) t.boxes came.room
-    (grown_keys p b.ready q a.known.names (last_place p c) b.seed h.box.key b.room b.put) in
+    (subst (λ (ks : List ℕ). length ks ≤ weight t.tree.boxes) (sym same) few) t.boxes came.room k.longer in
     let here : order_in q.orders.items c ≡ Some o = ap (λ (x : ℕ). order_in q.orders.items x) (sym h.adds.canvas) ∙ order in
     let short : length o.chain + length o.stuck ≤ length k.after.nodes.items =
-    order_short q.grove q.web (get q.grove.boards c) (board_seen k.after) (order_in q.orders.items c) o (ap (λ (x : Option Board). option_map board_seen x) k.is) b.put.order here in
+    order_short q.grove q.web (get q.grove.boards c) (board_seen k.after) (order_in q.orders.items c) o (ap (λ (x : Option Board). option_map board_seen x) k.is) k.order here in
     through (length o.chain + length o.stuck) (length k.after.nodes.items) short all
 
 -- ---- the order of the canvas from which an edit took a box
@@ -305,3 +282,39 @@ take_short s path number m t h o order =
     let short : length o.chain + length o.stuck ≤ length g.new.nodes.items =
     order_short q.grove q.web (get q.grove.boards c) (board_seen g.new) (order_in q.orders.items c) o (ap (λ (y : Option Board). option_map board_seen y) g.without) (x.taken.orders c) order in
     through (length o.chain + length o.stuck) (length g.new.nodes.items) short (subst (λ (ks : List ℕ). length ks ≤ 16384) (sym g.has) all)
+
+-- ---- the order of the canvas in which an edit moved a box
+
+free_at : (array port : Bool) (e f : EditRefusal) (x y : ℕ × ℕ) → cond array (Err e) (cond port (Err f) (Ok x)) ≡ Ok y → x.0 ≡ y.0
+free_at true port e f x y h = absurd (cc)
+free_at false true e f x y h = absurd (cc)
+free_at false false e f x y h = ap (λ (z : ℕ × ℕ). z.0) (ok_same x y (Ok x) refl h)
+
+moving_from : (g : Grove) (c number : ℕ) (o : Option ℕ) (x : ℕ × ℕ) → moving_box g c number o ≡ Ok x → c ≡ x.0
+moving_from g c number None x h = absurd (cc)
+moving_from g c number (Some key) x h = free_at (is_array_in (get g.nodes key)) (is_port_around g c key) (NoBox number) NoDocument (c, key) x h
+
+moving_at : (g : Grove) (number : ℕ) (o : Option ℕ) (x : ℕ × ℕ) → moving_in g number o ≡ Ok x → o ≡ Some x.0
+moving_at g number None x h = absurd (cc)
+moving_at g number (Some c) x h = ap (λ (y : ℕ). Some y) (moving_from g c number (slice_get (keys_at g c) number) x h)
+
+-- as many as there are in the tree are few
+few_there : (n m b : ℕ) → n ≤ m → b ≡ m → b ≤ 16384 → n ≤ 16384
+few_there n m b l g h = omega (arith, l, g, h)
+
+pub move_short : (s : Stage) (path : List ℕ) (number : ℕ) (x y : ℤ) (m : Made) → HasTree s → (h : IsMovedTo s path number x y m) → (o : Listing)
+    → order_in h.new.orders.items h.moves.canvas ≡ Some o → length o.chain + length o.stuck ≤ most_boxes
+move_short s path number x y m t h o order =
+    let p : Patch = h.old in
+    let c : ℕ = h.moves.canvas in
+    let leads : reached p.grove (Some p.grove.root) path ≡ Some c =
+    sub_leads p.grove path (Some p.grove.root) c (moving_at p.grove number (sub_reached p.grove (Some p.grove.root) path) (c, h.key) h.moves.is) in
+    let there : reached t.patch.grove (Some t.patch.grove.root) path ≡ Some c = led_at (patch_now s t) p s path c h.stands.net t.of.net leads in
+    let few : length (keys_at t.patch.grove c) ≤ weight t.tree.boxes = canvas_few t.patch.grove t.tree t.stands path c there in
+    let same : keys_at p.grove c ≡ keys_at t.patch.grove c = ap (λ (boards : Slab Board). keys_in (get boards c)) (boards_same s t p h.stands.net) in
+    let all : length (keys_at p.grove c) ≤ 16384 =
+    few_there (length (keys_at p.grove c)) (weight t.tree.boxes) s.base.counts.boxes (subst (λ (ks : List ℕ). length ks ≤ weight t.tree.boxes) (sym same) few) t.boxes t.within.boxes in
+    let here : order_in p.orders.items c ≡ Some o = rw (sym h.moves.rest.orders) order in
+    let short : length o.chain + length o.stuck ≤ length (keys_at p.grove c) =
+    order_keys p.grove p.web (get p.grove.boards c) (order_in p.orders.items c) o (h.stands.puts.runs.orders c) here in
+    through (length o.chain + length o.stuck) (length (keys_at p.grove c)) short all

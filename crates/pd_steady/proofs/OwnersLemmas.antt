@@ -19,8 +19,6 @@ use Rattle.pd_grove.specs.Telling.{kind_in}
 use Rattle.pd_turns.specs.Turns.{World}
 use Rattle.pd_hearing.specs.Worlds.{Net, Kept, bare, net_of, states_of}
 use Rattle.pd_patch.specs.declared.patch.Patch.{Patch}
-use Rattle.pd_putting.specs.Adds.{last_place}
-use Rattle.pd_boxes.specs.Put.{node_of}
 use Rattle.pd_regrowth_law.proofs.StepLemmas.{extends_same}
 use Rattle.pd_sized.specs.Alike.{AreAlike}
 use Rattle.pd_sized.specs.Kinds.{blank_of, KeepsOfKind}
@@ -30,7 +28,7 @@ use Rattle.pd_sized.proofs.AlikeBlockLemmas.{block_alike}
 use Rattle.pd_stage.specs.Choices.{Base, Choice}
 use Rattle.pd_stage.specs.Lawful.{AreLawful}
 use Rattle.pd_stage.proofs.LeadLemmas.{lawful_first, lawful_second}
-use Rattle.pd_stage.proofs.EditLemmas.{ButWires, but_wires, Alters, HasNewBox, HasLostBox, HasMoreRoom, taken_alters, event_keeps}
+use Rattle.pd_stage.proofs.EditLemmas.{ButWires, but_wires, Alters, HasNewBox, HasLostBox, HasMovedBox, HasMoreRoom, taken_alters, event_keeps}
 use Rattle.pd_stage.specs.Stages.{Stage, Passage, with_names, with_ahead, still, followed_by}
 use Rattle.pd_stage.specs.Events.{Beginning, Firing, begun, delivered, with_kept, with_net, event}
 use Rattle.pd_stage.specs.Times.{block_units, most_fired, next_clock, taken_off, with_taken, with_fired, fires, fires_or_not, fires_below, clocks_fire, block_net, sound_at, played_at, with_played, block_sounds, block_runs, blocks_run, with_time, time_is, comes_to, advanced, finished}
@@ -41,9 +39,11 @@ use Rattle.pd_steady.specs.Steps.{Step, Does, Learns, Comes, step_by, steps_by, 
 use Rattle.pd_steady.specs.Serving.{OwnersServe}
 use Rattle.pd_steady.proofs.EventLemmas.{start_of as start_at, outcome_is}
 use Rattle.pd_steady.proofs.ExtendLemmas.{outcome_extends}
-use Rattle.pd_steady.proofs.KeyLemmas.{HasOneMore, one_more, more_objects}
+use Rattle.pd_steady.proofs.ComeLemmas.{come_seed, come_node, come_fresh, come_more}
+use Rattle.pd_steady.proofs.KeyLemmas.{HasOneMore, more_objects}
 use Rattle.pd_steady.proofs.LessLemmas.{left_objects}
 use Rattle.pd_steady.proofs.TakeLemmas.{taken_less}
+use Rattle.pd_steady.proofs.MoveLemmas.{moved_objects}
 use Rattle.pd_steady.proofs.OwnLemmas.{commanded_own, advanced_own, finished_own}
 use Rattle.pd_steady.proofs.StandLemmas.{tree_serves}
 use Rattle.pd_steady.proofs.StartLemmas.{first_blank}
@@ -78,8 +78,8 @@ wires_kinds : (s r : Stage) → ButWires s r → AreOfKinds s → AreOfKinds r
 wires_kinds s r e h = subst AreOfKinds (sym e.is) h
 
 -- a box that came
-new_objects : (canvas : ℕ) (s : Seed) (rate : Rate) (now : ℕ) → s.state ≡ started (start_of s.row.kind rate) now → option_map blank (node_of canvas s).state ≡ Some (blank_of s.row.kind)
-new_objects canvas s rate now fresh = ap (λ (x : State). Some (blank x)) fresh ∙ ap (λ (x : State). Some x) (first_blank s.row.kind rate now)
+new_objects : (s : Seed) (rate : Rate) (now : ℕ) → s.state ≡ started (start_of s.row.kind rate) now → Some (blank s.state) ≡ Some (blank_of s.row.kind)
+new_objects s rate now fresh = ap (λ (x : State). Some (blank x)) fresh ∙ ap (λ (x : State). Some x) (first_blank s.row.kind rate now)
 
 box_kinds : (s r : Stage) → HasNewBox s r → AreOfKinds s → AreOfKinds r
 box_kinds s r x h =
@@ -87,16 +87,17 @@ box_kinds s r x h =
     let p = put.old in
     let q = put.new in
     let a = put.adds.added in
-    let b = put.adds.put in
-    let n : Node = node_of a.canvas b.seed in
-    let more : HasOneMore p q put.box.key n = one_more p b.ready q a.known.names (last_place p a.canvas) b.seed put.box.key b.room b.put in
+    let key : ℕ = put.box.key in
+    let came = put.adds.put in
+    let n : Node = come_node p q s.time a key came in
+    let more : HasOneMore p q key n = come_more p q s.time a key came in
     let was : KeepsOfKind (λ k. kind_in ((net_of p).nodes k)) (states_of p) =
     subst (λ (y : ℕ → Option State). KeepsOfKind (λ k. kind_in ((net_of p).nodes k)) y) put.stands.states
     (subst (λ (y : Net). KeepsOfKind (λ k. kind_in (y.nodes k)) s.states) put.stands.net h) in
     let now : KeepsOfKind (λ k. kind_in (x.made.net.nodes k)) x.made.states =
     subst (λ (y : ℕ → Option State). KeepsOfKind (λ k. kind_in (x.made.net.nodes k)) y) (sym put.states)
     (subst (λ (y : Net). KeepsOfKind (λ k. kind_in (y.nodes k)) (states_of q)) (sym put.net)
-    (more_objects p q put.box.key n more (new_objects a.canvas b.seed p.rate s.time b.fresh) was)) in
+    (more_objects p q key n more (new_objects (come_seed p q s.time a key came) p.rate s.time (come_fresh p q s.time a key came)) was)) in
     subst AreOfKinds (sym x.is) now
 
 -- a box that went
@@ -112,6 +113,20 @@ less_kinds s r x h =
     (left_objects out.old out.new out.box.key (taken_less (with_ahead s []) x.path x.number x.made out) was)) in
     subst AreOfKinds (sym x.is) now
 
+-- a box that moved
+moved_kinds : (s r : Stage) → HasMovedBox s r → AreOfKinds s → AreOfKinds r
+moved_kinds s r x h =
+    let to = x.moved in
+    let was : KeepsOfKind (λ k. kind_in ((net_of to.old).nodes k)) (states_of to.old) =
+    subst (λ (y : ℕ → Option State). KeepsOfKind (λ k. kind_in ((net_of to.old).nodes k)) y) to.stands.states
+    (subst (λ (y : Net). KeepsOfKind (λ k. kind_in (y.nodes k)) s.states) to.stands.net h) in
+    let now : KeepsOfKind (λ k. kind_in (x.made.net.nodes k)) x.made.states =
+    subst (λ (y : ℕ → Option State). KeepsOfKind (λ k. kind_in (x.made.net.nodes k)) y) (sym to.states)
+    (subst (λ (y : Net). KeepsOfKind (λ k. kind_in (y.nodes k)) (states_of to.new)) (sym to.net)
+    (moved_objects to.old to.new x.path x.number x.x x.y to.key to.moves was)) in
+    subst AreOfKinds (sym x.is) now
+
+-- a box that could come
 room_kinds : (s r : Stage) → HasMoreRoom s r → AreOfKinds s → AreOfKinds r
 room_kinds s r x h =
     subst AreOfKinds (sym x.is)
@@ -124,7 +139,8 @@ altered_kinds : (s r : Stage) → Alters s r → AreOfKinds s → AreOfKinds r
 altered_kinds s r (inl a) h = wires_kinds s r (but_wires s r a) h
 altered_kinds s r (inr (inl a)) h = box_kinds s r a h
 altered_kinds s r (inr (inr (inl a))) h = less_kinds s r a h
-altered_kinds s r (inr (inr (inr a))) h = room_kinds s r a h
+altered_kinds s r (inr (inr (inr (inl a)))) h = moved_kinds s r a h
+altered_kinds s r (inr (inr (inr (inr a)))) h = room_kinds s r a h
 
 altered_goes : (s r : Stage) → Alters s r → IsServing s → IsServing r
 altered_goes s r a h = record { owned = altered_both s r a h.owned; kinds = altered_kinds s r a h.kinds }

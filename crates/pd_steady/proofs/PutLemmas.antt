@@ -18,8 +18,6 @@ use Rattle.pd_grove.specs.declared.seeds.Seed.{Seed}
 use Rattle.pd_grove.specs.Telling.{kind_in, state_in}
 use Rattle.pd_patch.specs.declared.patch.Patch.{Patch}
 use Rattle.pd_boxes.specs.Room.{SameButRoom}
-use Rattle.pd_boxes.specs.Put.{node_of}
-use Rattle.pd_putting.specs.Adds.{last_place}
 use Rattle.pd_hearing.specs.Worlds.{Net, bare, net_of, states_of}
 use Rattle.pd_channels_law.specs.Channels.{HasFewChannels}
 use Rattle.pd_guards.specs.Order.{HasFirst, IsKept, IsKind}
@@ -38,7 +36,8 @@ use Rattle.pd_stage.specs.Lawful.{known_at, IsPutIn, IsUnputForRoom}
 use Rattle.pd_steady.specs.Steady.{IsSteady}
 use Rattle.pd_steady.proofs.StartLemmas.{first_blank, started_kept, started_values, small_few}
 use Rattle.pd_steady.proofs.AddedLemmas.{IsAddedWell, put_well}
-use Rattle.pd_steady.proofs.KeyLemmas.{by_key, HasOneMore, one_more, more_objects, room_blocks, room_fed, room_all}
+use Rattle.pd_steady.proofs.ComeLemmas.{node_with, come_seed, come_inner, come_node, come_fresh, come_small, come_more}
+use Rattle.pd_steady.proofs.KeyLemmas.{by_key, HasOneMore, more_objects, room_blocks, room_fed, room_all}
 use Rattle.pd_steady.proofs.StandLemmas.{tree_near, tree_serves}
 use Rattle.pd_engine.proofs.TreeLemmas.{HasBoth}
 
@@ -65,9 +64,9 @@ no_more n l = omega arith
 far_off : (k key : ℕ) → 2 ^ 32 ≤ k → key < 2 ^ 32 → k ≡ key → ⊥
 far_off k key far low e = omega (arith, far, low, e)
 
-new_well : (old new : Patch) (now : ℕ) (names : Names) (canvas : ℕ) (s : Seed) → s.state ≡ started (start_of s.row.kind old.rate) now → HasFewChannels s.row.kind → IsAddedWell names old.rate s.row.kind
-    → IsWell names now (node_of canvas s)
-new_well old new now names canvas s fresh few w =
+new_well : (old new : Patch) (now : ℕ) (names : Names) (canvas : ℕ) (s : Seed) (inner : Option ℕ) → s.state ≡ started (start_of s.row.kind old.rate) now → HasFewChannels s.row.kind
+    → IsAddedWell names old.rate s.row.kind → IsWell names now (node_with canvas s inner)
+new_well old new now names canvas s inner fresh few w =
     let k : Kind = s.row.kind in
     let rate : Rate = old.rate in
     record {
@@ -215,19 +214,23 @@ more_steady most s p q names base ahead key n h on more well tree =
 pub put_steady : (most : ℕ) (s : Stage) (ahead : List Choice) (path : List ℕ) (e : Edit) (m : Made) → IsSteady most s → IsPutIn (with_ahead s []) path e m → HasBoth (stage_by (with_ahead s ahead) (Makes m))
     → IsSteady most (stage_by (with_ahead s ahead) (Makes m))
 put_steady most s ahead path e m h put tree =
-    let b = put.adds.put in
-    let names : Names = put.adds.added.known.names in
+    let came = put.adds.put in
+    let a = put.adds.added in
+    let key : ℕ = put.box.key in
+    let seed : Seed = come_seed put.old put.new s.time a key came in
+    let n : Node = come_node put.old put.new s.time a key came in
+    let names : Names = a.known.names in
     let told : m.names ≡ names = put.names ∙ ap (λ (k : Known). k.names) put.adds.known_is in
     let on : Extends s.names names = subst (Extends s.names) told put.more in
     let is = made_is s put.new names m.base ahead m put.net put.states put.clocks told refl in
     let was : IsSteady most (standing s put.old) = subst (IsSteady most) (is_standing s put.old put.stands.net put.stands.states) h in
     let first : HasFirst names = first_more s.names names (longer s.names names on) h.order.first in
-    let well : IsWell names s.time (node_of put.adds.added.canvas b.seed) =
-    new_well put.old put.new s.time names put.adds.added.canvas b.seed b.fresh (small_few b.seed.row.kind b.leaf.small)
-    (put_well put.old put.new s.base.counts s.file path s.time e (known_at s) put.adds.added put.box.key put.adds.comes b first) in
-    let more : HasOneMore put.old put.new put.box.key (node_of put.adds.added.canvas b.seed) =
-    one_more put.old b.ready put.new names (last_place put.old put.adds.added.canvas) b.seed put.box.key b.room b.put in
-    subst (IsSteady most) (sym is) (more_steady most s put.old put.new names m.base ahead put.box.key (node_of put.adds.added.canvas b.seed) was on more well (subst HasBoth is tree))
+    let well : IsWell names s.time n =
+    new_well put.old put.new s.time names a.canvas seed (come_inner put.old put.new s.time a key came) (come_fresh put.old put.new s.time a key came)
+    (small_few seed.row.kind (come_small put.old put.new s.time a key came))
+    (put_well put.old put.new s.base.counts s.file path s.time e (known_at s) a key put.adds.comes came first) in
+    let more : HasOneMore put.old put.new key n = come_more put.old put.new s.time a key came in
+    subst (IsSteady most) (sym is) (more_steady most s put.old put.new names m.base ahead key n was on more well (subst HasBoth is tree))
 
 -- ---- where room alone was set aside
 

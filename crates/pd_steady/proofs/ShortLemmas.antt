@@ -1,5 +1,5 @@
 -- In a patch in which a tree stands the order of a canvas lists no more boxes than there are in the tree.
-use Rattle.std.proofs.Common.{◌≡◌, ℕ, zero, suc, ◌+◌, ◌<◌, ◌≤◌, Bool, List, [], ◌∷◌, ◌++◌, length, Option, Some, None, refl, ap, subst, arith, length-append}
+use Rattle.std.proofs.Common.{◌≡◌, ℕ, zero, suc, ◌+◌, ◌<◌, ◌≤◌, Bool, List, [], ◌∷◌, ◌++◌, length, Option, Some, None, refl, sym, ap, subst, ◌∙◌, arith, length-append}
 use Rattle.std.specs.Prelude.{option_map, option_and_then}
 use Rattle.std.specs.List.{filter}
 use Rattle.std.proofs.lemmas.Option.{none-some, same_Some}
@@ -64,6 +64,11 @@ order_short g w (Some b) s order o e h f =
     let m : length signal ≤ length keys = filter_short (λ k. is_signal_node (get g.nodes k)) keys in
     let same : length keys ≡ length s.keys = ap (λ (x : BoardSeen). length x.keys) (same_Some (board_seen b) s e) in
     omega (arith, l, m, same)
+
+pub order_keys : (g : Grove) (w : Web) (board : Option Board) (order : Option Listing) (o : Listing) → HasOrder g w board order → order ≡ Some o
+    → length o.chain + length o.stuck ≤ length (keys_in board)
+order_keys g w None order o h f = absurd (none-some o (sym h ∙ f))
+order_keys g w (Some b) order o h f = order_short g w (Some b) (board_seen b) order o refl h f
 
 -- a canvas has no more boxes than its tree
 keys_few : (nodes : ℕ → Option Node) (boards : ℕ → Option Board) (b d : ℕ) (ks : List ℕ) (t : Trees) → Stands nodes boards b d ks t → length ks ≤ weight t

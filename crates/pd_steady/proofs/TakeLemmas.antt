@@ -22,7 +22,7 @@ use Rattle.pd_steady.proofs.StandLemmas.{tree_near, tree_serves}
 use Rattle.pd_engine.proofs.TreeLemmas.{HasBoth}
 
 -- a patch stands, with other clocks and other edits to come
-abbrev taken_stage : Stage → Patch → List Clock → Base → List Choice → Stage
+abbrev pub taken_stage : Stage → Patch → List Clock → Base → List Choice → Stage
 taken_stage s q clocks base ahead = record {
   file = s.file;
   net = net_of q;
@@ -37,7 +37,7 @@ taken_stage s q clocks base ahead = record {
   ahead = ahead;
 }
 
-made_is : (s : Stage) (q : Patch) (ahead : List Choice) (m : Made) → m.net ≡ net_of q → m.states ≡ states_of q → m.names ≡ s.names
+pub made_is : (s : Stage) (q : Patch) (ahead : List Choice) (m : Made) → m.net ≡ net_of q → m.states ≡ states_of q → m.names ≡ s.names
     → stage_by (with_ahead s ahead) (Makes m) ≡ taken_stage s q m.clocks m.base ahead
 made_is s q ahead m net states names = rw (net, states, names) refl
 

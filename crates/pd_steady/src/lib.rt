@@ -7,10 +7,10 @@
 //! runs twice in a block. Where a patch opens the stage is steady
 //! (`opening_is_steady`); it stays so through commands whose names are of the table (`commands_stay_steady`), names
 //! that records bring (`names_stay_steady`) and time (`time_stays_steady`), in a run in which each edit is lawful:
-//! edits of wires and saves leave all that steadiness speaks of, a box that an edit puts is of a kind in order and
-//! keeps what its kind keeps at first, and where an edit takes a box out all others keep what they kept, and their
-//! names have their owners. So it is with those that a script asks for and with those that messages ask for, which
-//! are taken at the end of their event.
+//! edits of wires and saves leave all that steadiness speaks of; a box that an edit puts, also a subpatch without
+//! boxes, is of a kind in order and keeps what its kind keeps at first; where an edit takes a box out all others keep
+//! what they kept, and their names have their owners; and where one moves a box all keep what they kept. So it is
+//! with those that a script asks for and with those that messages ask for, which are taken at the end of their event.
 //!
 //! So a whole run in which each edit is lawful, from where a patch opens to its end, is the one in which each event
 //! is the depth-first recursion over the objects' own definitions, and in each block each box runs its own row
