@@ -63,7 +63,7 @@ filters_same f g h (p ∷ ps) =
 
 module _ (g h : Grove) (key : ℕ) (x y : ℤ) (A : Alters g h key (at_place x y)) where
   -- what a box tells wherever it stands
-  told_as : {X : Type 0} (f : Option Node → X) → ((o : Option Node) → f (option_map (at_place x y) o) ≡ f o) → (k : ℕ) → f (get h.nodes k) ≡ f (get g.nodes k)
+  pub told_as : {X : Type 0} (f : Option Node → X) → ((o : Option Node) → f (option_map (at_place x y) o) ≡ f o) → (k : ℕ) → f (get h.nodes k) ≡ f (get g.nodes k)
   told_as f e k = ⊎_elim
       (λ (same : k ≡ key). subst (λ j. f (get h.nodes j) ≡ f (get g.nodes j)) (sym same) (ap f A.box ∙ e (get g.nodes key)))
       (λ (d : k ≢ key). ap f (A.others k d))
