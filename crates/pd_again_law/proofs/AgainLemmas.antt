@@ -80,7 +80,8 @@ use Rattle.pd_engine.specs.Opening.{Grows, first_stage, growth_of}
 use Rattle.pd_steady.specs.Steady.{IsSteady}
 use Rattle.pd_again_law.specs.Again.{IsSamePatch, grown_alike, GrowsAgain, Reopens, SavedOpensAgain, AreAgain}
 use Rattle.pd_again_law.proofs.NumberLemmas.{HasFirstNumbers, as_opened}
-use Rattle.pd_again_law.proofs.FoundLemmas.{six_more, HasCounted, StaysProper, IsGood, AreFound, runs_at}
+use Rattle.pd_again_law.proofs.StandLemmas.{six_more, HasCounted, StaysProper, runs_at}
+use Rattle.pd_again_law.proofs.FoundLemmas.{IsGood, AreFound}
 use Rattle.pd_again_law.proofs.HeldLemmas.{IsHeld, Settled, bare_kind, told, held_in}
 
 -- ---- small kinds

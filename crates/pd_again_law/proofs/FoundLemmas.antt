@@ -1,59 +1,38 @@
 -- At each stage of a run a tree stands that grows again from its own document, whatever wires and boxes came.
-use Rattle.std.proofs.Common.{◌≡◌, ◌<◌, ◌≤◌, ◌+◌, ◌-◌, ◌^◌, inl, inr, ℕ, zero, suc, Bool, true, false, nat_lt, nat_le, if◌then◌else◌, List, [], ◌∷◌, ◌++◌, length, Option, Some, None, IfSome, refl, sym, ap, ◌∙◌, subst, arith}
-use Rattle.std.specs.Prelude.{option_map}
+use Rattle.std.proofs.Common.{◌≡◌, ◌<◌, ◌≤◌, ◌+◌, ◌-◌, ◌^◌, inl, ℕ, zero, suc, Bool, true, false, nat_lt, nat_le, if◌then◌else◌, List, [], ◌∷◌, ◌++◌, length, Option, Some, None, IfSome, refl, sym, ap, ◌∙◌, subst, arith}
 use Rattle.std.specs.List.{AllByRecursion}
-use Rattle.slab.specs.Slab.{get}
 use Rattle.std.proofs.lemmas.Bool.{leb-true, ltb-true}
-use Rattle.pd_atom.specs.Names.{Names, Extends, IsTable}
+use Rattle.pd_atom.specs.Names.{Names, Extends}
 use Rattle.pd_canvas.specs.declared.edits.Edit.{Edit}
-use Rattle.pd_canvas.specs.declared.edits.Edit.TheVariants as edit
-use Rattle.pd_canvas.specs.Proper.{IsProper}
 use Rattle.pd_clock.specs.declared.times.Rate.{Rate}
 use Rattle.pd_clock.specs.Queue.{Clock}
 use Rattle.pd_kind.specs.declared.states.State.{State}
-use Rattle.pd_kind.specs.Fit.{blank}
 use Rattle.pd_kind.specs.Forming.{cut_atoms}
-use Rattle.pd_object.specs.declared.kinds.Kind.{Kind}
 use Rattle.pd_script.specs.declared.commands.Command.{Command}
 use Rattle.pd_script.specs.declared.commands.Command.TheVariants as command
 use Rattle.pd_library.specs.declared.answers.Answer.{Answer}
 use Rattle.pd_library.specs.Files.{answer_in}
-use Rattle.pd_tree.specs.Trees.{Tree, weight, document_in}
 use Rattle.pd_turns.specs.Turns.{World}
-use Rattle.pd_grove.specs.Telling.{kind_in}
-use Rattle.pd_grove.specs.TextOrder.{deep, keys_in_order}
+use Rattle.pd_grove.specs.TextOrder.{keys_in_order}
 use Rattle.pd_patch.specs.declared.patch.Patch.{Patch}
 use Rattle.pd_patch.specs.Report.{loads_among}
-use Rattle.pd_patch.specs.Sounds.{sound_of}
-use Rattle.pd_gather.specs.Gather.{Known, GoesOn}
-use Rattle.pd_wiring.specs.Plans.{Plan, Attaches, Detaches, IsCarriedOut}
-use Rattle.pd_hearing.specs.Worlds.{Net, Kept, net_of, states_of}
+use Rattle.pd_gather.specs.Gather.{GoesOn}
+use Rattle.pd_hearing.specs.Worlds.{Net, Kept}
 use Rattle.pd_regrowth_law.proofs.StepLemmas.{extends_same}
 use Rattle.pd_regrowth_law.proofs.AgainLemmas.{library_more}
-use Rattle.pd_reload_law.specs.Reloading.{RunsAs}
 use Rattle.pd_putting_law.specs.Again.{StandsAgain}
-use Rattle.pd_taking_law.specs.Takes.{taken_at}
 use Rattle.pd_putting_law.proofs.AgainLemmas.{stands_on}
-use Rattle.pd_boxes.specs.Put.{CanPut}
-use Rattle.pd_put_law.specs.Coming.{with_leaf}
-use Rattle.pd_put_law.proofs.ComeLemmas.{goes_on, known_files, box_runs, box_again}
-use Rattle.pd_put_law.proofs.OwnerLemmas.{own_more, room_own, box_owners}
-use Rattle.pd_put_law.proofs.PutLemmas.{box_holds, box_fits, more_boxes, more_sound}
-use Rattle.pd_put_law.proofs.RoomLemmas as room
-use Rattle.pd_put_law.proofs.WrittenLemmas.{room_contents, box_proper, box_contents}
+use Rattle.pd_put_law.proofs.OwnerLemmas.{own_more}
 use Rattle.pd_guards.proofs.FactLemmas.{all-append}
-use Rattle.pd_guards.proofs.MoreLemmas.{longer}
-use Rattle.pd_sized.specs.Kinds.{kinds_of, blank_of, KeepsOfKind}
+use Rattle.pd_sized.specs.Kinds.{kinds_of}
 use Rattle.pd_contents_law.specs.Contents.{counts_of}
 use Rattle.pd_contents_law.proofs.SettledLemmas.{onward}
 use Rattle.pd_contents_law.proofs.RunLemmas.{all_more, outcome_kept}
 use Rattle.pd_contents_law.proofs.BlockLemmas.{block_kept}
 use Rattle.pd_proper_law.specs.Saves.{IsWritten}
-use Rattle.pd_proper_law.proofs.SavableLemmas.{kinds_savable}
-use Rattle.pd_stage.specs.Choices.{Base, base_of, Wanted, Edits, Asks, Saves, Undoes, Redoes, Made, Choice, Refuses, Lacks, Makes, first_choice, later}
-use Rattle.pd_stage.specs.Lawful.{StandsAt, known_at, IsMade, IsShort, IsRewiringLawful, IsPutIn, IsUnputForRoom, IsPutLawful, IsTakenOut, IsLeftInForRoom, IsTakingLawful, IsEditLawful, IsSaved, MayCome}
+use Rattle.pd_stage.specs.Choices.{Base, Wanted, Choice, first_choice, later}
 use Rattle.pd_stage.specs.Stages.{Stage, Taken, Passage, with_names, with_ahead, still, followed_by}
-use Rattle.pd_stage.specs.Events.{Beginning, Message, Firing, Loading, with_net, stage_by, edit_taken, edit_asked, edits_taken, begun, delivered, with_kept, event}
+use Rattle.pd_stage.specs.Events.{Beginning, Message, Firing, Loading, edit_taken, edit_asked, edits_taken, begun, delivered, with_kept, event}
 use Rattle.pd_stage.specs.Times.{block_units, most_fired, first_clock, next_clock, taken_off, with_taken, with_fired, fires, fires_or_not, fires_below, clocks_fire, block_net, sound_at, block_sounds, block_runs, blocks_run, time_is, comes_to, advanced, finished}
 use Rattle.pd_engine.specs.Messages.{message_in}
 use Rattle.pd_engine.specs.Commands.{commanded}
@@ -64,51 +43,18 @@ use Rattle.pd_steady.specs.Steady.{IsSteady, IsCommand}
 use Rattle.pd_steady.specs.Steps.{Step, Does, Learns, Comes, AreSteps, step_by, steps_by, run_by}
 use Rattle.pd_steady.proofs.EventLemmas.{Guards, Begins, start_of, starts, outcome_is, owned_at, altered_steady, delivered_steady}
 use Rattle.pd_steady.proofs.ExtendLemmas.{outcome_extends}
-use Rattle.pd_steady.proofs.FairLemmas.{IsRefusal, IsFair, AreFair, fair_first, fair_second, taken_left}
+use Rattle.pd_steady.proofs.FairLemmas.{AreFair, fair_first, fair_second, taken_left}
 use Rattle.pd_steady.proofs.OwnLemmas.{commanded_own, advanced_own, finished_own}
 use Rattle.pd_steady.proofs.RunLemmas.{named_steady}
 use Rattle.pd_steady.proofs.TreeLemmas.{taken_owned}
 use Rattle.pd_steady.proofs.TimeLemmas.{below_limit, fires_end, within, below, same_end, ends_soon, steady_longer, fired_steady, timed_steady, sounds_steady}
-use Rattle.pd_again_law.proofs.NumberLemmas.{HasFirstNumbers, leaf_first, goes_behind}
-use Rattle.pd_again_law.proofs.HeldLemmas.{Settled, IsHeld, bare_kind, NetHeld, told, held_in, held_edit, held_room}
-use Rattle.pd_again_law.proofs.TakeLemmas.{TakeLaws, less_first, same_rate}
-
--- ---- what is so of a stage of a run
-
--- as many boxes are counted as a tree has, and as many values of tables, arrays and delay lines
-pub record HasCounted (rate : Rate) (b : Base) (t : Tree) : Type 0 where
-  pub boxes : b.counts.boxes ≡ weight t.boxes
-  pub sound : b.counts.sound ≡ sound_of rate t.boxes
-
-enough : (a b : ℕ) → 6 ≤ a → a ≤ b → 6 ≤ b
-enough a b h k = omega (arith, h, k)
-
-pub six_more : (names more : Names) → Extends names more → 6 ≤ length names → 6 ≤ length more
-six_more names more x h = enough (length names) (length more) h (longer names more x)
-
--- wherever the table of names goes on, the document of the tree is proper in it
-abbrev pub StaysProper : Names → Tree → Type 0
-StaysProper names t = (more : Names) → Extends names more → IsTable more → IsProper more (document_in t)
+use Rattle.pd_again_law.proofs.HeldLemmas.{Settled, IsHeld, NetHeld}
+use Rattle.pd_again_law.proofs.StandLemmas.{HasCounted, six_more, StaysProper, EditLaws, IsStanding, ahead_stands, fair_stands}
 
 module _ (library : List (ℕ × Answer)) (rate : Rate) (name : List ℕ) where
-  -- A tree stands in each patch of which the stage tells, and grows again from its own document. Its `$0` numbers are the first ones from 1001 on; what was
-  -- known of files where the patch opened is known still; and as many boxes and values are counted as it has.
-  pub record IsStanding (s : Stage) : Type 0 where
-    pub file : s.file ≡ name
-    pub rates : s.net.rate ≡ rate
-    pub six : 6 ≤ length s.names
-    pub tree : Tree
-    pub low : deep tree.boxes ≤ 256
-    pub again : StandsAgain (answer_in s.base.files) s.file s.names tree
-    pub proper : StaysProper s.names tree
-    pub numbers : HasFirstNumbers tree
-    pub files : GoesOn library s.base.files
-    pub counted : HasCounted rate s.base tree
-    pub held : NetHeld s.file s.names s.states tree s.net
-
   pub record IsGood (most : ℕ) (s : Stage) : Type 0 where
     pub steady : IsSteady most s
-    pub stands : IsStanding s
+    pub stands : IsStanding library rate name s
 
   -- an edit found such a stage
   abbrev pub AreFound : ℕ → List Taken → Type 0
@@ -122,325 +68,7 @@ module _ (library : List (ℕ × Answer)) (rate : Rate) (name : List ℕ) where
   pub good_longer : (most more : ℕ) → most ≤ more → (s : Stage) → IsGood most s → IsGood more s
   good_longer most more l s h = record { steady = steady_longer most more s l h.steady; stands = h.stands }
 
-  -- ---- edits
-
-  ahead_stands : (s : Stage) (ahead : List Choice) → IsStanding s → IsStanding (with_ahead s ahead)
-  ahead_stands s ahead h = record {
-    file = h.file;
-    rates = h.rates;
-    six = h.six;
-    tree = h.tree;
-    low = h.low;
-    again = h.again;
-    proper = h.proper;
-    numbers = h.numbers;
-    files = h.files;
-    counted = h.counted;
-    held = h.held;
-  }
-
-  -- a patch that stands at a stage
-  held_at : (s : Stage) (p : Patch) (h : IsStanding s) → StandsAt p s → IsHeld s.file s.names s.states h.tree p
-  held_at s p h at = h.held p (told s.net p at.net)
-
-  rate_at : (s : Stage) (p : Patch) → IsStanding s → StandsAt p s → p.rate ≡ rate
-  rate_at s p h at = sym (ap (λ (n : Net). n.rate) at.net) ∙ h.rates
-
-  -- a stage with other wires
-  rewired_stands : (s : Stage) (net : Net) (base : Base) (p q : Patch) (h : IsStanding s) → StandsAt p s → net ≡ net_of q → q.rate ≡ p.rate → base.files ≡ s.base.files
-      → base.counts.boxes ≡ s.base.counts.boxes → base.counts.sound ≡ s.base.counts.sound → IsHeld s.file s.names s.states h.tree q
-      → StandsAgain (answer_in base.files) s.file s.names h.tree × HasCounted rate base h.tree × NetHeld s.file s.names s.states h.tree net × (net.rate ≡ rate)
-  rewired_stands s net base p q h at is same files boxes sound held = (
-    subst (λ (fs : _). StandsAgain (answer_in fs) s.file s.names h.tree) (sym files) h.again,
-    record { boxes = boxes ∙ h.counted.boxes; sound = sound ∙ h.counted.sound },
-    held_in s.file s.names s.states h.tree q net is held,
-    ap (λ (n : Net). n.rate) is ∙ same ∙ rate_at s p h at,
-  )
-
-  made_stands : (s : Stage) (path : List ℕ) (e : Edit) (m : Made) → IsMade s path e m → IsStanding s → IsStanding (stage_by s (Makes m))
-  made_stands s path e m x h =
-      let held : IsHeld s.file s.names s.states h.tree x.new =
-      held_edit s.file s.names s.states h.tree h.low x.old x.new path e x.canvas x.stands.puts.runs x.rewired (held_at s x.old h x.stands) in
-      let rest = rewired_stands s m.net m.base x.old x.new h x.stands x.net (rate_kept x.rewired.plan x.old x.new x.rewired.done) (ap (λ (b : Base). b.files) x.base)
-      (ap (λ (b : Base). b.counts.boxes) x.base) (ap (λ (b : Base). b.counts.sound) x.base) held in
-      record {
-        file = h.file;
-        rates = rest.3;
-        six = subst (λ (ns : Names). 6 ≤ length ns) (sym x.names) h.six;
-        tree = h.tree;
-        low = h.low;
-        again = subst (λ (ns : Names). StandsAgain (answer_in m.base.files) s.file ns h.tree) (sym x.names) rest.0;
-        proper = subst (λ (ns : Names). StaysProper ns h.tree) (sym x.names) h.proper;
-        numbers = h.numbers;
-        files = subst (GoesOn library) (sym (ap (λ (b : Base). b.files) x.base)) h.files;
-        counted = rest.1;
-        held = subst (λ (ns : Names). NetHeld s.file ns m.states h.tree m.net) (sym x.names)
-            (subst (λ (f : ℕ → Option State). NetHeld s.file s.names f h.tree m.net) (sym x.states) rest.2);
-      }
-    where
-      rate_kept : (plan : Plan) (p q : Patch) → IsCarriedOut plan p q → q.rate ≡ p.rate
-      rate_kept (Attaches c l) p q d = d.rest.rate
-      rate_kept (Detaches c key l) p q d = d.rest.rate
-
-  short_stands : (s : Stage) (path : List ℕ) (e : Edit) (net : Net) → IsShort s path e net → IsStanding s → IsStanding (with_net s net)
-  short_stands s path e net x h =
-      let held : IsHeld s.file s.names s.states h.tree x.new =
-      held_room s.file s.names s.states h.tree h.low x.old x.new x.same (held_at s x.old h x.stands) in
-      let rest = rewired_stands s net s.base x.old x.new h x.stands x.net_is x.same.rate refl refl refl held in
-      record { file = h.file; rates = rest.3; six = h.six; tree = h.tree; low = h.low; again = rest.0; proper = h.proper; numbers = h.numbers; files = h.files; counted = rest.1; held = rest.2 }
-
-  -- a patch that stands at a steady stage
-  keeps_at : (most : ℕ) (s : Stage) (p : Patch) → IsSteady most s → StandsAt p s → KeepsOfKind (kinds_of p) (states_of p)
-  keeps_at most s p steady at k =
-      let kind : kind_in (s.net.nodes k) ≡ kinds_of p k = ap (λ (n : Net). kind_in (n.nodes k)) at.net ∙ bare_kind (get p.grove.nodes k) in
-      ap (λ (f : ℕ → Option State). option_map blank (f k)) (sym at.states) ∙ steady.ready.kinds k ∙ ap (λ (o : Option Kind). option_map blank_of o) kind
-
-  pub runs_at : (most : ℕ) (s : Stage) (p : Patch) (h : IsStanding s) → IsSteady most s → StandsAt p s → RunsAs p.grove h.tree
-  runs_at most s p h steady at =
-      record { stands = (held_at s p h at).stands; shallow = h.low; savable = kinds_savable p (keeps_at most s p steady at) }
-
-  -- an edit that put a box
-  module _ (most : ℕ) (s : Stage) (path : List ℕ) (e : Edit) (m : Made) (x : IsPutIn s path e m) (steady : IsSteady most s) (h : IsStanding s) where
-    abbrev can : CanPut x.old
-    can = x.stands.puts
-
-    abbrev before : Known
-    before = known_at s
-
-    abbrev now : Tree
-    now = with_leaf path x.adds.put.plain.cell h.tree
-
-    was : IsHeld s.file s.names s.states h.tree x.old
-    was = held_at s x.old h x.stands
-
-    runs : RunsAs x.old.grove h.tree
-    runs = runs_at most s x.old h steady x.stands
-
-    again : StandsAgain (answer_in x.after.files) s.file x.after.names now
-    again = box_again x.old x.new s.base.counts s.file path s.time e before x.after x.box x.adds can h.tree runs h.again
-
-    new_runs : RunsAs x.new.grove now
-    new_runs = box_runs x.old x.new s.base.counts s.file path s.time e before x.after x.box x.adds can h.tree runs h.again
-
-    on : Extends s.names x.after.names
-    on = goes_on x.old x.new s.base.counts s.file path s.time e before x.after x.box x.adds
-
-    counted : HasCounted rate (base_of x.after.files x.box.counts) now
-    counted = record {
-      boxes = more_boxes x.old x.new s.base.counts s.file path s.time e before x.after x.box x.adds can h.tree runs h.counted.boxes;
-      sound = subst (λ (r : Rate). x.box.counts.sound ≡ sound_of r now.boxes) (rate_at s x.old h x.stands)
-          (more_sound x.old x.new s.base.counts s.file path s.time e before x.after x.box x.adds can h.tree runs
-          (subst (λ (r : Rate). s.base.counts.sound ≡ sound_of r h.tree.boxes) (sym (rate_at s x.old h x.stands)) h.counted.sound));
-    }
-
-    files : GoesOn library x.after.files
-    files = goes_behind library s.base.files x.after.files h.files
-        (subst (GoesOn s.base.files) (sym (known_files x.old x.new s.base.counts s.file path s.time e before x.after x.box x.adds)) x.adds.grew.behind)
-
-    few : weight now.boxes ≤ 16384
-    few = as_few (weight now.boxes) x.box.counts.boxes 16384 counted.boxes (subst (λ (b : Base). b.counts.boxes ≤ 16384) x.base x.within.boxes)
-      where
-        as_few : (a b c : ℕ) → b ≡ a → b ≤ c → a ≤ c
-        as_few a b c e l = omega (arith, e, l)
-
-    held : IsHeld s.file x.after.names (states_of x.new) now x.new
-    held = record {
-      stands = new_runs.stands;
-      fit = box_fits x.old x.new s.base.counts s.file path s.time e before x.after x.box x.adds can was.fit;
-      holds = box_holds x.old x.new s.base.counts s.file path s.time e before x.after x.box x.adds can h.tree was.holds;
-      owners = box_owners x.old x.new s.base.counts s.file path s.time e before x.after x.box h.tree x.adds runs h.again was.owners;
-      contents = box_contents x.old x.new s.base.counts s.file path s.time e before x.after x.box x.adds can h.tree runs h.again
-          (subst (λ (f : ℕ → Option State). Settled x.old s.names f) x.stands.states was.contents);
-    }
-
-    put_stands : IsStanding (stage_by s (Makes m))
-    put_stands = record {
-      file = h.file;
-      rates = ap (λ (n : Net). n.rate) x.net ∙ x.adds.put.put.comes.rate ∙ x.adds.put.room.rate ∙ rate_at s x.old h x.stands;
-      six = subst (λ (ns : Names). 6 ≤ length ns) (sym x.names) (six_more s.names x.after.names on h.six);
-      tree = now;
-      low = new_runs.shallow;
-      again = subst (λ (b : Base). StandsAgain (answer_in b.files) s.file m.names now) (sym x.base)
-          (subst (λ (ns : Names). StandsAgain (answer_in x.after.files) s.file ns now) (sym x.names) again);
-      proper = λ more on_more table.
-          let later : Extends x.after.names more = subst (λ (ns : Names). Extends ns more) x.names on_more in
-          box_proper x.old x.new s.base.counts s.file path s.time e before x.after x.box x.adds can h.tree runs h.again more later table few
-          (h.proper more (onward s.names x.after.names more on later) table);
-      numbers = leaf_first x.adds.put.plain.cell path h.tree h.numbers;
-      files = subst (λ (b : Base). GoesOn library b.files) (sym x.base) files;
-      counted = subst (λ (b : Base). HasCounted rate b now) (sym x.base) counted;
-      held = held_in s.file m.names m.states now x.new m.net x.net
-          (subst (λ (ns : Names). IsHeld s.file ns m.states now x.new) (sym x.names)
-          (subst (λ (f : ℕ → Option State). IsHeld s.file x.after.names f now x.new) (sym x.states) held));
-    }
-
-  -- a box could have come
-  unput_stands : (most : ℕ) (s : Stage) (path : List ℕ) (e : Edit) (net : Net) → IsUnputForRoom s path e net → IsSteady most s → IsStanding s → IsStanding (with_net s net)
-  unput_stands most s path e net x steady h =
-      let was : IsHeld s.file s.names s.states h.tree x.old = held_at s x.old h x.stands in
-      let same = x.short.room in
-      let held : IsHeld s.file s.names s.states h.tree x.new = record {
-        stands = (room.room_runs x.old.grove x.new.grove same.grove h.tree (runs_at most s x.old h steady x.stands)).stands;
-        fit = room.room_fits x.old x.new same was.fit;
-        holds = room.room_holds x.old x.new same h.tree was.holds;
-        owners = room_own x.old x.new s.names s.file same was.owners;
-        contents = room_contents x.old x.new s.names s.states same was.contents;
-      } in
-      record {
-        file = h.file;
-        rates = ap (λ (n : Net). n.rate) x.net_is ∙ same.rate ∙ rate_at s x.old h x.stands;
-        six = h.six;
-        tree = h.tree;
-        low = h.low;
-        again = h.again;
-        proper = h.proper;
-        numbers = h.numbers;
-        files = h.files;
-        counted = h.counted;
-        held = held_in s.file s.names s.states h.tree x.new net x.net_is held;
-      }
-
-  -- an edit that took a box out
-  module _ (takes : TakeLaws) (most : ℕ) (s : Stage) (path : List ℕ) (number : ℕ) (m : Made) (x : IsTakenOut s path number m) (steady : IsSteady most s) (h : IsStanding s) where
-    abbrev less : Tree
-    less = taken_at path number h.tree
-
-    stood : IsHeld s.file s.names s.states h.tree x.old
-    stood = held_at s x.old h x.stands
-
-    ran : RunsAs x.old.grove h.tree
-    ran = runs_at most s x.old h steady x.stands
-
-    goes_on_running : RunsAs x.new.grove less
-    goes_on_running = takes.runs x.old x.new s.base.counts s.names path number x.steps x.steps' x.box h.tree x.deletes x.stands.puts ran
-
-    grows_less : StandsAgain (answer_in s.base.files) s.file s.names less
-    grows_less =
-        takes.again x.old x.new s.base.counts s.names path number x.steps x.steps' x.box h.tree x.deletes x.stands.puts ran
-        (answer_in s.base.files) s.file s.names h.again
-
-    fewer_counted : HasCounted rate (base_of s.base.files x.box.counts) less
-    fewer_counted = record {
-      boxes = takes.boxes x.old x.new s.base.counts s.names path number x.steps x.steps' x.box h.tree x.deletes x.stands.puts ran h.counted.boxes;
-      sound = subst (λ (r : Rate). x.box.counts.sound ≡ sound_of r less.boxes) (rate_at s x.old h x.stands)
-          (takes.sound x.old x.new s.base.counts s.names path number x.steps x.steps' x.box h.tree x.deletes x.stands.puts ran
-          (subst (λ (r : Rate). s.base.counts.sound ≡ sound_of r h.tree.boxes) (sym (rate_at s x.old h x.stands)) h.counted.sound));
-    }
-
-    held_less : IsHeld s.file s.names (states_of x.new) less x.new
-    held_less = record {
-      stands = goes_on_running.stands;
-      fit = takes.fit x.old x.new s.base.counts s.names path number x.steps x.steps' x.box x.deletes x.stands.puts x.stands.meet stood.fit;
-      holds = takes.holds x.old x.new s.base.counts s.names path number x.steps x.steps' x.box h.tree x.deletes x.stands.puts ran stood.holds;
-      owners = takes.owners x.old x.new s.base.counts s.names path number x.steps x.steps' x.box x.deletes s.file stood.owners;
-      contents = takes.contents x.old x.new s.base.counts s.names path number x.steps x.steps' x.box s.names x.deletes x.stands.puts
-          (subst (λ (f : ℕ → Option State). Settled x.old s.names f) x.stands.states stood.contents);
-    }
-
-    take_stands : IsStanding (stage_by s (Makes m))
-    take_stands = record {
-      file = h.file;
-      rates = ap (λ (n : Net). n.rate) x.net ∙ same_rate x.old x.new s.base.counts s.names path number x.steps x.steps' x.box x.deletes ∙ rate_at s x.old h x.stands;
-      six = subst (λ (ns : Names). 6 ≤ length ns) (sym x.names) h.six;
-      tree = less;
-      low = goes_on_running.shallow;
-      again = subst (λ (b : Base). StandsAgain (answer_in b.files) s.file m.names less) (sym x.base)
-          (subst (λ (ns : Names). StandsAgain (answer_in s.base.files) s.file ns less) (sym x.names) grows_less);
-      proper = subst (λ (ns : Names). StaysProper ns less) (sym x.names) (λ more on table.
-          takes.proper x.old x.new s.base.counts s.names path number x.steps x.steps' x.box h.tree more x.deletes x.stands.puts ran (h.proper more on table));
-      numbers = less_first h.tree less (takes.zeros x.old x.new s.base.counts s.names path number x.steps x.steps' x.box h.tree x.deletes x.stands.puts ran) h.numbers;
-      files = subst (λ (b : Base). GoesOn library b.files) (sym x.base) h.files;
-      counted = subst (λ (b : Base). HasCounted rate b less) (sym x.base) fewer_counted;
-      held = held_in s.file m.names m.states less x.new m.net x.net
-          (subst (λ (ns : Names). IsHeld s.file ns m.states less x.new) (sym x.names)
-          (subst (λ (f : ℕ → Option State). IsHeld s.file s.names f less x.new) (sym x.states) held_less));
-    }
-
-  -- a box could have gone
-  left_stands : (s : Stage) (path : List ℕ) (number : ℕ) (net : Net) → IsLeftInForRoom s path number net → IsStanding s → IsStanding (with_net s net)
-  left_stands s path number net x h =
-      let held : IsHeld s.file s.names s.states h.tree x.new =
-      held_room s.file s.names s.states h.tree h.low x.old x.new x.short.room (held_at s x.old h x.stands) in
-      let rest = rewired_stands s net s.base x.old x.new h x.stands x.net_is x.short.room.rate refl refl refl held in
-      record { file = h.file; rates = rest.3; six = h.six; tree = h.tree; low = h.low; again = rest.0; proper = h.proper; numbers = h.numbers; files = h.files; counted = rest.1; held = rest.2 }
-
-  saved_stands : (s : Stage) (m : Made) → IsSaved s m → IsStanding s → IsStanding (stage_by s (Makes m))
-  saved_stands s m x h = record {
-    file = h.file;
-    rates = ap (λ (n : Net). n.rate) x.net ∙ h.rates;
-    six = subst (λ (ns : Names). 6 ≤ length ns) (sym x.names) h.six;
-    tree = h.tree;
-    low = h.low;
-    again = subst (λ (b : Base). StandsAgain (answer_in b.files) s.file m.names h.tree) (sym x.base)
-        (subst (λ (ns : Names). StandsAgain (answer_in s.base.files) s.file ns h.tree) (sym x.names) h.again);
-    proper = subst (λ (ns : Names). StaysProper ns h.tree) (sym x.names) h.proper;
-    numbers = h.numbers;
-    files = subst (λ (b : Base). GoesOn library b.files) (sym x.base) h.files;
-    counted = subst (λ (b : Base). HasCounted rate b h.tree) (sym x.base) h.counted;
-    held = subst (λ (n : Net). NetHeld s.file m.names m.states h.tree n) (sym x.net)
-        (subst (λ (ns : Names). NetHeld s.file ns m.states h.tree s.net) (sym x.names) (subst (λ (f : ℕ → Option State). NetHeld s.file s.names f h.tree s.net) (sym x.states) h.held));
-  }
-
-  -- what is asked for, at a stage whose edits to come are these
-  module _ (takes : TakeLaws) (most : ℕ) (s : Stage) (ahead : List Choice) (steady : IsSteady most (with_ahead s [])) (h : IsStanding (with_ahead s [])) where
-    on_ahead : (r : Stage) → IsStanding r → IsStanding (with_ahead r ahead)
-    on_ahead r k = ahead_stands r ahead k
-
-    wire_stands : (path : List ℕ) (e : Edit) (c : Choice) → IsRewiringLawful (with_ahead s []) path e c → IsStanding (stage_by (with_ahead s ahead) c)
-    wire_stands path e (Refuses why) x = on_ahead (with_ahead s []) h
-    wire_stands path e (Lacks net) x = on_ahead (with_net (with_ahead s []) net) (short_stands (with_ahead s []) path e net x h)
-    wire_stands path e (Makes m) x = on_ahead (stage_by (with_ahead s []) (Makes m)) (made_stands (with_ahead s []) path e m x h)
-
-    box_stands : (path : List ℕ) (e : Edit) (c : Choice) → IsPutLawful (with_ahead s []) path e c → IsStanding (stage_by (with_ahead s ahead) c)
-    box_stands path e (Refuses why) x = on_ahead (with_ahead s []) h
-    box_stands path e (Lacks net) x = on_ahead (with_net (with_ahead s []) net) (unput_stands most (with_ahead s []) path e net x steady h)
-    box_stands path e (Makes m) x = on_ahead (stage_by (with_ahead s []) (Makes m)) (put_stands most (with_ahead s []) path e m x steady h)
-
-    gone_stands : (path : List ℕ) (number : ℕ) (c : Choice) → IsTakingLawful (with_ahead s []) path number c → IsStanding (stage_by (with_ahead s ahead) c)
-    gone_stands path number (Refuses why) x = on_ahead (with_ahead s []) h
-    gone_stands path number (Lacks net) x = on_ahead (with_net (with_ahead s []) net) (left_stands (with_ahead s []) path number net x h)
-    gone_stands path number (Makes m) x = on_ahead (stage_by (with_ahead s []) (Makes m)) (take_stands takes most (with_ahead s []) path number m x steady h)
-
-    save_stands : (c : Choice) → MayCome (Saves None) (with_ahead s []) c → IsStanding (stage_by (with_ahead s ahead) c)
-    save_stands (Refuses why) x = on_ahead (with_ahead s []) h
-    save_stands (Lacks net) x = absurd x
-    save_stands (Makes m) x = on_ahead (stage_by (with_ahead s []) (Makes m)) (saved_stands (with_ahead s []) m x h)
-
-    none_stands : (c : Choice) (why : _) → c ≡ Refuses why → IsStanding (stage_by (with_ahead s ahead) c)
-    none_stands c why x = subst (λ (y : Choice). IsStanding (stage_by (with_ahead s ahead) y)) (sym x) (on_ahead (with_ahead s []) h)
-
-    edit_stands : (path : List ℕ) (e : Edit) (c : Choice) → IsEditLawful (with_ahead s []) path e c → IsStanding (stage_by (with_ahead s ahead) c)
-    edit_stands path (edit.Connect v) c x = wire_stands path (edit.Connect v) c x
-    edit_stands path (edit.Disconnect v) c x = wire_stands path (edit.Disconnect v) c x
-    edit_stands path (edit.Delete number) c x = gone_stands path number c x
-    edit_stands path (edit.Retype number text) c x = none_stands c _ x
-    edit_stands path (edit.Move number a b) c x = none_stands c _ x
-    edit_stands path (edit.Obj a b text) c x = box_stands path (edit.Obj a b text) c x
-    edit_stands path (edit.Msg a b text) c x = box_stands path (edit.Msg a b text) c x
-    edit_stands path (edit.Comment a b text) c x = box_stands path (edit.Comment a b text) c x
-    edit_stands path (edit.FloatBox a b text) c x = box_stands path (edit.FloatBox a b text) c x
-    edit_stands path (edit.SymbolBox a b text) c x = box_stands path (edit.SymbolBox a b text) c x
-    edit_stands path (edit.Sub a b text) c x = box_stands path (edit.Sub a b text) c x
-
-    choice_stands : (wanted : Wanted) (c : Choice) → MayCome wanted (with_ahead s []) c → IsStanding (stage_by (with_ahead s ahead) c)
-    choice_stands (Edits None path e) c x = edit_stands path e c x
-    choice_stands (Edits (Some document) path e) c x = none_stands c _ x
-    choice_stands (Asks path e) c x = edit_stands path e c x
-    choice_stands (Saves None) c x = save_stands c x
-    choice_stands (Saves (Some document)) c x = none_stands c _ x
-    choice_stands Undoes c x = none_stands c _ x
-    choice_stands Redoes c x = none_stands c _ x
-
-    refused_stands : (c : Choice) → IsRefusal c → IsStanding (stage_by (with_ahead s ahead) c)
-    refused_stands (Refuses why) r = on_ahead (with_ahead s []) h
-    refused_stands (Lacks net) r = absurd r
-    refused_stands (Makes m) r = absurd r
-
-    fair_stands : (wanted : Wanted) (c : Choice) → IsFair (record { found = with_ahead s []; wanted = wanted; choice = c }) → IsStanding (stage_by (with_ahead s ahead) c)
-    fair_stands wanted c (inl l) = choice_stands wanted c l
-    fair_stands wanted c (inr r) = refused_stands c r
-
-  module _ (g : Guards) (takes : TakeLaws) (most : ℕ) (top : most ≤ 2 ^ 101) where
+  module _ (g : Guards) (laws : EditLaws) (most : ℕ) (top : most ≤ 2 ^ 101) where
     abbrev pub Leads : Stage → Passage → Type 0
     Leads s q = IsGood most s → AreFair q.edits → EndsWell most q
 
@@ -459,13 +87,13 @@ module _ (library : List (ℕ × Answer)) (rate : Rate) (name : List ℕ) where
 
     -- an edit is found at a stage whose edits to come aren't told
     bare_good : (s : Stage) → IsGood most s → IsGood most (with_ahead s [])
-    bare_good s h = record { steady = altered_steady most s (with_ahead s []) h.steady (inl (inl (record { ahead = []; is = refl }))) (both_on s (with_ahead s []) refl refl refl (extends_same s.names) (owned_at most s h.steady)); stands = ahead_stands s [] h.stands }
+    bare_good s h = record { steady = altered_steady most s (with_ahead s []) h.steady (inl (inl (record { ahead = []; is = refl }))) (both_on s (with_ahead s []) refl refl refl (extends_same s.names) (owned_at most s h.steady)); stands = ahead_stands library rate name s [] h.stands }
 
     taken_good : (wanted : Wanted) (s : Stage) → AreFair (edit_taken wanted s).edits → IsGood most s → IsGood most (edit_taken wanted s).stage
     unfolding edit_taken
     taken_good wanted s l h = record {
       steady = altered_steady most s (edit_taken wanted s).stage h.steady (taken_left wanted s l) (taken_owned wanted s l (owned_at most s h.steady));
-      stands = fair_stands takes most s (later s.ahead) (bare_good s h).steady (bare_good s h).stands wanted (first_choice s.ahead) l.0;
+      stands = fair_stands library rate name laws most s (later s.ahead) (bare_good s h).steady (bare_good s h).stands wanted (first_choice s.ahead) l.0;
     }
 
     taken_found : (wanted : Wanted) (s : Stage) → IsGood most s → AreFound most (edit_taken wanted s).edits
@@ -481,12 +109,12 @@ module _ (library : List (ℕ × Answer)) (rate : Rate) (name : List ℕ) where
     edits_lead (asked ∷ waiting) s = followed s (edit_asked asked s) (edits_taken waiting) (taken_leads _ s) (edits_lead waiting (edit_asked asked s).stage)
 
     -- names that go on
-    again_on : (s : Stage) (names : Names) (h : IsStanding s) → Extends s.names names → StandsAgain (answer_in s.base.files) s.file names h.tree
+    again_on : (s : Stage) (names : Names) (h : IsStanding library rate name s) → Extends s.names names → StandsAgain (answer_in s.base.files) s.file names h.tree
     again_on s names h x =
         stands_on (answer_in s.base.files) (answer_in s.base.files) s.file s.names names h.tree h.again (λ symbol answer e. e) x
         (library_more s.names names x (answer_in s.base.files) h.again.library)
 
-    held_on : (s : Stage) (names : Names) (states : ℕ → Option State) (h : IsStanding s) → Extends s.names names
+    held_on : (s : Stage) (names : Names) (states : ℕ → Option State) (h : IsStanding library rate name s) → Extends s.names names
         → ((p : Patch) → Settled p s.names s.states → Settled p names states) → NetHeld s.file names states h.tree s.net
     held_on s names states h x goes p tells =
         let was : IsHeld s.file s.names s.states h.tree p = h.held p tells in
@@ -498,7 +126,7 @@ module _ (library : List (ℕ × Answer)) (rate : Rate) (name : List ℕ) where
           contents = goes p was.contents;
         }
 
-    proper_on : (s : Stage) (names : Names) (h : IsStanding s) → Extends s.names names → StaysProper names h.tree
+    proper_on : (s : Stage) (names : Names) (h : IsStanding library rate name s) → Extends s.names names → StaysProper names h.tree
     proper_on s names h x more on table = h.proper more (onward s.names names more x on) table
 
     -- events
@@ -535,7 +163,7 @@ module _ (library : List (ℕ × Answer)) (rate : Rate) (name : List ℕ) where
         record { stage = e.stage; found = e.found }
 
     -- the same but for times and clocks
-    same_stands : (s r : Stage) → r.file ≡ s.file → r.net ≡ s.net → r.states ≡ s.states → r.names ≡ s.names → r.base ≡ s.base → IsStanding s → IsStanding r
+    same_stands : (s r : Stage) → r.file ≡ s.file → r.net ≡ s.net → r.states ≡ s.states → r.names ≡ s.names → r.base ≡ s.base → IsStanding library rate name s → IsStanding library rate name r
     same_stands s r file net states names base h = record {
       file = file ∙ h.file;
       rates = ap (λ (n : Net). n.rate) net ∙ h.rates;
@@ -578,7 +206,7 @@ module _ (library : List (ℕ × Answer)) (rate : Rate) (name : List ℕ) where
         clock_leads s (fires_below n limit) limit (next_clock limit s.clocks) l (below_limit limit (first_clock s.clocks)) (λ r. clocks_lead n limit r l)
 
     -- blocks: the blocks of outlets are others, which no patch that stands is asked for
-    played_held : (s : Stage) (h : IsStanding s) → NetHeld s.file s.names (block_sounds s).stage.states h.tree (block_sounds s).stage.net
+    played_held : (s : Stage) (h : IsStanding library rate name s) → NetHeld s.file s.names (block_sounds s).stage.states h.tree (block_sounds s).stage.net
     unfolding block_sounds
     played_held s h p tells =
         let was : IsHeld s.file s.names s.states h.tree p =
@@ -714,33 +342,33 @@ module _ (library : List (ℕ × Answer)) (rate : Rate) (name : List ℕ) where
   same_most : (n : ℕ) → n + block_units ≤ n + block_units
   same_most n = omega arith
 
-  pub last_found : (g : Guards) (takes : TakeLaws) (most : ℕ) → most + block_units ≤ 2 ^ 101 → (r : Stage) → IsGood most r → AreFair (finished_by own_ways r).edits
+  pub last_found : (g : Guards) (laws : EditLaws) (most : ℕ) → most + block_units ≤ 2 ^ 101 → (r : Stage) → IsGood most r → AreFair (finished_by own_ways r).edits
       → AreFound (most + block_units) (finished_by own_ways r).edits
-  last_found g takes most top r h l =
-      (same_leads g takes (most + block_units) top r (finished_by own_ways r) (finished r) (finished_own r)
-      (finished_leads g takes (most + block_units) top r most h.steady.time (same_most most)) (good_longer most (most + block_units) (one_block most) r h) l).found
+  last_found g laws most top r h l =
+      (same_leads g laws (most + block_units) top r (finished_by own_ways r) (finished r) (finished_own r)
+      (finished_leads g laws (most + block_units) top r most h.steady.time (same_most most)) (good_longer most (most + block_units) (one_block most) r h) l).found
 
   -- two parts, the second of which may be longer
   pub both_found : (most more : ℕ) → most ≤ more → (a b : List Taken) → AreFound most a → AreFound more b → AreFound more (a ++ b)
   both_found most more l a b h k = all-append (λ t. IsGood more t.found) a b (longer_found most more l a h) k
 
   -- opening, and then steps
-  pub steps_found : (g : Guards) (takes : TakeLaws) (file : List ℕ) (p : Patch) (table : Names) (base : Base) (ahead : List Choice) (xs : List Step) (most : ℕ) → most ≤ 2 ^ 101
+  pub steps_found : (g : Guards) (laws : EditLaws) (file : List ℕ) (p : Patch) (table : Names) (base : Base) (ahead : List Choice) (xs : List Step) (most : ℕ) → most ≤ 2 ^ 101
       → IsGood most (first_stage file p table base ahead) → AreSteps most xs (opened file p table base ahead).stage
       → AreFair (followed_by (opened file p table base ahead) (steps_by own_ways xs)).edits → EndsWell most (followed_by (opened file p table base ahead) (steps_by own_ways xs))
-  steps_found g takes file p table base ahead xs most low h k l =
-      followed g takes most low (first_stage file p table base ahead) (opened file p table base ahead) (steps_by own_ways xs) (opened_leads g takes most low file p table base ahead)
-      (steps_lead g takes most low xs (opened file p table base ahead).stage k) h l
+  steps_found g laws file p table base ahead xs most low h k l =
+      followed g laws most low (first_stage file p table base ahead) (opened file p table base ahead) (steps_by own_ways xs) (opened_leads g laws most low file p table base ahead)
+      (steps_lead g laws most low xs (opened file p table base ahead).stage k) h l
 
-  pub run_found : (g : Guards) (takes : TakeLaws) (file : List ℕ) (p : Patch) (table : Names) (base : Base) (ahead : List Choice) (xs : List Step) (most : ℕ) → most + block_units ≤ 2 ^ 101
+  pub run_found : (g : Guards) (laws : EditLaws) (file : List ℕ) (p : Patch) (table : Names) (base : Base) (ahead : List Choice) (xs : List Step) (most : ℕ) → most + block_units ≤ 2 ^ 101
       → IsGood most (first_stage file p table base ahead) → AreSteps most xs (opened file p table base ahead).stage → AreFair (run_by own_ways file p table base ahead xs).edits
       → AreFound (most + block_units) (run_by own_ways file p table base ahead xs).edits
-  run_found g takes file p table base ahead xs most top h k l =
+  run_found g laws file p table base ahead xs most top h k l =
       let o : Passage = opened file p table base ahead in
       let b : Passage = followed_by o (steps_by own_ways xs) in
       let last : Passage = finished_by own_ways b.stage in
       let low : most ≤ 2 ^ 101 = in_time most top in
       let first : EndsWell most b =
-      steps_found g takes file p table base ahead xs most low h k (fair_first b.edits last.edits l) in
+      steps_found g laws file p table base ahead xs most low h k (fair_first b.edits last.edits l) in
       both_found most (most + block_units) (one_block most) b.edits last.edits first.found
-      (last_found g takes most top b.stage first.stage (fair_second b.edits last.edits l))
+      (last_found g laws most top b.stage first.stage (fair_second b.edits last.edits l))

@@ -1,16 +1,15 @@
--- A box without a canvas brings no `$0`, and what is known of files goes on.
+-- Which edits leave the `$0` numbers of a tree the first ones, and what is known of files goes on.
 use Rattle.std.proofs.Common.{◌≡◌, ℕ, zero, suc, ◌+◌, ◌-◌, ◌≤◌, List, [], ◌∷◌, ◌++◌, refl, sym, ap, ◌∙◌, arith, append_assoc, append-nil}
 use Rattle.pd_atom.specs.Names.{Names}
 use Rattle.pd_library.specs.declared.answers.Answer.{Answer}
 use Rattle.pd_tree.specs.declared.rows.Sheet.{Sheet}
-use Rattle.pd_tree.specs.Trees.{Cell, Trees, Done, Leaf, Holder, Tree, weight, own_zeros, zeros_in, zeros_of}
+use Rattle.pd_tree.specs.Trees.{Trees, Done, Leaf, Holder, Tree, weight, own_zeros, zeros_in, zeros_of}
 use Rattle.pd_growth.specs.Steps.{beginning, zeros_from}
 use Rattle.pd_gather.specs.Gather.{GoesOn}
 use Rattle.pd_regrowth_law.specs.Canvases.{canvas_with}
 use Rattle.pd_regrowth_law.specs.Regrowth.{stock}
 use Rattle.pd_regrowth_law.proofs.TakeLemmas.{zeros_join}
 use Rattle.pd_putting_law.specs.Puts.{change_inside, put_at}
-use Rattle.pd_put_law.specs.Coming.{with_leaf}
 
 -- ---- numbers
 
@@ -32,17 +31,22 @@ inside_numbers zero f k (Holder c s inner rest) =
 inside_numbers (suc n) f k (Leaf c rest) = inside_numbers n f k rest
 inside_numbers (suc n) f k (Holder c s inner rest) = ap (λ (x : List ℕ). own_zeros c.head.form s ++ (zeros_in inner ++ x)) (inside_numbers n f k rest)
 
-put_numbers : (cell : Cell) (path : List ℕ) → KeepsNumbers (put_at path (Leaf cell Done))
-put_numbers cell [] t = (refl, zeros_join t.boxes (Leaf cell Done) ∙ append-nil (zeros_in t.boxes))
-put_numbers cell (n ∷ path) t = (refl, inside_numbers n (put_at path (Leaf cell Done)) (put_numbers cell path) t.boxes)
+put_numbers : (new : Trees) → zeros_in new ≡ [] → (path : List ℕ) → KeepsNumbers (put_at path new)
+put_numbers new none [] t =
+    (refl, zeros_join t.boxes new ∙ ap (λ (zs : List ℕ). zeros_in t.boxes ++ zs) none ∙ append-nil (zeros_in t.boxes))
+put_numbers new none (n ∷ path) t = (refl, inside_numbers n (put_at path new) (put_numbers new none path) t.boxes)
 
-leaf_numbers : (cell : Cell) (path : List ℕ) (t : Tree) → zeros_of (with_leaf path cell t) ≡ zeros_of t
-leaf_numbers cell path t =
-    let h = put_numbers cell path t in
-    ap (λ (x : Sheet). x.zero ∷ zeros_in (with_leaf path cell t).boxes) h.0 ∙ ap (λ (x : List ℕ). t.sheet.zero ∷ x) h.1
+same_numbers : (new : Trees) → zeros_in new ≡ [] → (path : List ℕ) (t : Tree) → zeros_of (put_at path new t) ≡ zeros_of t
+same_numbers new none path t =
+    let h = put_numbers new none path t in
+    ap (λ (x : Sheet). x.zero ∷ zeros_in (put_at path new t).boxes) h.0 ∙ ap (λ (x : List ℕ). t.sheet.zero ∷ x) h.1
 
-pub leaf_first : (cell : Cell) (path : List ℕ) (t : Tree) → HasFirstNumbers t → HasFirstNumbers (with_leaf path cell t)
-leaf_first cell path t h = (h.0, h.1 ∙ ap (λ (zs : List ℕ). zs ++ h.0) (sym (leaf_numbers cell path t)))
+-- a tree of the same numbers
+pub still_first : (t u : Tree) → zeros_of u ≡ zeros_of t → HasFirstNumbers t → HasFirstNumbers u
+still_first t u same h = (h.0, h.1 ∙ ap (λ (zs : List ℕ). zs ++ h.0) (sym same))
+
+pub put_first : (new : Trees) → zeros_in new ≡ [] → (path : List ℕ) (t : Tree) → HasFirstNumbers t → HasFirstNumbers (put_at path new t)
+put_first new none path t h = still_first t (put_at path new t) (same_numbers new none path t) h
 
 -- what a file that is opened has at hand begins with these numbers, and has the room
 pub as_opened : (names : Names) (t : Tree) (more : List ℕ) → weight t.boxes ≤ 16384 → zeros_from 1001 ≡ zeros_of t ++ more

@@ -1,5 +1,5 @@
 -- What the laws of pd_take_law say of a box that an edit deleted.
-use Rattle.std.proofs.Common.{◌≡◌, ℕ, List, ◌++◌, Option, sym, ap, ◌∙◌}
+use Rattle.std.proofs.Common.{◌≡◌, ℕ, List, Option, ◌∙◌}
 use Rattle.pd_atom.specs.Names.{Names}
 use Rattle.pd_canvas.specs.Proper.{IsProper}
 use Rattle.pd_library.specs.declared.answers.Answer.{Answer}
@@ -18,7 +18,6 @@ use Rattle.pd_adding.specs.declared.counts.Counts.{Counts}
 use Rattle.pd_deleting.specs.declared.deleting.OldBox.{OldBox}
 use Rattle.pd_deleting.specs.Deletes.{DeletesBox}
 use Rattle.pd_again_law.proofs.HeldLemmas.{Settled}
-use Rattle.pd_again_law.proofs.NumberLemmas.{HasFirstNumbers}
 
 pub record TakeLaws : Type 0 where
   pub runs : (old new : Patch) (n : Counts) (table : Names) (path : List ℕ) (number steps steps' : ℕ) (b : OldBox) (t : Tree)
@@ -45,10 +44,6 @@ pub record TakeLaws : Type 0 where
       → IsProper later (document_in (taken_at path number t))
   pub contents : (old new : Patch) (n : Counts) (table : Names) (path : List ℕ) (number steps steps' : ℕ) (b : OldBox) (names : Names)
       → DeletesBox old new n table path number steps steps' b → CanPut old → Settled old names (states_of old) → Settled new names (states_of new)
-
--- the box goes without a `$0`
-pub less_first : (t less : Tree) → zeros_of less ≡ zeros_of t → HasFirstNumbers t → HasFirstNumbers less
-less_first t less same h = (h.0, h.1 ∙ ap (λ (zs : List ℕ). zs ++ h.0) (sym same))
 
 -- the patch runs on at its rate
 pub same_rate : (old new : Patch) (n : Counts) (table : Names) (path : List ℕ) (number steps steps' : ℕ) (b : OldBox)

@@ -19,7 +19,7 @@ use Rattle.pd_steady.specs.Steady.{IsSteady}
 use Rattle.pd_steady.specs.Steps.{steps_by}
 use Rattle.pd_steady.proofs.FairLemmas.{AreFair, fair_first, fair_second}
 use Rattle.pd_again_law.specs.Again.{AreAgain}
-use Rattle.pd_again_law.proofs.TakeLemmas.{TakeLaws}
+use Rattle.pd_again_law.proofs.StandLemmas.{EditLaws}
 use Rattle.pd_again_law.proofs.FoundLemmas.{IsGood, AreFound, EndsWell, one_block, opened_leads, steps_lead, last_found, both_found}
 use Rattle.pd_again_law.proofs.AgainLemmas.{Tells, ReadsBack, first_good, all_again}
 use Rattle.pd_play.specs.Runs.{Run, Point, Ending, run_of}
@@ -31,11 +31,11 @@ use Rattle.pd_faithful.specs.Points.{most_units, IsSteadyAt, ended_by, IsStepped
 use Rattle.pd_faithful.proofs.FreeLemmas.{Laws, block_more, in_range}
 use Rattle.pd_faithful.proofs.StepLemmas.{run_stepped}
 
--- what the laws say of where a patch opens, of boxes that were deleted, and of documents
+-- what the laws say of where a patch opens, of edits of boxes, and of documents
 pub record AgainLaws : Type 0 where
   pub first : (holds : Option (List FileRow)) (name : List ℕ) (rate : Rate) (d : Page) (names table : Names) (p : Patch) (base : Base) (most : ℕ) (ahead : List Choice)
       → Grows holds name rate d names p table base → IsSteady most (first_stage name p table base ahead)
-  pub takes : TakeLaws
+  pub edits : EditLaws
   pub tells : Tells
   pub reads : ReadsBack
 
@@ -46,7 +46,7 @@ module _ (laws : Laws) (again : AgainLaws) (holds : Option (List FileRow)) (name
   library = grows.files.files
 
   ended_found : (status : Status) (r : Stage) → IsGood library rate name most_units r → AreFair (ended_by own_ways status r).edits → AreFound library rate name (most_units + block_units) (ended_by own_ways status r).edits
-  ended_found Done r h l = last_found library rate name laws.guards again.takes most_units block_more r h l
+  ended_found Done r h l = last_found library rate name laws.guards again.edits most_units block_more r h l
   ended_found status r h l = tt
 
   -- from where the patch opens the run of a script
@@ -59,14 +59,14 @@ module _ (laws : Laws) (again : AgainLaws) (holds : Option (List FileRow)) (name
       let run : Run = run_of ending text q in
       let later : AreFair run.passage.edits = fair_second o.edits run.passage.edits w in
       let begins : EndsWell library rate name most_units o =
-      opened_leads library rate name laws.guards again.takes most_units in_range name p table base ahead
+      opened_leads library rate name laws.guards again.edits most_units in_range name p table base ahead
       (first_good holds name rate d names p table base grows most_units ahead (again.first holds name rate d names table p base most_units ahead grows)) (fair_first o.edits run.passage.edits w) in
       let k : IsStepped most_units o.stage run = run_stepped laws ending text q steady later in
       let mid : Passage = steps_by own_ways k.steps o.stage in
       let last : Passage = ended_by own_ways run.status mid.stage in
       let both : AreFair (mid.edits ++ last.edits) = subst (λ (x : Passage). AreFair x.edits) k.same later in
       let goes : EndsWell library rate name most_units mid =
-      steps_lead library rate name laws.guards again.takes most_units in_range k.steps o.stage k.are begins.stage (fair_first mid.edits last.edits both) in
+      steps_lead library rate name laws.guards again.edits most_units in_range k.steps o.stage k.are begins.stage (fair_first mid.edits last.edits both) in
       let more : most_units ≤ most_units + block_units = one_block library rate name most_units in
       let rest : AreFound library rate name (most_units + block_units) (mid.edits ++ last.edits) =
       both_found library rate name most_units (most_units + block_units) more mid.edits last.edits goes.found (ended_found run.status mid.stage goes.stage (fair_second mid.edits last.edits both)) in

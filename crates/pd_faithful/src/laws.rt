@@ -80,9 +80,16 @@ pub fn play_passes_nothing_over()
     pd_guards::commands_begin_in_order();
     pd_script::tables_go_on();
     pd_steady::opening_is_steady();
+    pd_put_law::boxes_come_into_trees();
+    pd_put_law::counts_follow_boxes();
+    pd_put_law::boxes_can_be_saved();
     pd_take_law::boxes_go_from_trees();
     pd_take_law::counts_follow_deletes();
     pd_take_law::shorter_documents_can_be_saved();
+    pd_shift_law::trees_follow_moves();
+    pd_shift_law::wires_follow_moves();
+    pd_shift_law::moved_trees_grow_again();
+    pd_shift_law::moved_documents_can_be_saved();
     pd_reload_law::documents_tell_trees();
     pd_doc::written_read();
 }
