@@ -18,3 +18,7 @@ pub mod PuttingLemmas
 pub mod FreshLemmas
 pub mod DeletingLemmas
 pub mod LessLemmas
+pub mod ShiftLemmas
+pub mod MovingLemmas
+pub mod SubLemmas
+pub mod CameLemmas

@@ -11,7 +11,7 @@ use Rattle.slab.specs.Slab.{get}
 use Rattle.pd_grove.specs.declared.grove.Grove.{Grove}
 use Rattle.pd_grove.specs.Telling.{state_in}
 use Rattle.pd_queue.specs.Entries.{wire_edit}
-use Rattle.pd_script.specs.Edits.{puts_box, deleted}
+use Rattle.pd_script.specs.Edits.{puts_box, deleted, moved}
 use Rattle.pd_web.specs.declared.lines.Line.{Line}
 use Rattle.pd_web.specs.declared.web.Web.{Web}
 use Rattle.pd_web.specs.Changes.{wires_told, Meet}
@@ -26,8 +26,7 @@ use Rattle.pd_say.specs.declared.refusals.Why.{Why}
 use Rattle.pd_say.specs.declared.refusals.Why.TheVariants as why
 use Rattle.pd_wiring.specs.Changes.{CanRewire, SameButRoom, StaysButWire}
 use Rattle.pd_boxes.specs.Room.{SameButRoom as RoomSet}
-use Rattle.pd_adding.specs.Growing.{Added}
-use Rattle.pd_putting.specs.Adds.{AddsBox, IsBoxPut, IsNotPut, IsShortOfRoom, IsNotAdded}
+use Rattle.pd_putting.specs.Adds.{AddsBox, IsNotPut, IsShortOfRoom, IsNotAdded}
 use Rattle.pd_putting.specs.declared.adding.NewBox.{NewBox}
 use Rattle.pd_gather.specs.Gather.{Known, known}
 use Rattle.pd_library.specs.declared.answers.Answer.{Answer}
@@ -58,6 +57,7 @@ use Rattle.pd_alike_law.proofs.MeetLemmas.{edits_meet as rewired_meet, room_meet
 use Rattle.pd_stage.proofs.CountedLemmas.{edit_few}
 use Rattle.pd_engine.proofs.RewireLemmas.{IsKept, IsReady, wired_kept, lists_meet}
 use Rattle.pd_engine.proofs.ClockLemmas.{stage_with}
+use Rattle.pd_engine.proofs.CameLemmas.{came_clocks, came_meet}
 
 -- ---- one choice, and where it leads
 
@@ -217,18 +217,18 @@ unmade s path e (stage.Refuses reason) none h =
 unmade s path e (stage.Lacks net) none h = absurd (no_edit refusal.NoDocument h.plan (sym (none h.old) ∙ h.is_planned))
 unmade s path e (stage.Makes m) none h = absurd (no_edit refusal.NoDocument h.rewired.plan (sym (none h.old) ∙ h.rewired.is_planned))
 
-edit_may : (s : Stage) (path : List ℕ) (e : Edit) (c : Choice) → puts_box e ≡ false → deleted e ≡ None → IsRewiringLawful s path e c → IsEditLawful s path e c
-edit_may s path (edit.Connect v) c none stays h = h
-edit_may s path (edit.Disconnect v) c none stays h = h
-edit_may s path (edit.Delete n) c none stays h = cc
-edit_may s path (edit.Retype n text) c none stays h = unmade s path (edit.Retype n text) c (λ p. refl) h
-edit_may s path (edit.Move n x y) c none stays h = unmade s path (edit.Move n x y) c (λ p. refl) h
-edit_may s path (edit.Obj x y text) c none stays h = cc
-edit_may s path (edit.Msg x y text) c none stays h = cc
-edit_may s path (edit.Comment x y text) c none stays h = cc
-edit_may s path (edit.FloatBox x y text) c none stays h = cc
-edit_may s path (edit.SymbolBox x y text) c none stays h = cc
-edit_may s path (edit.Sub x y name) c none stays h = cc
+edit_may : (s : Stage) (path : List ℕ) (e : Edit) (c : Choice) → puts_box e ≡ false → deleted e ≡ None → moved e ≡ None → IsRewiringLawful s path e c → IsEditLawful s path e c
+edit_may s path (edit.Connect v) c none stays rests h = h
+edit_may s path (edit.Disconnect v) c none stays rests h = h
+edit_may s path (edit.Delete n) c none stays rests h = cc
+edit_may s path (edit.Retype n text) c none stays rests h = unmade s path (edit.Retype n text) c (λ p. refl) h
+edit_may s path (edit.Move n x y) c none stays rests h = cc
+edit_may s path (edit.Obj x y text) c none stays rests h = cc
+edit_may s path (edit.Msg x y text) c none stays rests h = cc
+edit_may s path (edit.Comment x y text) c none stays rests h = cc
+edit_may s path (edit.FloatBox x y text) c none stays rests h = cc
+edit_may s path (edit.SymbolBox x y text) c none stays rests h = cc
+edit_may s path (edit.Sub x y name) c none stays rests h = cc
 
 -- where the edit puts a box, what may come is what may come of that
 put_may : (s : Stage) (path : List ℕ) (e : Edit) (c : Choice) → puts_box e ≡ true → IsPutLawful s path e c → IsEditLawful s path e c
@@ -253,7 +253,7 @@ own_request : (wanted : Wanted) (path : List ℕ) (e : Edit) → IsOwn wanted pa
 own_request wanted path e (inl is) = ap request_of is
 own_request wanted path e (inr is) = ap request_of is
 
--- a wire edit deletes no box, and puts none
+-- a wire edit deletes no box, moves none, and puts none
 pub wire_deletes_none : (e f : Edit) → wire_edit e ≡ Some f → deleted e ≡ None
 wire_deletes_none (edit.Connect v) f some = refl
 wire_deletes_none (edit.Disconnect v) f some = refl
@@ -266,6 +266,19 @@ wire_deletes_none (edit.Comment x y text) f some = refl
 wire_deletes_none (edit.FloatBox x y text) f some = refl
 wire_deletes_none (edit.SymbolBox x y text) f some = refl
 wire_deletes_none (edit.Sub x y name) f some = refl
+
+pub wire_moves_none : (e f : Edit) → wire_edit e ≡ Some f → moved e ≡ None
+wire_moves_none (edit.Connect v) f some = refl
+wire_moves_none (edit.Disconnect v) f some = refl
+wire_moves_none (edit.Delete n) f some = refl
+wire_moves_none (edit.Retype n text) f some = refl
+wire_moves_none (edit.Move n x y) f some = cc
+wire_moves_none (edit.Obj x y text) f some = refl
+wire_moves_none (edit.Msg x y text) f some = refl
+wire_moves_none (edit.Comment x y text) f some = refl
+wire_moves_none (edit.FloatBox x y text) f some = refl
+wire_moves_none (edit.SymbolBox x y text) f some = refl
+wire_moves_none (edit.Sub x y name) f some = refl
 
 pub wire_puts_none : (e f : Edit) → wire_edit e ≡ Some f → puts_box e ≡ false
 wire_puts_none (edit.Connect v) f some = refl
@@ -301,8 +314,8 @@ pub record IsWireEdit (wanted : Wanted) (path : List ℕ) (e : Edit) : Type 0 wh
   pub may : (s : Stage) (c : Choice) → IsRewiringLawful s path e c → MayCome wanted s c
   pub request : request_of wanted ≡ request.Edit
 
-pub own_wire : (wanted : Wanted) (path : List ℕ) (e : Edit) → IsOwn wanted path e → puts_box e ≡ false → deleted e ≡ None → IsWireEdit wanted path e
-own_wire wanted path e own none stays = record { may = λ s c h. own_may wanted s path e c own (edit_may s path e c none stays h); request = own_request wanted path e own }
+pub own_wire : (wanted : Wanted) (path : List ℕ) (e : Edit) → IsOwn wanted path e → puts_box e ≡ false → deleted e ≡ None → moved e ≡ None → IsWireEdit wanted path e
+own_wire wanted path e own none stays rests = record { may = λ s c h. own_may wanted s path e c own (edit_may s path e c none stays rests h); request = own_request wanted path e own }
 
 -- an edit that puts a box, and which is told as an edit
 pub record IsBoxEdit (wanted : Wanted) (path : List ℕ) (e : Edit) : Type 0 where
@@ -546,10 +559,6 @@ always_told wanted reason s o looks h is = record {
 
 -- ---- a box that an edit puts
 
--- a box more leaves the clocks of messages
-pub put_clocks : (p q : Patch) (a : Added) (now key : ℕ) → IsBoxPut p q now a key → q.timers.clocks.clocks ≡ p.timers.clocks.clocks
-put_clocks p q a now key b = ap (λ x. x.clocks.clocks) b.put.comes.clocks ∙ b.room.clocks
-
 module _ (wanted : Wanted) (path : List ℕ) (e : Edit) (is : IsBoxEdit wanted path e) (file : List ℕ) (names : Names) (files : List (ℕ × Answer)) (counts : Counts) (time block_end fired : ℕ) (tally : Tally) (old new : Patch) where
   abbrev before : List Choice → Stage
   before = stage_with file old names (base_of files counts) time block_end fired tally
@@ -597,7 +606,7 @@ module _ (wanted : Wanted) (path : List ℕ) (e : Edit) (is : IsBoxEdit wanted p
       choice = stage.Makes put_made;
       may = is.may (before []) (stage.Makes put_made) put_is;
       text_is = refl;
-      stage = λ m. ap (λ (c : List Clock). record (stage_with file new more (base_of learned b.counts) time block_end fired tally m) { clocks = c }) (sym (put_clocks old new d.added time b.key d.put));
+      stage = λ m. ap (λ (c : List Clock). record (stage_with file new more (base_of learned b.counts) time block_end fired tally m) { clocks = c }) (sym (came_clocks old new time d.added b.key d.put));
       answer = refl;
     }
 
@@ -632,10 +641,6 @@ module _ (wanted : Wanted) (path : List ℕ) (e : Edit) (is : IsBoxEdit wanted p
   }
 
 -- ---- wires still stand at both of their ports where a box came, or could have come
-
-came_meet : (old new : Patch) (now : ℕ) (a : Added) (key : ℕ) → IsBoxPut old new now a key → Meet old.web → Meet new.web
-came_meet old new now a key b m =
-    lists_meet b.ready.web new.web b.put.comes.ports.fans b.put.comes.ports.feeds (lists_meet old.web b.ready.web b.room.web.fans b.room.web.feeds m)
 
 pub put_meet : (old new : Patch) (n : Counts) (name path : List ℕ) (now : ℕ) (e : Edit) (k after : Known) (b : NewBox) → AddsBox old new n name path now e k after b → ∥ Meet old.web ∥₁ → ∥ Meet new.web ∥₁
 put_meet old new n name path now e k after b d t = ∥∥₁_map t (came_meet old new now d.added b.key d.put)

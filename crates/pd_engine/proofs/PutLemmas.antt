@@ -1,5 +1,5 @@
--- A tree with one box more, which holds no canvas.
-use Rattle.std.proofs.Common.{◌≡◌, ℕ, zero, suc, ◌+◌, max, Bool, true, false, ◌&&◌, List, [], ◌∷◌, ◌++◌, Some, refl, ap, arith}
+-- A tree with more boxes.
+use Rattle.std.proofs.Common.{◌≡◌, ◌≤◌, ℕ, zero, suc, ◌+◌, max, Bool, true, false, ◌&&◌, List, [], ◌∷◌, ◌++◌, length, Some, refl, arith}
 use Rattle.std.specs.Prelude.{option_and_then}
 use Rattle.std.specs.List.{AllByRecursion}
 use Rattle.std.proofs.lemmas.Option.{none-some}
@@ -9,9 +9,11 @@ use Rattle.pd_object.specs.declared.kinds.Kind.{Kind}
 use Rattle.pd_object.specs.declared.kinds.Kind.TheVariants as kind
 use Rattle.pd_tree.specs.declared.rows.Sheet.{Sheet}
 use Rattle.pd_tree.specs.Trees.{Cell, Trees, Done, Leaf, Holder, Tree, join, weight}
-use Rattle.pd_grove.specs.TextOrder.{deep, is_sub, Placed, placed, placed_in_order}
+use Rattle.pd_grove.specs.TextOrder.{deep, is_sub, Placed, placed_in_order}
+use Rattle.pd_grove.proofs.TreeLemmas.{deep-join}
 use Rattle.pd_bind.specs.Naming.{owned_by_kind, owned_by}
 use Rattle.pd_regrowth_law.specs.Canvases.{canvas_with, sub_canvas, own_in_box, own_along}
+use Rattle.pd_regrowth_law.proofs.TakeLemmas.{weight_join}
 use Rattle.pd_putting_law.specs.Puts.{change_inside, change_at, with_boxes, put_at}
 
 -- the canvas in a subpatch along a path
@@ -26,45 +28,38 @@ sub_there Sub path s inner u h = h
 sub_there (Array values) path s inner u h = absurd (none-some u h)
 sub_there (Other x) path s inner u h = absurd (none-some u h)
 
-module _ (c : Cell) where
-  -- no canvas lies deeper
-  deep_join : (t : Trees) → deep (join t (Leaf c Done)) ≡ deep t
-  deep_join Done = refl
-  deep_join (Leaf d t) = deep_join t
-  deep_join (Holder d s inner t) = ap (λ (n : ℕ). max (deep inner + 1) n) (deep_join t)
+module _ (new : Trees) where
+  -- no canvas lies deeper than those of the tree and of what came
+  deep_inside : (n m : ℕ) (f : Tree → Tree) → ((u : Tree) → deep (f u).boxes ≤ max (deep u.boxes) m) → (t : Trees) → deep (change_inside n f t) ≤ max (deep t) (m + 1)
+  deep_inside n m f h Done = omega arith
+  deep_inside zero m f h (Leaf d rest) = omega arith
+  deep_inside zero m f h (Holder d s inner rest) = let e : deep (f (canvas_with s inner)).boxes ≤ max (deep inner) m = h (canvas_with s inner) in omega (arith, e)
+  deep_inside (suc n) m f h (Leaf d rest) = deep_inside n m f h rest
+  deep_inside (suc n) m f h (Holder d s inner rest) = let e : deep (change_inside n f rest) ≤ max (deep rest) (m + 1) = deep_inside n m f h rest in omega (arith, e)
 
-  deep_inside : (n : ℕ) (f : Tree → Tree) → ((u : Tree) → deep (f u).boxes ≡ deep u.boxes) → (t : Trees) → deep (change_inside n f t) ≡ deep t
-  deep_inside n f h Done = refl
-  deep_inside zero f h (Leaf d rest) = refl
-  deep_inside zero f h (Holder d s inner rest) = ap (λ (m : ℕ). max (m + 1) (deep rest)) (h (canvas_with s inner))
-  deep_inside (suc n) f h (Leaf d rest) = deep_inside n f h rest
-  deep_inside (suc n) f h (Holder d s inner rest) = ap (λ (m : ℕ). max (deep inner + 1) m) (deep_inside n f h rest)
+  pub deep_put : (path : List ℕ) (t : Tree) → deep (put_at path new t).boxes ≤ max (deep t.boxes) (length path + deep new)
+  deep_put [] t = let e : deep (join t.boxes new) ≡ max (deep t.boxes) (deep new) = deep-join t.boxes new in omega (arith, e)
+  deep_put (n ∷ path) t =
+      let e : deep (put_at (n ∷ path) new t).boxes ≤ max (deep t.boxes) (length path + deep new + 1) =
+      deep_inside n (length path + deep new) (change_at path (with_boxes new)) (λ u. deep_put path u) t.boxes in
+      omega (arith, e)
 
-  pub deep_put : (path : List ℕ) (t : Tree) → deep (put_at path (Leaf c Done) t).boxes ≡ deep t.boxes
-  deep_put [] t = deep_join t.boxes
-  deep_put (n ∷ path) t = deep_inside n (change_at path (with_boxes (Leaf c Done))) (λ u. deep_put path u) t.boxes
-
-  -- there is one box more, where the path leads to a canvas
-  weight_join : (t : Trees) → weight (join t (Leaf c Done)) ≡ weight t + 1
-  weight_join Done = refl
-  weight_join (Leaf d t) = ap (λ (n : ℕ). n + 1) (weight_join t)
-  weight_join (Holder d s inner t) = let e : weight (join t (Leaf c Done)) ≡ weight t + 1 = weight_join t in omega (arith, e)
-
-  weight_inside : (n : ℕ) (path : List ℕ) (f : Tree → Tree) (u : Tree) → ((v : Tree) → own_along path v ≡ Some u → weight (f v).boxes ≡ weight v.boxes + 1) → (t : Trees)
-      → option_and_then (own_along path) (own_in_box n t) ≡ Some u → weight (change_inside n f t) ≡ weight t + 1
+  -- there are as many boxes more as came, where the path leads to a canvas
+  weight_inside : (n : ℕ) (path : List ℕ) (f : Tree → Tree) (u : Tree) → ((v : Tree) → own_along path v ≡ Some u → weight (f v).boxes ≡ weight v.boxes + weight new) → (t : Trees)
+      → option_and_then (own_along path) (own_in_box n t) ≡ Some u → weight (change_inside n f t) ≡ weight t + weight new
   weight_inside n path f u h Done on = absurd (none-some u on)
   weight_inside zero path f u h (Leaf d rest) on = absurd (none-some u on)
   weight_inside zero path f u h (Holder d s inner rest) on =
-      let e : weight (f (canvas_with s inner)).boxes ≡ weight inner + 1 = h (canvas_with s inner) (sub_there d.head.form path s inner u on) in
+      let e : weight (f (canvas_with s inner)).boxes ≡ weight inner + weight new = h (canvas_with s inner) (sub_there d.head.form path s inner u on) in
       omega (arith, e)
-  weight_inside (suc n) path f u h (Leaf d rest) on = let e : weight (change_inside n f rest) ≡ weight rest + 1 = weight_inside n path f u h rest on in omega (arith, e)
-  weight_inside (suc n) path f u h (Holder d s inner rest) on = let e : weight (change_inside n f rest) ≡ weight rest + 1 = weight_inside n path f u h rest on in omega (arith, e)
+  weight_inside (suc n) path f u h (Leaf d rest) on = let e : weight (change_inside n f rest) ≡ weight rest + weight new = weight_inside n path f u h rest on in omega (arith, e)
+  weight_inside (suc n) path f u h (Holder d s inner rest) on = let e : weight (change_inside n f rest) ≡ weight rest + weight new = weight_inside n path f u h rest on in omega (arith, e)
 
-  pub weight_put : (path : List ℕ) (t u : Tree) → own_along path t ≡ Some u → weight (put_at path (Leaf c Done) t).boxes ≡ weight t.boxes + 1
-  weight_put [] t u on = weight_join t.boxes
-  weight_put (n ∷ path) t u on = weight_inside n path (change_at path (with_boxes (Leaf c Done))) u (λ v h. weight_put path v u h) t.boxes on
+  pub weight_put : (path : List ℕ) (t u : Tree) → own_along path t ≡ Some u → weight (put_at path new t).boxes ≡ weight t.boxes + weight new
+  weight_put [] t u on = weight_join t.boxes new
+  weight_put (n ∷ path) t u on = weight_inside n path (change_at path (with_boxes new)) u (λ v h. weight_put path v u h) t.boxes on
 
--- ---- what holds of all boxes and of the new one
+-- ---- what holds of all boxes and of the new ones
 
 pub all_append : {X : Type 0} (P : X → Type 0) (xs ys : List X) → AllByRecursion P xs → AllByRecursion P ys → AllByRecursion P (xs ++ ys)
 all_append P [] ys h k = k
@@ -78,18 +73,18 @@ pub all_both : {X : Type 0} (P Q R : X → Type 0) → ((x : X) → P x → Q x 
 all_both P Q R f [] h k = tt
 all_both P Q R f (x ∷ xs) h k = (f x h.0 k.0, all_both P Q R f xs h.1 k.1)
 
-module _ (P : Placed → Type 0) (c : Cell) (own : (top : Bool) → P (placed top c)) where
+module _ (P : Placed → Type 0) (new : Trees) (own : (top : Bool) → AllByRecursion P (placed_in_order top new)) where
   -- it holds of all boxes of a tree, in the patch's own document or not
   abbrev AllOf : Bool → Trees → Type 0
   AllOf top t = AllByRecursion P (placed_in_order top t)
 
-  all_join : (top : Bool) (t : Trees) → AllOf top t → AllOf top (join t (Leaf c Done))
-  all_join top Done h = (own top, tt)
+  all_join : (top : Bool) (t : Trees) → AllOf top t → AllOf top (join t new)
+  all_join top Done h = own top
   all_join top (Leaf d t) h = (h.0, all_join top t h.1)
   all_join top (Holder d s inner t) h =
       let within : Bool = top && is_sub d.head.form in
       let parts : AllOf within inner × AllOf top t = all_split P (placed_in_order within inner) (placed_in_order top t) h.1 in
-      (h.0, all_append P (placed_in_order within inner) (placed_in_order top (join t (Leaf c Done))) parts.0 (all_join top t parts.1))
+      (h.0, all_append P (placed_in_order within inner) (placed_in_order top (join t new)) parts.0 (all_join top t parts.1))
 
   all_inside : (n : ℕ) (f : Tree → Tree) → ((top : Bool) (u : Tree) → AllOf top u.boxes → AllOf top (f u).boxes) → (top : Bool) (t : Trees) → AllOf top t → AllOf top (change_inside n f t)
   all_inside n f k top Done h = h
@@ -104,9 +99,9 @@ module _ (P : Placed → Type 0) (c : Cell) (own : (top : Bool) → P (placed to
       let parts : AllOf within inner × AllOf top rest = all_split P (placed_in_order within inner) (placed_in_order top rest) h.1 in
       (h.0, all_append P (placed_in_order within inner) (placed_in_order top (change_inside n f rest)) parts.0 (all_inside n f k top rest parts.1))
 
-  pub all_put : (path : List ℕ) (top : Bool) (t : Tree) → AllOf top t.boxes → AllOf top (put_at path (Leaf c Done) t).boxes
+  pub all_put : (path : List ℕ) (top : Bool) (t : Tree) → AllOf top t.boxes → AllOf top (put_at path new t).boxes
   all_put [] top t h = all_join top t.boxes h
-  all_put (n ∷ path) top t h = all_inside n (change_at path (with_boxes (Leaf c Done))) (λ b u k. all_put path b u k) top t.boxes h
+  all_put (n ∷ path) top t h = all_inside n (change_at path (with_boxes new)) (λ b u k. all_put path b u k) top t.boxes h
 
 -- a box that owns the same in the patch's own document owns the same anywhere
 kind_anywhere : (names more : Names) (c : Cell) (k : Kind) → owned_by_kind more true c k ≡ owned_by_kind names true c k → (top : Bool) → owned_by_kind more top c k ≡ owned_by_kind names top c k

@@ -1,33 +1,24 @@
 -- The tree that stands at a stage goes on to stand, and each name keeps its owners in text order.
-use Rattle.std.proofs.Common.{◌≡◌, ◌≤◌, ◌+◌, ℕ, suc, true, List, [], ◌∷◌, drop, take, length, slice_get, Option, Some, None, inl, inr, refl, sym, ap, ◌∙◌, subst, arith}
-use Rattle.std.proofs.Math.Seq.{take-length, drop-length}
+use Rattle.std.proofs.Common.{◌≡◌, ◌≤◌, ◌+◌, ℕ, ℤ, max, Bool, true, List, [], ◌∷◌, drop, take, length, slice_get, Option, Some, None, inl, inr, refl, sym, ap, ◌∙◌, subst, arith}
 use Rattle.std.specs.Prelude.{◌-◌, is_some, option_map, option_and_then}
-use Rattle.std.specs.List.{All, AllByRecursion}
+use Rattle.std.specs.List.{AllByRecursion}
 use Rattle.slab.specs.Slab.{get}
 use Rattle.pd_atom.specs.Names.{Names, Extends}
-use Rattle.pd_atom.specs.Atoms.{IsOf}
 use Rattle.pd_canvas.specs.declared.edits.Edit.{Edit}
 use Rattle.pd_clock.specs.Queue.{Clock}
-use Rattle.pd_library.specs.Files.{answer_in}
 use Rattle.pd_name.specs.declared.Class.{Class}
 use Rattle.pd_name.specs.Rows.{Row, owners_of}
 use Rattle.pd_fit.specs.Fitting.{wires_inside}
 use Rattle.pd_tree.specs.declared.rows.Sheet.{Sheet}
-use Rattle.pd_tree.specs.Trees.{Cell, Trees, Done, Leaf, Holder, Tree, Stand, weight}
-use Rattle.pd_growth.specs.Growth.{around_root, without_ending}
-use Rattle.pd_growth.specs.Growing.{inside_grown}
-use Rattle.pd_growth.specs.Steps.{Stock, gives}
+use Rattle.pd_tree.specs.Trees.{Cell, Trees, Done, Leaf, Holder, Tree, weight}
 use Rattle.pd_grove.specs.declared.grove.Grove.{Grove}
-use Rattle.pd_grove.specs.Forest.{IsForest}
-use Rattle.pd_grove.specs.Grafts.{HasPartMore, TakesBox}
+use Rattle.pd_grove.specs.Grafts.{TakesBox}
 use Rattle.pd_grove.specs.OwnPaths.{sub_in, sub_step_in, sub_reached}
 use Rattle.pd_grove.specs.Places.{CanvasStands}
 use Rattle.pd_grove.specs.Room.{IsSameButRoom}
 use Rattle.pd_grove.specs.Standing.{node_seen, board_seen, Stands, GroveStands}
 use Rattle.pd_grove.specs.Telling.{inner_in}
 use Rattle.pd_grove.specs.TextOrder.{deep, Placed, placed_in_order}
-use Rattle.pd_grove.proofs.ComeLemmas.{part_more}
-use Rattle.pd_grove.proofs.GraftLemmas.{forest_more}
 use Rattle.pd_grove.proofs.PlaceLemmas.{seen_keys}
 use Rattle.pd_bind.specs.Naming.{owned_by}
 use Rattle.pd_bind.specs.Owning.{owners_in}
@@ -36,34 +27,31 @@ use Rattle.pd_web.specs.Canvases.{keys_at}
 use Rattle.pd_web.specs.Changes.{line_told, wires_told}
 use Rattle.pd_web.proofs.CountLemmas.{held_alike, same_are_as_many}
 use Rattle.pd_patch.specs.declared.patch.Patch.{Patch}
+use Rattle.pd_patch.proofs.WayLemmas.{path_short}
 use Rattle.pd_reload_law.proofs.StayLemmas.{grove_stays}
 use Rattle.pd_regrowth_law.proofs.StepLemmas.{extends_on, extends_same}
 use Rattle.pd_putting_law.specs.Puts.{put_at}
 use Rattle.pd_putting_law.specs.Putting.{HasBoxLast}
+use Rattle.pd_putting_law.proofs.PathLemmas.{sub_leads}
 use Rattle.pd_putting_law.proofs.StandLemmas.{grove_put, path_along}
 use Rattle.pd_wiring.specs.Changes.{CanRewire}
 use Rattle.pd_wiring.proofs.AlikeLemmas.{rewires_alike}
 use Rattle.pd_boxes.specs.declared.room.Place.{Place}
-use Rattle.pd_boxes.specs.Put.{CanPut, HasOwners as OwnersStand, ComesIn, node_of, keys_before, keys_behind}
+use Rattle.pd_boxes.specs.Put.{CanPut, HasOwners as OwnersStand}
 use Rattle.pd_boxes.specs.Room.{SameButRoom}
 use Rattle.pd_boxes.proofs.RoomLemmas.{keys_same, owners_same, room_put}
 use Rattle.pd_gather.specs.Gather.{Known}
 use Rattle.pd_adding.specs.declared.counts.Counts.{Counts}
-use Rattle.pd_adding.specs.Counts.{AreWithin, stock_by, with_boxes}
-use Rattle.pd_adding.specs.Coming.{own_zero}
+use Rattle.pd_adding.specs.Counts.{AreWithin, with_boxes}
 use Rattle.pd_adding.specs.Growing.{Added}
-use Rattle.pd_adding.specs.Adding.{growth_at}
-use Rattle.pd_adding.proofs.GrowLemmas.{growth_is}
-use Rattle.pd_putting.specs.Adds.{last_place, IsBoxPut}
 use Rattle.pd_alike_law.specs.Alike.{OwnAlike}
-use Rattle.pd_alike_law.proofs.NameLemmas.{leaf_steady}
 use Rattle.pd_alike_law.proofs.OwnedLemmas.{owners_same as owners_bare}
 use Rattle.pd_alike_law.proofs.OwnerLemmas.{owners_alike}
 use Rattle.pd_block.specs.Nets as block
 use Rattle.pd_hearing.specs.Worlds.{Net, bare, net_of}
 use Rattle.pd_stage.specs.Choices.{Base, Made, Choice, Makes}
 use Rattle.pd_stage.specs.Stages.{Stage, with_ahead}
-use Rattle.pd_stage.specs.Lawful.{StandsAt, known_at, IsPutIn, IsTakenOut, IsUnputForRoom}
+use Rattle.pd_stage.specs.Lawful.{StandsAt, known_at, IsPutIn, IsTakenOut, IsMovedTo, IsUnputForRoom}
 use Rattle.pd_stage.specs.Events.{stage_by, with_net}
 use Rattle.pd_stage.specs.Times.{IsStageOf}
 use Rattle.pd_stage.specs.Trees.{HasTree, HasOwners}
@@ -75,9 +63,15 @@ use Rattle.pd_taking_law.specs.Takes.{taken_at}
 use Rattle.pd_taking_law.specs.Taking.{TakesBoxAt}
 use Rattle.pd_taking_law.proofs.StandLemmas.{grove_less}
 use Rattle.pd_deleting.proofs.DeleteLemmas.{can_remove, leads_there}
-use Rattle.pd_engine.proofs.ComingLemmas.{WentTo, went_to}
+use Rattle.pd_shifting.proofs.MoveLemmas.{is_moving, still_put}
+use Rattle.pd_shift_law.specs.Shifts.{cell_at, shifted_at}
+use Rattle.pd_shift_law.proofs.CountLemmas.{weight_same}
+use Rattle.pd_shift_law.proofs.OwnerLemmas.{owned_placed, owners_stay}
+use Rattle.pd_shift_law.proofs.StandLemmas.{grove_shifted}
+use Rattle.pd_engine.proofs.CameLemmas.{CameIn, came_in, leads, low as low_here, own_steady}
 use Rattle.pd_engine.proofs.LessLemmas.{all_taken, deep_taken, weight_out, weight_taken}
-use Rattle.pd_engine.proofs.PutLemmas.{deep_put, weight_put, all_both, all_put, owned_anywhere}
+use Rattle.pd_engine.proofs.PutLemmas.{deep_put, weight_put, all_both, all_put}
+use Rattle.pd_engine.proofs.ShiftLemmas.{all_shifted, deep_shifted}
 
 -- ---- where room was set aside, each box and each canvas is seen as it was
 
@@ -253,114 +247,87 @@ module _ (s : Stage) (t : HasTree s) (path : List ℕ) (e : Edit) (net : Net) (a
 
 -- ---- a box came
 
-all_by : {X : Type 0} (P : X → Type 0) (xs : List X) → All P xs → AllByRecursion P xs
-all_by P [] h = tt
-all_by P (x ∷ xs) h = (h 0 x (omega arith), all_by P xs (λ k d lt. h (suc k) d (omega (arith, lt))))
-
 module _ (s : Stage) (t : HasTree s) (path : List ℕ) (e : Edit) (m : Made) (ahead : List Choice) (h : IsPutIn (with_ahead s []) path e m) where
   abbrev a : Added
   a = h.adds.added
 
-  abbrev b : IsBoxPut h.old h.new s.time a h.box.key
-  b = h.adds.put
+  -- what came in
+  came : CameIn h.old h.new a h.box.key
+  came = came_in h.old h.new s.time a h.box.key h.stands.puts h.adds.put
 
   abbrev ready : Patch
-  ready = b.ready
-
-  abbrev place : Place
-  place = last_place h.old a.canvas
-
-  abbrev cell : Cell
-  cell = b.plain.cell
-
-  abbrev C : ComesIn ready h.new a.known.names place b.seed h.box.key
-  C = b.put.comes
+  ready = came.ready
 
   stands_at : StandsAt h.old s
   stands_at = record { net = h.stands.net; states = h.stands.states; puts = h.stands.puts; meet = h.stands.meet }
 
   ready_stands : GroveStands ready.grove t.tree.sheet t.tree.boxes
-  ready_stands = room_stands s t h.old stands_at ready b.room
+  ready_stands = room_stands s t h.old stands_at ready came.room
 
   ready_can : CanPut ready
-  ready_can = room_put h.old ready b.room h.stands.puts
+  ready_can = room_put h.old ready came.room h.stands.puts
 
-  went : WentTo h.old s.base.counts s.file path e (known_at s) a
-  went = went_to h.old s.base.counts s.file path e (known_at s) h.adds.comes.fetches a h.adds.comes.comes
-
-  is_leaf : a.boxes ≡ Leaf cell Done
-  is_leaf = b.plain.single
-
-  -- it is the last box of its canvas
-  keys_ready : keys_at ready.grove a.canvas ≡ keys_at h.old.grove a.canvas
-  keys_ready = keys_same h.old.grove ready.grove b.room.grove a.canvas
-
-  before_is : keys_before ready place ≡ keys_at ready.grove a.canvas
-  before_is = ap (λ (ks : List ℕ). take (length ks) (keys_at ready.grove a.canvas)) (sym keys_ready) ∙ take-length (keys_at ready.grove a.canvas)
-
-  behind_is : keys_behind ready place ≡ []
-  behind_is = ap (λ (ks : List ℕ). drop (length ks) (keys_at ready.grove a.canvas)) (sym keys_ready) ∙ drop-length (keys_at ready.grove a.canvas)
-
-  part : HasPartMore (get ready.grove.nodes) (get h.new.grove.nodes) (get ready.grove.boards) (get h.new.grove.boards) a.canvas h.box.key (keys_before ready place) (keys_behind ready place)
-  part =
-      let F : IsForest (get ready.grove.nodes) (get ready.grove.boards) ready.grove.root = ready_can.forest in
-      let G : IsForest (get h.new.grove.nodes) (get h.new.grove.boards) ready.grove.root =
-      forest_more (get ready.grove.nodes) (get h.new.grove.nodes) (get ready.grove.boards) (get h.new.grove.boards) ready.grove.root a.canvas h.box.key (node_of a.canvas b.seed)
-      (keys_before ready place) (keys_behind ready place) C.grove F in
-      part_more (get ready.grove.nodes) (get h.new.grove.nodes) (get h.new.grove.nodes) (get ready.grove.boards) (get h.new.grove.boards) (get h.new.grove.boards) ready.grove.root a.canvas h.box.key
-      (node_of a.canvas b.seed) (keys_before ready place) (keys_behind ready place) C.grove (λ l d live. refl) (λ x live. refl) refl F G
+  led : sub_reached h.old.grove (Some h.old.grove.root) path ≡ Some a.canvas
+  led = leads h.old h.new s.base.counts s.file path s.time e (known_at s) h.after h.box h.adds
 
   last : HasBoxLast ready.grove h.new.grove path a.canvas h.box.key
   last = record {
     forest = ready_can.forest;
-    leads = sub_stays h.old.grove ready.grove b.room.grove path (Some ready.grove.root) ∙ ap (λ (r : ℕ). sub_reached h.old.grove (Some r) path) b.room.grove.root ∙ went.leads;
-    part = subst (λ (ks : List ℕ). HasPartMore (get ready.grove.nodes) (get h.new.grove.nodes) (get ready.grove.boards) (get h.new.grove.boards) a.canvas h.box.key ks []) before_is
-        (subst (λ (ks : List ℕ). HasPartMore (get ready.grove.nodes) (get h.new.grove.nodes) (get ready.grove.boards) (get h.new.grove.boards) a.canvas h.box.key (keys_before ready place) ks) behind_is part);
-    root = C.root;
+    leads = sub_stays h.old.grove ready.grove came.room.grove path (Some ready.grove.root) ∙ ap (λ (r : ℕ). sub_reached h.old.grove (Some r) path) came.room.grove.root ∙ led;
+    part = came.part;
+    root = came.root;
   }
 
   -- the tree with it
   abbrev pub more_tree : Tree
-  more_tree = put_at path (Leaf cell Done) t.tree
-
-  seen : option_map node_seen (get h.new.grove.nodes h.box.key) ≡ Some (record { board = a.canvas; cell = cell; inner = None })
-  seen = ap (option_map node_seen) C.grove.is ∙ ap (λ (x : Stand). Some (record { board = a.canvas; cell = x.cell; inner = None })) b.is_row
+  more_tree = put_at path a.boxes t.tree
 
   stands_more : GroveStands h.new.grove more_tree.sheet more_tree.boxes
-  stands_more = grove_put ready.grove h.new.grove path a.canvas h.box.key t.tree (Leaf cell Done) last ready_stands (seen, tt)
+  stands_more = grove_put ready.grove h.new.grove path a.canvas h.box.key t.tree a.boxes last ready_stands came.stands
 
   counted_more : m.base.counts ≡ with_boxes h.old.rate a.boxes s.base.counts
-  counted_more = ap (λ (x : Base). x.counts) h.base ∙ h.adds.counts ∙ went.counts
+  counted_more = ap (λ (x : Base). x.counts) h.base ∙ h.adds.counts ∙ h.adds.grew.counts
 
   boxes_more : m.base.counts.boxes ≡ weight more_tree.boxes
   boxes_more =
       let along = path_along ready.grove path a.canvas t.tree ready_can.forest ready_stands last.leads in
-      let one : m.base.counts.boxes ≡ s.base.counts.boxes + weight (Leaf cell Done) = ap (λ (n : Counts). n.boxes) counted_more ∙ ap (λ (x : Trees). s.base.counts.boxes + weight x) is_leaf in
-      let more : weight more_tree.boxes ≡ weight t.tree.boxes + 1 = weight_put cell path t.tree along.0 along.1 in
+      let one : m.base.counts.boxes ≡ s.base.counts.boxes + weight a.boxes = ap (λ (n : Counts). n.boxes) counted_more in
+      let more : weight more_tree.boxes ≡ weight t.tree.boxes + weight a.boxes = weight_put a.boxes path t.tree along.0 along.1 in
       let was : s.base.counts.boxes ≡ weight t.tree.boxes = t.boxes in
-      let first : weight (Leaf cell Done) ≡ 1 = refl in
-      omega (arith, one, more, was, first)
+      omega (arith, one, more, was)
 
   wires_more : m.base.counts.wires ≡ wires_told m.net.web
   wires_more =
-      let was : s.base.counts.wires ≡ wires_told ready.web = room_wires s t h.old stands_at ready b.room in
-      let same : wires_told h.new.web ≡ wires_told ready.web = lines_as_many ready.web h.new.web C.ports.lines in
-      let none : m.base.counts.wires ≡ s.base.counts.wires + 0 = ap (λ (n : Counts). n.wires) counted_more ∙ ap (λ (x : Trees). s.base.counts.wires + wires_inside x) is_leaf in
+      let was : s.base.counts.wires ≡ wires_told ready.web = room_wires s t h.old stands_at ready came.room in
+      let same : wires_told h.new.web ≡ wires_told ready.web = lines_as_many ready.web h.new.web came.lines in
+      let sum : m.base.counts.wires ≡ s.base.counts.wires + wires_inside a.boxes = ap (λ (n : Counts). n.wires) counted_more in
+      let none : wires_inside a.boxes ≡ 0 = came.no_wires in
       let net : wires_told m.net.web ≡ wires_told h.new.web = ap (λ (n : Net). wires_told n.web) h.net in
-      omega (arith, was, same, none, net)
+      omega (arith, was, same, sum, none, net)
+
+  -- its path has no more numbers than canvases lie in one another
+  low_more : deep more_tree.boxes ≤ 255
+  low_more =
+      let low : deep t.tree.boxes ≤ 255 = t.shallow in
+      let short : length path ≤ deep t.tree.boxes =
+      path_short h.old.grove t.tree.sheet t.tree.boxes path a.canvas (at_stands s t h.old stands_at) (sub_leads h.old.grove h.old.grove.root a.canvas path led) in
+      let here : length path + deep a.boxes ≤ 255 =
+      low_here h.old h.new s.base.counts s.file path s.time e (known_at s) h.after h.box h.adds (omega (arith, low, short)) in
+      let most : deep more_tree.boxes ≤ max (deep t.tree.boxes) (length path + deep a.boxes) = deep_put a.boxes path t.tree in
+      omega (arith, low, here, most)
 
   pub new_tree : HasTree (stage_by (with_ahead s ahead) (Makes m))
   new_tree = record {
     patch = h.new;
     tree = more_tree;
     stands = stands_more;
-    of = stage_of h.new (stage_by (with_ahead s ahead) (Makes m)) h.net b.goes_on.runs;
-    shallow = subst (λ (n : ℕ). n ≤ 255) (sym (deep_put cell path t.tree)) t.shallow;
+    of = stage_of h.new (stage_by (with_ahead s ahead) (Makes m)) h.net came.goes_on.runs;
+    shallow = low_more;
     boxes = boxes_more;
     wires = wires_more;
     within = h.within;
-    own = b.goes_on.forest.own;
-    apart = b.goes_on.apart;
+    own = came.goes_on.forest.own;
+    apart = came.goes_on.apart;
   }
 
   -- the names of the table after it
@@ -370,27 +337,18 @@ module _ (s : Stage) (t : HasTree s) (path : List ℕ) (e : Edit) (m : Made) (ah
   abbrev Same : Names → Names → Placed → Type 0
   Same names more p = owned_by more p.is_top p.cell ≡ owned_by names p.is_top p.cell
 
-  steady : (more : Names) → Extends a.known.names more → owned_by more true cell ≡ owned_by a.known.names true cell
-  steady =
-      let last : Stock = (growth_at h.old s.base.counts s.file path went.entry went.last).stock in
-      let grew = growth_is (own_zero h.old) s.base.counts s.file (255 - length path) went.entry went.last in
-      let leaf = sym grew ∙ went.grew ∙ ap (λ (x : Trees). gives x last) is_leaf in
-      let row : AllByRecursion (IsOf a.known.names) b.seed.row.text = all_by (IsOf a.known.names) b.seed.row.text b.suits.0.0 in
-      let text : AllByRecursion (IsOf a.known.names) cell.text = subst (λ (x : Stand). AllByRecursion (IsOf a.known.names) x.cell.text) b.is_row row in
-      let own : AllByRecursion (IsOf last.names) cell.text = subst (λ (n : Names). AllByRecursion (IsOf n) cell.text) went.names text in
-      subst (λ (n : Names). (more : Names) → Extends n more → owned_by more true cell ≡ owned_by n true cell) (sym went.names)
-      (leaf_steady (answer_in went.last.files) (without_ending s.file) (255 - length path) (inside_grown (answer_in went.last.files) (without_ending s.file) (255 - length path))
-      (around_root (own_zero h.old)) went.entry (stock_by went.last.names s.base.counts) last cell own leaf)
+  own_more : (more : Names) → Extends a.known.names more → (top : Bool) → AllByRecursion (Same a.known.names more) (placed_in_order top a.boxes)
+  own_more more x top = own_steady h.old h.new s.base.counts s.file path s.time e (known_at s) h.after h.box h.adds more x top
 
   pub new_owners : HasOwners s t.patch t.tree → HasOwners (stage_by (with_ahead s ahead) (Makes m)) h.new more_tree
   new_owners o =
-      let q : HasOwners s ready t.tree = room_owners s t h.old stands_at ready b.room o in
+      let q : HasOwners s ready t.tree = room_owners s t h.old stands_at ready came.room o in
       let on : Extends q.table m.names = extends_on q.table s.names m.names q.goes_on h.more in
       let onward : Extends q.table a.known.names = subst (λ (n : Names). Extends q.table n) names_are on in
       let low : deep t.tree.boxes ≤ 256 = (let l = t.shallow in omega (arith, l)) in
       let before : OwnersStand ready a.known.names s.file = λ class name.
       q.owners class name ∙ sym (owners_alike q.table a.known.names s.file ready.grove t.tree.sheet t.tree.boxes class name ready_stands low (q.alike a.known.names onward)) in
-      let after : OwnersStand h.new a.known.names s.file = C.owners s.file before in
+      let after : OwnersStand h.new a.known.names s.file = came.owners s.file before in
       record {
         table = m.names;
         goes_on = extends_same m.names;
@@ -400,15 +358,15 @@ module _ (s : Stage) (t : HasTree s) (path : List ℕ) (e : Edit) (m : Made) (ah
             let further : OwnAlike q.table more s.file t.tree.boxes = q.alike more (extends_on q.table a.known.names more onward x) in
             record {
               root = further.root ∙ sym first.root;
-              boxes = all_put (Same a.known.names more) cell (owned_anywhere a.known.names more cell (steady more x)) path true t.tree
+              boxes = all_put (Same a.known.names more) a.boxes (own_more more x) path true t.tree
                   (all_both (Same q.table a.known.names) (Same q.table more) (Same a.known.names more) (λ p f g. g ∙ sym f) (placed_in_order true t.tree.boxes) first.boxes further.boxes);
             });
       }
 
 -- ---- a box went
 
-owners_stay : (p q : Patch) (table : Names) (file : List ℕ) → q.names ≡ p.names → q.grove ≡ p.grove → OwnersStand p table file → OwnersStand q table file
-owners_stay p q table file names grove o = λ class name. rw (names, grove) (o class name)
+owners_kept : (p q : Patch) (table : Names) (file : List ℕ) → q.names ≡ p.names → q.grove ≡ p.grove → OwnersStand p table file → OwnersStand q table file
+owners_kept p q table file names grove o = λ class name. rw (names, grove) (o class name)
 
 module _ (s : Stage) (t : HasTree s) (path : List ℕ) (number : ℕ) (m : Made) (ahead : List Choice) (h : IsTakenOut (with_ahead s []) path number m) where
   abbrev key : ℕ
@@ -494,7 +452,7 @@ module _ (s : Stage) (t : HasTree s) (path : List ℕ) (number : ℕ) (m : Made)
       let low : deep t.tree.boxes ≤ 256 = (let l = t.shallow in omega (arith, l)) in
       let before : OwnersStand h.old s.names s.file = λ class name.
       o class name ∙ sym (owners_alike table s.names s.file h.old.grove t.tree.sheet t.tree.boxes class name (at_stands s t h.old stands_first) low same) in
-      owners_less roomed h.new s.names spot key h.steps h.steps' h.deletes.removed s.file (owners_stay h.old roomed s.names s.file h.deletes.room.names h.deletes.room.grove before)
+      owners_less roomed h.new s.names spot key h.steps h.steps' h.deletes.removed s.file (owners_kept h.old roomed s.names s.file h.deletes.room.names h.deletes.room.grove before)
 
   pub lost_owners : HasOwners s t.patch t.tree → HasOwners (stage_by (with_ahead s ahead) (Makes m)) h.new fewer_tree
   lost_owners o =
@@ -513,13 +471,71 @@ module _ (s : Stage) (t : HasTree s) (path : List ℕ) (number : ℕ) (m : Made)
             });
       }
 
+-- ---- a box moved
+
+-- what a box owns hangs on no place
+same_placed : (names more : Names) (x y : ℤ) (top : Bool) (c : Cell) → owned_by more top c ≡ owned_by names top c → owned_by more top (cell_at x y c) ≡ owned_by names top (cell_at x y c)
+same_placed names more x y top c e = owned_placed more top x y c c.kind ∙ e ∙ sym (owned_placed names top x y c c.kind)
+
+module _ (s : Stage) (t : HasTree s) (path : List ℕ) (number : ℕ) (x y : ℤ) (m : Made) (ahead : List Choice) (h : IsMovedTo (with_ahead s []) path number x y m) where
+  stands_where : StandsAt h.old s
+  stands_where = record { net = h.stands.net; states = h.stands.states; puts = h.stands.puts; meet = h.stands.meet }
+
+  runs_still : CanPut h.new
+  runs_still = still_put h.old h.new path number x y h.key h.moves h.stands.puts
+
+  -- the tree with it at its place
+  abbrev pub other_tree : Tree
+  other_tree = shifted_at path number x y t.tree
+
+  stands_other : GroveStands h.new.grove other_tree.sheet other_tree.boxes
+  stands_other =
+      let g : Grove = h.old.grove in
+      let at = is_moving g number (sub_reached g (Some g.root) path) h.moves.canvas h.key h.moves.is in
+      grove_shifted g h.new.grove h.moves.canvas h.key number x y h.stands.puts.forest at.is h.moves.box path t.tree at.leads (at_stands s t h.old stands_where)
+
+  wires_still : m.base.counts.wires ≡ wires_told m.net.web
+  wires_still =
+      ap (λ (b : Base). b.counts.wires) h.base ∙ at_wires s t h.old stands_where
+      ∙ sym (ap (λ (n : Net). wires_told n.web) h.net ∙ ap (λ (w : Web). wires_told w) h.moves.rest.web)
+
+  pub moved_tree : HasTree (stage_by (with_ahead s ahead) (Makes m))
+  moved_tree = record {
+    patch = h.new;
+    tree = other_tree;
+    stands = stands_other;
+    of = stage_of h.new (stage_by (with_ahead s ahead) (Makes m)) h.net runs_still.runs;
+    shallow = subst (λ (n : ℕ). n ≤ 255) (sym (deep_shifted path number x y t.tree)) t.shallow;
+    boxes = ap (λ (b : Base). b.counts.boxes) h.base ∙ t.boxes ∙ sym (weight_same path number x y t.tree);
+    wires = wires_still;
+    within = subst (λ (b : Base). AreWithin b.counts) (sym h.base) t.within;
+    own = runs_still.forest.own;
+    apart = runs_still.apart;
+  }
+
+  abbrev Owns : Names → Names → Placed → Type 0
+  Owns names more p = owned_by more p.is_top p.cell ≡ owned_by names p.is_top p.cell
+
+  pub moved_owners : HasOwners s t.patch t.tree → HasOwners (stage_by (with_ahead s ahead) (Makes m)) h.new other_tree
+  moved_owners o =
+      let q : HasOwners s h.old t.tree = at_owners s t h.old stands_where o in
+      record {
+        table = q.table;
+        goes_on = subst (λ (n : Names). Extends q.table n) (sym h.names) q.goes_on;
+        owners = owners_stay h.old h.new path number x y h.key q.table s.file h.moves q.owners;
+        alike = λ more on.
+            let was : OwnAlike q.table more s.file t.tree.boxes = q.alike more on in
+            record { root = was.root; boxes = all_shifted (Owns q.table more) x y (same_placed q.table more x y) path number true t.tree was.boxes };
+      }
+
 -- ---- any edit
 
 pub altered_tree : (s r : Stage) → Alters s r → HasTree s → HasTree r
 altered_tree s r (inl c) t = changed_tree s r c t
 altered_tree s r (inr (inl b)) t = subst HasTree (sym b.is) (new_tree s t b.path b.edit b.made b.ahead b.put)
 altered_tree s r (inr (inr (inl b))) t = subst HasTree (sym b.is) (lost_tree s t b.path b.number b.made b.ahead b.taken)
-altered_tree s r (inr (inr (inr l))) t = subst HasTree (sym l.is) (roomy_tree s t l.path l.edit l.net l.ahead l.short)
+altered_tree s r (inr (inr (inr (inl b)))) t = subst HasTree (sym b.is) (moved_tree s t b.path b.number b.x b.y b.made b.ahead b.moved)
+altered_tree s r (inr (inr (inr (inr l)))) t = subst HasTree (sym l.is) (roomy_tree s t l.path l.edit l.net l.ahead l.short)
 
 -- a tree that stands, with the owners of names
 pub record HasBoth (s : Stage) : Type 0 where
@@ -527,7 +543,7 @@ pub record HasBoth (s : Stage) : Type 0 where
   pub owners : HasOwners s tree.patch tree.tree
 
 pub altered_both : (s r : Stage) → Alters s r → HasBoth s → HasBoth r
-unfolding changed_tree new_tree lost_tree roomy_tree
+unfolding changed_tree new_tree lost_tree moved_tree roomy_tree
 altered_both s r (inl c) t = record { tree = changed_tree s r c t.tree; owners = changed_owners s r t.tree.patch t.tree.tree c t.owners }
 altered_both s r (inr (inl n)) t =
     subst HasBoth (sym n.is) (record {
@@ -539,7 +555,12 @@ altered_both s r (inr (inr (inl b))) t =
       tree = lost_tree s t.tree b.path b.number b.made b.ahead b.taken;
       owners = lost_owners s t.tree b.path b.number b.made b.ahead b.taken t.owners;
     })
-altered_both s r (inr (inr (inr l))) t =
+altered_both s r (inr (inr (inr (inl b)))) t =
+    subst HasBoth (sym b.is) (record {
+      tree = moved_tree s t.tree b.path b.number b.x b.y b.made b.ahead b.moved;
+      owners = moved_owners s t.tree b.path b.number b.x b.y b.made b.ahead b.moved t.owners;
+    })
+altered_both s r (inr (inr (inr (inr l)))) t =
     subst HasBoth (sym l.is) (record {
       tree = roomy_tree s t.tree l.path l.edit l.net l.ahead l.short;
       owners = roomy_owners s t.tree l.path l.edit l.net l.ahead l.short t.owners;

@@ -32,7 +32,7 @@ spots_placed : (boards : ℕ → Option Board) (inside : Bool → List ℕ → L
 spots_placed boards inside top k x y None = refl
 spots_placed boards inside top k x y (Some n) = refl
 
-owned_placed : (names : Names) (top : Bool) (x y : ℤ) (c : Cell) (k : Kind) → owned_by_kind names top (cell_at x y c) k ≡ owned_by_kind names top c k
+pub owned_placed : (names : Names) (top : Bool) (x y : ℤ) (c : Cell) (k : Kind) → owned_by_kind names top (cell_at x y c) k ≡ owned_by_kind names top c k
 owned_placed names top x y c (kind.Glue g) = refl
 owned_placed names top x y c (kind.Signal s) = refl
 owned_placed names top x y c (kind.Panel p) = refl
