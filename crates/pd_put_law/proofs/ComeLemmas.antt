@@ -1,15 +1,13 @@
--- The box that an edit put comes last into a canvas of the patch's own document, and has no wires.
-use Rattle.std.proofs.Common.{◌≡◌, ◌≢◌, ◌≤◌, ◌<◌, ◌+◌, ◌-◌, ℕ, zero, suc, Bool, true, false, max, ◌&&◌, nat_lt, if◌then◌else◌, ◌==◌, List, [], ◌∷◌, ◌++◌, length, map, slice_get, Option, Some, None, IsSome, Result, Ok, Err, IfSome, refl, sym, ap, ◌∙◌, subst, arith, true≢false}
-use Rattle.std.specs.Prelude.{option_map, option_and_then, take, drop}
+-- The box that an edit put stands last in its canvas, and the tree with it runs and grows again.
+use Rattle.std.proofs.Common.{◌≡◌, ◌≢◌, ◌≤◌, ◌+◌, ◌-◌, ℕ, zero, suc, Bool, true, false, max, ◌&&◌, nat_lt, if◌then◌else◌, ◌==◌, List, [], ◌∷◌, ◌++◌, length, Option, Some, None, Result, Ok, Err, IfSome, ◌⊎◌, inl, inr, refl, sym, ap, ◌∙◌, subst, arith, true≢false}
+use Rattle.std.specs.Prelude.{option_map}
 use mathlib.Core.Logic.{⊎_elim}
-use Rattle.std.proofs.lemmas.Bool.{cases_eq}
 use Rattle.std.proofs.lemmas.Bool.Decides.{nat_tests}
 use Rattle.std.proofs.lemmas.Option.{none-some, same_Some}
 use Rattle.slab.specs.Slab.{get}
 use Rattle.pd_atom.specs.declared.Atom.{Atom}
 use Rattle.pd_atom.specs.Names.{Names, Extends}
 use Rattle.pd_atom.proofs.NameLemmas.{six_names}
-use Rattle.pd_clock.specs.declared.times.Rate.{Rate}
 use Rattle.pd_kind.specs.States.{start_of}
 use Rattle.pd_kind.specs.Tables.{started}
 use Rattle.pd_canvas.specs.declared.edits.Edit.{Edit}
@@ -19,53 +17,32 @@ use Rattle.pd_canvas.specs.Proper.{levels, levels_of, AreReady}
 use Rattle.pd_library.specs.Files.{answer_in}
 use Rattle.pd_library.specs.declared.answers.Answer.{Answer}
 use Rattle.pd_tree.specs.declared.rows.Sheet.{Sheet}
-use Rattle.pd_tree.specs.Ports.{is_made}
-use Rattle.pd_tree.specs.Trees.{Cell, Stand, Trees, Done, Leaf, Tree, document_boxes}
+use Rattle.pd_tree.specs.Trees.{Cell, Stand, Trees, Done, Leaf, Holder, Tree, stand_of, document_boxes}
 use Rattle.pd_growth.specs.Steps.{gives}
 use Rattle.pd_growth.specs.Growth.{Inner, around_root, box_grown, without_ending}
 use Rattle.pd_grove.specs.declared.boards.Board.{Board}
 use Rattle.pd_grove.specs.declared.nodes.Node.{Node}
-use Rattle.pd_grove.specs.declared.ports.Side.{Side}
-use Rattle.pd_grove.specs.declared.ports.Side.TheVariants.{Inlets, Outlets}
-use Rattle.pd_grove.specs.declared.seeds.Seed.{Seed}
-use Rattle.pd_grove.specs.Forest.{holder_in}
-use Rattle.pd_grove.specs.Grafts.{HasBoxMore, HasPartMore, sheet_in}
 use Rattle.pd_grove.specs.OwnPaths.{sub_reached}
-use Rattle.pd_grove.specs.Owning.{board_in}
-use Rattle.pd_grove.specs.Standing.{BoardSeen, board_seen, node_seen, depth_of, Stands}
-use Rattle.pd_grove.specs.Telling.{inner_in, keys_in}
+use Rattle.pd_grove.specs.Standing.{BoardSeen, board_seen, node_seen, with_inner, depth_of, Stands}
 use Rattle.pd_grove.specs.TextOrder.{is_sub}
-use Rattle.pd_grove.proofs.GraftLemmas.{is_some}
-use Rattle.pd_grove.proofs.UseLemmas.{not_both}
-use Rattle.pd_web.specs.declared.jacks.Jack.{Jack}
-use Rattle.pd_web.specs.declared.sockets.Port.{Port}
-use Rattle.pd_web.specs.declared.web.Web.{Web}
-use Rattle.pd_web.specs.Canvases.{keys_at}
-use Rattle.pd_web.specs.Hops.{ports_told, fan_hops, feed_hops, hop_from, feeds_under}
-use Rattle.pd_web.specs.Jacks.{kind_jacks}
-use Rattle.pd_web.specs.Sockets.{ports_at, jacks_of}
-use Rattle.pd_ports.specs.Boxes.{HasPorts}
 use Rattle.pd_patch.specs.declared.patch.Patch.{Patch}
 use Rattle.pd_wiring.specs.declared.refusals.EditRefusal.{EditRefusal}
 use Rattle.pd_wiring.specs.declared.refusals.EditRefusal.TheVariants.{TextTooLong, TooDeep}
 use Rattle.pd_gather.specs.Gather.{Known, known, GoesOn}
 use Rattle.pd_gather.proofs.KnownLemmas.{library_of}
-use Rattle.pd_boxes.specs.Put.{node_of, CanPut, IsPut}
+use Rattle.pd_boxes.specs.Put.{node_of, keys_before, keys_behind, CanPut}
 use Rattle.pd_boxes.specs.Room.{SameButRoom}
-use Rattle.pd_boxes.proofs.PortLemmas.{jacks_none}
-use Rattle.pd_boxes.proofs.RoomLemmas.{keys_same, room_put}
-use Rattle.pd_boxes.proofs.WireLemmas.{no_fans}
+use Rattle.pd_subpatches.proofs.PartLemmas.{stands_as_box}
 use Rattle.pd_regrowth_law.specs.Canvases.{Nest, Alone, Inside, nested, AreSubpatches, left_outside}
 use Rattle.pd_regrowth_law.specs.Regrowth.{inner_of}
 use Rattle.pd_regrowth_law.specs.Suits.{AnswersAlike, AreOf, IsEntryOf, TextsOf}
 use Rattle.pd_regrowth_law.proofs.ExpandLemmas.{are_of_more}
 use Rattle.pd_regrowth_law.proofs.StepLemmas.{extends_on}
 use Rattle.pd_reload_law.specs.Reloading.{RunsAs}
-use Rattle.pd_saved_law.proofs.EditLemmas.{stays_among}
 use Rattle.pd_putting_law.specs.Again.{StandsAgain}
 use Rattle.pd_putting_law.specs.Edits.{PutsBox}
 use Rattle.pd_putting_law.specs.Puts.{put_at}
-use Rattle.pd_putting_law.specs.Putting.{HasBoxLast, KeepsWires, ComeFresh, IsBare, element_put}
+use Rattle.pd_putting_law.specs.Putting.{IsBare, element_put}
 use Rattle.pd_putting_law.proofs.AgainLemmas.{stands_on}
 use Rattle.pd_putting_law.proofs.GrownLemmas.{put_bare, put_runs, put_again}
 use Rattle.pd_putting_law.proofs.StandLemmas.{path_along}
@@ -74,144 +51,14 @@ use Rattle.pd_adding.specs.declared.counts.Counts.{Counts}
 use Rattle.pd_adding.specs.Boxes.{settled_edit, box_put, CanBeWritten}
 use Rattle.pd_adding.specs.Coming.{coming_in, coming_by, zero_in, own_zero}
 use Rattle.pd_adding.specs.Counts.{stock_by}
+use Rattle.pd_adding.specs.Growing.{Added}
 use Rattle.pd_adding.specs.Adding.{GrewWith}
 use Rattle.pd_adding.proofs.GrowLemmas.{growth_is}
 use Rattle.pd_adding.proofs.SingleLemmas.{same_inner}
 use Rattle.pd_putting.specs.declared.adding.NewBox.{NewBox}
-use Rattle.pd_putting.specs.Adds.{last_place, AddsBox}
-use Rattle.pd_put_law.proofs.RoomLemmas.{room_subs, room_runs}
-
--- ---- one box more
-
-take_all : (xs : List ℕ) → take (length xs) xs ≡ xs
-take_all [] = refl
-take_all (x ∷ xs) = ap (λ (l : List ℕ). x ∷ l) (take_all xs)
-
-drop_all : (xs : List ℕ) → drop (length xs) xs ≡ []
-drop_all [] = refl
-drop_all (x ∷ xs) = drop_all xs
-
-join_nil : (xs : List ℕ) → xs ++ [] ≡ xs
-join_nil [] = refl
-join_nil (x ∷ xs) = ap (λ (l : List ℕ). x ∷ l) (join_nil xs)
-
--- a box without a canvas, under a key that had none, last in a canvas of the patch's own document, with ports and no wires
-pub record ComesLast (p q : Patch) (path : List ℕ) (c key : ℕ) (n : Node) : Type 0 where
-  pub can : CanPut p
-  pub after : CanPut q
-  pub leads : sub_reached p.grove (Some p.grove.root) path ≡ Some c
-  pub box : HasBoxMore (get p.grove.nodes) (get q.grove.nodes) (get p.grove.boards) (get q.grove.boards) c key n (keys_at p.grove c) []
-  pub root : q.grove.root ≡ p.grove.root
-  pub jacks : Side → List Jack
-  pub made : Bool
-  pub ports : HasPorts p.web q.web key jacks made
-
-no_ports : (ps : List Port) → jacks_of ps ≡ [] → ps ≡ []
-no_ports [] e = refl
-no_ports (p ∷ ps) e = let q = ap (λ (js : List Jack). length js) e in absurd (omega (arith, q))
-
-no_feeds : (w : Web) (k : ℕ) → ports_told w Inlets k ≡ [] → (i : ℕ) → feed_hops w k i ≡ []
-no_feeds w k e i =
-    ap (λ (ps : List Port). map (hop_from w) (feeds_under w.book (option_and_then (λ (p : Port). p.end) (slice_get ps i)))) (no_ports (ports_at w.sockets.items Inlets k) e)
-
-module _ (p q : Patch) (path : List ℕ) (c key : ℕ) (n : Node) (C : ComesLast p q path c key n) where
-  pub keys_more : keys_at q.grove c ≡ keys_at p.grove c ++ key ∷ []
-  keys_more = ap keys_in C.box.keys.is ∙ C.box.keys.has
-
-  pub keys_stay : (d : ℕ) → d ≢ c → keys_at q.grove d ≡ keys_at p.grove d
-  keys_stay d apart = ap keys_in (C.box.keys.others d apart)
-
-  -- a box that was there isn't the new one
-  pub was_there : (k : ℕ) → IsSome (get p.grove.nodes k) → k ≢ key
-  was_there k live e = not_both (get p.grove.nodes k) (ap (get p.grove.nodes) e ∙ C.box.vacant) live
-
-  pub no_fan : (o : ℕ) → fan_hops q.web key o ≡ []
-  no_fan o =
-      C.ports.fans key o
-      ∙ no_fans p.web key (C.can.runs.ports.ports Outlets key ∙ jacks_none p.grove q.grove c key n (keys_at p.grove c) [] C.box Outlets) o
-
-  pub no_feed : (i : ℕ) → feed_hops q.web key i ≡ []
-  no_feed i =
-      C.ports.feeds key i
-      ∙ no_feeds p.web key (C.can.runs.ports.ports Inlets key ∙ jacks_none p.grove q.grove c key n (keys_at p.grove c) [] C.box Inlets) i
-
-  pub keeps : KeepsWires p.grove q.grove p.web q.web p.numbers.items q.numbers.items key
-  keeps = record {
-    inside = λ d. stays_among p d C.can.runs;
-    fans = λ k o live. C.ports.fans k o;
-    bare = no_fan;
-    numbered = C.can.runs.numbers;
-    renumbered = C.after.runs.numbers;
-  }
-
-  -- no canvas is new
-  none_new : (x : ℕ) → get p.grove.boards x ≡ None → get q.grove.boards x ≡ None
-  none_new x none = C.box.keys.others x (λ e. none-some C.box.keys.before (sym none ∙ ap (get p.grove.boards) e ∙ C.box.keys.was)) ∙ none
-
-  no_keys : (x i l : ℕ) → get p.grove.boards x ≡ None → slice_get (keys_at q.grove x) i ≡ Some l → ⊥
-  no_keys x i l none at = none-some l (sym (ap (λ (o : Option Board). slice_get (keys_in o) i) (none_new x none)) ∙ at)
-
-  -- and the box that is holds none
-  holds_none : (l j : ℕ) → get p.grove.nodes l ≡ None → inner_in (get q.grove.nodes l) ≡ Some j → ⊥
-  holds_none l j none h = ⊎_elim
-      (λ (e : l ≡ key). none-some j (sym C.box.bare ∙ ap inner_in (sym C.box.is) ∙ ap (λ (x : ℕ). inner_in (get q.grove.nodes x)) (sym e) ∙ h))
-      (λ (d : l ≢ key). none-some j (sym (ap inner_in (C.box.others l d ∙ none)) ∙ h)) (cases_eq l key)
-
-  part : HasPartMore (get p.grove.nodes) (get q.grove.nodes) (get p.grove.boards) (get q.grove.boards) c key (keys_at p.grove c) []
-  part =
-      let K = C.box.keys in
-      record {
-        vacant = C.box.vacant;
-        lies = ap board_in C.box.is ∙ ap (λ (x : ℕ). Some x) C.box.lies;
-        boxes_stay = λ l live. C.box.others l (was_there l live);
-        canvases_stay = λ x apart live. K.others x apart;
-        live = is_some (get p.grove.boards c) K.before K.was;
-        lives = is_some (get q.grove.boards c) K.after K.is;
-        holder = ap holder_in K.is ∙ K.holder ∙ sym (ap holder_in K.was);
-        depth = ap depth_of K.is ∙ K.depth ∙ sym (ap depth_of K.was);
-        sheet = ap sheet_in K.is ∙ ap (λ (x : Sheet). Some x) K.sheet ∙ sym (ap sheet_in K.was);
-        had = ap keys_in K.was ∙ K.had;
-        has = keys_more;
-        home = λ x i l none at. absurd (no_keys x i l none at);
-        once = λ x i m l none at there. absurd (no_keys x i l none at);
-        placed = λ l x none d lies. absurd (none-some x (sym (ap board_in (C.box.others l d ∙ none)) ∙ lies));
-        inside = λ l j none h. absurd (holds_none l j none h);
-        held = λ x l none h. absurd (none-some l (sym (ap holder_in (none_new x none)) ∙ h));
-        deeper = λ l x j none lies h. absurd (holds_none l j none h);
-        closed = λ x none live. absurd (not_both (get q.grove.boards x) (none_new x none) live);
-        low = λ x none. subst (λ (d : ℕ). d < 257) (sym (ap depth_of (none_new x none))) (omega arith);
-      }
-
-  pub last : HasBoxLast p.grove q.grove path c key
-  last = record { forest = C.can.forest; leads = C.leads; part = part; root = C.root }
-
-  -- what came keeps what its kind keeps at first
-  pub come_fresh : (rate : Rate) (now : ℕ) → n.state ≡ Some (started (start_of n.kind rate) now) → ComeFresh rate now (get p.grove.nodes) (get q.grove.nodes)
-  come_fresh rate now fresh k m none is = ⊎_elim
-      (λ (e : k ≡ key).
-      let same : n ≡ m = same_Some n m (sym C.box.is ∙ ap (get q.grove.nodes) (sym e) ∙ is) in
-      subst (λ (x : Node). x.state ≡ Some (started (start_of x.kind rate) now)) same fresh)
-      (λ (d : k ≢ key). absurd (none-some m (sym (C.box.others k d ∙ none) ∙ is))) (cases_eq k key)
-
--- where a box was put last, it comes so
-pub put_comes : (old p q : Patch) (table : Names) (path : List ℕ) (c key : ℕ) (s : Seed) → SameButRoom old p → CanPut old → CanPut q → IsPut p q table (last_place old c) s key
-    → sub_reached old.grove (Some old.grove.root) path ≡ Some c → ComesLast p q path c key (node_of c s)
-put_comes old p q table path c key s room can after put leads =
-    let ks = keys_at p.grove c in
-    let many : length (keys_at old.grove c) ≡ length ks = ap (λ (l : List ℕ). length l) (sym (keys_same old.grove p.grove room.grove c)) in
-    let before : take (length (keys_at old.grove c)) ks ≡ ks = ap (λ (m : ℕ). take m ks) many ∙ take_all ks in
-    let behind : drop (length (keys_at old.grove c)) ks ≡ [] = ap (λ (m : ℕ). drop m ks) many ∙ drop_all ks in
-    let More : List ℕ → List ℕ → Type 0 = HasBoxMore (get p.grove.nodes) (get q.grove.nodes) (get p.grove.boards) (get q.grove.boards) c key (node_of c s) in
-    record {
-      can = room_put old p room can;
-      after = after;
-      leads = room_subs old.grove p.grove room.grove path ∙ leads;
-      box = subst (More ks) behind (subst (λ (l : List ℕ). More l (drop (length (keys_at old.grove c)) ks)) before put.comes.grove);
-      root = put.comes.root;
-      jacks = λ side. kind_jacks side s.row.kind;
-      made = is_made s.row.kind;
-      ports = put.comes.ports;
-    }
+use Rattle.pd_putting.specs.Adds.{last_place, IsBoxPut, IsSubPut, HasCome, AddsBox}
+use Rattle.pd_put_law.proofs.RoomLemmas.{room_runs}
+use Rattle.pd_put_law.proofs.LastLemmas.{ComesLast, keeps, last, come_fresh, leaf_last, shell_last}
 
 -- ---- the element of the edit
 
@@ -341,20 +188,75 @@ if_some : {X : Type 0} (P : X → Type 0) (o : Option X) (x : X) → o ≡ Some 
 if_some P None x e h = absurd (none-some x e)
 if_some P (Some y) x e h = subst P (same_Some y x e) h
 
+-- ---- the box that came
+
+-- What came in, by this node, is a box of a cell: one without a canvas, or a subpatch, which has no boxes. Room was set aside for it.
+pub record HasComeIn (old new : Patch) (now : ℕ) (a : Added) (path : List ℕ) (key : ℕ) : Type 0 where
+  pub ready : Patch
+  pub room : SameButRoom old ready
+  pub last : ComesLast ready new path a.canvas key
+  pub node : Node
+  pub is : get new.grove.nodes key ≡ Some node
+  pub state : node.state ≡ Some (started (start_of node.kind old.rate) now)
+  pub stands : Stands (get new.grove.nodes) (get new.grove.boards) a.canvas (depth_of (get ready.grove.boards a.canvas)) (key ∷ []) a.boxes
+  pub cell : Cell
+  pub is_cell : (node_seen node).cell ≡ cell
+  pub sort : (a.boxes ≡ Leaf cell Done) ⊎ (cell.head.form ≡ Sub)
+
+module _ (old new : Patch) (now : ℕ) (a : Added) (path : List ℕ) (key : ℕ) (can : CanPut old) (leads : sub_reached old.grove (Some old.grove.root) path ≡ Some a.canvas) where
+  leaf_in : IsBoxPut old new now a key → HasComeIn old new now a path key
+  leaf_in P =
+      let n : Node = node_of a.canvas P.seed in
+      let C = leaf_last old P.ready new a.known.names path a.canvas key P.seed P.room can P.goes_on leads P.put in
+      let is : get new.grove.nodes key ≡ Some n = P.put.comes.grove.is in
+      let same : (node_seen n).cell ≡ P.plain.cell = ap (λ (x : Stand). x.cell) P.is_row in
+      record {
+        ready = P.ready;
+        room = P.room;
+        last = C;
+        node = n;
+        is = is;
+        state = ap (λ x. Some x) P.fresh;
+        stands = subst (Stands (get new.grove.nodes) (get new.grove.boards) a.canvas (depth_of (get P.ready.grove.boards a.canvas)) (key ∷ [])) (sym P.plain.single)
+            (ap (option_map node_seen) is ∙ ap (λ (x : Cell). Some (record { board = a.canvas; cell = x; inner = None })) same, tt);
+        cell = P.plain.cell;
+        is_cell = same;
+        sort = inl P.plain.single;
+      }
+
+  sub_in_it : IsSubPut old new now a key → HasComeIn old new now a path key
+  sub_in_it P =
+      let G = P.put.comes.grove in
+      let n : Node = with_inner P.put.comes.canvas (node_of a.canvas P.seed) in
+      let same : (node_seen n).cell ≡ P.sub.cell = ap (λ (x : Stand). x.cell) P.is_row in
+      let sheet : P.put.comes.board.sheet ≡ P.sub.sheet =
+      same_Some P.put.comes.board.sheet P.sub.sheet (sym P.put.comes.sheet ∙ ap (λ (x : Stand). x.sheet) P.is_row) in
+      let boxes : Holder (stand_of P.seed.row).cell P.put.comes.board.sheet Done Done ≡ a.boxes =
+      ap (λ (x : Cell). Holder x P.put.comes.board.sheet Done Done) same ∙ ap (λ (s : Sheet). Holder P.sub.cell s Done Done) sheet ∙ sym P.sub.single in
+      record {
+        ready = P.ready;
+        room = P.room;
+        last = shell_last old P.ready new a.known.names path a.canvas key P.seed P.room can P.goes_on leads
+            (ap (λ (x : Cell). x.head.form) same ∙ P.sub.form) P.put;
+        node = n;
+        is = G.canvas.is;
+        state = ap (λ x. Some x) P.fresh;
+        stands = subst (Stands (get new.grove.nodes) (get new.grove.boards) a.canvas (depth_of (get P.ready.grove.boards a.canvas)) (key ∷ [])) boxes
+            (stands_as_box (get P.ready.grove.nodes) (get new.grove.nodes) (get P.ready.grove.boards) (get new.grove.boards) P.ready.grove.root a.canvas key P.put.comes.canvas P.seed
+            P.put.comes.board (keys_before P.ready (last_place old a.canvas)) (keys_behind P.ready (last_place old a.canvas)) G);
+        cell = P.sub.cell;
+        is_cell = same;
+        sort = inr P.sub.form;
+      }
+
+  pub come_in : HasCome old new now a key → HasComeIn old new now a path key
+  come_in put = ⊎_elim leaf_in sub_in_it put
+
 -- ---- an edit that put a box
 
 module _ (old new : Patch) (n : Counts) (name path : List ℕ) (now : ℕ) (e : Edit) (k after : Known) (b : NewBox) (X : AddsBox old new n name path now e k after b) where
-  abbrev pub ready : Patch
-  ready = X.put.ready
-
-  abbrev pub cell : Cell
-  cell = X.put.plain.cell
-
   abbrev pub box : Trees
-  box = Leaf cell Done
-
-  abbrev pub node : Node
-  node = node_of X.added.canvas X.put.seed
+  box = X.added.boxes
 
   -- what was known when it grew
   abbrev pub files : Known
@@ -385,18 +287,8 @@ module _ (old new : Patch) (n : Counts) (name path : List ℕ) (now : ℕ) (e : 
   pub written : CanBeWritten k.names element
   written = if_some (CanBeWritten k.names) (box_put (settled_edit k.names e)) element may.is X.written
 
-  pub comes : CanPut old → ComesLast ready new path X.added.canvas b.key node
-  comes can = put_comes old ready new X.added.known.names path X.added.canvas b.key X.put.seed X.put.room can X.put.goes_on X.put.put may.leads
-
-  pub node_cell : (node_seen node).cell ≡ cell
-  node_cell = ap (λ (x : Stand). x.cell) X.put.is_row
-
-  pub node_fresh : node.state ≡ Some (started (start_of node.kind old.rate) now)
-  node_fresh = ap (λ x. Some x) X.put.fresh
-
-  pub stands : CanPut old → (d : ℕ) → Stands (get new.grove.nodes) (get new.grove.boards) X.added.canvas d (b.key ∷ []) box
-  stands can d =
-      (ap (option_map node_seen) (comes can).box.is ∙ ap (λ (x : Cell). Some (record { board = X.added.canvas; cell = x; inner = None })) node_cell, tt)
+  pub came : CanPut old → HasComeIn old new now X.added path b.key
+  came can = come_in old new now X.added path b.key can may.leads X.put
 
   pub known_names : after.names ≡ grew_so.after.names
   known_names = ap (λ (x : Known). x.names) (X.known_is ∙ grew_so.known_is)
@@ -408,6 +300,12 @@ module _ (old new : Patch) (n : Counts) (name path : List ℕ) (now : ℕ) (e : 
   low = levels_fit element.head.form element.page.boxes (length path) bare.boxes may.low
 
   module _ (can : CanPut old) (t : Tree) (R : RunsAs old.grove t) (A : StandsAgain (answer_in k.files) name k.names t) where
+    abbrev in_it : HasComeIn old new now X.added path b.key
+    in_it = came can
+
+    abbrev ready : Patch
+    ready = in_it.ready
+
     abbrev lib : ℕ → Option Answer
     lib = answer_in files.files
 
@@ -415,7 +313,7 @@ module _ (old new : Patch) (n : Counts) (name path : List ℕ) (now : ℕ) (e : 
     left = 255 - length path
 
     runs_ready : RunsAs ready.grove t
-    runs_ready = room_runs old.grove ready.grove X.put.room.grove t R
+    runs_ready = room_runs old.grove ready.grove in_it.room.grove t R
 
     again_then : StandsAgain lib name files.names t
     again_then =
@@ -435,7 +333,7 @@ module _ (old new : Patch) (n : Counts) (name path : List ℕ) (now : ℕ) (e : 
         ap (λ (z : ℕ). box_grown lib (without_ending name) left (inner_of lib (without_ending name) left) (around_root z) element (stock_by files.names n)) (sym own)
         ∙ ap (λ (inner : Inner). box_grown lib (without_ending name) left inner (around_root (own_zero old)) element (stock_by files.names n))
         (sym (same_inner lib (without_ending name) left))
-        ∙ sym (growth_is (own_zero old) n name left element files) ∙ grew_so.grew ∙ ap (λ (x : Trees). gives x grew_so.after) X.put.plain.single
+        ∙ sym (growth_is (own_zero old) n name left element files) ∙ grew_so.grew
 
     entry_of : IsEntryOf files.names element
     entry_of = record {
@@ -453,12 +351,12 @@ module _ (old new : Patch) (n : Counts) (name path : List ℕ) (now : ℕ) (e : 
       deep = all_in (length path) long;
       room = low;
       grew = grew;
-      box = last ready new path X.added.canvas b.key node (comes can);
-      stands = stands can (depth_of (get ready.grove.boards X.added.canvas));
+      box = last ready new path X.added.canvas b.key in_it.last;
+      stands = in_it.stands;
       rate = old.rate;
       now = now;
-      fresh = come_fresh ready new path X.added.canvas b.key node (comes can) old.rate now node_fresh;
-      wires = keeps ready new path X.added.canvas b.key node (comes can);
+      fresh = come_fresh ready new path X.added.canvas b.key in_it.last old.rate now in_it.node in_it.is in_it.state;
+      wires = keeps ready new path X.added.canvas b.key in_it.last;
     }
 
     pub box_runs : RunsAs new.grove (put_at path box t)

@@ -1,24 +1,17 @@
 -- How much a tree counts where boxes come into one of its canvases, and that its document is proper.
-use Rattle.std.proofs.Common.{◌≡◌, ◌≤◌, ◌+◌, ℕ, true, false, Bool, List, [], ◌∷◌, length, Some, refl, sym, ap, ◌∙◌, subst, arith}
-use Rattle.std.specs.Prelude.{None, if◌then◌else◌}
-use Rattle.std.proofs.lemmas.Option.{none-some, same_Some}
-use Rattle.pd_atom.specs.declared.Atom.{Atom}
-use Rattle.pd_atom.specs.declared.Atom.TheVariants.{Symbol}
+use Rattle.std.proofs.Common.{◌≡◌, ◌≤◌, ◌+◌, ℕ, List, [], ◌∷◌, length, refl, sym, ap, ◌∙◌, subst, arith}
 use Rattle.pd_atom.specs.Names.{Names}
 use Rattle.pd_clock.specs.declared.times.Rate.{Rate}
 use Rattle.pd_kind.specs.States.{size_of}
-use Rattle.pd_canvas.specs.declared.edits.Edit.{Edit}
-use Rattle.pd_canvas.specs.declared.edits.Edit.TheVariants as edit
-use Rattle.pd_canvas.specs.Edits.{begins_with_pd, element, new_header, pd}
+use Rattle.pd_canvas.specs.declared.wires.Wire.{Wire}
 use Rattle.pd_canvas.specs.Pages as pages
-use Rattle.pd_canvas.specs.Pages.{Shape, Obj, Sub, Head, Boxes, Entry, page_of, empty_page, page_with_header}
-use Rattle.pd_canvas.specs.Proper.{FitsForm, HoldsNone, IsHead, IsFrame, AreBoxes, IsProper, levels, inner_wires}
+use Rattle.pd_canvas.specs.Pages.{Shape, Sub, Head, Boxes, End, Entry, boxed, frame_of, page_of}
+use Rattle.pd_canvas.specs.Proper.{HoldsNone, IsHead, IsFrame, AreBoxes, IsProper, levels, inner_wires}
 use Rattle.pd_tree.specs.declared.rows.Sheet.{Sheet}
 use Rattle.pd_tree.specs.Trees.{Cell, Trees, Done, Leaf, Holder, Tree, join, weight, frame_in, box_with, document_boxes, document_in}
 use Rattle.pd_patch.specs.Sounds.{sound_of}
 use Rattle.pd_regrowth_law.specs.Canvases.{Nest, Alone, Inside, nested, AreSubpatches}
 use Rattle.pd_putting_law.specs.Puts.{with_boxes, put_at}
-use Rattle.pd_putting_law.specs.Putting.{element_put}
 use Rattle.pd_putting_law.proofs.WithinLemmas.{ChangesWithin}
 
 -- ---- boxes and values
@@ -187,18 +180,15 @@ module _ (names : Names) where
       (subst (λ (s : Sheet). AreBoxes names (box_with c.head.form c.head s (document_boxes r.boxes) (document_boxes behind))) (sym (sheet_stays nest u new))
       (with_inner c.head.form c.head t.sheet (document_boxes t.boxes) (document_boxes r.boxes) (document_boxes behind) f.0 here inner))
 
-  plain_none : (f : Shape) → HoldsNone f empty_page
-  plain_none Sub = tt
-  plain_none f = refl
+  -- an element that holds no boxes
+  pub entry_boxes : (e : Entry) → IsHead names e.head → HoldsNone e.head.form e.page → IsFrame names (frame_of e.page) → e.page.boxes ≡ End → AreBoxes names (boxed (e ∷ []))
+  entry_boxes e h holds f none = (h, holds, f, subst (AreBoxes names) (sym none) tt, tt)
 
-  pub leaf_boxes : (c : Cell) → IsHead names c.head → AreBoxes names (document_boxes (Leaf c Done))
-  leaf_boxes c h = (
-    h,
-    plain_none c.head.form,
-    record { header = (tt, omega arith); kept = tt; small = tt; sorted = tt; coords = tt },
-    tt,
-    tt,
-  )
+pub entry_wires : (e : Entry) → e.page.boxes ≡ End → e.page.wires ≡ [] → inner_wires (boxed (e ∷ [])) ≡ 0
+entry_wires e boxes wires = none (length e.page.wires) (inner_wires e.page.boxes) (ap (λ (ws : List Wire). length ws) wires) (ap inner_wires boxes)
+  where
+    none : (a b : ℕ) → a ≡ 0 → b ≡ 0 → a + b + 0 ≡ 0
+    none a b h k = omega (arith, h, k)
 
 -- ---- the tree with boxes more in a canvas
 
@@ -245,24 +235,3 @@ module _ (path : List ℕ) (t u : Tree) (w : ChangesWithin path t u) (new : Tree
 
       more : (n : ℕ) → n ≤ 255 → n + 1 ≤ 256
       more n h = omega (arith, h)
-
--- ---- the heads that edits put
-
-pub record IsPlainHead (h : Head) : Type 0 where
-  pub width : h.width ≡ None
-  pub tail : h.tail ≡ []
-  pub form : (names : Names) → FitsForm names h.form h
-
-object_plain : (b : Bool) (x y : _) (text : List Atom) → begins_with_pd text ≡ b
-    → IsPlainHead (if b then element Sub (page_with_header (new_header text)) x y text else element Obj empty_page x y text).head
-object_plain true x y text e = record { width = refl; tail = refl; form = λ names. tt }
-object_plain false x y text e = record { width = refl; tail = refl; form = λ names. e }
-
-pub put_plain : (x : Edit) (b : Entry) → element_put x ≡ Some b → IsPlainHead b.head
-put_plain (edit.Obj x y text) b h = subst (λ (e : Entry). IsPlainHead e.head) (same_Some _ b h) (object_plain (begins_with_pd text) x y text refl)
-put_plain (edit.Msg x y text) b h = subst (λ (e : Entry). IsPlainHead e.head) (same_Some _ b h) (record { width = refl; tail = refl; form = λ names. tt })
-put_plain (edit.Comment x y text) b h = subst (λ (e : Entry). IsPlainHead e.head) (same_Some _ b h) (record { width = refl; tail = refl; form = λ names. tt })
-put_plain (edit.FloatBox x y text) b h = subst (λ (e : Entry). IsPlainHead e.head) (same_Some _ b h) (record { width = refl; tail = refl; form = λ names. tt })
-put_plain (edit.SymbolBox x y text) b h = subst (λ (e : Entry). IsPlainHead e.head) (same_Some _ b h) (record { width = refl; tail = refl; form = λ names. tt })
-put_plain (edit.Sub x y name) b h = subst (λ (e : Entry). IsPlainHead e.head) (same_Some _ b h) (object_plain true x y (Symbol pd ∷ name) refl)
-put_plain x b h = absurd (none-some b h)

@@ -1,7 +1,9 @@
 pub mod RoomLemmas
+pub mod LastLemmas
 pub mod ComeLemmas
 pub mod InsideLemmas
 pub mod CountLemmas
+pub mod HeadLemmas
 pub mod WrittenLemmas
 pub mod OwnerLemmas
 pub mod PutLemmas

@@ -2,6 +2,7 @@
 use Rattle.std.proofs.Common.{◌≡◌, ◌≤◌, ◌+◌, ◌&&◌, ℕ, zero, suc, Bool, true, cond, List, [], ◌∷◌, ◌++◌, map, Option, Some, None, refl, sym, ap, ◌∙◌, subst}
 use Rattle.std.specs.Prelude.{option_map, option_and_then}
 use Rattle.std.specs.List.{AllByRecursion, filter, flat_map}
+use mathlib.Core.Logic.{⊎_elim}
 use Rattle.std.proofs.lemmas.Option.{same_Some}
 use Rattle.slab.specs.Slab.{get}
 use Rattle.pd_atom.specs.Names.{Names, Extends}
@@ -37,7 +38,7 @@ use Rattle.pd_putting_law.specs.Again.{StandsAgain}
 use Rattle.pd_adding.specs.declared.counts.Counts.{Counts}
 use Rattle.pd_putting.specs.declared.adding.NewBox.{NewBox}
 use Rattle.pd_canvas.specs.declared.edits.Edit.{Edit}
-use Rattle.pd_putting.specs.Adds.{AddsBox}
+use Rattle.pd_putting.specs.Adds.{IsBoxPut, IsSubPut, AddsBox}
 use Rattle.pd_put_law.proofs.ComeLemmas.{goes_on}
 
 -- ---- the same boxes in text order
@@ -130,5 +131,7 @@ pub box_owners : (old new : Patch) (n : Counts) (name path : List ℕ) (now : �
 box_owners old new n name path now e k after b t X R A h =
     let is : after.names ≡ X.added.known.names = ap (λ (x : Known). x.names) X.known_is in
     let more : HasOwners old after.names name = own_more (answer_in k.files) name old k.names after.names t R.stands R.shallow A (goes_on old new n name path now e k after b X) h in
-    subst (λ (ns : Names). HasOwners new ns name) (sym is)
-    (X.put.put.comes.owners name (room_own old X.put.ready X.added.known.names name X.put.room (subst (λ (ns : Names). HasOwners old ns name) is more)))
+    let again : HasOwners old X.added.known.names name = subst (λ (ns : Names). HasOwners old ns name) is more in
+    subst (λ (ns : Names). HasOwners new ns name) (sym is) (⊎_elim
+    (λ (P : IsBoxPut old new now X.added b.key). P.put.comes.owners name (room_own old P.ready X.added.known.names name P.room again))
+    (λ (P : IsSubPut old new now X.added b.key). P.put.comes.owners name (room_own old P.ready X.added.known.names name P.room again)) X.put)

@@ -1,77 +1,91 @@
 -- The wires of a patch into which an edit put a box, and how much its tree counts.
-use Rattle.std.proofs.Common.{◌≡◌, ◌+◌, ℕ, List, length, Some, ap, ◌∙◌, arith}
+use Rattle.std.proofs.Common.{◌≡◌, ◌+◌, ℕ, List, [], ◌∷◌, length, filter, Some, refl, ap, ◌∙◌, arith}
+use mathlib.Core.Logic.{⊎_elim}
 use Rattle.slab.specs.Slab.{get}
 use Rattle.pd_canvas.specs.declared.edits.Edit.{Edit}
-use Rattle.pd_tree.specs.Trees.{Trees, Done, Leaf, Tree, weight}
+use Rattle.pd_canvas.specs.declared.wires.Wire.{Wire}
+use Rattle.pd_tree.specs.Ports.{fits}
+use Rattle.pd_tree.specs.Trees.{Tree, weight}
 use Rattle.pd_grove.specs.Places.{CanvasStands}
 use Rattle.pd_grove.specs.Standing.{depth_of}
 use Rattle.pd_web.specs.Changes.{wires_told}
 use Rattle.pd_patch.specs.declared.patch.Patch.{Patch}
 use Rattle.pd_patch.specs.Sounds.{sound_of}
 use Rattle.pd_gather.specs.Gather.{Known}
+use Rattle.pd_fit.specs.Fitting.{wires_inside}
 use Rattle.pd_boxes.specs.Put.{CanPut}
 use Rattle.pd_regrowth_law.specs.Canvases.{own_along}
 use Rattle.pd_reload_law.specs.Reloading.{RunsAs}
 use Rattle.pd_saved_law.specs.Fitting.{WiresFit}
 use Rattle.pd_inside_law.specs.Inside.{HoldsWires}
+use Rattle.pd_putting_law.specs.Puts.{put_at}
 use Rattle.pd_putting_law.proofs.StandLemmas.{path_along}
 use Rattle.pd_putting_law.proofs.WithinLemmas.{path_within}
 use Rattle.pd_adding.specs.declared.counts.Counts.{Counts}
 use Rattle.pd_adding.specs.Counts.{with_boxes}
+use Rattle.pd_adding.specs.Growing.{Added}
 use Rattle.pd_putting.specs.declared.adding.NewBox.{NewBox}
-use Rattle.pd_putting.specs.Adds.{AddsBox}
-use Rattle.pd_put_law.specs.Coming.{with_leaf}
-use Rattle.pd_put_law.proofs.RoomLemmas.{room_holds, room_fits, room_wires}
-use Rattle.pd_put_law.proofs.ComeLemmas.{cell, box, node, ready, may, grew_so, comes}
+use Rattle.pd_putting.specs.Adds.{IsBoxPut, IsSubPut, HasCome, AddsBox}
+use Rattle.pd_put_law.proofs.RoomLemmas.{room_runs, room_holds, room_fits, room_wires}
+use Rattle.pd_put_law.proofs.ComeLemmas.{HasComeIn, box, may, grew_so, came}
 use Rattle.pd_put_law.proofs.InsideLemmas.{come_holds, come_fits, come_wires}
 use Rattle.pd_put_law.proofs.CountLemmas.{put_weight, put_sound}
+
+-- no wire of a canvas without boxes fits
+none_fit : (ws : List Wire) → length (filter (fits []) ws) ≡ 0
+none_fit [] = refl
+none_fit (w ∷ ws) = none_fit ws
+
+-- in what came no wire is
+none_inside : (p q : Patch) (now : ℕ) (a : Added) (key : ℕ) → HasCome p q now a key → wires_inside a.boxes ≡ 0
+none_inside p q now a key put = ⊎_elim
+    (λ (P : IsBoxPut p q now a key). ap wires_inside P.plain.single)
+    (λ (P : IsSubPut p q now a key). (let e = ap wires_inside P.sub.single in let z = none_fit P.sub.sheet.wires in omega (arith, e, z))) put
 
 module _ (old new : Patch) (n : Counts) (name path : List ℕ) (now : ℕ) (e : Edit) (k after : Known) (b : NewBox) (X : AddsBox old new n name path now e k after b) where
   -- ---- counts
 
-  counted : b.counts ≡ with_boxes old.rate (Leaf X.put.plain.cell Done) n
-  counted = X.counts ∙ (grew_so old new n name path now e k after b X).counts ∙ ap (λ (x : Trees). with_boxes old.rate x n) X.put.plain.single
+  counted : b.counts ≡ with_boxes old.rate X.added.boxes n
+  counted = X.counts ∙ (grew_so old new n name path now e k after b X).counts
 
   pub as_many_wires : b.counts.wires ≡ n.wires
-  as_many_wires = none n.wires b.counts.wires (ap (λ (x : Counts). x.wires) counted)
+  as_many_wires =
+      none n.wires (wires_inside X.added.boxes) b.counts.wires (ap (λ (x : Counts). x.wires) counted) (none_inside old new now X.added b.key X.put)
     where
-      none : (a b : ℕ) → b ≡ a + 0 → b ≡ a
-      none a b h = omega (arith, h)
-
-  abbrev mid : Patch
-  mid = ready old new n name path now e k after b X
+      none : (a i b : ℕ) → b ≡ a + i → i ≡ 0 → b ≡ a
+      none a i b h z = omega (arith, h, z)
 
   module _ (can : CanPut old) where
-    pub box_holds : (t : Tree) → HoldsWires old t → HoldsWires new (with_leaf path X.put.plain.cell t)
-    box_holds t h =
-        come_holds mid new path X.added.canvas b.key (node old new n name path now e k after b X) (comes old new n name path now e k after b X can) X.put.plain.cell t
-        (room_holds old mid X.put.room t h)
+    abbrev in_it : HasComeIn old new now X.added path b.key
+    in_it = came old new n name path now e k after b X can
+
+    abbrev mid : Patch
+    mid = in_it.ready
+
+    pub box_holds : (t : Tree) → RunsAs old.grove t → HoldsWires old t → HoldsWires new (put_at path X.added.boxes t)
+    box_holds t r h =
+        come_holds mid new path X.added.canvas b.key in_it.last X.added.boxes t (room_runs old.grove mid.grove in_it.room.grove t r).stands (room_holds old mid in_it.room t h)
 
     pub box_fits : WiresFit old → WiresFit new
-    box_fits f =
-        come_fits mid new path X.added.canvas b.key (node old new n name path now e k after b X) (comes old new n name path now e k after b X can) (room_fits old mid X.put.room f)
+    box_fits f = come_fits mid new path X.added.canvas b.key in_it.last (room_fits old mid in_it.room f)
 
     pub box_wires : wires_told new.web ≡ wires_told old.web
-    box_wires =
-        come_wires mid new path X.added.canvas b.key (node old new n name path now e k after b X) (comes old new n name path now e k after b X can) ∙ room_wires old mid X.put.room
+    box_wires = come_wires mid new path X.added.canvas b.key in_it.last ∙ room_wires old mid in_it.room
 
     module _ (t : Tree) (R : RunsAs old.grove t) where
       along : (u : Tree) × (own_along path t ≡ Some u) × CanvasStands old.grove X.added.canvas u × (depth_of (get old.grove.boards X.added.canvas) ≡ length path)
       along = path_along old.grove path X.added.canvas t can.forest R.stands (may old new n name path now e k after b X).leads
 
-      pub more_boxes : n.boxes ≡ weight t.boxes → b.counts.boxes ≡ weight (with_leaf path X.put.plain.cell t).boxes
-      more_boxes h =
-          one n.boxes (weight t.boxes) b.counts.boxes (weight (with_leaf path X.put.plain.cell t).boxes) h (ap (λ (x : Counts). x.boxes) counted)
-          (put_weight path t along.0 (path_within path t along.0 along.1) (Leaf X.put.plain.cell Done))
-        where
-          one : (a c b w : ℕ) → a ≡ c → b ≡ a + (0 + 1) → w ≡ c + (0 + 1) → b ≡ w
-          one a c b w h k l = omega (arith, h, k, l)
+      more : (a c s b w : ℕ) → a ≡ c → b ≡ a + s → w ≡ c + s → b ≡ w
+      more a c s b w h k l = omega (arith, h, k, l)
 
-      pub more_sound : n.sound ≡ sound_of old.rate t.boxes → b.counts.sound ≡ sound_of old.rate (with_leaf path X.put.plain.cell t).boxes
+      pub more_boxes : n.boxes ≡ weight t.boxes → b.counts.boxes ≡ weight (put_at path X.added.boxes t).boxes
+      more_boxes h =
+          more n.boxes (weight t.boxes) (weight X.added.boxes) b.counts.boxes (weight (put_at path X.added.boxes t).boxes) h (ap (λ (x : Counts). x.boxes) counted)
+          (put_weight path t along.0 (path_within path t along.0 along.1) X.added.boxes)
+
+      pub more_sound : n.sound ≡ sound_of old.rate t.boxes → b.counts.sound ≡ sound_of old.rate (put_at path X.added.boxes t).boxes
       more_sound h =
-          one n.sound (sound_of old.rate t.boxes) (sound_of old.rate (Leaf X.put.plain.cell Done)) b.counts.sound (sound_of old.rate (with_leaf path X.put.plain.cell t).boxes) h
+          more n.sound (sound_of old.rate t.boxes) (sound_of old.rate X.added.boxes) b.counts.sound (sound_of old.rate (put_at path X.added.boxes t).boxes) h
           (ap (λ (x : Counts). x.sound) counted)
-          (put_sound path t along.0 (path_within path t along.0 along.1) (Leaf X.put.plain.cell Done) old.rate)
-        where
-          one : (a c s b w : ℕ) → a ≡ c → b ≡ a + s → w ≡ c + s → b ≡ w
-          one a c s b w h k l = omega (arith, h, k, l)
+          (put_sound path t along.0 (path_within path t along.0 along.1) X.added.boxes old.rate)

@@ -1,10 +1,9 @@
 -- The document of the tree with the box is proper, and what is written of boxes stays so.
-use Rattle.std.proofs.Common.{◌≡◌, ◌≢◌, ◌≤◌, ◌+◌, ◌-◌, ℕ, zero, suc, true, false, List, [], ◌∷◌, ◌++◌, length, slice_get, Option, Some, None, IfSome, refl, sym, ap, ◌∙◌, subst, true≢false}
+use Rattle.std.proofs.Common.{◌≡◌, ◌≢◌, ◌≤◌, ◌-◌, ℕ, zero, true, List, [], ◌∷◌, length, slice_get, Option, Some, None, IfSome, refl, sym, ap, ◌∙◌, subst, true≢false}
 use Rattle.std.specs.List.{AllByRecursion}
 use Rattle.std.specs.Option.{option_map_or}
 use mathlib.Core.Logic.{⊎_elim}
 use Rattle.std.proofs.lemmas.Bool.{cases_eq}
-use Rattle.std.proofs.lemmas.Option.{none-some}
 use Rattle.slab.specs.Slab.{get}
 use Rattle.pd_atom.specs.declared.Atom.{Atom}
 use Rattle.pd_atom.specs.Names.{Names, Extends, IsTable}
@@ -14,8 +13,8 @@ use Rattle.pd_kind.specs.declared.states.State.{State}
 use Rattle.pd_kind.specs.States.{start_of}
 use Rattle.pd_kind.specs.Tables.{started}
 use Rattle.pd_canvas.specs.declared.edits.Edit.{Edit}
-use Rattle.pd_canvas.specs.Pages.{Shape, Msg, Array, Head, Boxes, End, Box, Entry, boxed}
-use Rattle.pd_canvas.specs.Proper.{AreReady, IsHead, IsWidth, IsProper}
+use Rattle.pd_canvas.specs.Pages.{Shape, Msg, Sub, Array, Head, Boxes, End, Box, Entry, boxed, frame_of}
+use Rattle.pd_canvas.specs.Proper.{AreReady, AreBoxes, IsFrame, IsHead, IsWidth, IsProper, inner_wires}
 use Rattle.pd_doc.proofs.GrowLaws.{are_ready_grows}
 use Rattle.pd_library.specs.Files.{answer_in}
 use Rattle.pd_tree.specs.Trees.{Cell, Trees, Done, Leaf, Tree, weight, document_boxes, document_in}
@@ -23,7 +22,6 @@ use Rattle.pd_grove.specs.declared.nodes.Node.{Node}
 use Rattle.pd_grove.specs.Places.{CanvasStands}
 use Rattle.pd_grove.specs.Standing.{depth_of}
 use Rattle.pd_grove.specs.Telling.{kind_in, state_in}
-use Rattle.pd_web.specs.Canvases.{keys_at}
 use Rattle.pd_hearing.specs.Worlds.{states_of}
 use Rattle.pd_patch.specs.declared.patch.Patch.{Patch}
 use Rattle.pd_gather.specs.Gather.{Known}
@@ -33,7 +31,7 @@ use Rattle.pd_boxes.proofs.RoomLemmas.{keys_same}
 use Rattle.pd_regrowth_law.specs.Canvases.{own_along}
 use Rattle.pd_regrowth_law.specs.Suits.{HoldNone}
 use Rattle.pd_reload_law.specs.Reloading.{RunsAs}
-use Rattle.pd_reload_law.specs.Saving.{IsMade}
+use Rattle.pd_reload_law.specs.Saving.{AreMade, IsMade}
 use Rattle.pd_contents_law.specs.Contents.{StaySettled, HasContents, HaveContents, count_of, counts_of, IsKindSettled}
 use Rattle.pd_contents_law.proofs.MadeLemmas.{made_contents}
 use Rattle.pd_contents_law.proofs.SettledLemmas.{onward, table_before, contents_more}
@@ -42,7 +40,6 @@ use Rattle.pd_proper_law.specs.Saves.{is_written, form_of, IsOwnBox, IsWritten}
 use Rattle.pd_putting_law.specs.Again.{StandsAgain}
 use Rattle.pd_putting_law.specs.Puts.{put_at}
 use Rattle.pd_putting_law.proofs.AgainLemmas.{box_is, new_made}
-use Rattle.pd_putting_law.proofs.ListLemmas.{by_option, get_last}
 use Rattle.pd_putting_law.proofs.StandLemmas.{path_along}
 use Rattle.pd_putting_law.proofs.WithinLemmas.{path_within}
 use Rattle.pd_adding.specs.declared.counts.Counts.{Counts}
@@ -51,9 +48,10 @@ use Rattle.pd_adding.specs.Counts.{stock_by}
 use Rattle.pd_putting.specs.declared.adding.NewBox.{NewBox}
 use Rattle.pd_putting.specs.Adds.{AddsBox}
 use Rattle.pd_put_law.proofs.RoomLemmas.{room_subs}
-use Rattle.pd_put_law.proofs.ComeLemmas.{ComesLast, keys_more, keys_stay, cell, box, node, element, ready, may, puts, bare, written, comes, node_cell, node_fresh, files, grew_so, six, goes_on, low, grew, box_again}
-use Rattle.pd_put_law.proofs.InsideLemmas.{come_subs}
-use Rattle.pd_put_law.proofs.CountLemmas.{IsPlainHead, put_plain, put_proper, leaf_boxes}
+use Rattle.pd_put_law.proofs.ComeLemmas.{HasComeIn, box, element, may, puts, bare, written, came, files, grew_so, six, goes_on, low, grew, box_again}
+use Rattle.pd_put_law.proofs.InsideLemmas.{subs_back, was_at}
+use Rattle.pd_put_law.proofs.CountLemmas.{put_proper, entry_boxes, entry_wires}
+use Rattle.pd_put_law.proofs.HeadLemmas.{IsPlainHead, put_plain, put_frame}
 
 -- ---- heads
 
@@ -76,11 +74,6 @@ settled_of names (a ∷ text) h = (h.0.1, settled_of names text h.1)
 
 stays_settled : (names more : Names) → Extends names more → 6 ≤ length names → (text : List Atom) → AreReady names text → StaySettled more text
 stays_settled names more x six text h = λ later y table. settled_of later text (ready_later names later (onward names more later x y) six table text h)
-
-front : (xs ys : List ℕ) (i y : ℕ) → slice_get xs i ≡ Some y → slice_get (xs ++ ys) i ≡ Some y
-front [] ys i y h = absurd (none-some y h)
-front (z ∷ xs) ys zero y h = h
-front (z ∷ xs) ys (suc i) y h = front xs ys i y h
 
 -- ---- the kind of a box that is written
 
@@ -116,19 +109,26 @@ pub room_contents : (p q : Patch) (names : Names) (states : ℕ → Option State
 room_contents p q names states r h k w =
     subst (λ (o : Option Node). IfSome (states k) (HasContents (option_map_or count_of (kind_in o) 0) names)) (sym (r.grove.nodes k)) (h k (room_written p q r k w))
 
+-- a subpatch is none of the boxes that are written
+no_written : (f : Shape) → f ≡ Sub → is_written f ≡ true → ⊥
+no_written f e w = true≢false (sym w ∙ ap is_written e)
+
 module _ (old new : Patch) (n : Counts) (name path : List ℕ) (now : ℕ) (e : Edit) (k after : Known) (b : NewBox) (X : AddsBox old new n name path now e k after b)
     (can : CanPut old) (t : Tree) (R : RunsAs old.grove t) (A : StandsAgain (answer_in k.files) name k.names t) where
-  abbrev c : Cell
-  c = cell old new n name path now e k after b X
-
   abbrev it : Trees
   it = box old new n name path now e k after b X
 
+  abbrev in_it : HasComeIn old new now X.added path b.key
+  in_it = came old new n name path now e k after b X can
+
+  abbrev c : Cell
+  c = in_it.cell
+
   abbrev x : Node
-  x = node old new n name path now e k after b X
+  x = in_it.node
 
   abbrev mid : Patch
-  mid = ready old new n name path now e k after b X
+  mid = in_it.ready
 
   abbrev here : ℕ
   here = X.added.canvas
@@ -136,64 +136,79 @@ module _ (old new : Patch) (n : Counts) (name path : List ℕ) (now : ℕ) (e : 
   abbrev known_then : Known
   known_then = files old new n name path now e k after b X
 
+  abbrev drawn : Entry
+  drawn = element old new n name path now e k after b X
+
   long : 6 ≤ length k.names
   long = six old new n name path now e k after b X
 
   more : Extends k.names after.names
   more = goes_on old new n name path now e k after b X
 
-  last : ComesLast mid new path here b.key x
-  last = comes old new n name path now e k after b X can
-
   along : (u : Tree) × (own_along path t ≡ Some u) × CanvasStands old.grove here u × (depth_of (get old.grove.boards here) ≡ length path)
   along = path_along old.grove path here t can.forest R.stands (may old new n name path now e k after b X).leads
 
-  document : document_boxes it ≡ boxed (element old new n name path now e k after b X ∷ [])
+  document : document_boxes it ≡ boxed (drawn ∷ [])
   document =
       let B = bare old new n name path now e k after b X in
-      box_is (answer_in known_then.files) name (255 - length path) t.sheet.zero (element old new n name path now e k after b X) (stock_by known_then.names n) (grew_so old new n name path now e k after b X).after it
+      box_is (answer_in known_then.files) name (255 - length path) t.sheet.zero drawn (stock_by known_then.names n) (grew_so old new n name path now e k after b X).after it
       (low old new n name path now e k after b X) B.holds (subst HoldNone (sym B.boxes) tt) (grew old new n name path now e k after b X can t R A)
 
-  head : c.head ≡ (element old new n name path now e k after b X).head
-  head = same_head c (element old new n name path now e k after b X) document
-
-  text_ready : AreReady k.names c.head.text
-  text_ready = subst (λ (h : Head). AreReady k.names h.text) (sym head) (written old new n name path now e k after b X).text
-
-  made : IsMade c.head.form c
-  made =
-      (new_made (answer_in after.files) name after.names path t along.0 it along.1 (box_again old new n name path now e k after b X can t R A)).0
+  made : AreMade it
+  made = new_made (answer_in after.files) name after.names path t along.0 it along.1 (box_again old new n name path now e k after b X can t R A)
 
   -- ---- the document
 
-  head_proper : (later : Names) → Extends k.names later → IsTable later → IsHead later c.head
+  text_later : (later : Names) → Extends k.names later → IsTable later → AreReady later drawn.head.text
+  text_later later on table = ready_later k.names later on long table drawn.head.text (written old new n name path now e k after b X).text
+
+  head_proper : (later : Names) → Extends k.names later → IsTable later → IsHead later drawn.head
   head_proper later on table =
       let w = written old new n name path now e k after b X in
-      let p : IsPlainHead (element old new n name path now e k after b X).head =
-      put_plain (settled_edit k.names e) (element old new n name path now e k after b X) (puts old new n name path now e k after b X) in
-      subst (IsHead later) (sym head) (record {
+      let p : IsPlainHead drawn.head = put_plain (settled_edit k.names e) drawn (puts old new n name path now e k after b X) in
+      record {
         x = w.x;
         y = w.y;
-        text = (ready_later k.names later on long table (element old new n name path now e k after b X).head.text w.text, (may old new n name path now e k after b X).short);
+        text = (text_later later on table, (may old new n name path now e k after b X).short);
         width = subst IsWidth (sym p.width) tt;
         tail = subst (AllByRecursion (AreReady later)) (sym p.tail) tt;
         form = p.form later;
-      })
+      }
+
+  boxes_proper : (later : Names) → Extends k.names later → IsTable later → AreBoxes later (document_boxes it)
+  boxes_proper later on table =
+      let B = bare old new n name path now e k after b X in
+      let f : IsFrame later (frame_of drawn.page) =
+      put_frame later table (settled_edit k.names e) drawn (puts old new n name path now e k after b X) (text_later later on table) in
+      subst (AreBoxes later) (sym document) (entry_boxes later drawn (head_proper later on table) B.holds f B.boxes)
+
+  none_wired : inner_wires (document_boxes it) ≡ 0
+  none_wired =
+      let B = bare old new n name path now e k after b X in
+      ap inner_wires document ∙ entry_wires drawn B.boxes B.wires
 
   pub box_proper : (later : Names) → Extends after.names later → IsTable later → weight (put_at path it t).boxes ≤ 16384 → IsProper later (document_in t)
       → IsProper later (document_in (put_at path it t))
   box_proper later on table few h =
-      put_proper path t along.0 (path_within path t along.0 along.1) it later h
-      (leaf_boxes later c (head_proper later (onward k.names after.names later more on) table)) refl few
+      put_proper path t along.0 (path_within path t along.0 along.1) it later h (boxes_proper later (onward k.names after.names later more on) table) none_wired few
       (box_again old new n name path now e k after b X can t R A).shallow
 
   -- ---- what is written of boxes
 
+  leaf_settled : it ≡ Leaf c Done → is_written c.head.form ≡ true → IsKindSettled after.names c.kind
+  leaf_settled single w =
+      let head : c.head ≡ drawn.head = same_head c drawn (ap document_boxes (sym single) ∙ document) in
+      let text : AreReady k.names c.head.text = subst (λ (h : Head). AreReady k.names h.text) (sym head) (written old new n name path now e k after b X).text in
+      let all : AreMade (Leaf c Done) = subst AreMade single made in
+      kind_stays k.names after.names more long c.head.form c refl all.0 text w
+
   settled : is_written c.head.form ≡ true → IsKindSettled after.names c.kind
-  settled w = kind_stays k.names after.names more long c.head.form c refl made text_ready w
+  settled w = ⊎_elim
+      (λ (single : it ≡ Leaf c Done). leaf_settled single w)
+      (λ (sub : c.head.form ≡ Sub). absurd (no_written c.head.form sub w)) in_it.sort
 
   new_kind : x.kind ≡ c.kind
-  new_kind = ap (λ (y : Cell). y.kind) (node_cell old new n name path now e k after b X)
+  new_kind = ap (λ (y : Cell). y.kind) in_it.is_cell
 
   -- a box that is written and isn't the new one was so
   was_own : (j : ℕ) → j ≢ b.key → IsOwnBox new.grove j → IsOwnBox old.grove j
@@ -201,31 +216,21 @@ module _ (old new : Patch) (n : Counts) (name path : List ℕ) (now : ℕ) (e : 
     path = w.path;
     canvas = w.canvas;
     place = w.place;
-    leads = sym (room_subs old.grove mid.grove X.put.room.grove w.path) ∙ sym (come_subs mid new path here b.key x last w.path) ∙ w.leads;
-    at = ap (λ (ks : List ℕ). slice_get ks w.place) (sym (keys_same old.grove mid.grove X.put.room.grove w.canvas)) ∙ at;
+    leads = sym (room_subs old.grove mid.grove in_it.room.grove w.path) ∙ subs_back mid new path here b.key in_it.last w.path w.canvas w.place j w.leads w.at;
+    at = ap (λ (ks : List ℕ). slice_get ks w.place) (sym (keys_same old.grove mid.grove in_it.room.grove w.canvas))
+        ∙ was_at mid new path here b.key in_it.last w.canvas w.place j d w.at;
   }
-    where
-      at : slice_get (keys_at mid.grove w.canvas) w.place ≡ Some j
-      at = ⊎_elim
-          (λ (s : w.canvas ≡ here).
-          let there : slice_get (keys_at mid.grove here ++ b.key ∷ []) w.place ≡ Some j =
-          ap (λ (ks : List ℕ). slice_get ks w.place) (sym (keys_more mid new path here b.key x last)) ∙ ap (λ (y : ℕ). slice_get (keys_at new.grove y) w.place) (sym s) ∙ w.at in
-          subst (λ (y : ℕ). slice_get (keys_at mid.grove y) w.place ≡ Some j) (sym s) (by_option (slice_get (keys_at mid.grove here) w.place)
-          (λ out. absurd (d (get_last (keys_at mid.grove here) b.key w.place j out there)))
-          (λ i is. is ∙ sym (front (keys_at mid.grove here) (b.key ∷ []) w.place i is) ∙ there)))
-          (λ (a : w.canvas ≢ here). ap (λ (ks : List ℕ). slice_get ks w.place) (sym (keys_stay mid new path here b.key x last w.canvas a)) ∙ w.at) (cases_eq w.canvas here)
 
   same_node : (j : ℕ) → j ≢ b.key → get new.grove.nodes j ≡ get old.grove.nodes j
-  same_node j d = last.box.others j d ∙ X.put.room.grove.nodes j
+  same_node j d = in_it.last.alone j d ∙ in_it.room.grove.nodes j
 
   new_contents : IsWritten new.grove b.key → IfSome (states_of new b.key) (HasContents (counts_of (kinds_of new) b.key) after.names)
   new_contents w =
-      let is : get new.grove.nodes b.key ≡ Some x = last.box.is in
-      let state : states_of new b.key ≡ Some (started (start_of x.kind old.rate) now) = ap state_in is ∙ node_fresh old new n name path now e k after b X in
+      let is : get new.grove.nodes b.key ≡ Some x = in_it.is in
+      let state : states_of new b.key ≡ Some (started (start_of x.kind old.rate) now) = ap state_in is ∙ in_it.state in
       let form : is_written (form_of x) ≡ true = subst (λ (o : Option Node). IfSome o (λ y. is_written (form_of y) ≡ true)) is w.form in
       let kind_is : IsKindSettled after.names x.kind =
-      subst (IsKindSettled after.names) (sym new_kind)
-      (settled (subst (λ (y : Cell). is_written y.head.form ≡ true) (node_cell old new n name path now e k after b X) form)) in
+      subst (IsKindSettled after.names) (sym new_kind) (settled (subst (λ (y : Cell). is_written y.head.form ≡ true) in_it.is_cell form)) in
       subst (λ (o : Option Kind). IfSome (states_of new b.key) (HasContents (option_map_or count_of o 0) after.names)) (sym (ap kind_in is))
       (some_state after.names (count_of x.kind) (states_of new b.key) (started (start_of x.kind old.rate) now) state (made_contents after.names x.kind old.rate now kind_is))
 

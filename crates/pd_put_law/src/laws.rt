@@ -50,7 +50,8 @@ pub fn boxes_come_into_trees()
         (adds : AddsBox old new n name path now e k after b) → CanPut old → RunsAs old.grove t → StandsAgain (answer_in k.files) name k.names t →
         StandsAgain (answer_in after.files) name after.names (put_at path adds.added.boxes t) }
     ensures holds { (old new : Patch) (n : Counts) (name path : List ℕ) (now : ℕ) (e : Edit) (k after : Known) (b : NewBox) (t : Tree) →
-        (adds : AddsBox old new n name path now e k after b) → CanPut old → HoldsWires old t → HoldsWires new (put_at path adds.added.boxes t) }
+        (adds : AddsBox old new n name path now e k after b) → CanPut old → RunsAs old.grove t → HoldsWires old t →
+        HoldsWires new (put_at path adds.added.boxes t) }
     ensures fit { (old new : Patch) (n : Counts) (name path : List ℕ) (now : ℕ) (e : Edit) (k after : Known) (b : NewBox) →
         AddsBox old new n name path now e k after b → CanPut old → WiresFit old → WiresFit new }
     ensures wires { (old new : Patch) (n : Counts) (name path : List ℕ) (now : ℕ) (e : Edit) (k after : Known) (b : NewBox) →

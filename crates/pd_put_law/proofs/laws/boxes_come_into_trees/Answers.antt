@@ -13,7 +13,7 @@ pub returns-clause-again : goal.returns-clause-again
 returns-clause-again c = λ old new n name path now e k after b t x can r a. box_again old new n name path now e k after b x can t r a
 
 pub returns-clause-holds : goal.returns-clause-holds
-returns-clause-holds c = λ old new n name path now e k after b t x can h. box_holds old new n name path now e k after b x can t h
+returns-clause-holds c = λ old new n name path now e k after b t x can r h. box_holds old new n name path now e k after b x can t r h
 
 pub returns-clause-fit : goal.returns-clause-fit
 returns-clause-fit c = box_fits
