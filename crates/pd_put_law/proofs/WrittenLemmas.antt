@@ -79,10 +79,10 @@ stays_settled names more x six text h = λ later y table. settled_of later text 
 
 kind_stays : (names more : Names) → Extends names more → 6 ≤ length names → (f : Shape) (c : Cell) → c.head.form ≡ f → IsMade f c → AreReady names c.head.text → is_written f ≡ true
     → IsKindSettled more c.kind
-kind_stays names more x six Msg c e m h w =
-    subst (λ (y : Cell). IsKindSettled more y.kind) (sym m) (stays_settled names more x six c.head.text h)
-kind_stays names more x six (Array values) c e m h w = subst (λ (y : Cell). IsKindSettled more y.kind) (sym m) tt
-kind_stays names more x six f c e m h w = absurd (true≢false (sym w))
+kind_stays names more x begins Msg c e m h w =
+    subst (λ (y : Cell). IsKindSettled more y.kind) (sym m) (stays_settled names more x begins c.head.text h)
+kind_stays names more x begins (Array values) c e m h w = subst (λ (y : Cell). IsKindSettled more y.kind) (sym m) tt
+kind_stays names more x begins f c e m h w = absurd (true≢false (sym w))
 
 some_state : (names : Names) (n : ℕ) (o : Option State) (s : State) → o ≡ Some s → HasContents n names s → IfSome o (HasContents n names)
 some_state names n o s e h = subst (λ (x : Option State). IfSome x (HasContents n names)) (sym e) h
