@@ -33,7 +33,8 @@ pub record PutLaws : Type 0 where
       → (adds : AddsBox old new n name path now e k after b) → CanPut old → RunsAs old.grove t → StandsAgain (answer_in k.files) name k.names t
       → StandsAgain (answer_in after.files) name after.names (put_at path adds.added.boxes t)
   pub holds : (old new : Patch) (n : Counts) (name path : List ℕ) (now : ℕ) (e : Edit) (k after : Known) (b : NewBox) (t : Tree)
-      → (adds : AddsBox old new n name path now e k after b) → CanPut old → HoldsWires old t → HoldsWires new (put_at path adds.added.boxes t)
+      → (adds : AddsBox old new n name path now e k after b) → CanPut old → RunsAs old.grove t → HoldsWires old t
+      → HoldsWires new (put_at path adds.added.boxes t)
   pub fit : (old new : Patch) (n : Counts) (name path : List ℕ) (now : ℕ) (e : Edit) (k after : Known) (b : NewBox)
       → AddsBox old new n name path now e k after b → CanPut old → WiresFit old → WiresFit new
   pub owners : (old new : Patch) (n : Counts) (name path : List ℕ) (now : ℕ) (e : Edit) (k after : Known) (b : NewBox) (t : Tree)

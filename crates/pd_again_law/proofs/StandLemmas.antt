@@ -210,7 +210,7 @@ module _ (library : List (ℕ × Answer)) (rate : Rate) (name : List ℕ) where
     held = record {
       stands = new_runs.stands;
       fit = puts.fit x.old x.new s.base.counts s.file path s.time e before x.after x.box x.adds can was.fit;
-      holds = puts.holds x.old x.new s.base.counts s.file path s.time e before x.after x.box h.tree x.adds can was.holds;
+      holds = puts.holds x.old x.new s.base.counts s.file path s.time e before x.after x.box h.tree x.adds can runs was.holds;
       owners = puts.owners x.old x.new s.base.counts s.file path s.time e before x.after x.box h.tree x.adds runs h.again was.owners;
       contents = puts.contents x.old x.new s.base.counts s.file path s.time e before x.after x.box h.tree x.adds can runs h.again
           (subst (λ (f : ℕ → Option State). Settled x.old s.names f) x.stands.states was.contents);
