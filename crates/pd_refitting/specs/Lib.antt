@@ -1,0 +1,2 @@
+pub mod Refits
+pub mod Room

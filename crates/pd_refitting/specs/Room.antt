@@ -1,0 +1,24 @@
+-- Room for what a box becomes.
+use Rattle.std.specs.Prelude.{◌≡◌, ◌<◌, ℕ, true, length, replicate}
+use Rattle.pd_atom.specs.Names.{Names}
+use Rattle.pd_kind.specs.States.{silent_block}
+use Rattle.pd_tree.specs.Trees.{stand_of}
+use Rattle.pd_grove.specs.declared.seeds.Seed.{Seed}
+use Rattle.pd_grove.specs.declared.ports.Side.TheVariants.{Outlets}
+use Rattle.pd_bind.specs.Naming.{owned_by}
+use Rattle.pd_owning.specs.Bound.{HasRoom as HasOwnerRoom}
+use Rattle.pd_web.specs.Jacks.{kind_jacks}
+use Rattle.pd_patch.specs.declared.patch.Patch.{Patch}
+use Rattle.pd_patch.specs.Values.{block_count}
+use Rattle.pd_refitting.specs.declared.room.RefitRoom.{RefitRoom}
+
+-- the box of the room's key becomes that of its seed without taking memory
+pub record TakesRefit (p : Patch) (room : RefitRoom) (table : Names) : Type 0 where
+  pub owner : HasOwnerRoom p.names (owned_by table true (stand_of room.seed.row).cell) 1
+  pub values : room.key < length p.values.items
+  pub blocks : room.blocks.items ≡ replicate (block_count (kind_jacks Outlets room.seed.row.kind)) silent_block
+
+-- which box becomes another one, and what it becomes
+pub record IsFor (room : RefitRoom) (key : ℕ) (s : Seed) : Type 0 where
+  pub key : room.key ≡ key
+  pub seed : room.seed ≡ s

@@ -1,0 +1,58 @@
+//! Room for what a box becomes, set aside in every layer that needs some.
+
+ghost use Rattle.std.specs.Prelude.{◌≡◌, None, IfOk, nat_lt, if◌then◌else◌};
+ghost use Rattle.slab.specs.Slab.{get, ContainsKey};
+ghost use Rattle.pd_object.specs.Ports.{IsSmallKind};
+ghost use Rattle.pd_bind.specs.Owning.{root_owner};
+ghost use Rattle.pd_boxes.specs.Room.{SameButRoom};
+ghost use Rattle.pd_refitting.specs.Room.{IsFor, TakesRefit};
+
+use crate::room::RefitRoom;
+use pd_atom::Symbols;
+use pd_bind::name_of_row;
+use pd_boxes::{reach_values, silent_blocks};
+use pd_grove::Seed;
+use pd_kind::{PortList, ports};
+use pd_owning::reserve_owner;
+use pd_patch::Patch;
+use std::alloc::{AllocError, Global};
+
+/// Sets room aside, so that the live box of a key can become that of a seed. All that the patch tells stays, whatever the answer.
+///
+/// # Errors
+///
+/// `AllocError` where memory ran out, or where the name that the new box owns has as many owners as can be counted.
+pub fn reserve_refit(
+    alloc: Global,
+    patch: &mut Patch,
+    key: u32,
+    seed: Seed,
+    symbols: &mut Symbols,
+) -> Result<RefitRoom, AllocError>
+    requires here { ContainsKey patch.old.grove.nodes key }
+    requires apart { get patch.old.grove.nodes root_owner ≡ None }
+    requires small { IsSmallKind seed.row.kind }
+    ensures same { SameButRoom patch.old patch.new }
+    ensures table { symbols.new ≡ symbols.old }
+    ensures refits { IfOk result (λ room. IsFor room key seed) }
+    ensures room { IfOk result (λ room. TakesRefit patch.new room symbols.old) }
+{
+    let list = ports(&seed.row.kind);
+    let count = block_count_of(&list);
+    let blocks = silent_blocks(alloc, count)?;
+    let owned = name_of_row(&seed.row, true, symbols);
+    reserve_owner(&mut patch.names, owned, 1)?;
+    reach_values(alloc, &mut patch.values, key + 1)?;
+    Ok(RefitRoom { key, seed, blocks })
+}
+
+/// How many blocks a box with these ports has: one for each outlet, where the first carries signals.
+fn block_count_of(list: &PortList) -> u32
+    ensures { result ≡ (if nat_lt 0 list.now.signal_outlets then list.now.outlets else 0) }
+{
+    if list.outlet_signal(0) {
+        list.outlets()
+    } else {
+        0
+    }
+}
