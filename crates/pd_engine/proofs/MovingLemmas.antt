@@ -72,6 +72,14 @@ moves_from g number (Some canvas) = box_moves g canvas number (slice_get (keys_a
 faultless : (p : Patch) (path : List ℕ) (number : ℕ) (cause : EditRefusal) → moving p path number ≡ Err cause → faults_of_why (why_of cause) ≡ 0
 faultless p path number cause is = subst Faultless is (moves_from p.grove number (sub_reached p.grove (Some p.grove.root) path))
 
+-- the canvas of the box that moves is one
+abbrev canvas_of : Result (ℕ × ℕ) EditRefusal → ℕ
+canvas_of (Ok box) = box.0
+canvas_of (Err cause) = 0
+
+pub canvas_same : (p : Patch) (path : List ℕ) (number a b key key' : ℕ) → moving p path number ≡ Ok (a, key) → moving p path number ≡ Ok (b, key') → a ≡ b
+canvas_same p path number a b key key' is same = ap canvas_of (sym is ∙ same)
+
 -- ---- wires are as many
 
 pub moved_wires : (old new : Patch) (path : List ℕ) (number : ℕ) (x y : ℤ) (key : ℕ) → MovesBox old new path number x y key → wires_told new.web ≡ wires_told old.web
@@ -149,18 +157,21 @@ module _ (path : List ℕ) (number : ℕ) (x y : ℤ) (file : List ℕ) (names :
   }
 
   -- it was told, and this is answered
-  module _ {E : Type 0} (r : Result Outcome E) (t t' : Option (List ℕ)) (there : List Choice → Stage) (done : Result ℕ EditRefusal) (k : ℕ)
-      (told : Told wanted (from []) to (edit_text new done) (edit_outcome done) k k) (leads : there ≡ to) where
-    so : (o : Outcome) → t' ≡ grown t (edit_text new done) → o ≡ edit_outcome done → (samples : Option (List ℕ)) (held : Option (List FileRow)) (faults : ℕ)
-        → IsEdited path (edit.Move number x y) o from there (sinks t samples k held faults) (sinks t' samples k held faults)
-    so o said answer samples held faults =
-        subst (λ (z : List Choice → Stage). IsEdited path (edit.Move number x y) o from z (sinks t samples k held faults) (sinks t' samples k held faults)) (sym leads)
-        (subst (λ (z : Outcome). IsEdited path (edit.Move number x y) z from to (sinks t samples k held faults) (sinks t' samples k held faults)) (sym answer)
-        (told_so wanted (from []) to (edit_text new done) (edit_outcome done) t t' samples k k held faults told said))
+  module _ {E : Type 0} (r : Result Outcome E) (t t' : Option (List ℕ)) (there : List Choice → Stage) (done : Result ℕ EditRefusal)
+      (told : (k : ℕ) → Told wanted (from []) to (edit_text new done) (edit_outcome done) k k) (leads : there ≡ to) where
+    abbrev pub Answered : Outcome → Type 0
+    Answered o = (samples : Option (List ℕ)) (looks : ℕ) (held : Option (List FileRow)) (faults : ℕ)
+        → IsEdited path (edit.Move number x y) o from there (sinks t samples looks held faults) (sinks t' samples looks held faults)
 
-    pub moved_so : OnOk r (t' ≡ grown t (edit_text new done)) → IfOk r (λ o. o ≡ edit_outcome done)
-        → IfOk r (λ o. (samples : Option (List ℕ)) (held : Option (List FileRow)) (faults : ℕ) → IsEdited path (edit.Move number x y) o from there (sinks t samples k held faults) (sinks t' samples k held faults))
-    moved_so said is = both_ok r (λ o a b samples held faults. so o a b samples held faults) said is
+    so : (o : Outcome) → t' ≡ grown t (edit_text new done) → o ≡ edit_outcome done → Answered o
+    so o said answer samples looks held faults =
+        subst (λ (z : List Choice → Stage). IsEdited path (edit.Move number x y) o from z (sinks t samples looks held faults) (sinks t' samples looks held faults)) (sym leads)
+        (subst (λ (z : Outcome). IsEdited path (edit.Move number x y) z from to (sinks t samples looks held faults) (sinks t' samples looks held faults)) (sym answer)
+        (told_so wanted (from []) to (edit_text new done) (edit_outcome done) t t' samples looks looks held faults (told looks) said))
 
-    pub moved_part : OnErr r (TookPart t t' (edit_text new done)) → OnErr r (SaysPart (edit_taken wanted) from t t' k k)
-    moved_part part = on_err_weaker r (λ a samples held faults. told_part wanted (from []) to (edit_text new done) (edit_outcome done) t t' samples k k held faults told a) part
+    pub moved_so : OnOk r (t' ≡ grown t (edit_text new done)) → IfOk r (λ o. o ≡ edit_outcome done) → IfOk r Answered
+    moved_so said is = both_ok r so said is
+
+    pub moved_part : OnErr r (TookPart t t' (edit_text new done)) → OnErr r ((looks : ℕ) → SaysPart (edit_taken wanted) from t t' looks looks)
+    moved_part part =
+        on_err_weaker r (λ a looks samples held faults. told_part wanted (from []) to (edit_text new done) (edit_outcome done) t t' samples looks looks held faults (told looks) a) part

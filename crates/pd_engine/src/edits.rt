@@ -26,12 +26,14 @@ use pd_canvas::{Edit, Place};
 use pd_deleting::delete_box;
 use pd_edit::{EditRefusal, rewire};
 use pd_io::{Shelf, Sink, SinkFailed};
+use pd_num::Num;
 use pd_order::Steps;
 use pd_patch::Patch;
 use pd_putting::{NewBox, Site, add_box};
 use pd_save::put_document;
 use pd_say::{Request, Why};
 use pd_script::CommandEdit;
+use pd_shifting::move_box;
 use std::alloc::{AllocError, Global};
 use std::sync::ledger::Ledger;
 
@@ -120,6 +122,9 @@ impl Engine {
         if let Some(number) = edit.deleted() {
             return self.delete_own(path, number, lines, steps);
         }
+        if let Some((number, x, y)) = edit.moved() {
+            return self.move_own(path, number, x, y, lines);
+        }
         let done = make(
             self.alloc,
             &mut self.patch,
@@ -158,6 +163,27 @@ impl Engine {
                 self.counts = gone.counts;
                 self.tell(Ok(gone.canvas), lines)
             }
+            Err(why) => self.tell(Err(why), lines),
+        }
+    }
+
+    /// Moves the box of a number in the canvas at a path of the patch's own document to another place, or refuses it.
+    fn move_own<L: Sink>(
+        &mut self,
+        path: &[u32],
+        number: u32,
+        x: Num,
+        y: Num,
+        lines: &mut L,
+    ) -> Result<Outcome, SinkFailed>
+        ensures ok { IfOk result (λ outcome. (samples : Option (List ℕ)) (looks : ℕ) (held : Option (List FileRow)) (faults : ℕ) → IsEdited path.now (edit.Move number x y) outcome (stage_at self.old) (stage_at self.new) (sinks (L.taken lines.old) samples looks held faults) (sinks (L.taken lines.new) samples looks held faults)) }
+        ensures err { OnErr result ((looks : ℕ) → SaysPart (edit_taken (Edits None path.now (edit.Move number x y))) (stage_at self.old) (L.taken lines.old) (L.taken lines.new) looks looks) }
+        ensures cause { HasCause (L.faults lines.old) (L.faults lines.new) result }
+        ensures stays { self.new.stopped ≡ self.old.stopped }
+    {
+        let done = move_box(&mut self.patch, path, number, x, y);
+        match done {
+            Ok(moved) => self.tell(Ok(moved.canvas), lines),
             Err(why) => self.tell(Err(why), lines),
         }
     }

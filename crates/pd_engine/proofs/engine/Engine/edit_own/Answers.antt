@@ -1,7 +1,7 @@
 use Rattle.std.proofs.Common.{◌≡◌, false, refl, sym, ◌∙◌, inl}
 use Rattle.std.specs.Prelude.{None}
 use Rattle.std.proofs.lemmas.Result.{on_err_weaker}
-use Rattle.pd_script.specs.Edits.{puts_box, deleted}
+use Rattle.pd_script.specs.Edits.{puts_box, deleted, moved}
 use Rattle.pd_stage.specs.Choices.{base_of, Edits}
 use Rattle.pd_engine.specs.Stages.{stage_at}
 use Rattle.pd_engine.proofs.CommandLemmas.{if_ok_weaker}
@@ -37,8 +37,9 @@ returns-clause-ok g c =
     let e = c.args.self.now in
     let none : puts_box c.args.edit.now ≡ false = sym c.puts_box.ensures ∙ c.if-puts_box.false in
     let stays : deleted c.args.edit.now ≡ None = sym c.deleted.ensures ∙ c.in_default.is in
+    let rests : moved c.args.edit.now ≡ None = sym c.moved.ensures ∙ c.in_default-moved.is in
     if_ok_weaker c.tell.result (λ o so samples. so samples (g.H.Shelf.holds c.args.shelf.now) (g.H.Shelf.faults c.args.shelf.now))
-    (edited_so c.tell.result (Edits None c.args.path.now c.args.edit.now) c.args.path.now c.args.edit.now (own_wire (Edits None c.args.path.now c.args.edit.now) c.args.path.now c.args.edit.now (inl refl) none stays) e.file.items e.symbols (base_of e.library e.counts) e.time e.block_end e.fired e.tally
+    (edited_so c.tell.result (Edits None c.args.path.now c.args.edit.now) c.args.path.now c.args.edit.now (own_wire (Edits None c.args.path.now c.args.edit.now) c.args.path.now c.args.edit.now (inl refl) none stays rests) e.file.items e.symbols (base_of e.library e.counts) e.time e.block_end e.fired e.tally
     e.patch c.make-done.new.patch c.make-done.new.wires e.counted c.make-done.ensures.counted (stage_at c.tell.new.self) c.make-done.result (g.L.Sink.taken c.args.lines.now) (g.L.Sink.taken c.tell.new.lines) c.args.steps.now c.make-done.new.steps
     (ready_sure e.patch e.puts e.meet) c.make-done.ensures.rewires (c.make-done.ensures.edits c.args.edit.now (sym c.wire_edit.ensures)) c.tell.ensures.stage c.tell.ensures.ok c.tell.ensures.answer)
 
@@ -47,7 +48,8 @@ returns-clause-err g c =
     let e = c.args.self.now in
     let none : puts_box c.args.edit.now ≡ false = sym c.puts_box.ensures ∙ c.if-puts_box.false in
     let stays : deleted c.args.edit.now ≡ None = sym c.deleted.ensures ∙ c.in_default.is in
+    let rests : moved c.args.edit.now ≡ None = sym c.moved.ensures ∙ c.in_default-moved.is in
     on_err_weaker c.tell.result (λ so samples. so samples (g.H.Shelf.holds c.args.shelf.now) (g.H.Shelf.faults c.args.shelf.now))
-    (edited_part c.tell.result (Edits None c.args.path.now c.args.edit.now) c.args.path.now c.args.edit.now (own_wire (Edits None c.args.path.now c.args.edit.now) c.args.path.now c.args.edit.now (inl refl) none stays) e.file.items e.symbols (base_of e.library e.counts) e.time e.block_end e.fired e.tally
+    (edited_part c.tell.result (Edits None c.args.path.now c.args.edit.now) c.args.path.now c.args.edit.now (own_wire (Edits None c.args.path.now c.args.edit.now) c.args.path.now c.args.edit.now (inl refl) none stays rests) e.file.items e.symbols (base_of e.library e.counts) e.time e.block_end e.fired e.tally
     e.patch c.make-done.new.patch c.make-done.new.wires e.counted c.make-done.ensures.counted (stage_at c.tell.new.self) c.make-done.result (g.L.Sink.taken c.args.lines.now) (g.L.Sink.taken c.tell.new.lines) c.args.steps.now c.make-done.new.steps
     (ready_sure e.patch e.puts e.meet) c.make-done.ensures.rewires (c.make-done.ensures.edits c.args.edit.now (sym c.wire_edit.ensures)) c.tell.ensures.stage c.tell.ensures.err)
