@@ -1,8 +1,7 @@
 -- A document with a box at another place: it counts as before, and is proper where it was.
-use Rattle.std.proofs.Common.{◌≡◌, ◌≤◌, ◌+◌, ℕ, zero, suc, ℤ, Bool, true, false, max, List, [], ◌∷◌, length, slice_get, Option, Some, None, refl, sym, ap, ◌∙◌, subst}
+use Rattle.std.proofs.Common.{◌≡◌, ◌≤◌, ◌+◌, ℕ, zero, suc, ℤ, false, max, List, [], ◌∷◌, length, slice_get, Option, Some, None, refl, sym, ap, ◌∙◌, subst}
 use Rattle.std.specs.Prelude.{option_map}
 use Rattle.std.proofs.lemmas.Option.{none-some, same_Some}
-use Rattle.slab.specs.Slab.{get}
 use Rattle.pd_num.specs.Scale.{millionths, IsInRange}
 use Rattle.pd_atom.specs.Names.{Names}
 use Rattle.pd_canvas.specs.Edits.{is_array}
@@ -16,7 +15,7 @@ use Rattle.pd_grove.specs.Standing.{NodeSeen, node_seen, Stands}
 use Rattle.pd_regrowth_law.specs.Canvases.{Nest, Alone, Inside, nested, AreSubpatches}
 use Rattle.pd_regrowth_law.specs.Suits.{TextsOf}
 use Rattle.pd_shifting.specs.Moves.{is_array_in}
-use Rattle.pd_shift_law.specs.Shifts.{cell_at, boxes_shifted}
+use Rattle.pd_shift_law.specs.Shifts.{boxes_shifted}
 
 -- ---- one box
 
