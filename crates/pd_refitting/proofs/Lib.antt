@@ -1,3 +1,4 @@
 pub mod OwnerLemmas
 pub mod BoxLemmas
 pub mod BuiltLemmas
+pub mod RoomLemmas

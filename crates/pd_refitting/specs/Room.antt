@@ -19,6 +19,6 @@ pub record TakesRefit (p : Patch) (room : RefitRoom) (table : Names) : Type 0 wh
   pub blocks : room.blocks.items ≡ replicate (block_count (kind_jacks Outlets room.seed.row.kind)) silent_block
 
 -- which box becomes another one, and what it becomes
-pub record IsFor (room : RefitRoom) (key : ℕ) (s : Seed) : Type 0 where
-  pub key : room.key ≡ key
+pub record IsFor (room : RefitRoom) (at : ℕ) (s : Seed) : Type 0 where
+  pub key : room.key ≡ at
   pub seed : room.seed ≡ s
