@@ -1,0 +1,2 @@
+pub mod Retypes
+pub mod Retyping
