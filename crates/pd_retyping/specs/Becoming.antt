@@ -1,0 +1,57 @@
+-- A box that is to become another one, and one that did.
+use Rattle.std.specs.Prelude.{◌≡◌, ◌⊎◌, ℕ, false, List, [], None, Err}
+use Rattle.pd_atom.specs.declared.Atom.{Atom}
+use Rattle.pd_atom.specs.Names.{Names}
+use Rattle.pd_object.specs.declared.kinds.Kind.{Kind}
+use Rattle.pd_canvas.specs.Views.{entry_of}
+use Rattle.pd_gather.specs.Gather.{known}
+use Rattle.pd_grove.specs.declared.nodes.Node.{Node}
+use Rattle.pd_grove.specs.declared.seeds.Seed.{Seed}
+use Rattle.pd_patch.specs.declared.patch.Patch.{Patch}
+use Rattle.pd_wiring.specs.declared.refusals.EditRefusal.{EditRefusal}
+use Rattle.pd_wiring.specs.declared.refusals.EditRefusal.TheVariants.{NoDocument, NoMemory}
+use Rattle.pd_boxes.specs.Room.{SameButRoom}
+use Rattle.pd_refitting.specs.Refits.{IsPlainIn, CanRefit, IsRefitted}
+use Rattle.pd_adding.specs.declared.adding.Grown.{Grown}
+use Rattle.pd_adding.specs.Growing.{Added}
+use Rattle.pd_adding.specs.Adding.{IsAdded}
+use Rattle.pd_retyping.specs.declared.asking.Plan.{Plan}
+use Rattle.pd_retyping.specs.Asking.{keeps_inside, settled_text, retyping, put_instead}
+use Rattle.pd_retyping.specs.Retypes.{IsChosen, HasPortsOf, CanBecome, IsKept}
+
+-- the box that is to become another one, which keeps nothing inside, and the edit that would put what it becomes
+pub record IsPlanned (names : Names) (p : Patch) (path : List ℕ) (number : ℕ) (text : List Atom) (plan : Plan) : Type 0 where
+  pub node : Node
+  pub chosen : IsChosen p path number plan.canvas plan.key node
+  pub new : keeps_inside (entry_of node.element) (settled_text names text) ≡ false
+  pub edit : plan.edit ≡ put_instead (entry_of node.element) text
+
+-- why there is no such plan
+abbrev pub IsUnplanned : Names → Patch → List ℕ → ℕ → List Atom → EditRefusal → Type 0
+IsUnplanned names p path number text why =
+    (why ≡ NoMemory) ⊎ ((retyping names p path number text ≡ Err why) ⊎ ((why ≡ NoDocument) × IsKept p path number text (known [] names)))
+
+-- a box without a canvas can become one of this kind in its place
+pub record IsAlike (p : Patch) (n : Node) (k : Kind) : Type 0 where
+  pub bare : n.inner ≡ None
+  pub ports : HasPortsOf n.kind k
+  pub plain : IsPlainIn p n.board n.kind
+  pub stays_plain : IsPlainIn p n.board k
+
+-- room was set aside, and then the box of a key became that of a seed
+pub record MakesOther (old new : Patch) (table : Names) (key : ℕ) (n : Node) (s : Seed) : Type 0 where
+  pub ready : Patch
+  pub room : SameButRoom old ready
+  pub could : CanRefit ready key n s
+  pub refit : IsRefitted ready new table key n s
+
+-- The box stays: memory was wanting, and there may be more room; or it can't become what grew yet, and the patch stays.
+abbrev pub StaysItself : Patch → Patch → Node → Added → EditRefusal → Type 0
+StaysItself old new n a why =
+    ((why ≡ NoMemory) × (CanBecome old n a × SameButRoom old new)) ⊎ ((why ≡ NoDocument) × ((new ≡ old) × (CanBecome old n a → ⊥)))
+
+-- what grew aside is this, with these names
+pub record HasGrown (g : Grown) (names : Names) : Type 0 where
+  pub added : Added
+  pub is : IsAdded g added
+  pub names_are : added.known.names ≡ names

@@ -1,0 +1,3 @@
+pub mod Asking
+pub mod Retypes
+pub mod Becoming

@@ -1,0 +1,145 @@
+-- A box that an edit makes another one in a canvas of a running patch.
+use Rattle.std.specs.Prelude.{◌≡◌, ◌⊎◌, ℕ, true, false, List, Option, Some, None, Result, Ok, Err, IfSome, slice_get}
+use Rattle.slab.specs.Slab.{get}
+use Rattle.pd_atom.specs.declared.Atom.{Atom}
+use Rattle.pd_atom.specs.Names.{IsTable}
+use Rattle.std.specs.List.{All}
+use Rattle.pd_atom.specs.Atoms.{IsOf}
+use Rattle.pd_clock.specs.declared.times.Rate.{Rate}
+use Rattle.pd_object.specs.declared.kinds.Kind.{Kind}
+use Rattle.pd_object.specs.Ports.{ports_of}
+use Rattle.pd_kind.specs.States.{size_of}
+use Rattle.pd_canvas.specs.Pages.{Entry}
+use Rattle.pd_canvas.specs.Edits.{retyped}
+use Rattle.pd_canvas.specs.Views.{entry_of}
+use Rattle.pd_tree.specs.Ports.{is_made}
+use Rattle.pd_tree.specs.Trees.{Cell, Done, Leaf, stand_of}
+use Rattle.pd_growth.specs.Suits.{RowSuits}
+use Rattle.pd_gather.specs.declared.fetching.Fetch.{Fetch}
+use Rattle.pd_gather.specs.Gather.{Known, AreProper}
+use Rattle.pd_grove.specs.declared.nodes.Node.{Node}
+use Rattle.pd_grove.specs.declared.seeds.Seed.{Seed}
+use Rattle.pd_grove.specs.OwnPaths.{sub_reached}
+use Rattle.pd_grove.specs.States.{IsFresh}
+use Rattle.pd_web.specs.Canvases.{keys_at}
+use Rattle.pd_patch.specs.declared.patch.Patch.{Patch}
+use Rattle.pd_patch.specs.Orders.{is_signal}
+use Rattle.pd_wiring.specs.declared.refusals.EditRefusal.{EditRefusal}
+use Rattle.pd_wiring.specs.declared.refusals.EditRefusal.TheVariants.{NoDocument, ShelfFault, NoMemory}
+use Rattle.pd_boxes.specs.Room.{SameButRoom}
+use Rattle.pd_boxes.specs.Put.{CanPut, IsLeaf}
+use Rattle.pd_refitting.specs.Refits.{IsPlainIn, CanRefit, IsRefitted}
+use Rattle.pd_adding.specs.declared.counts.Counts.{Counts}
+use Rattle.pd_adding.specs.Boxes.{CanBeWritten, settled_edit, box_put}
+use Rattle.pd_adding.specs.Growing.{Added}
+use Rattle.pd_adding.specs.Adding.{coming_to, ComesTo, GrewWith}
+use Rattle.pd_deleting.specs.Deletes.{counts_less}
+use Rattle.pd_retyping.specs.declared.retyping.RetypedBox.{RetypedBox}
+use Rattle.pd_retyping.specs.Asking.{takes_text_so, keeps_inside, settled_text, retyping, IsRetyping, put_instead}
+
+-- the counts of a patch without a box that holds no canvas
+abbrev pub counts_but : Rate → Node → Counts → Counts
+counts_but rate n c = counts_less c (size_of n.kind rate) c.wires
+
+-- the path leads to this canvas, whose box of the number has this key and can have another text
+pub record IsChosen (p : Patch) (path : List ℕ) (number canvas key : ℕ) (n : Node) : Type 0 where
+  pub leads : sub_reached p.grove (Some p.grove.root) path ≡ Some canvas
+  pub at : slice_get (keys_at p.grove canvas) number ≡ Some key
+  pub is : get p.grove.nodes key ≡ Some n
+  pub takes : takes_text_so (entry_of n.element) ≡ true
+
+-- What the box becomes comes to this, by what the shelf gives, in order, for each file that growing it asks for and of which nothing is known: it
+-- grows among the boxes that stay, as an edit would put it. `n` are the counts of the patch, and `name` is its file name.
+pub record RetypesTo (p : Patch) (n : Counts) (name path : List ℕ) (number : ℕ) (text : List Atom) (k : Known) (r : Result Added EditRefusal) : Type 0 where
+  pub canvas : ℕ
+  pub key : ℕ
+  pub node : Node
+  pub chosen : IsChosen p path number canvas key node
+  pub new : keeps_inside (entry_of node.element) (settled_text k.names text) ≡ false
+  pub comes : ComesTo None p (counts_but p.rate node n) name path (put_instead (entry_of node.element) text) k r
+
+-- boxes of both kinds have the same ports, both are made or neither, and both stand in signal orders or neither
+pub record HasPortsOf (k l : Kind) : Type 0 where
+  pub ports : ports_of l ≡ ports_of k
+  pub made : is_made l ≡ is_made k
+  pub signal : is_signal l ≡ is_signal k
+
+-- The box holds no canvas, and what grew is one box that holds none and has the same ports. Neither is a port of a box around.
+pub record CanBecome (p : Patch) (n : Node) (a : Added) : Type 0 where
+  pub cell : Cell
+  pub single : a.boxes ≡ Leaf cell Done
+  pub bare : n.inner ≡ None
+  pub ports : HasPortsOf n.kind cell.kind
+  pub plain : IsPlainIn p n.board n.kind
+  pub stays_plain : IsPlainIn p n.board cell.kind
+
+-- The box of a key became what grew, and keeps what its kind keeps at first. All else of the patch stays, but that there is more room.
+pub record HasBecome (old new : Patch) (now key : ℕ) (n : Node) (a : Added) : Type 0 where
+  pub can : CanBecome old n a
+  pub ready : Patch
+  pub room : SameButRoom old ready
+  pub seed : Seed
+  pub is_row : stand_of seed.row ≡ record { cell = can.cell; sheet = None; boxes = 0 }
+  pub suits : RowSuits a.known.names seed.row
+  pub leaf : IsLeaf seed
+  pub fresh : IsFresh old.rate now seed
+  pub could : CanRefit ready key n seed
+  pub refit : IsRefitted ready new a.known.names key n seed
+  pub goes_on : CanPut new
+
+-- An edit made a box another one, with this known after it: `k` was known before it, `n` were the counts of the patch, and it is this time. The
+-- documents that were found before it are proper. What the box became grew where the files were known for which it asked, and is what an edit
+-- would have put that puts the box which a document gets.
+pub record RetypesBox (old new : Patch) (n : Counts) (name path : List ℕ) (number : ℕ) (text : List Atom) (now : ℕ) (k after : Known) (b : RetypedBox) : Type 0 where
+  pub node : Node
+  pub chosen : IsChosen old path number b.canvas b.key node
+  pub is : retyping k.names old path number text ≡ Ok (b.canvas, (b.key, retyped (settled_text k.names text) (entry_of node.element)))
+  pub new_entry : box_put (settled_edit k.names (put_instead (entry_of node.element) text)) ≡ Some (retyped (settled_text k.names text) (entry_of node.element))
+  pub table : IsTable k.names
+  pub found : AreProper k.names k.files
+  pub is_known : All (IsOf k.names) text
+  pub written : CanBeWritten k.names (retyped (settled_text k.names text) (entry_of node.element))
+  pub added : Added
+  pub comes : ComesTo None old (counts_but old.rate node n) name path (put_instead (entry_of node.element) text) k (Ok added)
+  pub files : Known
+  pub grew : GrewWith old (counts_but old.rate node n) name path (put_instead (entry_of node.element) text) k files added
+  pub became : HasBecome old new now b.key node added
+  pub canvas : b.canvas ≡ added.canvas
+  pub counts : b.counts ≡ added.counts
+  pub known_is : after ≡ added.known
+  pub table_after : IsTable after.names
+
+-- a subpatch that keeps what it holds, which isn't made another one yet
+pub record IsKept (p : Patch) (path : List ℕ) (number : ℕ) (text : List Atom) (k : Known) : Type 0 where
+  pub canvas : ℕ
+  pub key : ℕ
+  pub node : Node
+  pub chosen : IsChosen p path number canvas key node
+  pub kept : keeps_inside (entry_of node.element) (settled_text k.names text) ≡ true
+
+-- an edit comes to a box that can't become what grew yet
+pub record IsNotYet (p : Patch) (n : Counts) (name path : List ℕ) (number : ℕ) (text : List Atom) (k : Known) : Type 0 where
+  pub added : Added
+  pub comes : RetypesTo p n name path number text k (Ok added)
+  pub other : CanBecome p comes.node added → ⊥
+
+-- Why an edit makes no box another one: memory was wanting; or there is no such box, or a reason against its text; or the folder gave no file for
+-- which growing asks; or growing comes to this refusal; or the text names what the table hasn't, or such a box isn't made another one yet.
+abbrev pub IsRefused : Patch → Counts → List ℕ → List ℕ → ℕ → List Atom → Known → EditRefusal → Type 0
+IsRefused p n name path number text k why =
+    (why ≡ NoMemory) ⊎ ((retyping k.names p path number text ≡ Err why) ⊎ (((why ≡ ShelfFault) × IsRetyping (retyping k.names p path number text)) ⊎
+    (RetypesTo p n name path number text k (Err why) ⊎
+    ((why ≡ NoDocument) × ((All (IsOf k.names) text → ⊥) ⊎ (IsKept p path number text k ⊎ IsNotYet p n name path number text k))))))
+
+-- the box could become what grew, and memory was wanting
+pub record IsShortOfRoom (old new : Patch) (n : Counts) (name path : List ℕ) (number : ℕ) (text : List Atom) (k : Known) : Type 0 where
+  pub added : Added
+  pub comes : RetypesTo old n name path number text k (Ok added)
+  pub can : CanBecome old comes.node added
+  pub room : SameButRoom old new
+  pub goes_on : CanPut new
+
+-- it is refused for this, and the patch stays; or the box could become another, memory was wanting, and there may be more room
+abbrev pub IsNotRetyped : Patch → Patch → Counts → List ℕ → List ℕ → ℕ → List Atom → Known → EditRefusal → Type 0
+IsNotRetyped old new n name path number text k why =
+    ((new ≡ old) × IsRefused old n name path number text k why) ⊎ ((why ≡ NoMemory) × IsShortOfRoom old new n name path number text k)

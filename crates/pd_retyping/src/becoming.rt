@@ -1,0 +1,146 @@
+//! A box that becomes what grew aside.
+
+ghost use Rattle.std.specs.Prelude.{◌≡◌, ◌∷◌, [], true, false, length, Some, None, IfOk, IfErr, OnOk, OnErr};
+ghost use Rattle.slab.specs.Slab.{get, ContainsKey};
+ghost use Rattle.pd_grove.specs.declared.nodes.Node.{Node};
+ghost use Rattle.pd_grove.specs.States.{AreSmall, IsFresh};
+ghost use Rattle.pd_tree.specs.Trees.{stand_of, stands_in};
+ghost use Rattle.pd_web.specs.Changes.{wires_told, Meet};
+ghost use Rattle.pd_web.specs.Jacks.{KindsSmall};
+ghost use Rattle.pd_boxes.specs.Room.{SameButRoom};
+ghost use Rattle.pd_boxes.specs.Put.{CanPut, IsLeaf};
+ghost use Rattle.pd_refitting.specs.Refits.{CanRefit};
+ghost use Rattle.pd_adding.specs.Adding.{IsAdded};
+ghost use Rattle.pd_adding.specs.Coming.{own_zero};
+ghost use Rattle.pd_adding.specs.Growing.{Added};
+ghost use Rattle.pd_retyping.specs.Retypes.{CanBecome, HasBecome};
+ghost use Rattle.pd_retyping.specs.Becoming.{HasGrown, MakesOther, StaysItself};
+
+use crate::alike::is_alike;
+use crate::retyping::RetypedBox;
+use pd_adding::{Grown, single_boxes};
+use pd_atom::Symbols;
+use pd_boxes::room_changes_nothing;
+use pd_clock::{Rate, Time};
+use pd_grove::{Seed, Seeds};
+use pd_patch::Patch;
+use pd_refitting::{patches_run_on_refitted, refit, refit_room_changes_nothing, reserve_refit};
+use pd_tree::Row;
+use pd_wiring::EditRefusal;
+use std::alloc::{AllocError, Global};
+
+/// Makes the box of a key what grew aside, where it can become that.
+///
+/// # Errors
+///
+/// `NoDocument` where it can't; `NoMemory` where memory ran out, or where the name that the new box owns has as many owners as can be counted.
+pub(crate) fn become_grown(
+    alloc: Global,
+    patch: &mut Patch,
+    key: u32,
+    grown: Grown,
+    now: Time,
+    symbols: &mut Symbols,
+) -> Result<RetypedBox, EditRefusal>
+    requires can { CanPut patch.old }
+    requires here { ContainsKey patch.old.grove.nodes key }
+    requires grown { HasGrown grown symbols.old }
+    ensures became { IfOk result (λ b. (n : Node) (a : Added) → get patch.old.grove.nodes key ≡ Some n → IsAdded grown a → a.known.names ≡ symbols.old →
+        HasBecome patch.old patch.new now key n a) }
+    ensures key { IfOk result (λ b. b.key ≡ key) }
+    ensures canvas { IfOk result (λ b. b.canvas ≡ grown.canvas) }
+    ensures counts { IfOk result (λ b. b.counts ≡ grown.counts) }
+    ensures refused { IfErr result (λ why. (n : Node) (a : Added) → get patch.old.grove.nodes key ≡ Some n → IsAdded grown a → StaysItself patch.old patch.new n a why) }
+    ensures goes_on { CanPut patch.new }
+    ensures meet { Meet patch.old.web → Meet patch.new.web }
+    ensures as_many { wires_told patch.new.web ≡ wires_told patch.old.web }
+    ensures zero { own_zero patch.new ≡ own_zero patch.old }
+    ensures table { symbols.new ≡ symbols.old }
+{
+    if !can_become(patch, key, &grown) {
+        return Err(EditRefusal::NoDocument);
+    }
+    let canvas = grown.canvas;
+    let counts = grown.counts;
+    let Ok(seed) = seed_of(alloc, grown.rows, patch.rate, now) else {
+        return Err(EditRefusal::NoMemory);
+    };
+    let Ok(()) = make_other(alloc, patch, key, seed, symbols) else {
+        return Err(EditRefusal::NoMemory);
+    };
+    Ok(RetypedBox {
+        key,
+        canvas,
+        counts,
+    })
+}
+
+/// Whether the box of a key can become what grew.
+fn can_become(patch: &Patch, key: u32, grown: &Grown) -> bool
+    requires small { KindsSmall patch.now.grove }
+    requires rows_small { AreSmall grown.now.rows.items }
+    ensures yes { result ≡ true → (n : Node) (a : Added) → get patch.now.grove.nodes key ≡ Some n → IsAdded grown.now a → CanBecome patch.now n a }
+    ensures no { result ≡ false → (n : Node) (a : Added) → get patch.now.grove.nodes key ≡ Some n → IsAdded grown.now a → CanBecome patch.now n a → ⊥ }
+{
+    single_boxes();
+    let rows = grown.rows.as_slice();
+    if rows.len() != 1 {
+        return false;
+    }
+    let row = &rows[0];
+    if row.sheet.is_some() {
+        return false;
+    }
+    match patch.grove.node(key) {
+        Some(node) => is_alike(patch, node, &row.kind),
+        None => false,
+    }
+}
+
+/// The seed of the one box of a list.
+///
+/// # Errors
+///
+/// `AllocError` where memory ran out.
+fn seed_of(alloc: Global, rows: Vec<Row>, rate: Rate, now: Time) -> Result<Seed, AllocError>
+    requires small { AreSmall rows.items }
+    requires one { length rows.items ≡ 1 }
+    ensures stand { IfOk result (λ s. stand_of s.row ∷ [] ≡ stands_in rows.items) }
+    ensures fresh { IfOk result (IsFresh rate now) }
+    ensures leaf { IfOk result (λ s. s.row.sheet ≡ None → s.row.boxes ≡ 0 → IsLeaf s) }
+{
+    let mut seeds = Seeds::prepare(alloc, rows, rate, now)?;
+    match seeds.next() {
+        Some(seed) => Ok(seed),
+        None => unreachable!(),
+    }
+}
+
+/// Makes the box of a key that of a seed.
+///
+/// # Errors
+///
+/// `AllocError` where memory ran out, or where the name that the new box owns has as many owners as can be counted.
+fn make_other(
+    alloc: Global,
+    patch: &mut Patch,
+    key: u32,
+    seed: Seed,
+    symbols: &mut Symbols,
+) -> Result<(), AllocError>
+    requires can { (n : Node) × CanRefit patch.old key n seed }
+    ensures made { OnOk result ((n : Node) → get patch.old.grove.nodes key ≡ Some n → MakesOther patch.old patch.new symbols.old key n seed) }
+    ensures short { OnErr result (SameButRoom patch.old patch.new) }
+    ensures goes_on { CanPut patch.new }
+    ensures meet { Meet patch.old.web → Meet patch.new.web }
+    ensures as_many { wires_told patch.new.web ≡ wires_told patch.old.web }
+    ensures zero { own_zero patch.new ≡ own_zero patch.old }
+    ensures table { symbols.new ≡ symbols.old }
+{
+    patches_run_on_refitted();
+    refit_room_changes_nothing();
+    room_changes_nothing();
+    let room = reserve_refit(alloc, patch, key, seed, symbols)?;
+    refit(patch, room, symbols);
+    Ok(())
+}

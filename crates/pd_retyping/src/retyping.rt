@@ -1,0 +1,93 @@
+//! A box that an edit makes another one, grown aside and put in its place.
+
+ghost use Rattle.std.specs.Prelude.{◌≡◌, ◌≤◌, Err, IfOk, IfErr, OnErr};
+ghost use Rattle.pd_io.specs.Faults.{Rose};
+ghost use Rattle.pd_atom.specs.Names.{Extends};
+ghost use Rattle.pd_gather.specs.Gather.{known, AreProper};
+ghost use Rattle.pd_web.specs.Changes.{wires_told, Meet};
+ghost use Rattle.pd_wiring.specs.declared.refusals.EditRefusal.TheVariants.{ShelfFault};
+ghost use Rattle.pd_boxes.specs.Put.{CanPut};
+ghost use Rattle.pd_adding.specs.Coming.{own_zero};
+ghost use Rattle.pd_adding.specs.Counts.{AreWithin};
+ghost use Rattle.pd_retyping.specs.Retypes.{RetypesBox, IsNotRetyped};
+
+use crate::asking::{counts_without, plan_of};
+use crate::becoming::become_grown;
+use crate::known::are_of;
+use pd_adding::{Counts, grow_aside};
+use pd_atom::Symbols;
+use pd_canvas::Atoms;
+use pd_gather::Library;
+use pd_io::Shelf;
+use pd_patch::Patch;
+use pd_putting::Site;
+use pd_wiring::EditRefusal;
+use std::alloc::Global;
+
+/// A box that an edit made another one: its key, the key of its canvas, and the counts of the patch with what it became.
+#[derive(Clone, Copy, Debug, PartialEq, Eq)]
+pub struct RetypedBox {
+    pub key: u32,
+    pub canvas: u32,
+    pub counts: Counts,
+}
+
+/// Makes the box of a number in the canvas at a path of the patch's own document what it becomes with another text. `counts` are the counts of
+/// the patch.
+///
+/// # Errors
+///
+/// The first reason against it: `NoDocument` for a text that isn't of the table, `NoCanvas`, `NoBox`, also for a box that takes no text,
+/// `TextTooLong`, `TooDeep`; then `ShelfFault`, `SymbolsFull` or `TooManyBoxes`, whichever growth comes to first; then `TooManyWires` and
+/// `TooMuchSound`; then `NoDocument` for a box that isn't made another one yet. `NoMemory` may come in place of any. Names and files are
+/// then as before.
+pub fn retype_box<H: Shelf>(
+    alloc: Global,
+    patch: &mut Patch,
+    counts: Counts,
+    site: Site<'_>,
+    number: u32,
+    text: &Atoms,
+    library: &mut Library,
+    shelf: &mut H,
+    symbols: &mut Symbols,
+) -> Result<RetypedBox, EditRefusal>
+    requires can { CanPut patch.old }
+    requires counted { counts.wires ≡ wires_told patch.old.web }
+    requires within { AreWithin counts }
+    requires zero { own_zero patch.old ≤ 1000000000 }
+    requires found { AreProper symbols.old library.old }
+    ensures retyped { IfOk result (λ b. RetypesBox patch.old patch.new counts site.entry.name.now site.entry.path.now number text.now site.entry.now (known library.old symbols.old) (known library.new symbols.new) b) }
+    ensures refused { IfErr result (IsNotRetyped patch.old patch.new counts site.entry.name.now site.entry.path.now number text.now (known library.old symbols.old)) }
+    ensures goes_on { CanPut patch.new }
+    ensures meet { Meet patch.old.web → Meet patch.new.web }
+    ensures counted { IfOk result (λ b. b.counts.wires ≡ wires_told patch.new.web) }
+    ensures as_many { wires_told patch.new.web ≡ wires_told patch.old.web }
+    ensures within { IfOk result (λ b. AreWithin b.counts) }
+    ensures zero { own_zero patch.new ≡ own_zero patch.old }
+    ensures library { OnErr result (library.new ≡ library.old) }
+    ensures names { OnErr result (symbols.new ≡ symbols.old) }
+    ensures found { AreProper symbols.new library.new }
+    ensures extends { Extends symbols.old symbols.new }
+    ensures kept { H.holds shelf.new ≡ H.holds shelf.old }
+    ensures cause { result ≡ Err ShelfFault → Rose (H.faults shelf.old) (H.faults shelf.new) }
+    ensures shelf_counted { H.faults shelf.old ≤ H.faults shelf.new }
+{
+    if !are_of(symbols, text.as_slice()) {
+        return Err(EditRefusal::NoDocument);
+    }
+    let plan = plan_of(patch, symbols, site.path, number, text)?;
+    let left = counts_without(patch, plan.key, counts);
+    let files = library.files().len();
+    let names = symbols.len();
+    let grown = grow_aside(
+        alloc, patch, left, site.name, site.path, &plan.edit, library, shelf, symbols,
+    )?;
+    match become_grown(alloc, patch, plan.key, grown, site.now, symbols) {
+        Ok(retyped) => Ok(retyped),
+        Err(why) => {
+            library.forget(files, names, symbols);
+            Err(why)
+        }
+    }
+}
