@@ -111,8 +111,8 @@ impl Engine {
     }
 
     /// Carries out a command at the present time, and prints what it has to print. Edits of wires, edits that put or delete a box without a
-    /// canvas inside, which is no port of a box around, and saves of the patch's own document are made, also the edits that its messages ask
-    /// for; others are refused, and there is nothing to undo or redo.
+    /// canvas inside, that put a subpatch without boxes, or that move a box, where it is no port of a box around, and saves of the patch's own
+    /// document are made, also the edits that its messages ask for; others are refused, and there is nothing to undo or redo.
     ///
     /// # Errors
     ///
