@@ -17,7 +17,7 @@ use Rattle.pd_library.specs.Files.{answer_in}
 use Rattle.pd_fit.specs.Fitting.{wires_inside}
 use Rattle.pd_tree.specs.declared.rows.Sheet.{Sheet}
 use Rattle.pd_tree.specs.Ports.{fits}
-use Rattle.pd_tree.specs.Trees.{Cell, Trees, Done, Leaf, Holder, Stand, stand_of}
+use Rattle.pd_tree.specs.Trees.{Cell, Trees, Done, Holder, Stand, stand_of}
 use Rattle.pd_growth.specs.Growth.{around_root, box_grown, without_ending}
 use Rattle.pd_growth.specs.Growing.{inside_grown}
 use Rattle.pd_growth.specs.Steps.{gives}

@@ -9,7 +9,6 @@ use Rattle.pd_atom.specs.Names.{Names}
 use Rattle.pd_canvas.specs.declared.edits.Edit.{Edit}
 use Rattle.pd_canvas.specs.declared.edits.Edit.TheVariants as edit
 use Rattle.pd_clock.specs.Queue.{Clock}
-use Rattle.pd_library.specs.declared.answers.Answer.{Answer}
 use Rattle.pd_made.specs.declared.tally.Tally.{Tally}
 use Rattle.pd_script.specs.Edits.{moved}
 use Rattle.pd_grove.specs.declared.grove.Grove.{Grove}

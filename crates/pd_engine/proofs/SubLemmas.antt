@@ -1,25 +1,25 @@
 -- A subpatch without boxes that an edit puts: it owns the same in each table that goes on.
-use Rattle.std.proofs.Common.{◌≡◌, ℕ, Bool, true, false, ◌&&◌, List, [], ◌∷◌, drop, length, Option, Some, None, Result, Ok, if◌then◌else◌, nat_lt, bytes_eq, codes, refl, sym, ap, ◌∙◌, subst}
+use Rattle.std.proofs.Common.{◌≡◌, ℕ, Bool, true, false, List, [], ◌∷◌, drop, length, Option, Some, None, Result, Ok, if◌then◌else◌, nat_lt, bytes_eq, codes, refl, sym, ap, ◌∙◌, subst}
 use Rattle.std.specs.Prelude.{option_and_then, position}
 use Rattle.pd_atom.specs.declared.Atom.{Atom}
 use Rattle.pd_atom.specs.declared.Atom.TheVariants as atom
 use Rattle.pd_atom.specs.Names.{Names, given, name_of, Extends, longest, interned}
 use Rattle.pd_name.specs.declared.Class.TheVariants.{Receiver}
 use Rattle.pd_object.specs.declared.kinds.Kind.TheVariants as kind
-use Rattle.pd_canvas.specs.Pages.{Shape, Sub, Head, Page, Entry}
+use Rattle.pd_canvas.specs.Pages.{Shape, Sub, Page, Entry}
 use Rattle.pd_library.specs.declared.answers.Answer.{Answer}
 use Rattle.pd_tree.specs.declared.rows.Sheet.{Sheet}
 use Rattle.pd_tree.specs.Trees.{Cell, Trees, Done, Leaf, Holder}
 use Rattle.pd_grove.specs.TextOrder.{is_sub}
 use Rattle.pd_bind.specs.Naming.{owned, symbol_named, canvas_symbol, first_symbol, subpatch_symbol, owned_by}
 use Rattle.pd_growth.specs.declared.growing.Stop.{Stop}
-use Rattle.pd_growth.specs.Steps.{Stock, Step, gives, numbered, brought, ◌>>=◌, named_step}
+use Rattle.pd_growth.specs.Steps.{Stock, Step, gives, numbered, ◌>>=◌, named_step}
 use Rattle.pd_growth.specs.Making.{Around, Making, Plain, Subpatch, File, made}
 use Rattle.pd_growth.specs.Growth.{Inner, cell_of, canvas_grown, receiver_bytes, second_named, receiver_named, brought_if, receiver_brought, around_instance, box_made, box_grown}
 use Rattle.pd_naming.specs.Naming.{arguments_of}
 use Rattle.pd_regrowth_law.specs.Suits.{AreOf, IsAroundOf}
 use Rattle.pd_regrowth_law.proofs.StepLemmas.{gives_same, gives_stock, chain, box_went, named_went, extends_on, counted_takes}
-use Rattle.pd_regrowth_law.proofs.TakeLemmas.{text_takes, receiver_takes, canvas_went, InnerTakes}
+use Rattle.pd_regrowth_law.proofs.TakeLemmas.{receiver_takes, canvas_went, InnerTakes}
 use Rattle.pd_regrowth_law.proofs.ExpandLemmas.{name_stays, are_of_more, place_stays, has_place}
 use Rattle.pd_regrowth_law.proofs.AgainLemmas.{around_more, own_text_of}
 
