@@ -51,7 +51,7 @@ pub fn documents_follow_retypes()
 {}
 
 /// The new box is saved as its element, with what it keeps of it. What it keeps at first leaves that element as it is, but for a toggle with
-/// other values in its text, and so it stands as it grew.
+/// other values in its text.
 pub fn retyped_boxes_are_saved()
     ensures saved { (g h : Grove) (path : List ℕ) (canvas key number : ℕ) (n n' : Node) → RetypesBoxAt g h path canvas key number n n' →
         is_sub (cell_in n').head.form ≡ false →
@@ -60,11 +60,10 @@ pub fn retyped_boxes_are_saved()
         RetypesBoxAt g h path canvas key number n n' → KeepsFirst rate now n' → is_sub (cell_in n').head.form ≡ false →
         IsMade (cell_in n').head.form (cell_in n') → KeepsText (cell_in n') → document_boxes (Leaf (cell_in n') Done) ≡ boxed (e ∷ []) →
         IsSavedAs (get h.boards) (get h.nodes key) e }
-    ensures kept { (n : Node) (rate : Rate) (now : ℕ) → KeepsFirst rate now n → IsMade (cell_in n).head.form (cell_in n) → KeepsText (cell_in n) →
-        cell_now n.state (cell_in n) ≡ cell_in n }
 {}
 
-/// The tree that stands then is the former one with the new box there, also the tree as it stands.
+/// The tree that stands then is the former one with the new box there, also the tree as it stands: with what the new box keeps, and so with the
+/// box as it grew where that is what it keeps at first.
 pub fn trees_follow_retypes()
     ensures stands { (g h : Grove) (path : List ℕ) (canvas key number : ℕ) (n n' : Node) (t : Tree) → RetypesBoxAt g h path canvas key number n n' →
         GroveStands g t.sheet t.boxes → GroveStands h (retyped_at path number (cell_in n') t).sheet (retyped_at path number (cell_in n') t).boxes }
@@ -74,6 +73,10 @@ pub fn trees_follow_retypes()
         RetypesBoxAt g h path canvas key number n n' → GroveStands g t.sheet t.boxes →
         tree_now h w numbers (retyped_at path number (cell_in n') t) ≡
         retyped_at path number (cell_now n'.state (cell_in n')) (tree_now g w numbers t) }
+    ensures fresh { (g h : Grove) (w : Web) (numbers path : List ℕ) (canvas key number : ℕ) (n n' : Node) (t : Tree) (rate : Rate) (now : ℕ) →
+        RetypesBoxAt g h path canvas key number n n' → GroveStands g t.sheet t.boxes → KeepsFirst rate now n' →
+        is_sub (cell_in n').head.form ≡ false → IsMade (cell_in n').head.form (cell_in n') → KeepsText (cell_in n') →
+        tree_now h w numbers (retyped_at path number (cell_in n') t) ≡ retyped_at path number (cell_in n') (tree_now g w numbers t) }
 {}
 
 /// The tree has as many boxes, and the same `$0` numbers. Of values of tables, arrays and delay lines it has those of the new box and lacks those
