@@ -22,9 +22,8 @@ use Rattle.pd_regrowth_law.proofs.PartLemmas.{join_done}
 use Rattle.pd_regrowth_law.proofs.StepLemmas.{more_boxes, no_boxes}
 use Rattle.pd_regrowth_law.proofs.TakeLemmas.{several_take}
 use Rattle.pd_reload_law.specs.Reloading.{RunsAs}
-use Rattle.pd_reload_law.specs.Saving.{AreMade, IsMade}
+use Rattle.pd_reload_law.specs.Saving.{IsMade}
 use Rattle.pd_putting_law.specs.Again.{StandsAgain}
-use Rattle.pd_putting_law.specs.Puts.{put_at}
 use Rattle.pd_putting_law.proofs.StandLemmas.{path_along}
 use Rattle.pd_putting_law.proofs.WithinLemmas.{path_within, levels_join, inside_levels}
 use Rattle.pd_putting_law.proofs.AgainLemmas.{box_is, box_stands, canvas_regrows, change_stands, new_made, stands_on}

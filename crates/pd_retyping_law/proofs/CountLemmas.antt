@@ -10,7 +10,6 @@ use Rattle.pd_grove.specs.declared.grove.Grove.{Grove}
 use Rattle.pd_grove.specs.OwnPaths.{sub_reached}
 use Rattle.pd_grove.specs.Standing.{NodeSeen, Stands, GroveStands}
 use Rattle.pd_grove.specs.Telling.{inner_in}
-use Rattle.pd_web.specs.Canvases.{keys_at}
 use Rattle.pd_patch.specs.Sounds.{sound_of}
 use Rattle.pd_regrowth_law.specs.Canvases.{canvas_with}
 use Rattle.pd_reload_law.proofs.EditLemmas.{sub_inner}

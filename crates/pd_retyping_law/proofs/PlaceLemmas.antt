@@ -1,16 +1,13 @@
 -- The box that became another one, among the boxes of its canvas and of others.
-use Rattle.std.proofs.Common.{◌≡◌, ◌≢◌, ℕ, zero, suc, List, ◌∷◌, slice_get, Option, Some, None, refl, sym, ap, ◌∙◌, subst, arith}
+use Rattle.std.proofs.Common.{◌≡◌, ◌≢◌, ℕ, zero, suc, List, ◌∷◌, slice_get, Option, Some, None, refl, sym, ap, ◌∙◌, arith}
 use Rattle.std.specs.Prelude.{option_map}
 use Rattle.std.proofs.lemmas.Option.{none-some, same_Some}
 use Rattle.slab.specs.Slab.{get}
-use Rattle.pd_tree.specs.Trees.{Cell}
 use Rattle.pd_grove.specs.declared.nodes.Node.{Node}
 use Rattle.pd_grove.specs.declared.grove.Grove.{Grove}
 use Rattle.pd_grove.specs.Owning.{board_in}
 use Rattle.pd_grove.specs.Standing.{NodeSeen, node_seen}
-use Rattle.pd_grove.specs.Telling.{inner_in}
 use Rattle.pd_web.specs.Canvases.{keys_at}
-use Rattle.pd_putting_law.proofs.StandLemmas.{seen_inner}
 use Rattle.pd_retyping_law.specs.Retyping.{RetypesBoxAt, cell_in}
 
 -- none of these boxes is the one of the key

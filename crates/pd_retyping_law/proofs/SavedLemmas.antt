@@ -6,7 +6,6 @@ use Rattle.slab.specs.Slab.{get}
 use Rattle.pd_clock.specs.declared.times.Rate.{Rate}
 use Rattle.pd_kind.specs.States.{start_of}
 use Rattle.pd_kind.specs.Tables.{started}
-use Rattle.pd_kind.specs.declared.states.State.{State}
 use Rattle.pd_canvas.specs.Pages.{Entry, boxed, empty_page}
 use Rattle.pd_tree.specs.Trees.{Cell, Trees, Done, Leaf, Tree, document_boxes}
 use Rattle.pd_grove.specs.declared.nodes.Node.{Node}

@@ -1,6 +1,5 @@
 -- Another box in one canvas, and the tree as it stands.
 use Rattle.std.proofs.Common.{◌≡◌, ◌≢◌, ℕ, zero, suc, ◌+◌, List, [], ◌∷◌, slice_get, Option, Some, None, refl, sym, ap, ◌∙◌, subst}
-use Rattle.std.specs.Prelude.{option_map}
 use Rattle.std.proofs.lemmas.Option.{none-some, same_Some}
 use Rattle.slab.specs.Slab.{Slab, get}
 use Rattle.pd_canvas.specs.Pages.{Shape, Sub}
@@ -10,7 +9,7 @@ use Rattle.pd_grove.specs.declared.nodes.Node.{Node}
 use Rattle.pd_grove.specs.declared.boards.Board.{Board}
 use Rattle.pd_grove.specs.declared.grove.Grove.{Grove}
 use Rattle.pd_grove.specs.OwnPaths.{sub_in, sub_reached}
-use Rattle.pd_grove.specs.Standing.{NodeSeen, node_seen, Stands, GroveStands}
+use Rattle.pd_grove.specs.Standing.{Stands, GroveStands}
 use Rattle.pd_grove.specs.Telling.{inner_in, keys_in, state_in}
 use Rattle.pd_grove.specs.TextOrder.{keys_inside}
 use Rattle.pd_grove.proofs.PlaceLemmas.{seen_keys}
@@ -27,7 +26,7 @@ use Rattle.pd_putting_law.proofs.StandLemmas.{seen_inner, CanvasAt, keys_are, Ar
 use Rattle.pd_putting_law.proofs.TreeLemmas.{holder_next, seen_sub}
 use Rattle.pd_retyping_law.specs.Retypes.{boxes_with, retyped_box, retyped_at}
 use Rattle.pd_retyping_law.specs.Retyping.{RetypesBoxAt, cell_in}
-use Rattle.pd_retyping_law.proofs.PlaceLemmas.{AreOthers, AreOthersBut, others_next, but_first, but_next, but_here, others_in, others_here, is_here, is_now, bare_here}
+use Rattle.pd_retyping_law.proofs.PlaceLemmas.{AreOthers, AreOthersBut, others_next, but_first, but_next, but_here, others_in, others_here, is_now, bare_here}
 
 holder_with : (f : Shape) (x : Cell) (s : Sheet) (inner : Trees) (now : Sheet) (boxes others : Trees) (m : ℕ) (c : Cell)
     → boxes_with (suc m) c (holder_now f x s inner now boxes others) ≡ holder_now f x s inner now boxes (boxes_with m c others)
