@@ -1,6 +1,6 @@
 //! A box becomes another one, layer by layer.
 
-ghost use Rattle.std.specs.Prelude.{◌≡◌, ◌∷◌, ◌×◌, ℕ, List, Option, Some, None, slice_get};
+ghost use Rattle.std.specs.Prelude.{◌≡◌, ◌∷◌, ℕ, List, Option, Some, None, slice_get};
 ghost use Rattle.slab.specs.Slab.{get, ContainsKey};
 ghost use Rattle.pd_bind.specs.Naming.{Owned};
 ghost use Rattle.pd_bind.specs.Owning.{owned_at, root_owner};
