@@ -1,6 +1,6 @@
 -- A box is written over in a tree, and a patch of which that is done.
-use Rattle.std.proofs.Common.{◌≡◌, ◌≢◌, ℕ, List, [], ◌∷◌, Option, Some, None, IsSome, slice_get, refl, sym, ap, ◌∙◌, subst}
-use Rattle.std.proofs.lemmas.Option.{none-some, same_Some}
+use Rattle.std.proofs.Common.{◌≡◌, ℕ, List, [], ◌∷◌, Some, None, slice_get, refl, sym, ap, ◌∙◌, subst}
+use Rattle.std.proofs.lemmas.Option.{same_Some}
 use Rattle.slab.specs.Slab.{get, ContainsKey}
 use Rattle.slab.proofs.SlabLemmas.{Updates-with_value}
 use Rattle.pd_atom.specs.Names.{Names}
@@ -23,14 +23,6 @@ use Rattle.pd_refitting.proofs.BoxLemmas.{forest_as, none_as, IsOther}
 
 pub is_live : (g : Grove) (k : ℕ) (n : Node) → get g.nodes k ≡ Some n → ContainsKey g.nodes k
 is_live g k n is = rw is refl
-
--- a live box is none that stands for the root canvas
-pub not_root : (g : Grove) (k : ℕ) → ContainsKey g.nodes k → get g.nodes root_owner ≡ None → k ≢ root_owner
-not_root g k live none same = no (get g.nodes k) live (ap (get g.nodes) same ∙ none)
-  where
-    no : (o : Option Node) → IsSome o → o ≡ None → ⊥
-    no None l e = cc
-    no (Some n) l e = none-some n (sym e)
 
 pub written : (g : Grove) (k : ℕ) (found w : Node) (s : Seed) → get g.nodes k ≡ Some found → (found.inner ≡ None → w ≡ node_of found.board s)
     → (n : Node) → get g.nodes k ≡ Some n → n.inner ≡ None → Becomes g (with_node g k w) k (node_of n.board s)

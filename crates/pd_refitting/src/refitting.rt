@@ -55,7 +55,7 @@ fn unbind(names: &mut Names, grove: &Grove, spot: Spot, symbols: &mut Symbols)
 
 /// Makes a live box that of a seed, in its canvas.
 fn become_other(grove: &mut Grove, key: u32, seed: Seed)
-    requires here { ContainsKey grove.old.nodes key }
+    requires { ContainsKey grove.old.nodes key }
     ensures { (n : Node) → get grove.old.nodes key ≡ Some n → n.inner ≡ None → Becomes grove.old grove.new key (node_of n.board seed) }
 {
     match grove.node_mut(key) {

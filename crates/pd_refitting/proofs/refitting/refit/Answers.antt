@@ -1,6 +1,9 @@
-use Rattle.std.proofs.Common.{true, [], refl}
+use Rattle.std.proofs.Common.{true, [], ◌∷◌, refl, sym, subst}
+use Rattle.slab.specs.Slab.{get}
 use Rattle.pd_patch.specs.Values.{blocks_told}
 use Rattle.pd_bind.specs.Naming.{owned_by}
+use Rattle.pd_bind.specs.Owning.{owned_at}
+use Rattle.pd_owning.specs.Bound.{AreOwnersBut, HasRoom, OthersStay}
 use Rattle.pd_tree.specs.Trees.{stand_of}
 use Rattle.pd_boxes.specs.Put.{node_of}
 use Rattle.pd_refitting.proofs.RoomLemmas.{both_stay, owner_fits, silent_put}
@@ -38,8 +41,9 @@ bind_box-requires-clause-room c =
     let C = c.requires.can.1 in
     let B = c.become_other.ensures n C.is C.bare in
     let s = c.args.room.seed in
-    owner_fits c.args.patch.now.grove c.become_other.new.grove c.args.symbols.now c.args.room.key n (node_of n.board s) C.is B.is c.spot_at-spot.result c.spot_at-spot.ensures.node
-    c.unbind.new.names (c.unbind.ensures.room (owned_by c.args.symbols.now true (stand_of s.row).cell) 1 c.requires.room.owner)
+    subst (λ t. HasRoom c.unbind.new.names (owned_at t (get c.become_other.new.grove.nodes) c.spot_at-spot.result) 1) (sym c.unbind.ensures.table)
+    (owner_fits c.args.patch.now.grove c.become_other.new.grove c.args.symbols.now c.args.room.key n (node_of n.board s) C.is B.is c.spot_at-spot.result c.spot_at-spot.ensures.node
+    c.unbind.new.names (c.unbind.ensures.room (owned_by c.args.symbols.now true (stand_of s.row).cell) 1 c.requires.room.owner))
 
 pub put_blocks-requires : goal.put_blocks-requires
 put_blocks-requires c = c.requires.room.values
@@ -55,11 +59,16 @@ returns-clause-refitted c = λ n at.
     let B = c.become_other.ensures n C.is C.bare in
     let spot = c.spot_at-spot.result in
     let same = c.spot_at-spot.ensures.node in
+    let mid = c.unbind.new.names in
+    let new = c.bind_box.new.names in
     record {
       grove = B;
       web = refl;
-      owners = owners p key n s C h B c.unbind.new.names c.bind_box.new.names table spot same c.unbind.ensures.unbinds (λ file was. c.bind_box.ensures.binds file [] refl was);
-      other_owners = both_stay p.grove h table key n (node_of n.board s) C.is B.is spot same p.names c.unbind.new.names c.bind_box.new.names c.unbind.ensures.others c.bind_box.ensures.others;
+      owners = owners p key n s C h B mid new table spot same c.unbind.ensures.unbinds (λ file was.
+          subst (λ t. AreOwnersBut new t file h []) c.unbind.ensures.table
+          (c.bind_box.ensures.binds file [] refl (subst (λ t. AreOwnersBut mid t file h (spot.node ∷ [])) (sym c.unbind.ensures.table) was)));
+      other_owners = both_stay p.grove h table key n (node_of n.board s) C.is B.is spot same p.names mid new c.unbind.ensures.others
+          (subst (λ t. OthersStay mid new (owned_at t (get h.nodes) spot)) c.unbind.ensures.table c.bind_box.ensures.others);
       links = refl;
       orders = refl;
       numbers = refl;

@@ -5,7 +5,6 @@ use Rattle.pd_patch.specs.Telling.{order_in}
 use Rattle.pd_patch.specs.Values.{blocks_told}
 use Rattle.pd_boxes.proofs.KindLemmas.{blocks_count}
 use Rattle.pd_boxes.proofs.ReserveLemmas.{same_grove, same_web, same_order, longer_self}
-use Rattle.pd_refitting.proofs.WriteLemmas.{not_root}
 use Rattle.pd_refitting.proofs.reserving.reserve_refit.Goals as goal
 
 pub returns-in_err-blocks-clause-same : goal.returns-in_err-blocks-clause-same
