@@ -5,3 +5,4 @@ pub mod TreeLemmas
 pub mod CountLemmas
 pub mod AgainLemmas
 pub mod SavedLemmas
+pub mod EditLemmas

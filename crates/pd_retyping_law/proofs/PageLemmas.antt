@@ -147,7 +147,7 @@ module _ (g h : Grove) (path₀ : List ℕ) (canvas key number : ℕ) (n n' : No
       fewer : (m l k : ℕ) → suc m ≡ suc l + suc k → m ≡ l + suc k
       fewer m l k h = omega (arith, h)
 
-  document_by : (change : Entry → Entry) → ChangesEntry change → present_page h w numbers ≡ edit_at path₀ (change_box number change) (present_page g w numbers)
+  pub document_by : (change : Entry → Entry) → ChangesEntry change → present_page h w numbers ≡ edit_at path₀ (change_box number change) (present_page g w numbers)
   document_by change becomes =
       let F = B.forest in
       let deep = deep_as g F path₀ g.root canvas (sub_leads g g.root canvas path₀ B.leads) in
@@ -164,7 +164,7 @@ module _ (g h : Grove) (path₀ : List ℕ) (canvas key number : ℕ) (n n' : No
 
   -- ---- the document
 
-  new_entry : (held : ℕ → Page) (e : Entry) → IsSavedAs (get h.boards) (get h.nodes key) e → entry_at held (get h.nodes key) ≡ e
+  pub new_entry : (held : ℕ → Page) (e : Entry) → IsSavedAs (get h.boards) (get h.nodes key) e → entry_at held (get h.nodes key) ≡ e
   new_entry held e S = leaf_saved held (get h.boards) (get h.nodes key) e n' B.becomes B.leaf S
 
   pub document_replaced : (e : Entry) → IsSavedAs (get h.boards) (get h.nodes key) e
@@ -177,12 +177,18 @@ module _ (g h : Grove) (path₀ : List ℕ) (canvas key number : ℕ) (n n' : No
       document_by (retyped text) (λ before after.
       new_entry after (retyped text e) T ∙ ap (retyped text) (sym (leaf_saved before (get g.boards) (get g.nodes key) e n B.was B.bare S)))
 
+  -- what the old box had becomes the same with a text as the element from which it grew
+  pub retyped_there : (text : List Atom) → CanRetype (entry_of n.element) → ((entry_of n.element).head.form ≡ Sub → begins_with_pd text ≡ true → ⊥) → (before : ℕ → Page)
+      → retyped text (entry_at before (get g.nodes key)) ≡ retyped text (entry_of n.element)
+  retyped_there text can never before =
+      let e = entry_of n.element in
+      ap (λ o. retyped text (entry_at before o)) B.was
+      ∙ retyped_by e.head.form text n.state e.head (held_in e.head.form (page_inside before n.inner)) e.page can never
+
   pub document_retyped : (text : List Atom) → CanRetype (entry_of n.element) → IsSavedAs (get h.boards) (get h.nodes key) (retyped text (entry_of n.element))
       → present_page h w numbers ≡ edit_at path₀ (edited (edit.Retype number text)) (present_page g w numbers)
   document_retyped text can T =
       let e = entry_of n.element in
       document_by (retyped text) (λ before after.
       new_entry after (retyped text e) T
-      ∙ sym (ap (λ o. retyped text (entry_at before o)) B.was
-      ∙ retyped_by e.head.form text n.state e.head (held_in e.head.form (page_inside before n.inner)) e.page can
-      (λ form pd. no_sub (get h.boards) (get h.nodes key) (retyped text e) n' B.becomes B.leaf T (sub_retyped text e form pd))))
+      ∙ sym (retyped_there text can (λ form pd. no_sub (get h.boards) (get h.nodes key) (retyped text e) n' B.becomes B.leaf T (sub_retyped text e form pd)) before))

@@ -33,12 +33,14 @@ module _ (g h : Grove) (path₀ : List ℕ) (canvas key number : ℕ) (n n' : No
   stands_alone : Stands (get h.nodes) (get h.boards) n'.board 0 (key ∷ []) grown
   stands_alone = (ap (option_map node_seen) B.becomes ∙ ap (λ o. Some (record { board = n'.board; cell = cell_in n'; inner = o })) B.leaf, tt)
 
+  pub element_saved : (e : Entry) → is_sub (cell_in n').head.form ≡ false → document_boxes grown ≡ boxed (e ∷ [])
+      → IsSavedAs (get h.boards) (get h.nodes key) (entry_kept n'.state e)
+  element_saved e plain document =
+      subst (λ s. IsSavedAs (get h.boards) (get h.nodes key) (entry_kept s e)) (ap state_in B.becomes) (new_saved h n'.board 0 key grown e stands_alone plain document)
+
   pub box_saved : is_sub (cell_in n').head.form ≡ false
       → IsSavedAs (get h.boards) (get h.nodes key) (entry_kept n'.state (record { head = (cell_in n').head; page = empty_page }))
-  box_saved plain =
-      let e : Entry = record { head = (cell_in n').head; page = empty_page } in
-      subst (λ s. IsSavedAs (get h.boards) (get h.nodes key) (entry_kept s e)) (ap state_in B.becomes)
-      (new_saved h n'.board 0 key grown e stands_alone plain refl)
+  box_saved plain = element_saved (record { head = (cell_in n').head; page = empty_page }) plain refl
 
   -- what it keeps is what its kind keeps at first
   fresh_as : (rate : Rate) (now : ℕ) → KeepsFirst rate now n' → (m : Node) → get h.nodes key ≡ Some m → m.state ≡ Some (started (start_of m.kind rate) now)

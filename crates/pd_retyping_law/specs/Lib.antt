@@ -1,2 +1,3 @@
 pub mod Retypes
 pub mod Retyping
+pub mod Edits

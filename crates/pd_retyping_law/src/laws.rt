@@ -1,13 +1,13 @@
 //! Laws over a patch in which a box became another one.
 
-ghost use Rattle.std.specs.Prelude.{◌≡◌, ◌≤◌, ◌+◌, ℕ, false, List, [], ◌∷◌, length, Option, Some};
+ghost use Rattle.std.specs.Prelude.{◌≡◌, ◌≤◌, ◌+◌, ◌&&◌, ℕ, false, List, [], ◌∷◌, length, Option, Some};
 ghost use Rattle.slab.specs.Slab.{get};
 ghost use Rattle.pd_atom.specs.declared.Atom.{Atom};
 ghost use Rattle.pd_atom.specs.Names.{Names};
 ghost use Rattle.pd_clock.specs.declared.times.Rate.{Rate};
 ghost use Rattle.pd_kind.specs.States.{size_of};
 ghost use Rattle.pd_canvas.specs.Pages.{Entry, boxed, empty_page};
-ghost use Rattle.pd_canvas.specs.Edits.{CanRetype, edited, retyped};
+ghost use Rattle.pd_canvas.specs.Edits.{CanRetype, begins_with_pd, edited, retyped};
 ghost use Rattle.pd_canvas.specs.Paths.{change_box, edit_at};
 ghost use Rattle.pd_canvas.specs.Proper.{HoldsNone, levels, levels_of};
 ghost use Rattle.pd_canvas.specs.Views.{entry_of};
@@ -29,7 +29,8 @@ ghost use Rattle.pd_regrowth_law.specs.Suits.{HoldNone, IsEntryOf};
 ghost use Rattle.pd_reload_law.specs.Reloading.{RunsAs};
 ghost use Rattle.pd_reload_law.specs.Saving.{IsMade, cell_now, tree_now};
 ghost use Rattle.pd_putting_law.specs.Again.{StandsAgain};
-ghost use Rattle.pd_putting_law.specs.Putting.{IsSavedAs, KeepsText, entry_kept};
+ghost use Rattle.pd_putting_law.specs.Putting.{IsBare, IsSavedAs, KeepsText, entry_kept};
+ghost use Rattle.pd_retyping_law.specs.Edits.{GivesText};
 ghost use Rattle.pd_retyping_law.specs.Retypes.{retyped_at};
 ghost use Rattle.pd_retyping_law.specs.Retyping.{KeepsFirst, RetypesBoxAt, cell_in};
 
@@ -108,4 +109,29 @@ pub fn retyped_trees_grow_again()
         HoldNone e.page.boxes →
         box_grown lib (without_ending file) left (inner_of lib (without_ending file) left) (around_root t.sheet.zero) e w ≡
         gives (Leaf (cell_in n') Done) v → StandsAgain lib file v.names (retyped_at path number (cell_in n') t) }
+{}
+
+/// Where an edit gives a box of a running patch another text, and it becomes a box without a canvas that grew from its element with that text, the
+/// patch runs as the former tree with the new box there, which grows again from its own document, and the document has that element there with
+/// what the new box keeps of it: it is the edited one, but for a toggle with other values in its text than it keeps at first.
+pub fn edits_retype_boxes()
+    ensures bare { (text : List Atom) (e : Entry) → CanRetype e → (is_sub e.head.form && begins_with_pd text) ≡ false → IsBare (retyped text e) }
+    ensures kept { (g h : Grove) (w : Web) (numbers path : List ℕ) (canvas key number : ℕ) (lib : ℕ → Option Answer) (file : List ℕ) (t : Tree)
+        (text : List Atom) (n n' : Node) (from after : Stock) → RunsAs g t → StandsAgain lib file from.names t →
+        GivesText g h path canvas key number lib file t text n n' from after →
+        present_page h w numbers ≡ edit_at path (change_box number (λ e. entry_kept n'.state (retyped text e))) (present_page g w numbers) }
+    ensures document { (g h : Grove) (w : Web) (numbers path : List ℕ) (canvas key number : ℕ) (lib : ℕ → Option Answer) (file : List ℕ) (t : Tree)
+        (text : List Atom) (n n' : Node) (from after : Stock) → RunsAs g t → StandsAgain lib file from.names t →
+        GivesText g h path canvas key number lib file t text n n' from after → KeepsText (cell_in n') →
+        present_page h w numbers ≡ edit_at path (edited (edit.Retype number text)) (present_page g w numbers) }
+    ensures runs { (g h : Grove) (path : List ℕ) (canvas key number : ℕ) (lib : ℕ → Option Answer) (file : List ℕ) (t : Tree)
+        (text : List Atom) (n n' : Node) (from after : Stock) → RunsAs g t → StandsAgain lib file from.names t →
+        GivesText g h path canvas key number lib file t text n n' from after → RunsAs h (retyped_at path number (cell_in n') t) }
+    ensures again { (g h : Grove) (path : List ℕ) (canvas key number : ℕ) (lib : ℕ → Option Answer) (file : List ℕ) (t : Tree)
+        (text : List Atom) (n n' : Node) (from after : Stock) → RunsAs g t → StandsAgain lib file from.names t →
+        GivesText g h path canvas key number lib file t text n n' from after → StandsAgain lib file after.names (retyped_at path number (cell_in n') t) }
+    ensures now { (g h : Grove) (w : Web) (numbers path : List ℕ) (canvas key number : ℕ) (lib : ℕ → Option Answer) (file : List ℕ) (t : Tree)
+        (text : List Atom) (n n' : Node) (from after : Stock) → RunsAs g t → StandsAgain lib file from.names t →
+        GivesText g h path canvas key number lib file t text n n' from after → KeepsText (cell_in n') →
+        tree_now h w numbers (retyped_at path number (cell_in n') t) ≡ retyped_at path number (cell_in n') (tree_now g w numbers t) }
 {}
