@@ -1,0 +1,6 @@
+mod TextLemmas
+pub mod AskLemmas
+mod AlikeLemmas
+mod SeedLemmas
+mod BecomeLemmas
+pub mod RetypeLemmas

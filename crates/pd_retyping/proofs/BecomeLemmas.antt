@@ -1,0 +1,200 @@
+-- Which of what grew is a box that another one can become, and one that did.
+use Rattle.std.proofs.Common.{◌≡◌, ◌≢◌, ℕ, true, is_some, List, [], ◌∷◌, length, get_or, Option, Some, None, refl, sym, ap, ◌∙◌, subst, arith}
+use Rattle.std.specs.Prelude.{IsSome, option_map}
+use Rattle.std.specs.List.{AllByRecursion}
+use Rattle.std.proofs.lemmas.List.{length-map}
+use Rattle.std.proofs.lemmas.Option.{none-some, same_Some}
+use Rattle.slab.specs.Slab.{Slab, get}
+use Rattle.pd_atom.specs.Names.{Names}
+use Rattle.pd_object.specs.declared.kinds.Kind.{Kind}
+use Rattle.pd_object.specs.Ports.{IsSmallKind}
+use Rattle.pd_tree.specs.declared.rows.Row.{Row}
+use Rattle.pd_tree.specs.declared.rows.Sheet.{Sheet}
+use Rattle.pd_tree.specs.Trees.{Cell, Stand, Done, Leaf, stand_of, stands_of, stands_in}
+use Rattle.pd_growth.specs.Suits.{TextSuits, RowSuits}
+use Rattle.pd_grove.specs.declared.boards.Board.{Board}
+use Rattle.pd_grove.specs.declared.nodes.Node.{Node}
+use Rattle.pd_grove.specs.declared.seeds.Seed.{Seed}
+use Rattle.pd_grove.specs.Standing.{BoardSeen, board_seen}
+use Rattle.pd_grove.specs.States.{AreSmall, IsFresh}
+use Rattle.pd_web.specs.Changes.{wires_told}
+use Rattle.pd_web.proofs.CountLemmas.{same_are_as_many}
+use Rattle.pd_patch.specs.declared.patch.Patch.{Patch}
+use Rattle.pd_patch.specs.Telling.{order_in}
+use Rattle.pd_patch.specs.Values.{blocks_told}
+use Rattle.pd_boxes.specs.Room.{SameButRoom}
+use Rattle.pd_boxes.specs.Put.{CanPut, IsLeaf}
+use Rattle.pd_boxes.proofs.ReserveLemmas.{same_grove, same_web, same_order, longer_self}
+use Rattle.pd_refitting.specs.declared.room.RefitRoom.{RefitRoom}
+use Rattle.pd_refitting.specs.Refits.{IsPlainIn, CanRefit, IsRefitted}
+use Rattle.pd_refitting.specs.Room.{IsFor}
+use Rattle.pd_adding.specs.declared.adding.Grown.{Grown}
+use Rattle.pd_adding.specs.Coming.{zero_in, own_zero}
+use Rattle.pd_adding.specs.Growing.{Added}
+use Rattle.pd_adding.specs.Adding.{IsAdded}
+use Rattle.pd_retyping.specs.Retypes.{HasPortsOf, CanBecome, HasBecome}
+use Rattle.pd_retyping.specs.Becoming.{IsAlike, MakesOther}
+use Rattle.pd_retyping.proofs.AlikeLemmas.{same_ports, not_none}
+
+-- the box of a cell that holds no canvas
+abbrev alone : Cell → Stand
+alone cell = record { cell = cell; sheet = None; boxes = 0 }
+
+first : {X : Type 0} → X → List X → X
+first d [] = d
+first d (x ∷ xs) = x
+
+-- a list of one element
+pub one_row : {X : Type 0} (xs : List X) (x : X) → length xs ≡ 1 → x ≡ get_or xs 0 x → xs ≡ x ∷ []
+one_row [] x l at = absurd (omega (arith, l))
+one_row (y ∷ []) x l at = ap (λ z. z ∷ []) (sym at)
+one_row (y ∷ z ∷ xs) x l at = absurd (omega (arith, l))
+
+-- a box alone holds no canvas
+stand_alone : (rows : List Row) (row : Row) (cell : Cell) → rows ≡ row ∷ [] → stands_in rows ≡ stands_of (Leaf cell Done) → stand_of row ≡ alone cell
+unfolding first
+stand_alone rows row cell r e = ap (first (stand_of row)) (sym (ap stands_in r) ∙ e)
+
+pub rows_small : (names : Names) (rows : List Row) → AllByRecursion (RowSuits names) rows → AreSmall rows
+rows_small names [] s = tt
+rows_small names (r ∷ rows) s = (s.0.1, rows_small names rows s.1)
+
+pub row_small : (rows : List Row) (row : Row) → AreSmall rows → rows ≡ row ∷ [] → IsSmallKind row.kind
+row_small rows row s r = let all : AreSmall (row ∷ []) = subst AreSmall r s in all.0
+
+module _ (p : Patch) (n : Node) (g : Grown) (a : Added) (A : IsAdded g a) where
+  -- the rows of a box that another one can become
+  rows_plain : (P : CanBecome p n a) → stands_in g.rows.items ≡ stands_of (Leaf P.cell Done)
+  rows_plain P = A.rows ∙ ap stands_of P.single
+
+  pub rows_one : CanBecome p n a → length g.rows.items ≡ 1
+  rows_one P = sym (length-map g.rows.items stand_of) ∙ ap (λ (ss : List Stand). length ss) (rows_plain P)
+
+  pub can_become : (row : Row) → a.boxes ≡ Leaf (stand_of row).cell Done → IsAlike p n row.kind → CanBecome p n a
+  can_become row single L = record {
+    cell = (stand_of row).cell;
+    single = single;
+    bare = L.bare;
+    ports = L.ports;
+    plain = L.plain;
+    stays_plain = L.stays_plain;
+  }
+
+  pub many_never : length g.rows.items ≢ 1 → CanBecome p n a → ⊥
+  many_never many P = many (rows_one P)
+
+  module _ (row : Row) (r : g.rows.items ≡ row ∷ []) where
+    pub held_never : is_some row.sheet ≡ true → CanBecome p n a → ⊥
+    held_never holds P = not_none row.sheet holds (ap (λ (s : Stand). s.sheet) (stand_alone g.rows.items row P.cell r (rows_plain P)))
+
+    pub alike_of : CanBecome p n a → IsAlike p n row.kind
+    alike_of P =
+        let kind : P.cell.kind ≡ row.kind = sym (ap (λ (s : Stand). s.cell.kind) (stand_alone g.rows.items row P.cell r (rows_plain P))) in
+        subst (λ (k : Kind). IsAlike p n k) kind (record { bare = P.bare; ports = P.ports; plain = P.plain; stays_plain = P.stays_plain })
+
+  module _ (P : CanBecome p n a) (seed : Seed) (is : stand_of seed.row ∷ [] ≡ stands_in g.rows.items) where
+    pub seed_stand : stand_of seed.row ≡ alone P.cell
+    unfolding first
+    seed_stand = ap (first (stand_of seed.row)) (is ∙ A.rows ∙ ap stands_of P.single)
+
+    pub seed_leaf : (seed.row.sheet ≡ None → seed.row.boxes ≡ 0 → IsLeaf seed) → IsLeaf seed
+    seed_leaf leaf = leaf (ap (λ (s : Stand). s.sheet) seed_stand) (ap (λ (s : Stand). s.boxes) seed_stand)
+
+    pub seed_refits : (key : ℕ) → CanPut p → get p.grove.nodes key ≡ Some n → IsLeaf seed → CanRefit p key n seed
+    seed_refits key can here leaf =
+        let kind : P.cell.kind ≡ seed.row.kind = sym (ap (λ (s : Stand). s.cell.kind) seed_stand) in
+        record {
+          can = can;
+          is = here;
+          bare = P.bare;
+          leaf = leaf;
+          ports = same_ports n.kind seed.row.kind (subst (λ (k : Kind). HasPortsOf n.kind k) kind P.ports);
+          plain = P.plain;
+          stays_plain = subst (λ (k : Kind). IsPlainIn p n.board k) kind P.stays_plain;
+        }
+
+    suits_by : (names : Names) (rows : List Row) → stand_of seed.row ∷ [] ≡ stands_in rows → AllByRecursion (RowSuits names) rows → RowSuits names seed.row
+    unfolding first
+    suits_by names [] e s = absurd (omega (arith, ap (λ (ss : List Stand). length ss) e))
+    suits_by names (row ∷ rows) e s =
+        let same : stand_of seed.row ≡ stand_of row = ap (first (stand_of seed.row)) e in
+        subst (λ (x : Stand). TextSuits names x.cell.text × IsSmallKind x.cell.kind) (sym same) s.0
+
+    -- the box became what grew
+    pub has_become : (q : Patch) (now : ℕ) (table : Names) (key : ℕ) → a.known.names ≡ table → IsLeaf seed → IsFresh p.rate now seed → CanPut q → MakesOther p q table key n seed
+        → HasBecome p q now key n a
+    has_become q now table key names leaf fresh can M = record {
+      can = P;
+      ready = M.ready;
+      room = M.room;
+      seed = seed;
+      is_row = seed_stand;
+      suits = suits_by a.known.names g.rows.items is A.suit;
+      leaf = leaf;
+      fresh = fresh;
+      could = M.could;
+      refit = subst (λ (t : Names). IsRefitted M.ready q t key n seed) (sym names) M.refit;
+      goes_on = can;
+    }
+
+-- ---- what stays
+
+-- a patch is as it was
+pub same_patch : (p : Patch) → SameButRoom p p
+same_patch p = record {
+  grove = same_grove p.grove;
+  web = same_web p.web;
+  names = λ class name. refl;
+  links = refl;
+  orders = λ c. same_order (order_in p.orders.items c);
+  numbers = longer_self 0 p.numbers.items;
+  values = longer_self [] (blocks_told p);
+  clocks = refl;
+  end = omega arith;
+  rate = refl;
+  present = refl;
+}
+
+zero_seen : (o o' : Option Board) → option_map board_seen o' ≡ option_map board_seen o → zero_in o' ≡ zero_in o
+zero_seen None None e = refl
+zero_seen None (Some b') e = absurd (none-some (board_seen b') (sym e))
+zero_seen (Some b) None e = absurd (none-some (board_seen b) e)
+zero_seen (Some b) (Some b') e = ap (λ (s : BoardSeen). s.sheet.zero) (same_Some (board_seen b') (board_seen b) e)
+
+module _ (p q : Patch) (S : SameButRoom p q) where
+  pub room_zero : own_zero q ≡ own_zero p
+  room_zero = ap (λ (r : ℕ). zero_in (get q.grove.boards r)) S.grove.root ∙ zero_seen (get p.grove.boards p.grove.root) (get q.grove.boards p.grove.root) (S.grove.boards p.grove.root)
+
+  pub room_wires : wires_told q.web ≡ wires_told p.web
+  room_wires = same_are_as_many p.web q.web S.web
+
+module _ (p q : Patch) (table : Names) (key : ℕ) (n : Node) (s : Seed) (I : IsRefitted p q table key n s) where
+  pub refit_zero : own_zero q ≡ own_zero p
+  refit_zero = ap (λ (r : ℕ). zero_in (get q.grove.boards r)) I.grove.root ∙ ap (λ (bs : Slab Board). zero_in (get bs p.grove.root)) I.grove.boards
+
+  pub refit_wires : wires_told q.web ≡ wires_told p.web
+  refit_wires = ap wires_told I.web
+
+-- the room is for this box and this seed
+
+lives : (o : Option Node) (n : Node) → o ≡ Some n → IsSome o
+lives o n e = subst (λ (x : Option Node). IsSome x) (sym e) refl
+
+module _ (p q : Patch) (key : ℕ) (n : Node) (s : Seed) (room : RefitRoom) (F : IsFor room key s) where
+  pub for_can : CanRefit q key n s → CanRefit q room.key n room.seed
+  for_can C = subst (λ (k : ℕ). CanRefit q k n room.seed) (sym F.key) (subst (λ (x : Seed). CanRefit q key n x) (sym F.seed) C)
+
+  pub for_made : (r : Patch) (names table : Names) → names ≡ table → SameButRoom p q → CanRefit q key n s
+      → ((m : Node) → get q.grove.nodes room.key ≡ Some m → IsRefitted q r names room.key m room.seed) → MakesOther p r table key n s
+  for_made r names table e S C made = record {
+    ready = q;
+    room = S;
+    could = C;
+    refit = subst (λ (t : Names). IsRefitted q r t key n s) e
+        (subst (λ (x : Seed). IsRefitted q r names key n x) F.seed
+        (subst (λ (k : ℕ). IsRefitted q r names k n room.seed) F.key
+        (made n (ap (λ (k : ℕ). get q.grove.nodes k) F.key ∙ C.is))));
+  }
+
+pub lives_there : (p : Patch) (key : ℕ) (n : Node) → get p.grove.nodes key ≡ Some n → IsSome (get p.grove.nodes key)
+lives_there p key n e = lives (get p.grove.nodes key) n e

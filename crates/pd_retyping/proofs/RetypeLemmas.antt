@@ -1,0 +1,167 @@
+-- Why an edit makes no box another one, and what is counted where it makes one.
+use Rattle.std.proofs.Common.{◌≡◌, ◌≢◌, ◌+◌, ℕ, false, List, [], slice_get, Option, Some, None, Result, Ok, Err, IfSome, inl, inr, refl, sym, ap, ◌∙◌, subst, arith}
+use Rattle.std.specs.Prelude.{◌⊎◌}
+use Rattle.std.specs.List.{All}
+use mathlib.Core.Logic.{⊎_elim}
+use Rattle.slab.specs.Slab.{get}
+use Rattle.pd_io.specs.declared.files.FileRow.{FileRow}
+use Rattle.pd_atom.specs.declared.Atom.{Atom}
+use Rattle.pd_atom.specs.Names.{Names, IsTable}
+use Rattle.pd_atom.specs.Atoms.{IsOf}
+use Rattle.pd_canvas.specs.declared.edits.Edit.{Edit}
+use Rattle.pd_canvas.specs.Pages.{Entry}
+use Rattle.pd_canvas.specs.Edits.{retyped}
+use Rattle.pd_canvas.specs.Views.{entry_of}
+use Rattle.pd_library.specs.declared.answers.Answer.{Answer}
+use Rattle.pd_fit.specs.Fitting.{wires_inside}
+use Rattle.pd_gather.specs.Gather.{Known, known, AreProper}
+use Rattle.pd_grove.specs.declared.nodes.Node.{Node}
+use Rattle.pd_web.specs.Canvases.{keys_at}
+use Rattle.pd_web.specs.Changes.{wires_told}
+use Rattle.pd_patch.specs.declared.patch.Patch.{Patch}
+use Rattle.pd_wiring.specs.declared.refusals.EditRefusal.{EditRefusal}
+use Rattle.pd_wiring.specs.declared.refusals.EditRefusal.TheVariants.{NoDocument, ShelfFault, NoMemory}
+use Rattle.pd_boxes.specs.Room.{SameButRoom}
+use Rattle.pd_boxes.specs.Put.{CanPut}
+use Rattle.pd_adding.specs.declared.adding.Grown.{Grown}
+use Rattle.pd_adding.specs.declared.counts.Counts.{Counts}
+use Rattle.pd_adding.specs.Boxes.{CanBeWritten, settled_edit, box_put}
+use Rattle.pd_adding.specs.Coming.{coming, IsComing}
+use Rattle.pd_adding.specs.Growing.{Added}
+use Rattle.pd_adding.specs.Adding.{ComesTo, GrewWith, Grows}
+use Rattle.pd_retyping.specs.declared.retyping.RetypedBox.{RetypedBox}
+use Rattle.pd_retyping.specs.Asking.{keeps_inside, settled_text, retyping, put_instead}
+use Rattle.pd_retyping.specs.Retypes.{counts_but, IsChosen, RetypesTo, CanBecome, HasBecome, RetypesBox, IsKept, IsRefused, IsNotRetyped}
+use Rattle.pd_retyping.specs.Becoming.{IsUnplanned, HasGrown, StaysItself}
+use Rattle.pd_retyping.proofs.AskLemmas.{new_entry, comes_ok, comes_asks}
+
+-- the text isn't of the table
+pub not_known : (p : Patch) (n : Counts) (name path : List ℕ) (number : ℕ) (text : List Atom) (k : Known) → (All (IsOf k.names) text → ⊥)
+    → IsNotRetyped p p n name path number text k NoDocument
+not_known p n name path number text k other = inl (refl, inr (inr (inr (inr (refl, inl other)))))
+
+-- the box, or its text, is refused
+pub not_planned : (p : Patch) (n : Counts) (name path : List ℕ) (number : ℕ) (text : List Atom) (k : Known) (why : EditRefusal)
+    → IsUnplanned k.names p path number text why → IsNotRetyped p p n name path number text k why
+not_planned p n name path number text k why un = inl (refl, ⊎_elim
+    (λ (m : why ≡ NoMemory). inl m)
+    (λ (o : (retyping k.names p path number text ≡ Err why) ⊎ ((why ≡ NoDocument) × IsKept p path number text (known [] k.names))). ⊎_elim
+    (λ (r : retyping k.names p path number text ≡ Err why). inr (inl r))
+    (λ (q : (why ≡ NoDocument) × IsKept p path number text (known [] k.names)). inr (inr (inr (inr (q.0, inr (inl (kept_anyhow q.1))))))) o) un)
+  where
+    kept_anyhow : IsKept p path number text (known [] k.names) → IsKept p path number text k
+    kept_anyhow K = record { canvas = K.canvas; key = K.key; node = K.node; chosen = K.chosen; kept = K.kept }
+
+-- it comes to the same where nothing is told of the shelf
+comes_anyhow : (holds : Option (List FileRow)) (p : Patch) (n : Counts) (name path : List ℕ) (e : Edit) (k : Known) (r : Result Added EditRefusal)
+    → ComesTo holds p n name path e k r → ComesTo None p n name path e k r
+comes_anyhow holds p n name path e k r c = record { fetches = c.fetches; comes = c.comes; held = tt }
+
+the_err : {A E : Type 0} → E → Result A E → E
+the_err d (Ok a) = d
+the_err d (Err e) = e
+
+pub same_err : {A E : Type 0} (x y : E) → ◌≡◌ {A = Result A E} (Err x) (Err y) → x ≡ y
+unfolding the_err
+same_err x y h = ap (the_err x) h
+
+memory_no_fault : (why : EditRefusal) → why ≡ NoMemory → why ≡ ShelfFault → ⊥
+memory_no_fault why a b = cc
+
+document_no_fault : (why : EditRefusal) → why ≡ NoDocument → why ≡ ShelfFault → ⊥
+document_no_fault why a b = cc
+
+pub no_fault : (old new : Patch) (n : Node) (a : Added) (why : EditRefusal) → StaysItself old new n a why → why ≡ ShelfFault → ⊥
+no_fault old new n a why out f = ⊎_elim (λ s. memory_no_fault why s.0 f) (λ o. document_no_fault why o.0 f) out
+
+module _ (p : Patch) (n left : Counts) (name path : List ℕ) (number : ℕ) (text : List Atom) (k : Known) (canvas key : ℕ) (node : Node) (e : Edit)
+    (C : IsChosen p path number canvas key node) (new : keeps_inside (entry_of node.element) (settled_text k.names text) ≡ false)
+    (is_edit : e ≡ put_instead (entry_of node.element) text) (is_left : left ≡ counts_but p.rate node n) where
+  abbrev instead : Edit
+  instead = put_instead (entry_of node.element) text
+
+  comes_so : (holds : Option (List FileRow)) (r : Result Added EditRefusal) → ComesTo holds p left name path e k r → ComesTo None p (counts_but p.rate node n) name path instead k r
+  comes_so holds r c =
+      subst (λ (m : Counts). ComesTo None p m name path instead k r) is_left
+      (subst (λ (x : Edit). ComesTo None p left name path x k r) is_edit (comes_anyhow holds p left name path e k r c))
+
+  pub retypes_to : (holds : Option (List FileRow)) (r : Result Added EditRefusal) → ComesTo holds p left name path e k r → RetypesTo p n name path number text k r
+  retypes_to holds r c = record { canvas = canvas; key = key; node = node; chosen = C; new = new; comes = comes_so holds r c }
+
+  -- growth is refused
+  not_so : (holds : Option (List FileRow)) (why : EditRefusal) → (why ≢ NoMemory → why ≢ ShelfFault → ComesTo holds p left name path e k (Err why))
+      → (why ≡ ShelfFault → IsComing (coming k.names p path e)) → IsRefused p n name path number text k why
+  not_so holds NoMemory comes asks = inl refl
+  not_so holds ShelfFault comes asks =
+      inr (inr (inl (refl, comes_asks k.names p path number text canvas key node C new (subst (λ (x : Edit). IsComing (coming k.names p path x)) is_edit (asks refl)))))
+  not_so holds why comes asks = inr (inr (inr (inl (retypes_to holds (Err why) (comes (λ q. cc) (λ q. cc))))))
+
+  pub not_grown : (holds : Option (List FileRow)) (why : EditRefusal) → (why ≢ NoMemory → why ≢ ShelfFault → ComesTo holds p left name path e k (Err why))
+      → (why ≡ ShelfFault → IsComing (coming k.names p path e)) → IsNotRetyped p p n name path number text k why
+  not_grown holds why comes asks = inl (refl, not_so holds why comes asks)
+
+  -- the box stays itself
+  pub left_so : (holds : Option (List FileRow)) (q : Patch) (a : Added) (why : EditRefusal) → ComesTo holds p left name path e k (Ok a) → CanPut q → StaysItself p q node a why
+      → IsNotRetyped p q n name path number text k why
+  unfolding retypes_to
+  left_so holds q a why comes can out = ⊎_elim
+      (λ (s : (why ≡ NoMemory) × (CanBecome p node a × SameButRoom p q)).
+      inr (s.0, record { added = a; comes = retypes_to holds (Ok a) comes; can = s.1.0; room = s.1.1; goes_on = can }))
+      (λ (o : (why ≡ NoDocument) × ((q ≡ p) × (CanBecome p node a → ⊥))).
+      inl (o.1.0, inr (inr (inr (inr (o.0, inr (inr (record { added = a; comes = retypes_to holds (Ok a) comes; other = o.1.1 }))))))) ) out
+
+  module _ (holds : Option (List FileRow)) (files : List (ℕ × Answer)) (names : Names) (g : Grown) (G : Grows holds p left name path e k (known files names) g) where
+    pub names_grown : G.added.known.names ≡ names
+    names_grown = sym (ap (λ (x : Known). x.names) G.known)
+
+    pub has_grown : HasGrown g names
+    has_grown = record { added = G.added; is = G.is; names_are = names_grown }
+
+    comes_there : (retyping k.names p path number text ≡ Ok (canvas, (key, retyped (settled_text k.names text) (entry_of node.element)))) × (canvas ≡ G.added.canvas)
+    comes_there = comes_ok k.names p path number text canvas key node C new (G.added.canvas, G.grew.entry) (subst (λ (x : Edit). coming k.names p path x ≡ Ok (G.added.canvas, G.grew.entry)) is_edit G.grew.comes)
+
+    -- wires are as many as were counted
+    pub count_grown : (q : Patch) (now : ℕ) (b : RetypedBox) → n.wires ≡ wires_told p.web → b.counts ≡ g.counts → HasBecome p q now key node G.added → wires_told q.web ≡ wires_told p.web
+        → b.counts.wires ≡ wires_told q.web
+    count_grown q now b counted same H as_many =
+        let x : b.counts.wires ≡ G.added.counts.wires = ap (λ (c : Counts). c.wires) (same ∙ G.is.counts) in
+        let y : G.added.counts.wires ≡ left.wires + wires_inside G.added.boxes = ap (λ (c : Counts). c.wires) G.grew.counts in
+        let z : wires_inside G.added.boxes ≡ 0 = ap wires_inside H.can.single in
+        let w : left.wires ≡ n.wires = ap (λ (c : Counts). c.wires) is_left in
+        omega (arith, counted, x, y, z, w, as_many)
+
+    pub retypes_box : (q : Patch) (now : ℕ) (b : RetypedBox) (last : Names) → AreProper k.names k.files → All (IsOf k.names) text → IfSome (box_put (settled_edit k.names e)) (CanBeWritten k.names)
+        → HasBecome p q now key node G.added → b.key ≡ key → b.canvas ≡ g.canvas → b.counts ≡ g.counts → last ≡ names → RetypesBox p q n name path number text now k (known files last) b
+    retypes_box q now b last found is_known written H is_key canvas_is counts table =
+        let there = comes_there in
+        let there_canvas : b.canvas ≡ canvas = canvas_is ∙ G.is.canvas ∙ sym there.1 in
+        let put = new_entry k.names p path number text canvas key node C new in
+        record {
+          node = node;
+          chosen = record { leads = C.leads ∙ ap (λ (x : ℕ). Some x) (sym there_canvas); at = at_of b.canvas b.key there_canvas is_key; is = ap (λ (x : ℕ). get p.grove.nodes x) is_key ∙ C.is; takes = C.takes };
+          is = there.0 ∙ (λ i. Ok (sym there_canvas i, (sym is_key i, retyped (settled_text k.names text) (entry_of node.element))));
+          new_entry = put;
+          table = G.table;
+          found = found;
+          is_known = is_known;
+          written = written_so put (subst (λ (x : Edit). IfSome (box_put (settled_edit k.names x)) (CanBeWritten k.names)) is_edit written);
+          added = G.added;
+          comes = comes_so holds (Ok G.added) G.comes;
+          files = G.files;
+          grew = grew_so;
+          became = subst (λ (x : ℕ). HasBecome p q now x node G.added) (sym is_key) H;
+          canvas = canvas_is ∙ G.is.canvas;
+          counts = counts ∙ G.is.counts;
+          known_is = ap (known files) table ∙ G.known;
+          table_after = subst IsTable (sym table) G.table_after;
+        }
+      where
+        at_of : (c x : ℕ) → c ≡ canvas → x ≡ key → slice_get (keys_at p.grove c) number ≡ Some x
+        at_of c x e f = ap (λ (y : ℕ). slice_get (keys_at p.grove y) number) e ∙ C.at ∙ ap (λ (y : ℕ). Some y) (sym f)
+
+        written_so : box_put (settled_edit k.names instead) ≡ Some (retyped (settled_text k.names text) (entry_of node.element)) → IfSome (box_put (settled_edit k.names instead)) (CanBeWritten k.names)
+            → CanBeWritten k.names (retyped (settled_text k.names text) (entry_of node.element))
+        written_so is w = subst (λ (o : Option Entry). IfSome o (CanBeWritten k.names)) is w
+
+        grew_so : GrewWith p (counts_but p.rate node n) name path instead k G.files G.added
+        grew_so = subst (λ (m : Counts). GrewWith p m name path instead k G.files G.added) is_left (subst (λ (x : Edit). GrewWith p left name path x k G.files G.added) is_edit G.grew)
