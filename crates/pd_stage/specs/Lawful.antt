@@ -2,6 +2,7 @@
 use Rattle.std.specs.Prelude.{◌≡◌, ◌⊎◌, ℕ, ℤ, List, [], ◌∷◌, Some, None, Ok, Err}
 use Rattle.std.specs.List.{AllByRecursion}
 use Rattle.pd_atom.specs.Names.{IsTable, Extends}
+use Rattle.pd_atom.specs.declared.Atom.{Atom}
 use Rattle.pd_canvas.specs.declared.edits.Edit.{Edit}
 use Rattle.pd_canvas.specs.declared.edits.Edit.TheVariants as edit
 use Rattle.pd_doc.specs.Writing.{text_of}
@@ -24,6 +25,9 @@ use Rattle.pd_deleting.specs.Deletes as deleting
 use Rattle.pd_deleting.specs.Deletes.{going, DeletesBox}
 use Rattle.pd_deleting.specs.declared.deleting.OldBox.{OldBox}
 use Rattle.pd_shifting.specs.Moves.{moving, MovesBox}
+use Rattle.pd_retyping.specs.Retypes as retyping
+use Rattle.pd_retyping.specs.Retypes.{RetypesBox}
+use Rattle.pd_retyping.specs.declared.retyping.RetypedBox.{RetypedBox}
 use Rattle.pd_say.specs.declared.refusals.Why.{Why}
 use Rattle.pd_say.specs.declared.refusals.Why.TheVariants as why
 use Rattle.pd_hearing.specs.Worlds.{Net, net_of, states_of}
@@ -218,12 +222,53 @@ IsMovingLawful s path number x y (Refuses reason) = IsLeftAt s path number reaso
 IsMovingLawful s path number x y (Lacks net) = ⊥
 IsMovingLawful s path number x y (Makes m) = IsMovedTo s path number x y m
 
--- an edit of the patch's own document: wires and boxes come and go, and boxes move; other edits aren't made yet
+-- An edit made a box another one: all other boxes keep what they kept, and their clocks; names and files go on, the counts stay within the limits of a
+-- patch, and it is told why the box could not be made, and a loop of its canvas. It looks at no signal wire.
+pub record IsRetypedTo (s : Stage) (path : List ℕ) (number : ℕ) (text : List Atom) (m : Made) : Type 0 where
+  pub old : Patch
+  pub new : Patch
+  pub after : Known
+  pub box : RetypedBox
+  pub stands : StandsAt old s
+  pub retypes : RetypesBox old new s.base.counts s.file path number text s.time (known_at s) after box
+  pub net : m.net ≡ net_of new
+  pub states : m.states ≡ states_of new
+  pub clocks : m.clocks ≡ without box.key s.clocks
+  pub names : m.names ≡ after.names
+  pub more : Extends s.names m.names
+  pub base : m.base ≡ base_of after.files box.counts
+  pub within : AreWithin m.base.counts
+  pub lines : m.lines ≡ put_text m.names new box.key box.canvas
+  pub files : m.files ≡ []
+  pub looks : m.looks ≡ 0
+
+-- no box becomes another one, for this reason
+pub record IsUnretyped (s : Stage) (path : List ℕ) (number : ℕ) (text : List Atom) (reason : Why) : Type 0 where
+  pub patch : Patch
+  pub cause : EditRefusal
+  pub stands : StandsAt patch s
+  pub refused : retyping.IsRefused patch s.base.counts s.file path number text (known_at s) cause
+  pub reason_is : reason ≡ why_of cause
+
+-- a box could become another one, and memory was wanting
+pub record IsUnretypedForRoom (s : Stage) (path : List ℕ) (number : ℕ) (text : List Atom) (net : Net) : Type 0 where
+  pub old : Patch
+  pub new : Patch
+  pub stands : StandsAt old s
+  pub short : retyping.IsShortOfRoom old new s.base.counts s.file path number text (known_at s)
+  pub net_is : net ≡ net_of new
+
+abbrev pub IsRetypingLawful : Stage → List ℕ → ℕ → List Atom → Choice → Type 0
+IsRetypingLawful s path number text (Refuses reason) = IsUnretyped s path number text reason
+IsRetypingLawful s path number text (Lacks net) = IsUnretypedForRoom s path number text net
+IsRetypingLawful s path number text (Makes m) = IsRetypedTo s path number text m
+
+-- an edit of the patch's own document: wires and boxes come and go, and boxes move and become others
 abbrev pub IsEditLawful : Stage → List ℕ → Edit → Choice → Type 0
 IsEditLawful s path (edit.Connect v) c = IsRewiringLawful s path (edit.Connect v) c
 IsEditLawful s path (edit.Disconnect v) c = IsRewiringLawful s path (edit.Disconnect v) c
 IsEditLawful s path (edit.Delete number) c = IsTakingLawful s path number c
-IsEditLawful s path (edit.Retype number text) c = c ≡ Refuses why.NoDocument
+IsEditLawful s path (edit.Retype number text) c = IsRetypingLawful s path number text c
 IsEditLawful s path (edit.Move number x y) c = IsMovingLawful s path number x y c
 IsEditLawful s path e c = IsPutLawful s path e c
 
