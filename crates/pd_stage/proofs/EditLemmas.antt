@@ -4,6 +4,7 @@ use Rattle.std.proofs.Math.Seq.{drop-cons}
 use Rattle.std.specs.declared.vec.Vec.{Vec}
 use Rattle.std.specs.declared.alloc.Global.{Global}
 use Rattle.slab.specs.Slab.{get}
+use Rattle.pd_atom.specs.declared.Atom.{Atom}
 use Rattle.pd_canvas.specs.declared.edits.Edit.{Edit}
 use Rattle.pd_canvas.specs.declared.edits.Edit.TheVariants as edit
 use Rattle.pd_queue.specs.Queue.{Waiting}
@@ -17,12 +18,14 @@ use Rattle.pd_web.proofs.CountLemmas.{same_are_as_many}
 use Rattle.pd_patch.specs.declared.patch.Patch.{Patch}
 use Rattle.pd_wiring.specs.Changes.{CanRewire, AreAlike, SameButRoom, StaysButWire}
 use Rattle.pd_wiring.specs.Plans.{Plan, Attaches, Detaches, IsCarriedOut}
+use Rattle.pd_boxes.specs.Put.{CanPut}
+use Rattle.pd_boxes.specs.Room.{SameButRoom as RoomSet}
 use Rattle.pd_turns.specs.Turns.{World}
 use Rattle.pd_hearing.specs.Worlds.{Kept, Net, bare, net_of}
 use Rattle.pd_block.specs.Nets as block
 use Rattle.pd_stage.specs.Choices.{Base, Wanted, Edits, Asks, Saves, Undoes, Redoes, Made, Choice, Refuses, Lacks, Makes, first_choice, later, text_of_choice, looks_of_choice, faults_of_choice}
 use Rattle.pd_stage.specs.Stages.{Stage, Taken, still, saying, with_ahead, followed_by}
-use Rattle.pd_stage.specs.Lawful.{StandsAt, with_wire_count, IsMade, IsShort, IsRewiringLawful, IsPutIn, IsUnputForRoom, IsPutLawful, IsTakenOut, IsLeftInForRoom, IsTakingLawful, IsMovedTo, IsMovingLawful, IsEditLawful, IsSaved, MayCome, AreLawful}
+use Rattle.pd_stage.specs.Lawful.{StandsAt, with_wire_count, IsMade, IsShort, IsRewiringLawful, IsPutIn, IsUnputForRoom, IsPutLawful, IsTakenOut, IsLeftInForRoom, IsTakingLawful, IsMovedTo, IsMovingLawful, IsRetypedTo, IsUnretypedForRoom, IsRetypingLawful, IsEditLawful, IsSaved, MayCome, AreLawful}
 use Rattle.pd_stage.specs.Leads.{Sinks, sinks, Took, Leads, Comes, Stops}
 use Rattle.pd_stage.specs.Events.{Beginning, with_net, stage_by, files_put, edit_by, edit_taken, edit_asked, edits_taken, delivered, with_kept, event}
 use Rattle.pd_stage.specs.Times.{with_wires, IsStageOf}
@@ -362,22 +365,56 @@ pub record HasMovedBox (s r : Stage) : Type 0 where
   pub moved : IsMovedTo (with_ahead s []) path number x y made
   pub is : r ≡ stage_by (with_ahead s ahead) (Makes made)
 
--- a box could have come, and there may be more room
-pub record HasMoreRoom (s r : Stage) : Type 0 where
+-- a box became another one
+pub record HasRetypedBox (s r : Stage) : Type 0 where
   pub path : List ℕ
-  pub edit : Edit
-  pub net : Net
+  pub number : ℕ
+  pub text : List Atom
+  pub made : Made
   pub ahead : List Choice
-  pub short : IsUnputForRoom (with_ahead s []) path edit net
-  pub is : r ≡ with_net (with_ahead s ahead) net
+  pub retyped : IsRetypedTo (with_ahead s []) path number text made
+  pub is : r ≡ stage_by (with_ahead s ahead) (Makes made)
+
+-- a box could have come, or become another one, and there may be more room
+pub record HasMoreRoom (s r : Stage) : Type 0 where
+  pub old : Patch
+  pub new : Patch
+  pub ahead : List Choice
+  pub stands : StandsAt old (with_ahead s [])
+  pub room : RoomSet old new
+  pub goes_on : CanPut new
+  pub is : r ≡ with_net (with_ahead s ahead) (net_of new)
 
 -- what any edit makes of a stage
 abbrev pub Alters : Stage → Stage → Type 0
-Alters s r = Changes s r ⊎ (HasNewBox s r ⊎ (HasLostBox s r ⊎ (HasMovedBox s r ⊎ HasMoreRoom s r)))
+Alters s r = Changes s r ⊎ (HasNewBox s r ⊎ (HasLostBox s r ⊎ (HasMovedBox s r ⊎ (HasRetypedBox s r ⊎ HasMoreRoom s r))))
+
+unput_room : (s : Stage) (ahead : List Choice) (path : List ℕ) (e : Edit) (net : Net) → IsUnputForRoom (with_ahead s []) path e net → HasMoreRoom s (with_net (with_ahead s ahead) net)
+unput_room s ahead path e net h = record {
+  old = h.old;
+  new = h.new;
+  ahead = ahead;
+  stands = h.stands;
+  room = h.short.room;
+  goes_on = h.short.goes_on;
+  is = ap (λ (n : Net). with_net (with_ahead s ahead) n) h.net_is;
+}
+
+unretyped_room : (s : Stage) (ahead : List Choice) (path : List ℕ) (number : ℕ) (text : List Atom) (net : Net) → IsUnretypedForRoom (with_ahead s []) path number text net
+    → HasMoreRoom s (with_net (with_ahead s ahead) net)
+unretyped_room s ahead path number text net h = record {
+  old = h.old;
+  new = h.new;
+  ahead = ahead;
+  stands = h.stands;
+  room = h.short.room;
+  goes_on = h.short.goes_on;
+  is = ap (λ (n : Net). with_net (with_ahead s ahead) n) h.net_is;
+}
 
 put_alters : (s : Stage) (ahead : List Choice) (path : List ℕ) (e : Edit) (c : Choice) → IsPutLawful (with_ahead s []) path e c → Alters s (stage_by (with_ahead s ahead) c)
 put_alters s ahead path e (Refuses why) h = inl (inl (record { ahead = ahead; is = refl }))
-put_alters s ahead path e (Lacks net) h = inr (inr (inr (inr (record { path = path; edit = e; net = net; ahead = ahead; short = h; is = refl }))))
+put_alters s ahead path e (Lacks net) h = inr (inr (inr (inr (inr (unput_room s ahead path e net h)))))
 put_alters s ahead path e (Makes m) h = inr (inl (record { path = path; edit = e; made = m; ahead = ahead; put = h; is = refl }))
 
 take_alters : (s : Stage) (ahead : List Choice) (path : List ℕ) (number : ℕ) (c : Choice) → IsTakingLawful (with_ahead s []) path number c → Alters s (stage_by (with_ahead s ahead) c)
@@ -392,11 +429,18 @@ move_alters s ahead path number x y (Lacks net) h = absurd h
 move_alters s ahead path number x y (Makes m) h =
     inr (inr (inr (inl (record { path = path; number = number; x = x; y = y; made = m; ahead = ahead; moved = h; is = refl }))))
 
+retype_alters : (s : Stage) (ahead : List Choice) (path : List ℕ) (number : ℕ) (text : List Atom) (c : Choice) → IsRetypingLawful (with_ahead s []) path number text c
+    → Alters s (stage_by (with_ahead s ahead) c)
+retype_alters s ahead path number text (Refuses why) h = inl (inl (record { ahead = ahead; is = refl }))
+retype_alters s ahead path number text (Lacks net) h = inr (inr (inr (inr (inr (unretyped_room s ahead path number text net h)))))
+retype_alters s ahead path number text (Makes m) h =
+    inr (inr (inr (inr (inl (record { path = path; number = number; text = text; made = m; ahead = ahead; retyped = h; is = refl })))))
+
 edit_alters : (s : Stage) (ahead : List Choice) (path : List ℕ) (e : Edit) (c : Choice) → IsEditLawful (with_ahead s []) path e c → Alters s (stage_by (with_ahead s ahead) c)
 edit_alters s ahead path (edit.Connect v) c h = inl (wire_changes s ahead path (edit.Connect v) c h)
 edit_alters s ahead path (edit.Disconnect v) c h = inl (wire_changes s ahead path (edit.Disconnect v) c h)
 edit_alters s ahead path (edit.Delete number) c h = take_alters s ahead path number c h
-edit_alters s ahead path (edit.Retype number text) c h = inl (refused_changes s ahead c _ h)
+edit_alters s ahead path (edit.Retype number text) c h = retype_alters s ahead path number text c h
 edit_alters s ahead path (edit.Move number x y) c h = move_alters s ahead path number x y c h
 edit_alters s ahead path (edit.Obj x y text) c h = put_alters s ahead path (edit.Obj x y text) c h
 edit_alters s ahead path (edit.Msg x y text) c h = put_alters s ahead path (edit.Msg x y text) c h

@@ -24,10 +24,13 @@
 //! edit that deletes a box comes to what `pd_deleting` tells (`DeletesBox`, `going`): the box goes with its wires and
 //! its clock, all other boxes keep what they kept, and a loop of its canvas is told; or it is refused; or memory was
 //! wanting. An edit that moves a box comes to what `pd_shifting` tells (`MovesBox`, `moving`): the box stands at
-//! another place of its canvas, all else stays, and a loop of its canvas is told; or it is refused.
+//! another place of its canvas, all else stays, and a loop of its canvas is told; or it is refused. An edit that gives
+//! a box another text comes to what `pd_retyping` tells (`RetypesBox`, `IsRefused`): the box becomes another one in its
+//! place, with its wires and without a clock, all other boxes keep what they kept, and it is told why the new one could
+//! not be made, and a loop of its canvas; or it is refused; or memory was wanting.
 //! It makes no difference whether a command or a message asks for an edit. A save of that document puts its text under
 //! the name of its file, and nothing else changes; or it is refused for a fault of the folder or for want of memory.
-//! All other edits and saves are refused, and there is nothing to undo or redo.
+//! Edits and saves of drafts are refused, and there is nothing to undo or redo.
 //!
 //! What code has come to is said by two relations, both of whose sides are functions of what the edits to come lead
 //! to. `Leads`: whatever more follows, the whole is these items and edits and then this rest; the sinks took the
