@@ -23,7 +23,7 @@ use Rattle.pd_grove.specs.OwnPaths.{sub_reached}
 use Rattle.pd_grove.specs.TextOrder.{is_sub}
 use Rattle.pd_growth.specs.declared.growing.Stop.{Stop}
 use Rattle.pd_growth.specs.Steps.{Stock, Step, gives}
-use Rattle.pd_growth.specs.Suits.{TextSuits}
+use Rattle.pd_growth.specs.Suits.{RowSuits}
 use Rattle.pd_growth.specs.Growth.{box_grown, around_root, without_ending}
 use Rattle.pd_growth.specs.Growing.{inside_grown}
 use Rattle.pd_fit.specs.Fitting.{wires_inside}
@@ -215,6 +215,15 @@ added_well p n name path e k a c h single first text =
 row_told : (row : Row) (c : Cell) → stand_of row ≡ record { cell = c; sheet = None; boxes = 0 } → (c.text ≡ row.text) × (c.kind ≡ row.kind)
 row_told row c h = (ap (λ (s : Stand). s.cell.text) (sym h), ap (λ (s : Stand). s.cell.kind) (sym h))
 
+-- a box without a canvas inside grew
+pub leaf_well : (p : Patch) (n : Counts) (name path : List ℕ) (e : Edit) (k : Known) (a : Added) (c : Cell) (row : Row) → ComesTo None p n name path e k (Ok a) → a.boxes ≡ Leaf c Done
+    → stand_of row ≡ record { cell = c; sheet = None; boxes = 0 } → RowSuits a.known.names row → HasFirst a.known.names → IsAddedWell a.known.names p.rate row.kind
+leaf_well p n name path e k a c row comes single is suits first =
+    let told = row_told row c is in
+    let text : TextIn a.known.names row.text = record { of = by_recursion (IsOf a.known.names) row.text suits.0.0; few = suits.0.1 } in
+    subst (λ (j : Kind). IsAddedWell a.known.names p.rate j) told.1
+    (added_well p n name path e k a c (has_grown p n name path e k a comes) single first (subst (TextIn a.known.names) (sym told.0) text))
+
 -- a box that holds a canvas is well of itself
 canvas_well : (names : Names) (rate : Rate) (k : Kind) → k ≡ kind.Canvas → IsAddedWell names rate k
 canvas_well names rate k e =
@@ -223,12 +232,7 @@ canvas_well names rate k e =
 -- what an edit put is added well
 pub put_well : (old new : Patch) (n : Counts) (name path : List ℕ) (now : ℕ) (e : Edit) (k : Known) (a : Added) (key : ℕ) → ComesTo None old n name path e k (Ok a) → (h : HasCome old new now a key) → HasFirst a.known.names
     → IsAddedWell a.known.names old.rate (come_seed old new now a key h).row.kind
-put_well old new n name path now e k a key comes (inl h) first =
-    let told = row_told h.seed.row h.plain.cell h.is_row in
-    let suits : TextSuits a.known.names h.seed.row.text = h.suits.0 in
-    let text : TextIn a.known.names h.seed.row.text = record { of = by_recursion (IsOf a.known.names) h.seed.row.text suits.0; few = suits.1 } in
-    subst (λ (j : Kind). IsAddedWell a.known.names old.rate j) told.1
-    (added_well old n name path e k a h.plain.cell (has_grown old n name path e k a comes) h.plain.single first (subst (TextIn a.known.names) (sym told.0) text))
+put_well old new n name path now e k a key comes (inl h) first = leaf_well old n name path e k a h.plain.cell h.seed.row comes h.plain.single h.is_row h.suits first
 put_well old new n name path now e k a key comes (inr h) first = canvas_well a.known.names old.rate h.seed.row.kind h.shell.canvas
 
 -- ---- where it came, and that there was room for it

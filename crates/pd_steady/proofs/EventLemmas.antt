@@ -45,6 +45,7 @@ use Rattle.pd_engine.proofs.WholeLemmas.{both_on}
 use Rattle.pd_steady.proofs.PutLemmas.{put_steady, room_steady}
 use Rattle.pd_steady.proofs.TakeLemmas.{take_steady}
 use Rattle.pd_steady.proofs.MoveLemmas.{move_steady}
+use Rattle.pd_steady.proofs.RetypeLemmas.{retype_steady}
 
 -- what the laws of pd_guards say
 pub record Guards : Type 0 where
@@ -154,8 +155,9 @@ altered_steady most s r h (inr (inr (inl a))) tree =
     subst (IsSteady most) (sym a.is) (take_steady most s a.ahead a.path a.number a.made h a.taken (subst HasBoth a.is tree))
 altered_steady most s r h (inr (inr (inr (inl a)))) tree =
     subst (IsSteady most) (sym a.is) (move_steady most s a.ahead a.path a.number a.x a.y a.made h a.moved (subst HasBoth a.is tree))
-altered_steady most s r h (inr (inr (inr (inr a)))) tree =
-    subst (IsSteady most) (sym a.is) (room_steady most s a.ahead a.path a.edit a.net h a.short (subst HasBoth a.is tree))
+altered_steady most s r h (inr (inr (inr (inr (inl a))))) tree =
+    subst (IsSteady most) (sym a.is) (retype_steady most s a.ahead a.path a.number a.text a.made h a.retyped (subst HasBoth a.is tree))
+altered_steady most s r h (inr (inr (inr (inr (inr a))))) tree = room_steady most s r h a tree
 
 -- what deliveries leave
 pub owned_at : (most : ℕ) (s : Stage) → IsSteady most s → HasBoth s

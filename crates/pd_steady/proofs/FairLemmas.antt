@@ -58,7 +58,8 @@ altered_extends s r (inl a) = subst (λ (x : Stage). Extends s.names x.names) (s
 altered_extends s r (inr (inl a)) = subst (λ (x : Stage). Extends s.names x.names) (sym a.is) a.put.more
 altered_extends s r (inr (inr (inl a))) = subst (λ (x : Stage). Extends s.names x.names) (sym a.is) (subst (Extends s.names) (sym a.taken.names) (extends_same s.names))
 altered_extends s r (inr (inr (inr (inl a)))) = subst (λ (x : Stage). Extends s.names x.names) (sym a.is) (subst (Extends s.names) (sym a.moved.names) (extends_same s.names))
-altered_extends s r (inr (inr (inr (inr a)))) = subst (λ (x : Stage). Extends s.names x.names) (sym a.is) (extends_same s.names)
+altered_extends s r (inr (inr (inr (inr (inl a))))) = subst (λ (x : Stage). Extends s.names x.names) (sym a.is) a.retyped.more
+altered_extends s r (inr (inr (inr (inr (inr a))))) = subst (λ (x : Stage). Extends s.names x.names) (sym a.is) (extends_same s.names)
 
 -- a fact that no edit ends lasts through those that wait
 pub edits_keep : (P : Stage → Type 0) → ((s r : Stage) → Alters s r → P s → P r) → (waiting : List (List ℕ × Edit)) (s : Stage) → AreFair (edits_taken waiting s).edits

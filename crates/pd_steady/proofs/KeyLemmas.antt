@@ -1,4 +1,4 @@
--- A patch with one box more: what holds of all boxes of the old one and of the new box holds of all.
+-- A patch with a new box, one more or one in the place of another: what holds of all boxes of the old one and of the new box holds of all.
 use Rattle.std.proofs.Common.{arith, ◌≡◌, ◌≢◌, ℕ, ℤ, zero, suc, ◌<◌, ◌≤◌, ◌^◌, ◌==◌, true, List, [], ◌∷◌, ◌++◌, length, replicate, slice_get, Option, Some, None, IfSome, IsSome, is_some, option_map, refl, sym, ap, subst, ◌∙◌, true≢false}
 use Rattle.std.specs.Prelude.{option_and_then}
 use Rattle.std.specs.List.{AllByRecursion}
@@ -29,6 +29,7 @@ use Rattle.pd_boxes.specs.Rows.{IsLonger, PutsUnder}
 use Rattle.pd_boxes.specs.Room.{SameButRoom}
 use Rattle.pd_boxes.specs.Put.{node_of, IsPut}
 use Rattle.pd_subpatches.specs.Shell.{IsShellPut}
+use Rattle.pd_refitting.specs.Refits.{IsRefitted}
 use Rattle.pd_grove.specs.declared.seeds.Seed.{Seed}
 use Rattle.pd_guards.proofs.FactLemmas.{all-append, all-at, all-from}
 use Rattle.pd_guards.specs.Sounds.{AreValues}
@@ -95,21 +96,26 @@ fed_same w v lines feeds h = record {
   few = λ node inlet. subst (λ (hops : List Hop). length hops ≤ 65536) (sym (feeds node inlet)) (h.few node inlet);
 }
 
--- ---- a patch with a box more, where room was set aside for it before
+-- ---- a patch with a new box, where room was set aside for it before
 
 -- all that is said of outlets and their blocks
 abbrev HasBlock : Patch → ℕ → Type 0
 HasBlock p k = (o : ℕ) → signal_in (jack_told p.web Outlets k o) ≡ true → IsSome (block_at (blocks_told p) k o)
 
-pub record HasOneMore (p q : Patch) (key : ℕ) (n : Node) : Type 0 where
+-- under a key stands this box now, and all others stay
+pub record HasOneNew (p q : Patch) (key : ℕ) (n : Node) : Type 0 where
   pub is : get q.grove.nodes key ≡ Some n
-  pub vacant : get p.grove.nodes key ≡ None
   pub others : (k : ℕ) → k ≢ key → get q.grove.nodes k ≡ get p.grove.nodes k
-  pub low : key < 2 ^ 32
   pub fed : AreFed p.web → AreFed q.web
   pub blocks : HasBlocks p.web (blocks_told p) → HasBlocks q.web (blocks_told q)
   pub values : AllByRecursion (AllByRecursion AreValues) (blocks_told p) → AllByRecursion (AllByRecursion AreValues) (blocks_told q)
   pub sizes : AllByRecursion (AllByRecursion IsBlock) (blocks_told p) → AllByRecursion (AllByRecursion IsBlock) (blocks_told q)
+
+-- there was none under the key
+pub record HasOneMore (p q : Patch) (key : ℕ) (n : Node) : Type 0 where
+  pub new : HasOneNew p q key n
+  pub vacant : get p.grove.nodes key ≡ None
+  pub low : key < 2 ^ 32
 
 -- where room was set aside the blocks are there
 pub room_blocks : (p r : Patch) → SameButRoom p r → HasBlocks p.web (blocks_told p) → HasBlocks r.web (blocks_told r)
@@ -125,30 +131,36 @@ room_all p r P room none h = longer_all P [] (blocks_told p) (blocks_told r) roo
 low_key : (key : ℕ) → key < 4294967295 → key < 2 ^ 32
 low_key key l = omega arith
 
--- a box came under a key, with silent blocks and no wires, and all other boxes stay
-pub record ComesUnder (p q : Patch) (key : ℕ) (n : Node) : Type 0 where
+-- a box stands under a key now, with silent blocks, and all other boxes stay, and the wires
+pub record StandsUnder (p q : Patch) (key : ℕ) (n : Node) : Type 0 where
   pub is : get q.grove.nodes key ≡ Some n
-  pub vacant : get p.grove.nodes key ≡ None
   pub others : (k : ℕ) → k ≢ key → get q.grove.nodes k ≡ get p.grove.nodes k
-  pub low : key < 4294967295
   pub lines : (k : ℕ) → line_told q.web k ≡ line_told p.web k
   pub feeds : (node inlet : ℕ) → feed_hops q.web node inlet ≡ feed_hops p.web node inlet
   pub ports : (k : ℕ) → k ≢ key → ports_told q.web Outlets k ≡ ports_told p.web Outlets k
   pub blocks : PutsUnder (blocks_told p) (blocks_told q) key (first_blocks q.web key)
+
+-- a box came under a key
+pub record ComesUnder (p q : Patch) (key : ℕ) (n : Node) : Type 0 where
+  pub stands : StandsUnder p q key n
+  pub vacant : get p.grove.nodes key ≡ None
+  pub low : key < 4294967295
 
 -- one without a canvas inside
 pub box_under : (p q : Patch) (table : Names) (place : Place) (seed : Seed) (key : ℕ) → IsPut p q table place seed key → ComesUnder p q key (node_of place.canvas seed)
 box_under p q table place seed key put =
     let c = put.comes in
     record {
-      is = c.grove.is;
+      stands = record {
+        is = c.grove.is;
+        others = c.grove.others;
+        lines = c.ports.lines;
+        feeds = c.ports.feeds;
+        ports = c.ports.other_ports Outlets;
+        blocks = c.blocks;
+      };
       vacant = c.grove.vacant;
-      others = c.grove.others;
       low = c.low;
-      lines = c.ports.lines;
-      feeds = c.ports.feeds;
-      ports = c.ports.other_ports Outlets;
-      blocks = c.blocks;
     }
 
 -- one that holds a canvas without boxes
@@ -157,20 +169,33 @@ pub shell_under : (p q : Patch) (table : Names) (place : Place) (seed : Seed) (k
 shell_under p q table place seed key put =
     let c = put.comes in
     record {
-      is = c.grove.canvas.is;
-      vacant = c.grove.box.vacant;
-      others = λ k other. c.grove.canvas.others k other ∙ c.grove.box.others k other;
-      low = c.low;
-      lines = c.ports.lines;
-      feeds = c.ports.feeds;
-      ports = c.ports.other_ports Outlets;
-      blocks = record {
-        is = c.blocks.is ∙ ap (λ (js : List Jack). Some (replicate (block_count js) silent_block)) (sym (c.ports.ports Outlets));
-        others = c.blocks.others;
+      stands = record {
+        is = c.grove.canvas.is;
+        others = λ k other. c.grove.canvas.others k other ∙ c.grove.box.others k other;
+        lines = c.ports.lines;
+        feeds = c.ports.feeds;
+        ports = c.ports.other_ports Outlets;
+        blocks = record {
+          is = c.blocks.is ∙ ap (λ (js : List Jack). Some (replicate (block_count js) silent_block)) (sym (c.ports.ports Outlets));
+          others = c.blocks.others;
+        };
       };
+      vacant = c.grove.box.vacant;
+      low = c.low;
     }
 
-put_blocks : (r q : Patch) (key : ℕ) (n : Node) → ComesUnder r q key n → HasBlocks r.web (blocks_told r) → HasBlocks q.web (blocks_told q)
+-- one that became another one keeps its wires
+pub refit_under : (p q : Patch) (table : Names) (key : ℕ) (n : Node) (seed : Seed) → IsRefitted p q table key n seed → StandsUnder p q key (node_of n.board seed)
+refit_under p q table key n seed refit = record {
+  is = refit.grove.is;
+  others = refit.grove.others;
+  lines = λ k. ap (λ (w : Web). line_told w k) refit.web;
+  feeds = λ node inlet. ap (λ (w : Web). feed_hops w node inlet) refit.web;
+  ports = λ k other. ap (λ (w : Web). ports_told w Outlets k) refit.web;
+  blocks = refit.blocks;
+}
+
+put_blocks : (r q : Patch) (key : ℕ) (n : Node) → StandsUnder r q key n → HasBlocks r.web (blocks_told r) → HasBlocks q.web (blocks_told q)
 put_blocks r q key n c h =
     by_key (HasBlock q) key
     (λ o sounds. subst (λ (row : Option (List (List ℤ))). IsSome (option_and_then (λ (own : List (List ℤ)). slice_get own o) row)) (sym c.blocks.is) (first_there q.web key o sounds))
@@ -178,7 +203,7 @@ put_blocks r q key n c h =
     (h k o (ap (λ (js : List Jack). signal_in (slice_get js o)) (sym (c.ports k other)) ∙ sounds)))
 
 -- what holds of the blocks of all boxes, and of those of the new one
-all_put : (p r q : Patch) (key : ℕ) (n : Node) → SameButRoom p r → ComesUnder r q key n → (P : List (List ℤ) → Type 0) → P [] → P (first_blocks q.web key)
+all_put : (p r q : Patch) (key : ℕ) (n : Node) → SameButRoom p r → StandsUnder r q key n → (P : List (List ℤ) → Type 0) → P [] → P (first_blocks q.web key)
     → AllByRecursion P (blocks_told p) → AllByRecursion P (blocks_told q)
 all_put p r q key n room c P none first h = put_all P (blocks_told r) (blocks_told q) key (first_blocks q.web key) c.blocks first (room_all p r P room none h)
 
@@ -186,29 +211,30 @@ all_put p r q key n room c P none first h = put_all P (blocks_told r) (blocks_to
 first_silent : (P : List ℤ → Type 0) (q : Patch) (key : ℕ) → P silent_block → AllByRecursion P (first_blocks q.web key)
 first_silent P q key h = all-same P (block_count (ports_told q.web Outlets key)) silent_block h
 
-pub one_more : (p r q : Patch) (key : ℕ) (n : Node) → SameButRoom p r → ComesUnder r q key n → HasOneMore p q key n
-one_more p r q key n room c = record {
+pub one_new : (p r q : Patch) (key : ℕ) (n : Node) → SameButRoom p r → StandsUnder r q key n → HasOneNew p q key n
+one_new p r q key n room c = record {
   is = c.is;
-  vacant = sym (room.grove.nodes key) ∙ c.vacant;
   others = λ k other. c.others k other ∙ room.grove.nodes k;
-  low = low_key key c.low;
   fed = λ h. fed_same r.web q.web c.lines c.feeds (room_fed p r room h);
   blocks = λ h. put_blocks r q key n c (room_blocks p r room h);
   values = λ h. all_put p r q key n room c (AllByRecursion AreValues) tt (first_silent AreValues q key silent_values) h;
   sizes = λ h. all_put p r q key n room c (AllByRecursion IsBlock) tt (first_silent IsBlock q key silent_count) h;
 }
 
+pub one_more : (p r q : Patch) (key : ℕ) (n : Node) → SameButRoom p r → ComesUnder r q key n → HasOneMore p q key n
+one_more p r q key n room c = record { new = one_new p r q key n room c.stands; vacant = sym (room.grove.nodes key) ∙ c.vacant; low = low_key key c.low }
+
 -- what boxes keep is of their kinds, where what the new box keeps is of its kind
-pub more_objects : (p q : Patch) (key : ℕ) (n : Node) → HasOneMore p q key n → option_map blank n.state ≡ Some (blank_of n.kind) → KeepsOfKind (λ k. kind_in ((net_of p).nodes k)) (states_of p)
+pub new_objects : (p q : Patch) (key : ℕ) (n : Node) → HasOneNew p q key n → option_map blank n.state ≡ Some (blank_of n.kind) → KeepsOfKind (λ k. kind_in ((net_of p).nodes k)) (states_of p)
     → KeepsOfKind (λ k. kind_in ((net_of q).nodes k)) (states_of q)
-more_objects p q key n more objects old =
+new_objects p q key n new objects old =
     by_key (λ k. option_map blank (states_of q k) ≡ option_map blank_of (kind_in ((net_of q).nodes k))) key
-    (subst (λ (o : Option Node). option_map blank (state_in o) ≡ option_map blank_of (kind_in (bare o))) (sym more.is) objects)
-    (λ k other. subst (λ (o : Option Node). option_map blank (state_in o) ≡ option_map blank_of (kind_in (bare o))) (sym (more.others k other)) (old k))
+    (subst (λ (o : Option Node). option_map blank (state_in o) ≡ option_map blank_of (kind_in (bare o))) (sym new.is) objects)
+    (λ k other. subst (λ (o : Option Node). option_map blank (state_in o) ≡ option_map blank_of (kind_in (bare o))) (sym (new.others k other)) (old k))
 
 -- each box that was there keeps what it kept
 pub more_alike : (p q : Patch) (key : ℕ) (n : Node) → HasOneMore p q key n → (k : ℕ) → IsSome (states_of p k) → option_map blank (states_of q k) ≡ option_map blank (states_of p k)
 more_alike p q key n more =
     by_key (λ k. IsSome (states_of p k) → option_map blank (states_of q k) ≡ option_map blank (states_of p k)) key
     (λ there. absurd (true≢false (sym there ∙ ap (λ (o : Option Node). is_some (state_in o)) more.vacant)))
-    (λ k other there. ap (λ (o : Option Node). option_map blank (state_in o)) (more.others k other))
+    (λ k other there. ap (λ (o : Option Node). option_map blank (state_in o)) (more.new.others k other))

@@ -1,7 +1,9 @@
--- In a run in which each edit is lawful the boxes that were there, and that no edit deletes, go on keeping what is of the same objects.
+-- In a run in which each edit is lawful the boxes that were there, and that no edit deletes or makes another one, go on keeping what is of the same
+-- objects.
 use Rattle.std.proofs.Common.{◌≡◌, ◌≢◌, ◌+◌, ◌-◌, ℕ, ℤ, zero, suc, Bool, true, false, nat_le, if◌then◌else◌, List, [], ◌∷◌, ◌++◌, Option, Some, None, IsSome, option_map, refl, sym, ap, subst, ◌∙◌}
 use Rattle.std.proofs.lemmas.Option.{none-some}
 use Rattle.pd_atom.specs.Names.{Names}
+use Rattle.pd_atom.specs.declared.Atom.{Atom}
 use Rattle.pd_canvas.specs.declared.edits.Edit.{Edit}
 use Rattle.pd_canvas.specs.declared.edits.Edit.TheVariants as edit
 use Rattle.pd_clock.specs.Queue.{Clock}
@@ -18,7 +20,7 @@ use Rattle.pd_sized.specs.Alike.{AreAlike}
 use Rattle.pd_sized.proofs.AlikeRunLemmas.{outcome_alike}
 use Rattle.pd_sized.proofs.AlikeBlockLemmas.{block_alike}
 use Rattle.pd_stage.specs.Choices.{Base, Wanted, Edits, Asks, Saves, Undoes, Redoes, Choice, Refuses, Lacks, Makes, first_choice, later}
-use Rattle.pd_stage.specs.Lawful.{IsRewiringLawful, IsPutLawful, IsTakingLawful, IsMovingLawful, IsEditLawful, IsSaveLawful, MayCome, AreLawful}
+use Rattle.pd_stage.specs.Lawful.{IsRewiringLawful, IsPutLawful, IsTakingLawful, IsMovingLawful, IsRetypingLawful, IsEditLawful, IsSaveLawful, MayCome, AreLawful}
 use Rattle.pd_stage.proofs.LeadLemmas.{lawful_first, lawful_second}
 use Rattle.pd_stage.specs.Stages.{Stage, Passage, Taken, with_ahead, still, followed_by}
 use Rattle.pd_stage.specs.Events.{Beginning, Firing, begun, delivered, with_kept, after_deliveries, stage_by, edit_taken, edit_asked, edits_taken, event}
@@ -27,14 +29,15 @@ use Rattle.pd_engine.specs.Commands.{commanded}
 use Rattle.pd_engine.specs.Opening.{first_stage, opened}
 use Rattle.pd_steady.specs.Runs.{own_ways}
 use Rattle.pd_steady.specs.Steps.{Step, Does, Learns, Comes, step_by, steps_by}
-use Rattle.pd_steady.specs.Serving.{deleted_in, deleted, LeavesBox, LeaveBox, StayAlike}
+use Rattle.pd_steady.specs.Serving.{ended_in, ended, LeavesBox, LeaveBox, StayAlike}
 use Rattle.pd_steady.proofs.EventLemmas.{start_of, outcome_is}
 use Rattle.pd_steady.proofs.ComeLemmas.{come_node, come_more}
-use Rattle.pd_steady.proofs.KeyLemmas.{HasOneMore, more_alike}
+use Rattle.pd_steady.proofs.KeyLemmas.{HasOneNew, HasOneMore, more_alike}
 use Rattle.pd_steady.proofs.LessLemmas.{HasOneLess}
-use Rattle.pd_steady.proofs.MadeLemmas.{take_at}
+use Rattle.pd_steady.proofs.MadeLemmas.{take_at, retype_at}
 use Rattle.pd_steady.proofs.TakeLemmas.{taken_less}
 use Rattle.pd_steady.proofs.MoveLemmas.{moved_state}
+use Rattle.pd_steady.proofs.RetypeLemmas.{retyped_node, retyped_new}
 use Rattle.pd_steady.proofs.OwnLemmas.{commanded_own, advanced_own}
 
 -- so it is along a part of a run whose edits are lawful
@@ -104,7 +107,7 @@ put_same s ahead path e (Makes m) h k there =
 
 -- a box that went
 take_same : (s : Stage) (ahead : List Choice) (path : List ℕ) (number : ℕ) (wanted : Wanted) (c : Choice) → IsTakingLawful (with_ahead s []) path number c
-    → deleted s.net wanted ≡ deleted_in s.net path (edit.Delete number) → (k : ℕ) → LeavesBox k s.net wanted c → IsSameAt s (stage_by (with_ahead s ahead) c) k
+    → ended s.net wanted ≡ ended_in s.net path (edit.Delete number) → (k : ℕ) → LeavesBox k s.net wanted c → IsSameAt s (stage_by (with_ahead s ahead) c) k
 take_same s ahead path number wanted (Refuses why) h is k left = refl
 take_same s ahead path number wanted (Lacks net) h is k left = refl
 take_same s ahead path number wanted (Makes m) h is k left =
@@ -122,6 +125,18 @@ move_same s ahead path number x y (Makes m) h k =
     ap (λ (states : ℕ → Option State). option_map blank (states k)) h.states ∙ ap (λ (o : Option State). option_map blank o) (moved_state h.old h.new path number x y h.key h.moves k)
     ∙ sym (ap (λ (states : ℕ → Option State). option_map blank (states k)) h.stands.states)
 
+-- a box that became another one
+retype_same : (s : Stage) (ahead : List Choice) (path : List ℕ) (number : ℕ) (text : List Atom) (wanted : Wanted) (c : Choice) → IsRetypingLawful (with_ahead s []) path number text c
+    → ended s.net wanted ≡ ended_in s.net path (edit.Retype number text) → (k : ℕ) → LeavesBox k s.net wanted c → IsSameAt s (stage_by (with_ahead s ahead) c) k
+retype_same s ahead path number text wanted (Refuses why) h is k left = refl
+retype_same s ahead path number text wanted (Lacks net) h is k left = refl
+retype_same s ahead path number text wanted (Makes m) h is k left =
+    let n : Node = retyped_node (with_ahead s []) path number text m h in
+    let new : HasOneNew h.old h.new h.box.key n = retyped_new (with_ahead s []) path number text m h in
+    let other : k ≢ h.box.key = λ e. left (is ∙ retype_at (with_ahead s []) path number text m h ∙ ap (λ (x : ℕ). Some x) (sym e)) in
+    ap (λ (states : ℕ → Option State). option_map blank (states k)) h.states ∙ ap (λ (o : Option Node). option_map blank (state_in o)) (new.others k other)
+    ∙ sym (ap (λ (states : ℕ → Option State). option_map blank (states k)) h.stands.states)
+
 -- saves, and what is refused
 save_same : (s : Stage) (ahead : List Choice) (c : Choice) → IsSaveLawful (with_ahead s []) c → (k : ℕ) → IsSameAt s (stage_by (with_ahead s ahead) c) k
 save_same s ahead (Refuses why) h k = refl
@@ -133,11 +148,11 @@ refused_same s ahead c why h k = subst (λ (x : Choice). IsSameAt s (stage_by (w
 
 -- edits
 edit_same : (s : Stage) (ahead : List Choice) (path : List ℕ) (e : Edit) (wanted : Wanted) (c : Choice) → IsEditLawful (with_ahead s []) path e c
-    → deleted s.net wanted ≡ deleted_in s.net path e → (k : ℕ) → IsSome (s.states k) → LeavesBox k s.net wanted c → IsSameAt s (stage_by (with_ahead s ahead) c) k
+    → ended s.net wanted ≡ ended_in s.net path e → (k : ℕ) → IsSome (s.states k) → LeavesBox k s.net wanted c → IsSameAt s (stage_by (with_ahead s ahead) c) k
 edit_same s ahead path (edit.Connect v) wanted c h is k there left = wires_same s ahead path (edit.Connect v) c h k
 edit_same s ahead path (edit.Disconnect v) wanted c h is k there left = wires_same s ahead path (edit.Disconnect v) c h k
 edit_same s ahead path (edit.Delete number) wanted c h is k there left = take_same s ahead path number wanted c h is k left
-edit_same s ahead path (edit.Retype number text) wanted c h is k there left = refused_same s ahead c _ h k
+edit_same s ahead path (edit.Retype number text) wanted c h is k there left = retype_same s ahead path number text wanted c h is k left
 edit_same s ahead path (edit.Move number x y) wanted c h is k there left = move_same s ahead path number x y c h k
 edit_same s ahead path (edit.Obj x y text) wanted c h is k there left = put_same s ahead path (edit.Obj x y text) c h k there
 edit_same s ahead path (edit.Msg x y text) wanted c h is k there left = put_same s ahead path (edit.Msg x y text) c h k there

@@ -14,6 +14,7 @@ pub mod ExtendLemmas
 pub mod PutLemmas
 pub mod TakeLemmas
 pub mod MoveLemmas
+pub mod RetypeLemmas
 pub mod OwnLemmas
 pub mod FairLemmas
 pub mod TreeLemmas

@@ -4,6 +4,7 @@ use Rattle.std.specs.Prelude.{cond, option_and_then, option_map, slice_get, Resu
 use Rattle.std.proofs.lemmas.Option.{none-some}
 use Rattle.slab.specs.Slab.{get}
 use Rattle.slab.specs.Slab.{Slab}
+use Rattle.pd_atom.specs.declared.Atom.{Atom}
 use Rattle.pd_canvas.specs.Views.{entry_of}
 use Rattle.pd_canvas.specs.declared.edits.Edit.{Edit}
 use Rattle.pd_canvas.specs.declared.edits.Edit.TheVariants as edit
@@ -37,17 +38,17 @@ use Rattle.pd_hearing.specs.Worlds.{Net, bare, net_of}
 use Rattle.pd_block.specs.Nets as block
 use Rattle.pd_stage.specs.Choices.{Made}
 use Rattle.pd_stage.specs.Stages.{Stage}
-use Rattle.pd_stage.specs.Lawful.{known_at, IsMade, IsPutIn, IsTakenOut, IsMovedTo}
+use Rattle.pd_stage.specs.Lawful.{known_at, IsMade, IsPutIn, IsTakenOut, IsMovedTo, IsRetypedTo}
 use Rattle.pd_stage.specs.Trees.{HasTree}
 use Rattle.pd_stage.specs.Lines.{most_boxes}
 use Rattle.pd_stage.specs.Times.{with_wires, IsStageOf}
 use Rattle.pd_stage.proofs.EditLemmas.{AsksAlike}
 use Rattle.pd_engine.specs.Commands.{led_to}
 use Rattle.pd_engine.proofs.ShowLemmas.{led_is}
-use Rattle.pd_steady.specs.Serving.{deleted_in}
+use Rattle.pd_steady.specs.Serving.{ended_in}
 use Rattle.pd_steady.specs.Told.{TellsLoop}
 use Rattle.pd_steady.proofs.AddedLemmas.{added_at}
-use Rattle.pd_steady.proofs.ComeLemmas.{HasLonger, come_longer}
+use Rattle.pd_steady.proofs.ComeLemmas.{seen_keys, HasLonger, come_longer}
 use Rattle.pd_steady.proofs.NetLemmas.{TellsOf, same_net}
 use Rattle.pd_steady.proofs.ShortLemmas.{order_short, order_keys, canvas_few}
 use Rattle.pd_steady.proofs.StandLemmas.{patch_now}
@@ -250,12 +251,12 @@ going_key : (g : Grove) (number : ℕ) (o : Option ℕ) (x : ℕ × ℕ) → goi
 going_key g number None x h = absurd (cc)
 going_key g number (Some c) x h = box_key g c number (slice_get (keys_at g c) number) x h
 
-pub take_at : (s : Stage) (path : List ℕ) (number : ℕ) (m : Made) → (h : IsTakenOut s path number m) → deleted_in s.net path (edit.Delete number) ≡ Some h.box.key
+pub take_at : (s : Stage) (path : List ℕ) (number : ℕ) (m : Made) → (h : IsTakenOut s path number m) → ended_in s.net path (edit.Delete number) ≡ Some h.box.key
 take_at s path number m h =
     let g : Grove = h.old.grove in
     let found : sub_reached g (Some g.root) path ≡ Some h.box.canvas = going_at g number (sub_reached g (Some g.root) path) (h.box.canvas, h.box.key) h.deletes.is in
     let same : led_to (net_of h.old) (Some g.root) path ≡ sub_reached g (Some g.root) path = led_is h.old (Some g.root) path ∙ sub_leads g path (Some g.root) h.box.canvas found ∙ sym found in
-    ap (λ (n : Net). deleted_in n path (edit.Delete number)) h.stands.net ∙ ap (λ (o : Option ℕ). option_and_then (λ c. slice_get (keys_at g c) number) o) same
+    ap (λ (n : Net). ended_in n path (edit.Delete number)) h.stands.net ∙ ap (λ (o : Option ℕ). option_and_then (λ c. slice_get (keys_at g c) number) o) same
     ∙ going_key g number (sub_reached g (Some g.root) path) (h.box.canvas, h.box.key) h.deletes.is
 
 pub take_short : (s : Stage) (path : List ℕ) (number : ℕ) (m : Made) → HasTree s → (h : IsTakenOut s path number m) → (o : Listing) → order_in h.new.orders.items h.box.canvas ≡ Some o
@@ -318,3 +319,33 @@ move_short s path number x y m t h o order =
     let short : length o.chain + length o.stuck ≤ length (keys_at p.grove c) =
     order_keys p.grove p.web (get p.grove.boards c) (order_in p.orders.items c) o (h.stands.puts.runs.orders c) here in
     through (length o.chain + length o.stuck) (length (keys_at p.grove c)) short all
+
+-- ---- the order of the canvas in which an edit made a box another one
+
+pub retype_at : (s : Stage) (path : List ℕ) (number : ℕ) (text : List Atom) (m : Made) → (h : IsRetypedTo s path number text m)
+    → ended_in s.net path (edit.Retype number text) ≡ Some h.box.key
+retype_at s path number text m h =
+    let g : Grove = h.old.grove in
+    let found : sub_reached g (Some g.root) path ≡ Some h.box.canvas = h.retypes.chosen.leads in
+    let there : led_to (net_of h.old) (Some g.root) path ≡ Some h.box.canvas = led_is h.old (Some g.root) path ∙ sub_leads g path (Some g.root) h.box.canvas found in
+    ap (λ (n : Net). ended_in n path (edit.Retype number text)) h.stands.net ∙ ap (λ (o : Option ℕ). option_and_then (λ c. slice_get (keys_at g c) number) o) there
+    ∙ h.retypes.chosen.at
+
+pub retype_short : (s : Stage) (path : List ℕ) (number : ℕ) (text : List Atom) (m : Made) → HasTree s → (h : IsRetypedTo s path number text m) → (o : Listing)
+    → order_in h.new.orders.items h.box.canvas ≡ Some o → length o.chain + length o.stuck ≤ most_boxes
+retype_short s path number text m t h o order =
+    let p : Patch = h.old in
+    let q : Patch = h.new in
+    let c : ℕ = h.box.canvas in
+    let b = h.retypes.became in
+    let leads : reached p.grove (Some p.grove.root) path ≡ Some c = sub_leads p.grove path (Some p.grove.root) c h.retypes.chosen.leads in
+    let there : reached t.patch.grove (Some t.patch.grove.root) path ≡ Some c = led_at (patch_now s t) p s path c h.stands.net t.of.net leads in
+    let few : length (keys_at t.patch.grove c) ≤ weight t.tree.boxes = canvas_few t.patch.grove t.tree t.stands path c there in
+    let same : keys_at q.grove c ≡ keys_at t.patch.grove c =
+    ap (λ (boards : Slab Board). keys_in (get boards c)) b.refit.grove.boards ∙ seen_keys (get p.grove.boards c) (get b.ready.grove.boards c) (b.room.grove.boards c)
+    ∙ ap (λ (boards : Slab Board). keys_in (get boards c)) (boards_same s t p h.stands.net) in
+    let all : length (keys_at q.grove c) ≤ 16384 =
+    few_there (length (keys_at q.grove c)) (weight t.tree.boxes) s.base.counts.boxes (subst (λ (ks : List ℕ). length ks ≤ weight t.tree.boxes) (sym same) few) t.boxes t.within.boxes in
+    let short : length o.chain + length o.stuck ≤ length (keys_at q.grove c) =
+    order_keys q.grove q.web (get q.grove.boards c) (order_in q.orders.items c) o (b.goes_on.runs.orders c) order in
+    through (length o.chain + length o.stuck) (length (keys_at q.grove c)) short all

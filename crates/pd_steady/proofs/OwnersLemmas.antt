@@ -28,7 +28,7 @@ use Rattle.pd_sized.proofs.AlikeBlockLemmas.{block_alike}
 use Rattle.pd_stage.specs.Choices.{Base, Choice}
 use Rattle.pd_stage.specs.Lawful.{AreLawful}
 use Rattle.pd_stage.proofs.LeadLemmas.{lawful_first, lawful_second}
-use Rattle.pd_stage.proofs.EditLemmas.{ButWires, but_wires, Alters, HasNewBox, HasLostBox, HasMovedBox, HasMoreRoom, taken_alters, event_keeps}
+use Rattle.pd_stage.proofs.EditLemmas.{ButWires, but_wires, Alters, HasNewBox, HasLostBox, HasMovedBox, HasRetypedBox, HasMoreRoom, taken_alters, event_keeps}
 use Rattle.pd_stage.specs.Stages.{Stage, Passage, with_names, with_ahead, still, followed_by}
 use Rattle.pd_stage.specs.Events.{Beginning, Firing, begun, delivered, with_kept, with_net, event}
 use Rattle.pd_stage.specs.Times.{block_units, most_fired, next_clock, taken_off, with_taken, with_fired, fires, fires_or_not, fires_below, clocks_fire, block_net, sound_at, played_at, with_played, block_sounds, block_runs, blocks_run, with_time, time_is, comes_to, advanced, finished}
@@ -40,10 +40,11 @@ use Rattle.pd_steady.specs.Serving.{OwnersServe}
 use Rattle.pd_steady.proofs.EventLemmas.{start_of as start_at, outcome_is}
 use Rattle.pd_steady.proofs.ExtendLemmas.{outcome_extends}
 use Rattle.pd_steady.proofs.ComeLemmas.{come_seed, come_node, come_fresh, come_more}
-use Rattle.pd_steady.proofs.KeyLemmas.{HasOneMore, more_objects}
+use Rattle.pd_steady.proofs.KeyLemmas.{HasOneNew, new_objects}
 use Rattle.pd_steady.proofs.LessLemmas.{left_objects}
 use Rattle.pd_steady.proofs.TakeLemmas.{taken_less}
 use Rattle.pd_steady.proofs.MoveLemmas.{moved_objects}
+use Rattle.pd_steady.proofs.RetypeLemmas.{retyped_node, retyped_new}
 use Rattle.pd_steady.proofs.OwnLemmas.{commanded_own, advanced_own, finished_own}
 use Rattle.pd_steady.proofs.StandLemmas.{tree_serves}
 use Rattle.pd_steady.proofs.StartLemmas.{first_blank}
@@ -78,8 +79,8 @@ wires_kinds : (s r : Stage) → ButWires s r → AreOfKinds s → AreOfKinds r
 wires_kinds s r e h = subst AreOfKinds (sym e.is) h
 
 -- a box that came
-new_objects : (s : Seed) (rate : Rate) (now : ℕ) → s.state ≡ started (start_of s.row.kind rate) now → Some (blank s.state) ≡ Some (blank_of s.row.kind)
-new_objects s rate now fresh = ap (λ (x : State). Some (blank x)) fresh ∙ ap (λ (x : State). Some x) (first_blank s.row.kind rate now)
+fresh_objects : (s : Seed) (rate : Rate) (now : ℕ) → s.state ≡ started (start_of s.row.kind rate) now → Some (blank s.state) ≡ Some (blank_of s.row.kind)
+fresh_objects s rate now fresh = ap (λ (x : State). Some (blank x)) fresh ∙ ap (λ (x : State). Some x) (first_blank s.row.kind rate now)
 
 box_kinds : (s r : Stage) → HasNewBox s r → AreOfKinds s → AreOfKinds r
 box_kinds s r x h =
@@ -90,14 +91,14 @@ box_kinds s r x h =
     let key : ℕ = put.box.key in
     let came = put.adds.put in
     let n : Node = come_node p q s.time a key came in
-    let more : HasOneMore p q key n = come_more p q s.time a key came in
+    let new : HasOneNew p q key n = (come_more p q s.time a key came).new in
     let was : KeepsOfKind (λ k. kind_in ((net_of p).nodes k)) (states_of p) =
     subst (λ (y : ℕ → Option State). KeepsOfKind (λ k. kind_in ((net_of p).nodes k)) y) put.stands.states
     (subst (λ (y : Net). KeepsOfKind (λ k. kind_in (y.nodes k)) s.states) put.stands.net h) in
     let now : KeepsOfKind (λ k. kind_in (x.made.net.nodes k)) x.made.states =
     subst (λ (y : ℕ → Option State). KeepsOfKind (λ k. kind_in (x.made.net.nodes k)) y) (sym put.states)
     (subst (λ (y : Net). KeepsOfKind (λ k. kind_in (y.nodes k)) (states_of q)) (sym put.net)
-    (more_objects p q key n more (new_objects (come_seed p q s.time a key came) p.rate s.time (come_fresh p q s.time a key came)) was)) in
+    (new_objects p q key n new (fresh_objects (come_seed p q s.time a key came) p.rate s.time (come_fresh p q s.time a key came)) was)) in
     subst AreOfKinds (sym x.is) now
 
 -- a box that went
@@ -126,21 +127,38 @@ moved_kinds s r x h =
     (moved_objects to.old to.new x.path x.number x.x x.y to.key to.moves was)) in
     subst AreOfKinds (sym x.is) now
 
--- a box that could come
+-- a box that became another one
+retyped_kinds : (s r : Stage) → HasRetypedBox s r → AreOfKinds s → AreOfKinds r
+retyped_kinds s r x h =
+    let to = x.retyped in
+    let p = to.old in
+    let q = to.new in
+    let b = to.retypes.became in
+    let n : Node = retyped_node (with_ahead s []) x.path x.number x.text x.made to in
+    let new : HasOneNew p q to.box.key n = retyped_new (with_ahead s []) x.path x.number x.text x.made to in
+    let was : KeepsOfKind (λ k. kind_in ((net_of p).nodes k)) (states_of p) =
+    subst (λ (y : ℕ → Option State). KeepsOfKind (λ k. kind_in ((net_of p).nodes k)) y) to.stands.states
+    (subst (λ (y : Net). KeepsOfKind (λ k. kind_in (y.nodes k)) s.states) to.stands.net h) in
+    let now : KeepsOfKind (λ k. kind_in (x.made.net.nodes k)) x.made.states =
+    subst (λ (y : ℕ → Option State). KeepsOfKind (λ k. kind_in (x.made.net.nodes k)) y) (sym to.states)
+    (subst (λ (y : Net). KeepsOfKind (λ k. kind_in (y.nodes k)) (states_of q)) (sym to.net)
+    (new_objects p q to.box.key n new (fresh_objects b.seed p.rate s.time b.fresh) was)) in
+    subst AreOfKinds (sym x.is) now
+
+-- a box that could come, or become another one
 room_kinds : (s r : Stage) → HasMoreRoom s r → AreOfKinds s → AreOfKinds r
 room_kinds s r x h =
     subst AreOfKinds (sym x.is)
-    (alike_kinds s (with_net (with_ahead s x.ahead) x.net)
-    (λ k. ap (λ (y : Net). kind_in (y.nodes k)) x.short.net_is ∙ ap (λ (o : Option Node). kind_in (bare o)) (x.short.short.room.grove.nodes k)
-    ∙ sym (ap (λ (y : Net). kind_in (y.nodes k)) x.short.stands.net))
-    (λ k. refl) h)
+    (alike_kinds s (with_net (with_ahead s x.ahead) (net_of x.new))
+    (λ k. ap (λ (o : Option Node). kind_in (bare o)) (x.room.grove.nodes k) ∙ sym (ap (λ (y : Net). kind_in (y.nodes k)) x.stands.net)) (λ k. refl) h)
 
 altered_kinds : (s r : Stage) → Alters s r → AreOfKinds s → AreOfKinds r
 altered_kinds s r (inl a) h = wires_kinds s r (but_wires s r a) h
 altered_kinds s r (inr (inl a)) h = box_kinds s r a h
 altered_kinds s r (inr (inr (inl a))) h = less_kinds s r a h
 altered_kinds s r (inr (inr (inr (inl a)))) h = moved_kinds s r a h
-altered_kinds s r (inr (inr (inr (inr a)))) h = room_kinds s r a h
+altered_kinds s r (inr (inr (inr (inr (inl a))))) h = retyped_kinds s r a h
+altered_kinds s r (inr (inr (inr (inr (inr a))))) h = room_kinds s r a h
 
 altered_goes : (s r : Stage) → Alters s r → IsServing s → IsServing r
 altered_goes s r a h = record { owned = altered_both s r a h.owned; kinds = altered_kinds s r a h.kinds }

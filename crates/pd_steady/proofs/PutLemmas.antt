@@ -5,6 +5,7 @@ use Rattle.std.proofs.lemmas.Option.{same_Some}
 use Rattle.pd_atom.specs.Names.{Names, Extends}
 use Rattle.pd_canvas.specs.declared.edits.Edit.{Edit}
 use Rattle.pd_gather.specs.Gather.{Known}
+use Rattle.pd_clock.specs.Queue.{Clock}
 use Rattle.pd_clock.specs.declared.times.Rate.{Rate}
 use Rattle.pd_object.specs.declared.kinds.Kind.{Kind}
 use Rattle.pd_object.specs.declared.kinds.Kind.TheVariants as kind
@@ -32,19 +33,20 @@ use Rattle.pd_stage.specs.Choices.{Base, Made, Choice, Makes}
 use Rattle.pd_stage.specs.Stages.{Stage, with_ahead}
 use Rattle.pd_stage.specs.Events.{with_net, stage_by}
 use Rattle.pd_stage.specs.Times.{block_units}
-use Rattle.pd_stage.specs.Lawful.{known_at, IsPutIn, IsUnputForRoom}
+use Rattle.pd_stage.specs.Lawful.{known_at, IsPutIn}
+use Rattle.pd_stage.proofs.EditLemmas.{HasMoreRoom}
 use Rattle.pd_steady.specs.Steady.{IsSteady}
 use Rattle.pd_steady.proofs.StartLemmas.{first_blank, started_kept, started_values, small_few}
 use Rattle.pd_steady.proofs.AddedLemmas.{IsAddedWell, put_well}
 use Rattle.pd_steady.proofs.ComeLemmas.{node_with, come_seed, come_inner, come_node, come_fresh, come_small, come_more}
-use Rattle.pd_steady.proofs.KeyLemmas.{by_key, HasOneMore, more_objects, room_blocks, room_fed, room_all}
+use Rattle.pd_steady.proofs.KeyLemmas.{by_key, HasOneNew, HasOneMore, new_objects, room_blocks, room_fed, room_all}
 use Rattle.pd_steady.proofs.StandLemmas.{tree_near, tree_serves}
 use Rattle.pd_engine.proofs.TreeLemmas.{HasBoth}
 
 -- ---- the new box
 
 -- it is of a kind in order, and keeps what its kind keeps at first
-record IsWell (names : Names) (now : ℕ) (n : Node) : Type 0 where
+pub record IsWell (names : Names) (now : ℕ) (n : Node) : Type 0 where
   state : State
   is : n.state ≡ Some state
   is_kind : IsKind names n.kind
@@ -61,14 +63,17 @@ small_size n l = omega arith
 no_more : (n : ℕ) → n ≤ 16777216 → n ≤ 2 ^ 32
 no_more n l = omega arith
 
+-- no key of a box is so far off
+abbrev pub IsLow : ℕ → Type 0
+IsLow key = (k : ℕ) → 2 ^ 32 ≤ k → k ≢ key
+
 far_off : (k key : ℕ) → 2 ^ 32 ≤ k → key < 2 ^ 32 → k ≡ key → ⊥
 far_off k key far low e = omega (arith, far, low, e)
 
-new_well : (old new : Patch) (now : ℕ) (names : Names) (canvas : ℕ) (s : Seed) (inner : Option ℕ) → s.state ≡ started (start_of s.row.kind old.rate) now → HasFewChannels s.row.kind
-    → IsAddedWell names old.rate s.row.kind → IsWell names now (node_with canvas s inner)
-new_well old new now names canvas s inner fresh few w =
+pub new_well : (rate : Rate) (now : ℕ) (names : Names) (canvas : ℕ) (s : Seed) (inner : Option ℕ) → s.state ≡ started (start_of s.row.kind rate) now → HasFewChannels s.row.kind
+    → IsAddedWell names rate s.row.kind → IsWell names now (node_with canvas s inner)
+new_well rate now names canvas s inner fresh few w =
     let k : Kind = s.row.kind in
-    let rate : Rate = old.rate in
     record {
       state = started (start_of k rate) now;
       is = ap (λ (x : State). Some x) fresh;
@@ -83,35 +88,32 @@ new_well old new now names canvas s inner fresh few w =
 
 -- ---- all boxes
 
-module _ (p q : Patch) (names : Names) (now key : ℕ) (n : Node) (more : HasOneMore p q key n) (well : IsWell names now n) where
+module _ (p q : Patch) (names : Names) (now key : ℕ) (n : Node) (new : HasOneNew p q key n) (well : IsWell names now n) where
   all_states : (P : State → Type 0) → P well.state → ((k : ℕ) → IfSome (states_of p k) P) → (k : ℕ) → IfSome (states_of q k) P
   all_states P here old =
       by_key (λ k. IfSome (states_of q k) P) key
-      (subst (λ (o : Option Node). IfSome (state_in o) P) (sym more.is) (subst (λ (o : Option State). IfSome o P) (sym well.is) here))
-      (λ k other. subst (λ (o : Option Node). IfSome (state_in o) P) (sym (more.others k other)) (old k))
+      (subst (λ (o : Option Node). IfSome (state_in o) P) (sym new.is) (subst (λ (o : Option State). IfSome o P) (sym well.is) here))
+      (λ k other. subst (λ (o : Option Node). IfSome (state_in o) P) (sym (new.others k other)) (old k))
 
   all_kinds : (P : Kind → Type 0) → P n.kind → ((k : ℕ) → IfSome (kind_in ((net_of p).nodes k)) P) → (k : ℕ) → IfSome (kind_in ((net_of q).nodes k)) P
   all_kinds P here old =
       by_key (λ k. IfSome (kind_in ((net_of q).nodes k)) P) key
-      (subst (λ (o : Option Node). IfSome (kind_in (bare o)) P) (sym more.is) here)
-      (λ k other. subst (λ (o : Option Node). IfSome (kind_in (bare o)) P) (sym (more.others k other)) (old k))
+      (subst (λ (o : Option Node). IfSome (kind_in (bare o)) P) (sym new.is) here)
+      (λ k other. subst (λ (o : Option Node). IfSome (kind_in (bare o)) P) (sym (new.others k other)) (old k))
 
   all_objects : KeepsOfKind (λ k. kind_in ((net_of p).nodes k)) (states_of p) → KeepsOfKind (λ k. kind_in ((net_of q).nodes k)) (states_of q)
-  all_objects old = more_objects p q key n more (ap (option_map blank) well.is ∙ ap (λ (x : State). Some x) well.objects) old
+  all_objects old = new_objects p q key n new (ap (option_map blank) well.is ∙ ap (λ (x : State). Some x) well.objects) old
 
-  apart_from : (k : ℕ) → 2 ^ 32 ≤ k → k ≢ key
-  apart_from k far e = far_off k key far more.low e
-
-  all_keys : ((k : ℕ) → 2 ^ 32 ≤ k → states_of p k ≡ None) → (k : ℕ) → 2 ^ 32 ≤ k → states_of q k ≡ None
-  all_keys old k far = ap (λ (o : Option Node). state_in o) (more.others k (apart_from k far)) ∙ old k far
+  all_keys : IsLow key → ((k : ℕ) → 2 ^ 32 ≤ k → states_of p k ≡ None) → (k : ℕ) → 2 ^ 32 ≤ k → states_of q k ≡ None
+  all_keys low old k far = ap (λ (o : Option Node). state_in o) (new.others k (low k far)) ∙ old k far
 
   all_ends : (t : ℕ) → KeepsOfKind (λ k. kind_in ((net_of q).nodes k)) (states_of q) → ((k : ℕ) → IfSome (states_of p k) (IsOpen t)) → (k : ℕ) → IfSome (states_of q k) (IsOpen t)
   all_ends t kinds old =
       all_open t (λ k. kind_in ((net_of q).nodes k)) (states_of q) kinds
       (by_key (λ k. kind_in ((net_of q).nodes k) ≡ Some kind.Vline → IfSome (states_of q k) (IsOpen t)) key
-      (subst (λ (o : Option Node). kind_in (bare o) ≡ Some kind.Vline → IfSome (state_in o) (IsOpen t)) (sym more.is)
+      (subst (λ (o : Option Node). kind_in (bare o) ≡ Some kind.Vline → IfSome (state_in o) (IsOpen t)) (sym new.is)
       (λ e. subst (λ (o : Option State). IfSome o (IsOpen t)) (sym well.is) (well.opens t (same_Some n.kind kind.Vline e))))
-      (λ k other e. subst (λ (o : Option Node). IfSome (state_in o) (IsOpen t)) (sym (more.others k other)) (old k)))
+      (λ k other e. subst (λ (o : Option Node). IfSome (state_in o) (IsOpen t)) (sym (new.others k other)) (old k)))
 
 -- ---- stages
 
@@ -149,13 +151,13 @@ other_states s states = record {
 pub is_standing : (s : Stage) (p : Patch) → s.net ≡ net_of p → s.states ≡ states_of p → s ≡ standing s p
 is_standing s p net states = ap (λ (x : Net). with_net s x) net ∙ ap (λ (x : ℕ → Option State). other_states (with_net s (net_of p)) x) states
 
--- with these names, and other edits to come
-abbrev put_stage : Stage → Patch → Names → Base → List Choice → Stage
-put_stage s q names base ahead = record {
+-- with these clocks and names, and other edits to come
+abbrev pub put_stage : Stage → Patch → List Clock → Names → Base → List Choice → Stage
+put_stage s q clocks names base ahead = record {
   file = s.file;
   net = net_of q;
   states = states_of q;
-  clocks = s.clocks;
+  clocks = clocks;
   names = names;
   base = base;
   time = s.time;
@@ -165,47 +167,47 @@ put_stage s q names base ahead = record {
   ahead = ahead;
 }
 
-made_is : (s : Stage) (q : Patch) (names : Names) (base : Base) (ahead : List Choice) (m : Made) → m.net ≡ net_of q → m.states ≡ states_of q → m.clocks ≡ s.clocks → m.names ≡ names → m.base ≡ base
-    → stage_by (with_ahead s ahead) (Makes m) ≡ put_stage s q names base ahead
-made_is s q names base ahead m net states clocks told is_base = rw (net, states, clocks, told, is_base) refl
+pub named_is : (s : Stage) (q : Patch) (names : Names) (ahead : List Choice) (m : Made) → m.net ≡ net_of q → m.states ≡ states_of q → m.names ≡ names
+    → stage_by (with_ahead s ahead) (Makes m) ≡ put_stage s q m.clocks names m.base ahead
+named_is s q names ahead m net states told = rw (net, states, told) refl
 
--- a patch with one box more stands
-more_steady : (most : ℕ) (s : Stage) (p q : Patch) (names : Names) (base : Base) (ahead : List Choice) (key : ℕ) (n : Node) → IsSteady most (standing s p) → Extends s.names names → HasOneMore p q key n
-    → IsWell names s.time n → HasBoth (put_stage s q names base ahead) → IsSteady most (put_stage s q names base ahead)
-more_steady most s p q names base ahead key n h on more well tree =
+-- a patch with a new box stands
+pub new_steady : (most : ℕ) (s : Stage) (p q : Patch) (clocks : List Clock) (names : Names) (base : Base) (ahead : List Choice) (key : ℕ) (n : Node) → IsSteady most (standing s p)
+    → Extends s.names names → HasOneNew p q key n → IsLow key → IsWell names s.time n → HasBoth (put_stage s q clocks names base ahead) → IsSteady most (put_stage s q clocks names base ahead)
+new_steady most s p q clocks names base ahead key n h on new low well tree =
     let l = longer s.names names on in
-    let objects : KeepsOfKind (λ k. kind_in ((net_of q).nodes k)) (states_of q) = all_objects p q names s.time key n more well h.ready.kinds in
+    let objects : KeepsOfKind (λ k. kind_in ((net_of q).nodes k)) (states_of q) = all_objects p q names s.time key n new well h.ready.kinds in
     record {
       time = h.time;
-      near = tree_near (put_stage s q names base ahead) tree.tree tree.owners;
+      near = tree_near (put_stage s q clocks names base ahead) tree.tree tree.owners;
       order = record {
         time = h.order.time;
         first = first_more s.names names l h.order.first;
         kinds =
-            all_kinds p q names s.time key n more well (IsKind names) well.is_kind
+            all_kinds p q names s.time key n new well (IsKind names) well.is_kind
             (λ k. some-weaker (IsKind s.names) (IsKind names) (kind_more s.names names l) (kind_in ((net_of p).nodes k)) (h.order.kinds k));
         states =
-            all_states p q names s.time key n more well (IsKept names s.time) well.kept
+            all_states p q names s.time key n new well (IsKept names s.time) well.kept
             (λ k. some-weaker (IsKept s.names s.time) (IsKept names s.time) (kept_more s.names names l s.time) (states_of p k) (h.order.states k));
       };
       values = record {
-        states = all_states p q names s.time key n more well HasValues well.values h.values.states;
-        blocks = more.values h.values.blocks;
+        states = all_states p q names s.time key n new well HasValues well.values h.values.states;
+        blocks = new.values h.values.blocks;
       };
       ready = record {
         kinds = objects;
         whole = record {
-          states = all_states p q names s.time key n more well HasSizes well.sizes h.ready.whole.states;
-          blocks = more.sizes h.ready.whole.blocks;
+          states = all_states p q names s.time key n new well HasSizes well.sizes h.ready.whole.states;
+          blocks = new.sizes h.ready.whole.blocks;
         };
-        owners = tree_serves (put_stage s q names base ahead) tree.tree tree.owners objects;
-        channels = all_kinds p q names s.time key n more well HasFewChannels well.few h.ready.channels;
-        keys = all_keys p q names s.time key n more well h.ready.keys;
-        fed = more.fed h.ready.fed;
-        blocks = more.blocks h.ready.blocks;
+        owners = tree_serves (put_stage s q clocks names base ahead) tree.tree tree.owners objects;
+        channels = all_kinds p q names s.time key n new well HasFewChannels well.few h.ready.channels;
+        keys = all_keys p q names s.time key n new well low h.ready.keys;
+        fed = new.fed h.ready.fed;
+        blocks = new.blocks h.ready.blocks;
       };
       block = h.block;
-      ends = record { each = all_ends p q names s.time key n more well (s.block_end - block_units) objects h.ends.each };
+      ends = record { each = all_ends p q names s.time key n new well (s.block_end - block_units) objects h.ends.each };
       tree = tree.tree;
       owners = tree.owners;
     }
@@ -222,15 +224,16 @@ put_steady most s ahead path e m h put tree =
     let names : Names = a.known.names in
     let told : m.names ≡ names = put.names ∙ ap (λ (k : Known). k.names) put.adds.known_is in
     let on : Extends s.names names = subst (Extends s.names) told put.more in
-    let is = made_is s put.new names m.base ahead m put.net put.states put.clocks told refl in
+    let is = named_is s put.new names ahead m put.net put.states told in
     let was : IsSteady most (standing s put.old) = subst (IsSteady most) (is_standing s put.old put.stands.net put.stands.states) h in
     let first : HasFirst names = first_more s.names names (longer s.names names on) h.order.first in
     let well : IsWell names s.time n =
-    new_well put.old put.new s.time names a.canvas seed (come_inner put.old put.new s.time a key came) (come_fresh put.old put.new s.time a key came)
+    new_well put.old.rate s.time names a.canvas seed (come_inner put.old put.new s.time a key came) (come_fresh put.old put.new s.time a key came)
     (small_few seed.row.kind (come_small put.old put.new s.time a key came))
     (put_well put.old put.new s.base.counts s.file path s.time e (known_at s) a key put.adds.comes came first) in
     let more : HasOneMore put.old put.new key n = come_more put.old put.new s.time a key came in
-    subst (IsSteady most) (sym is) (more_steady most s put.old put.new names m.base ahead key n was on more well (subst HasBoth is tree))
+    subst (IsSteady most) (sym is)
+    (new_steady most s put.old put.new m.clocks names m.base ahead key n was on more.new (λ k far e. far_off k key far more.low e) well (subst HasBoth is tree))
 
 -- ---- where room alone was set aside
 
@@ -262,9 +265,7 @@ more_room most s p q ahead h room tree =
       owners = tree.owners;
     }
 
-pub room_steady : (most : ℕ) (s : Stage) (ahead : List Choice) (path : List ℕ) (e : Edit) (net : Net) → IsSteady most s → IsUnputForRoom (with_ahead s []) path e net → HasBoth (with_net (with_ahead s ahead) net)
-    → IsSteady most (with_net (with_ahead s ahead) net)
-room_steady most s ahead path e net h short tree =
-    let is : with_net (with_ahead s ahead) net ≡ with_net (with_ahead s ahead) (net_of short.new) = ap (λ (x : Net). with_net (with_ahead s ahead) x) short.net_is in
-    let was : IsSteady most (with_net s (net_of short.old)) = subst (λ (x : Net). IsSteady most (with_net s x)) short.stands.net h in
-    subst (IsSteady most) (sym is) (more_room most s short.old short.new ahead was short.short.room (subst HasBoth is tree))
+pub room_steady : (most : ℕ) (s r : Stage) → IsSteady most s → HasMoreRoom s r → HasBoth r → IsSteady most r
+room_steady most s r h more tree =
+    let was : IsSteady most (with_net s (net_of more.old)) = subst (λ (x : Net). IsSteady most (with_net s x)) more.stands.net h in
+    subst (IsSteady most) (sym more.is) (more_room most s more.old more.new more.ahead was more.room (subst HasBoth more.is tree))

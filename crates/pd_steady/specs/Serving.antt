@@ -19,27 +19,33 @@ use Rattle.pd_engine.specs.Commands.{led_to}
 abbrev pub OwnersServe : Stage → Type 0
 OwnersServe s = (k : Kind) (o : ℕ) → owner_of s.net.owners k ≡ Some o → Finds k (s.states o)
 
--- the box that an edit in the canvas at a path deletes, where it is made
-abbrev pub deleted_in : Net → List ℕ → Edit → Option ℕ
-deleted_in net path (edit.Delete number) = option_and_then (λ c. slice_get (keys_in (get net.boards c)) number) (led_to net (Some net.root) path)
-deleted_in net path e = None
+-- the box of a number in the canvas at a path
+abbrev pub box_of : Net → List ℕ → ℕ → Option ℕ
+box_of net path number = option_and_then (λ c. slice_get (keys_in (get net.boards c)) number) (led_to net (Some net.root) path)
+
+-- the box that an edit in the canvas at a path deletes or makes another one, where it is made
+abbrev pub ended_in : Net → List ℕ → Edit → Option ℕ
+ended_in net path (edit.Delete number) = box_of net path number
+ended_in net path (edit.Retype number text) = box_of net path number
+ended_in net path e = None
 
 -- the same of all that is wanted of the patch's own document
-abbrev pub deleted : Net → Wanted → Option ℕ
-deleted net (Edits None path e) = deleted_in net path e
-deleted net (Asks path e) = deleted_in net path e
-deleted net wanted = None
+abbrev pub ended : Net → Wanted → Option ℕ
+ended net (Edits None path e) = ended_in net path e
+ended net (Asks path e) = ended_in net path e
+ended net wanted = None
 
--- what comes to this leaves a box in: it isn't made, or doesn't delete that box
+-- what comes to this leaves a box as it is: it isn't made, or doesn't delete that box or make it another one
 abbrev pub LeavesBox : ℕ → Net → Wanted → Choice → Type 0
 LeavesBox k net wanted (Refuses reason) = Unit {0}
 LeavesBox k net wanted (Lacks more) = Unit {0}
-LeavesBox k net wanted (Makes m) = deleted net wanted ≢ Some k
+LeavesBox k net wanted (Makes m) = ended net wanted ≢ Some k
 
--- none of these edits deletes the box
+-- none of these edits deletes the box or makes it another one
 abbrev pub LeaveBox : ℕ → List Taken → Type 0
 LeaveBox k edits = AllByRecursion (λ (t : Taken). LeavesBox k t.found.net t.wanted t.choice) edits
 
--- each box that was there, and that none of these edits deletes, keeps what is of the same objects as what it kept: only its values are others
+-- each box that was there, and that none of these edits deletes or makes another one, keeps what is of the same objects as what it kept: only its
+-- values are others
 abbrev pub StayAlike : List Taken → (ℕ → Option State) → (ℕ → Option State) → Type 0
 StayAlike edits old new = (k : ℕ) → IsSome (old k) → LeaveBox k edits → option_map blank (new k) ≡ option_map blank (old k)

@@ -3,6 +3,7 @@ ghost use Rattle.std.specs.Prelude.{◌≡◌, ◌+◌, ◌≤◌, ◌^◌, ℕ,
 ghost use Rattle.std.specs.List.{AllByRecursion};
 ghost use Rattle.pd_io.specs.declared.files.FileRow.{FileRow};
 ghost use Rattle.pd_atom.specs.Names.{Names, Extends};
+ghost use Rattle.pd_atom.specs.declared.Atom.{Atom};
 ghost use Rattle.pd_canvas.specs.Pages.{Page};
 ghost use Rattle.pd_canvas.specs.declared.edits.Edit.{Edit};
 ghost use Rattle.pd_clock.specs.declared.times.Rate.{Rate};
@@ -14,7 +15,7 @@ ghost use Rattle.pd_patch.specs.Telling.{order_in};
 ghost use Rattle.pd_script.specs.declared.commands.Command.{Command};
 ghost use Rattle.pd_hearing.specs.Worlds.{states_of};
 ghost use Rattle.pd_stage.specs.Choices.{Base, Made, Choice};
-ghost use Rattle.pd_stage.specs.Lawful.{IsMade, IsPutIn, IsTakenOut, IsMovedTo, AreLawful};
+ghost use Rattle.pd_stage.specs.Lawful.{IsMade, IsPutIn, IsTakenOut, IsMovedTo, IsRetypedTo, AreLawful};
 ghost use Rattle.pd_stage.specs.Stages.{Stage, with_names, followed_by};
 ghost use Rattle.pd_stage.specs.Trees.{HasTree};
 ghost use Rattle.pd_stage.specs.Times.{block_units, advanced, finished};
@@ -121,8 +122,8 @@ pub fn runs_pass_nothing_over()
     pd_sized::what_is_made_has_sizes();
 }
 
-/// In a run the two lines of a canvas's order tell all its boxes, whatever wires were made and cut and whatever boxes came, moved and went: there
-/// are never more than a line has room for.
+/// In a run the two lines of a canvas's order tell all its boxes, whatever wires were made and cut and whatever boxes came, moved, became others and
+/// went: there are never more than a line has room for.
 pub fn lines_tell_all_boxes()
     ensures { (s : Stage) (path : List ℕ) (o : Listing) → HasTree s →
         option_and_then (λ c. order_in s.net.orders.items c) (led_to s.net (Some s.net.root) path) ≡ Some o → TellsAll s.net o }
@@ -139,15 +140,17 @@ pub fn loops_tell_all_boxes()
         TellsLoop made.new (Loop made.box.canvas) }
     ensures moved { (s : Stage) (path : List ℕ) (number : ℕ) (x y : ℤ) (m : Made) → HasTree s → (made : IsMovedTo s path number x y m) →
         TellsLoop made.new (Loop made.moves.canvas) }
+    ensures retyped { (s : Stage) (path : List ℕ) (number : ℕ) (text : List Atom) (m : Made) → HasTree s → (made : IsRetypedTo s path number text m) →
+        TellsLoop made.new (Loop made.box.canvas) }
 {
     pd_guards::orders_are_short();
     pd_wiring::rewiring_asks_alike();
 }
 
 /// In a run in which each edit is lawful, from where a patch opens through any commands, names and times, each box that was there, and that no edit
-/// deletes, keeps what is of the same objects as what it kept at first; and so does, from any stage on, each box that is there, also one that came.
-/// And where each table of names that is read goes on, the first owner of the name that a box looks for always keeps what that box looks for, also at
-/// the end, whatever boxes came, moved and went.
+/// deletes or makes another one, keeps what is of the same objects as what it kept at first; and so does, from any stage on, each box that is there,
+/// also one that came. And where each table of names that is read goes on, the first owner of the name that a box looks for always keeps what that box
+/// looks for, also at the end, whatever boxes came, moved, became others and went.
 pub fn owners_go_on()
     ensures alike { (file : List ℕ) (p : Patch) (names : Names) (base : Base) (steps : List Step) (ahead : List Choice) →
         let run = followed_by (opened file p names base ahead) (steps_by own_ways steps) in

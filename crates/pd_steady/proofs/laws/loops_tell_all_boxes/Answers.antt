@@ -5,7 +5,7 @@ use Rattle.pd_wiring.specs.Changes.{CanRewire}
 use Rattle.pd_stage.specs.Times.{with_wires}
 use Rattle.pd_steady.proofs.ToldLemmas.{tree_short}
 use Rattle.pd_steady.proofs.LoopLemmas.{notices_told}
-use Rattle.pd_steady.proofs.MadeLemmas.{rewires_with, made_at, made_told, put_short, take_short, move_short}
+use Rattle.pd_steady.proofs.MadeLemmas.{rewires_with, made_at, made_told, put_short, take_short, move_short, retype_short}
 use Rattle.pd_steady.proofs.laws.loops_tell_all_boxes.Goals as goal
 
 pub returns-clause-opened : goal.returns-clause-opened
@@ -26,3 +26,6 @@ returns-clause-taken c = λ s path number m t made. made_told made.new made.box.
 
 pub returns-clause-moved : goal.returns-clause-moved
 returns-clause-moved c = λ s path number x y m t made. made_told made.new made.moves.canvas (λ o order. move_short s path number x y m t made o order)
+
+pub returns-clause-retyped : goal.returns-clause-retyped
+returns-clause-retyped c = λ s path number text m t made. made_told made.new made.box.canvas (λ o order. retype_short s path number text m t made o order)
