@@ -7,7 +7,6 @@ use Rattle.pd_atom.specs.Names.{Names, Extends}
 use Rattle.pd_gather.specs.Gather.{Known}
 use Rattle.pd_kind.specs.Fit.{blank}
 use Rattle.pd_grove.specs.declared.nodes.Node.{Node}
-use Rattle.pd_grove.specs.declared.seeds.Seed.{Seed}
 use Rattle.pd_grove.specs.Telling.{kind_in}
 use Rattle.pd_patch.specs.declared.patch.Patch.{Patch}
 use Rattle.pd_retyping.specs.Asking.{put_instead}
