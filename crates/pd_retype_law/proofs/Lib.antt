@@ -1,0 +1,5 @@
+pub mod BecomeLemmas
+pub mod InsideLemmas
+pub mod CountLemmas
+pub mod ProperLemmas
+pub mod WrittenLemmas

@@ -1,0 +1,180 @@
+-- The counts of a patch in which a box became another one are those of its tree.
+use Rattle.std.proofs.Common.{◌≡◌, ◌≤◌, ◌+◌, ◌-◌, ℕ, zero, suc, List, [], ◌∷◌, slice_get, Option, Some, None, refl, sym, ap, ◌∙◌, subst, arith}
+use Rattle.std.specs.Prelude.{option_map}
+use Rattle.std.proofs.lemmas.Option.{none-some, same_Some}
+use Rattle.slab.specs.Slab.{get}
+use Rattle.pd_atom.specs.declared.Atom.{Atom}
+use Rattle.pd_clock.specs.declared.times.Rate.{Rate}
+use Rattle.pd_kind.specs.States.{size_of}
+use Rattle.pd_tree.specs.declared.rows.Sheet.{Sheet}
+use Rattle.pd_tree.specs.Trees.{Cell, Trees, Done, Leaf, Holder, Tree, join, weight, zeros_of}
+use Rattle.pd_grove.specs.declared.nodes.Node.{Node}
+use Rattle.pd_grove.specs.declared.grove.Grove.{Grove}
+use Rattle.pd_grove.proofs.PlaceLemmas.{seen_keys}
+use Rattle.pd_grove.specs.Standing.{NodeSeen, node_seen, Stands}
+use Rattle.pd_patch.specs.declared.patch.Patch.{Patch}
+use Rattle.pd_patch.specs.Sounds.{sound_of}
+use Rattle.pd_gather.specs.Gather.{Known}
+use Rattle.pd_boxes.specs.Put.{CanPut}
+use Rattle.pd_regrowth_law.specs.Canvases.{Nest, Alone, Inside, nested}
+use Rattle.pd_reload_law.specs.Reloading.{RunsAs}
+use Rattle.pd_putting_law.proofs.StandLemmas.{path_along}
+use Rattle.pd_putting_law.proofs.WithinLemmas.{path_within}
+use Rattle.pd_adding.specs.declared.counts.Counts.{Counts}
+use Rattle.pd_adding.specs.Counts.{with_boxes}
+use Rattle.pd_put_law.proofs.RoomLemmas.{room_runs}
+use Rattle.pd_retyping.specs.declared.retyping.RetypedBox.{RetypedBox}
+use Rattle.pd_retyping.specs.Retypes.{counts_but, RetypesBox}
+use Rattle.pd_retyping_law.specs.Retypes.{retyped_at}
+use Rattle.pd_retyping_law.proofs.CountLemmas.{tree_trades, weight_same, zeros_same}
+use Rattle.pd_retype_law.proofs.BecomeLemmas.{mid, is_now, box, cell_is, grew_so}
+
+-- ---- what the box that was there counts
+
+-- among these boxes is one that keeps so many values
+record CountsOne (rate : Rate) (size : ℕ) (t : Trees) : Type 0 where
+  boxes : 1 ≤ weight t
+  sound : size ≤ sound_of rate t
+
+with_first : (rate : Rate) (size : ℕ) (c : Cell) (t : Trees) → CountsOne rate size t → CountsOne rate size (Leaf c t)
+with_first rate size c t h = record {
+  boxes = more (weight t) h.boxes;
+  sound = behind (size_of c.kind rate) size (sound_of rate t) h.sound;
+}
+  where
+    more : (a : ℕ) → 1 ≤ a → 1 ≤ a + 1
+    more a h = omega (arith, h)
+
+    behind : (f a b : ℕ) → a ≤ b → a ≤ f + b
+    behind f a b h = omega (arith, h)
+
+with_holder : (rate : Rate) (size : ℕ) (c : Cell) (s : Sheet) (inner t : Trees) → CountsOne rate size t → CountsOne rate size (Holder c s inner t)
+with_holder rate size c s inner t h = record {
+  boxes = more (weight inner) (weight t) h.boxes;
+  sound = behind (size_of c.kind rate) (sound_of rate inner) size (sound_of rate t) h.sound;
+}
+  where
+    more : (i a : ℕ) → 1 ≤ a → 1 ≤ i + a + 1
+    more i a h = omega (arith, h)
+
+    behind : (f i a b : ℕ) → a ≤ b → a ≤ f + (i + b)
+    behind f i a b h = omega (arith, h)
+
+with_inner : (rate : Rate) (size : ℕ) (c : Cell) (s : Sheet) (inner t : Trees) → CountsOne rate size inner → CountsOne rate size (Holder c s inner t)
+with_inner rate size c s inner t h = record {
+  boxes = more (weight inner) (weight t);
+  sound = inside (size_of c.kind rate) (sound_of rate t) size (sound_of rate inner) h.sound;
+}
+  where
+    more : (i a : ℕ) → 1 ≤ i + a + 1
+    more i a = omega arith
+
+    inside : (f r a b : ℕ) → a ≤ b → a ≤ f + (b + r)
+    inside f r a b h = omega (arith, h)
+
+behind_all : (rate : Rate) (size : ℕ) (before t : Trees) → CountsOne rate size t → CountsOne rate size (join before t)
+behind_all rate size Done t h = h
+behind_all rate size (Leaf c before) t h = with_first rate size c (join before t) (behind_all rate size before t h)
+behind_all rate size (Holder c s inner before) t h = with_holder rate size c s inner (join before t) (behind_all rate size before t h)
+
+nest_counts : (rate : Rate) (size : ℕ) (nest : Nest) (u : Tree) → CountsOne rate size u.boxes → CountsOne rate size (nested nest u).boxes
+nest_counts rate size Alone u h = h
+nest_counts rate size (Inside sheet before c nest behind) u h =
+    let t = nested nest u in
+    behind_all rate size before (Holder c t.sheet t.boxes behind) (with_inner rate size c t.sheet t.boxes behind (nest_counts rate size nest u h))
+
+-- the box of a key, that stands among these
+module _ (rate : Rate) (g : Grove) (key : ℕ) (n : Node) (is : get g.nodes key ≡ Some n) where
+  seen_as : (k : ℕ) (z : NodeSeen) → Some k ≡ Some key → option_map node_seen (get g.nodes k) ≡ Some z → node_seen n ≡ z
+  seen_as k z same e = same_Some (node_seen n) z (sym (ap (option_map node_seen) (ap (λ j. get g.nodes j) (same_Some k key same) ∙ is)) ∙ e)
+
+  first_counts : (c : Cell) (t : Trees) → n.kind ≡ c.kind → CountsOne rate (size_of n.kind rate) (Leaf c t)
+  first_counts c t same = record {
+    boxes = one (weight t);
+    sound = front (size_of n.kind rate) (size_of c.kind rate) (sound_of rate t) (ap (λ x. size_of x rate) same);
+  }
+    where
+      one : (a : ℕ) → 1 ≤ a + 1
+      one a = omega arith
+
+      front : (a f r : ℕ) → a ≡ f → a ≤ f + r
+      front a f r h = omega (arith, h)
+
+  holder_counts : (c : Cell) (s : Sheet) (inner t : Trees) → n.kind ≡ c.kind → CountsOne rate (size_of n.kind rate) (Holder c s inner t)
+  holder_counts c s inner t same = record {
+    boxes = one (weight inner) (weight t);
+    sound = front (size_of n.kind rate) (size_of c.kind rate) (sound_of rate inner) (sound_of rate t) (ap (λ x. size_of x rate) same);
+  }
+    where
+      one : (i a : ℕ) → 1 ≤ i + a + 1
+      one i a = omega arith
+
+      front : (a f i r : ℕ) → a ≡ f → a ≤ f + (i + r)
+      front a f i r h = omega (arith, h)
+
+  stands_counts : (b d : ℕ) (keys : List ℕ) (t : Trees) (m : ℕ) → slice_get keys m ≡ Some key → Stands (get g.nodes) (get g.boards) b d keys t → CountsOne rate (size_of n.kind rate) t
+  stands_counts b d [] t m at S = absurd (none-some key at)
+  stands_counts b d (k ∷ ks) Done m at S = absurd S
+  stands_counts b d (k ∷ ks) (Leaf c rest) zero at S = first_counts c rest (ap (λ (y : NodeSeen). y.cell.kind) (seen_as k _ at S.0))
+  stands_counts b d (k ∷ ks) (Leaf c rest) (suc m) at S = with_first rate (size_of n.kind rate) c rest (stands_counts b d ks rest m at S.1)
+  stands_counts b d (k ∷ ks) (Holder c s inner rest) zero at S = holder_counts c s inner rest (ap (λ (y : NodeSeen). y.cell.kind) (seen_as k _ at S.2))
+  stands_counts b d (k ∷ ks) (Holder c s inner rest) (suc m) at S = with_holder rate (size_of n.kind rate) c s inner rest (stands_counts b d ks rest m at S.5)
+
+-- ---- an edit that made a box another one
+
+module _ (old new : Patch) (n : Counts) (name path : List ℕ) (number : ℕ) (text : List Atom) (now : ℕ) (k after : Known) (b : RetypedBox)
+    (X : RetypesBox old new n name path number text now k after b) where
+  abbrev cell : Cell
+  cell = X.became.can.cell
+
+  counted : b.counts ≡ with_boxes old.rate (Leaf cell Done) (counts_but old.rate X.node n)
+  counted =
+      X.counts ∙ (grew_so old new n name path number text now k after b X).counts
+      ∙ ap (λ (t : Trees). with_boxes old.rate t (counts_but old.rate X.node n)) X.became.can.single
+
+  none_more : (a x : ℕ) → x ≡ a + 0 → x ≡ a
+  none_more a x h = omega (arith, h)
+
+  pub as_many_wires : b.counts.wires ≡ n.wires
+  as_many_wires = none_more n.wires b.counts.wires (ap (λ (x : Counts). x.wires) counted)
+
+  pub same_next : b.counts.next_zero ≡ n.next_zero
+  same_next = none_more n.next_zero b.counts.next_zero (ap (λ (x : Counts). x.next_zero) counted)
+
+  pub tree_zeros : (t : Tree) → zeros_of (retyped_at path number cell t) ≡ zeros_of t
+  tree_zeros t = zeros_same path number cell t
+
+  module _ (can : CanPut old) (t : Tree) (R : RunsAs old.grove t) where
+    was_counted : CountsOne old.rate (size_of X.node.kind old.rate) t.boxes
+    was_counted =
+        let g = old.grove in
+        let at = path_along g path b.canvas t can.forest R.stands X.chosen.leads in
+        let S = at.2 in
+        let w = path_within path t at.0 at.1 in
+        subst (λ (x : Tree). CountsOne old.rate (size_of X.node.kind old.rate) x.boxes) (sym w.whole)
+        (nest_counts old.rate (size_of X.node.kind old.rate) w.nest at.0
+        (stands_counts old.rate g b.key X.node X.chosen.is b.canvas S.depth S.keys at.0.boxes number
+        (ap (λ (ks : List ℕ). slice_get ks number) (sym (seen_keys (get g.boards b.canvas) _ S.board)) ∙ X.chosen.at) S.stands))
+
+    pub as_many_boxes : n.boxes ≡ weight t.boxes → b.counts.boxes ≡ weight (retyped_at path number cell t).boxes
+    as_many_boxes h =
+        again n.boxes (weight t.boxes) b.counts.boxes (weight (retyped_at path number cell t).boxes) h was_counted.boxes (ap (λ (x : Counts). x.boxes) counted) (weight_same path number cell t)
+      where
+        again : (a w x v : ℕ) → a ≡ w → 1 ≤ w → x ≡ (a - 1) + (0 + 1) → v ≡ w → x ≡ v
+        again a w x v h k l e = omega (arith, h, k, l, e)
+
+    traded : sound_of old.rate (retyped_at path number cell t).boxes + size_of X.node.kind old.rate ≡ sound_of old.rate t.boxes + size_of cell.kind old.rate
+    traded =
+        let p = mid old new n name path number text now k after b X in
+        subst (λ (c : Cell). sound_of old.rate (retyped_at path number c t).boxes + size_of X.node.kind old.rate ≡ sound_of old.rate t.boxes + size_of c.kind old.rate)
+        (cell_is old new n name path number text now k after b X)
+        (tree_trades old.rate p.grove new.grove path b.canvas b.key number X.node (is_now old new n name path number text now k after b X)
+        (box old new n name path number text now k after b X) t (room_runs old.grove p.grove X.became.room.grove t R).stands)
+
+    pub as_much_sound : n.sound ≡ sound_of old.rate t.boxes → b.counts.sound ≡ sound_of old.rate (retyped_at path number cell t).boxes
+    as_much_sound h =
+        again n.sound (sound_of old.rate t.boxes) (size_of X.node.kind old.rate) (size_of cell.kind old.rate) b.counts.sound (sound_of old.rate (retyped_at path number cell t).boxes)
+        h was_counted.sound (ap (λ (x : Counts). x.sound) counted) traded
+      where
+        again : (a s o m x v : ℕ) → a ≡ s → o ≤ s → x ≡ (a - o) + (m + 0) → v + o ≡ s + m → x ≡ v
+        again a s o m x v h k l e = omega (arith, h, k, l, e)

@@ -1,0 +1,242 @@
+-- A box that became another one: the wires hold and fit, and each name has its owners.
+use Rattle.std.proofs.Common.{◌≡◌, ◌≢◌, ℕ, zero, suc, Bool, true, false, cond, List, [], ◌∷◌, slice_get, Option, Some, None, refl, sym, ap, ◌∙◌, subst}
+use Rattle.std.specs.Prelude.{option_map, option_and_then}
+use Rattle.std.proofs.lemmas.Option.{none-some}
+use mathlib.Core.Logic.{⊎_elim}
+use Rattle.std.proofs.lemmas.Bool.{cases_eq}
+use Rattle.slab.specs.Slab.{Slab, get}
+use Rattle.pd_atom.specs.declared.Atom.{Atom}
+use Rattle.pd_atom.specs.Names.{Names}
+use Rattle.pd_canvas.specs.Views.{entry_of}
+use Rattle.pd_library.specs.Files.{answer_in}
+use Rattle.pd_tree.specs.Trees.{Cell, Trees, Done, Leaf, Holder, Tree}
+use Rattle.pd_grove.specs.declared.nodes.Node.{Node}
+use Rattle.pd_grove.specs.declared.boards.Board.{Board}
+use Rattle.pd_grove.specs.declared.grove.Grove.{Grove}
+use Rattle.pd_grove.specs.OwnPaths.{sub_in, sub_step_in, sub_reached, sub_in_box, sub_along}
+use Rattle.pd_grove.specs.Places.{CanvasStands, LeadsTo, canvas_in_box, canvas_along}
+use Rattle.pd_grove.specs.TextOrder.{is_sub}
+use Rattle.pd_grove.specs.Telling.{inner_in, keys_in, step_in, reached}
+use Rattle.pd_grove.proofs.SubLemmas.{sub_path_leads}
+use Rattle.pd_web.specs.declared.web.Web.{Web}
+use Rattle.pd_web.specs.Canvases.{keys_at}
+use Rattle.pd_web.specs.Changes.{wires_told, Meet}
+use Rattle.pd_patch.specs.declared.patch.Patch.{Patch}
+use Rattle.pd_gather.specs.Gather.{Known}
+use Rattle.pd_boxes.specs.Put.{HasOwners}
+use Rattle.pd_alike_law.specs.Feeds.{FedOnce}
+use Rattle.pd_inside_law.specs.Inside.{HasWiresOf, HoldsWires}
+use Rattle.pd_reload_law.specs.Reloading.{RunsAs}
+use Rattle.pd_saved_law.specs.Fitting.{WiresFit}
+use Rattle.pd_putting_law.specs.Again.{StandsAgain}
+use Rattle.pd_putting_law.specs.Puts.{change_inside}
+use Rattle.pd_adding.specs.declared.counts.Counts.{Counts}
+use Rattle.pd_put_law.proofs.OwnerLemmas.{own_more, room_own}
+use Rattle.pd_put_law.proofs.RoomLemmas.{room_runs, room_holds, room_fits, room_wires}
+use Rattle.pd_retyping.specs.declared.retyping.RetypedBox.{RetypedBox}
+use Rattle.pd_retyping.specs.Retypes.{RetypesBox}
+use Rattle.pd_retyping_law.specs.Retypes.{boxes_with, retyped_at}
+use Rattle.pd_retyping_law.specs.Retyping.{RetypesBoxAt, cell_in}
+use Rattle.pd_retype_law.proofs.BecomeLemmas.{mid, is_now, box, cell_is, goes_on}
+
+-- ---- canvases of a tree to which paths lead through abstractions
+
+same_inside : (i n : ℕ) (c : Cell) (t : Trees) → canvas_in_box i (boxes_with n c t) ≡ canvas_in_box i t
+same_inside i n c Done = refl
+same_inside zero zero c (Leaf old rest) = refl
+same_inside (suc i) zero c (Leaf old rest) = refl
+same_inside zero (suc n) c (Leaf old rest) = refl
+same_inside (suc i) (suc n) c (Leaf old rest) = same_inside i n c rest
+same_inside zero zero c (Holder old s inner rest) = refl
+same_inside (suc i) zero c (Holder old s inner rest) = refl
+same_inside zero (suc n) c (Holder old s inner rest) = refl
+same_inside (suc i) (suc n) c (Holder old s inner rest) = same_inside i n c rest
+
+changed_beside : (i m : ℕ) (f : Tree → Tree) (t : Trees) → i ≢ m → canvas_in_box i (change_inside m f t) ≡ canvas_in_box i t
+changed_beside i m f Done d = refl
+changed_beside zero zero f (Leaf c rest) d = absurd (d refl)
+changed_beside (suc i) zero f (Leaf c rest) d = refl
+changed_beside zero (suc m) f (Leaf c rest) d = refl
+changed_beside (suc i) (suc m) f (Leaf c rest) d = changed_beside i m f rest (λ e. d (ap suc e))
+changed_beside zero zero f (Holder c s inner rest) d = absurd (d refl)
+changed_beside (suc i) zero f (Holder c s inner rest) d = refl
+changed_beside zero (suc m) f (Holder c s inner rest) d = refl
+changed_beside (suc i) (suc m) f (Holder c s inner rest) d = changed_beside i m f rest (λ e. d (ap suc e))
+
+changed_here : (m : ℕ) (f : Tree → Tree) (t : Trees) → canvas_in_box m (change_inside m f t) ≡ option_map f (canvas_in_box m t)
+changed_here m f Done = refl
+changed_here zero f (Leaf c rest) = refl
+changed_here zero f (Holder c s inner rest) = refl
+changed_here (suc m) f (Leaf c rest) = changed_here m f rest
+changed_here (suc m) f (Holder c s inner rest) = changed_here m f rest
+
+-- the canvas in a subpatch is the one in that box
+sub_canvas : (m : ℕ) (t : Trees) (w : Tree) → sub_in_box m t ≡ Some w → canvas_in_box m t ≡ Some w
+sub_canvas m Done w e = absurd (none-some w e)
+sub_canvas zero (Leaf c rest) w e = absurd (none-some w e)
+sub_canvas zero (Holder c s inner rest) w e = by (is_sub c.head.form) e
+  where
+    by : (b : Bool) → cond b (Some (record { sheet = s; boxes = inner })) None ≡ Some w → Some (record { sheet = s; boxes = inner }) ≡ Some w
+    by true e = e
+    by false e = absurd (none-some w e)
+sub_canvas (suc m) (Leaf c rest) w e = sub_canvas m rest w e
+sub_canvas (suc m) (Holder c s inner rest) w e = sub_canvas m rest w e
+
+-- the subpatch through which a path goes on
+record StepsIn (m : ℕ) (path : List ℕ) (t v : Tree) : Type 0 where
+  inner : Tree
+  is : sub_in_box m t.boxes ≡ Some inner
+  on : sub_along path inner ≡ Some v
+
+steps : (m : ℕ) (path : List ℕ) (t v : Tree) → sub_along (m ∷ path) t ≡ Some v → StepsIn m path t v
+steps m path t v e = by (sub_in_box m t.boxes) refl e
+  where
+    by : (o : Option Tree) → sub_in_box m t.boxes ≡ o → option_and_then (sub_along path) o ≡ Some v → StepsIn m path t v
+    by None at e = absurd (none-some v e)
+    by (Some w) at e = record { inner = w; is = at; on = e }
+
+-- a canvas inside an abstraction is the same
+inside_same : (path way : List ℕ) (n : ℕ) (c : Cell) (t v : Tree) → sub_along path t ≡ Some v → sub_along way t ≡ None
+    → canvas_along way (retyped_at path n c t) ≡ canvas_along way t
+inside_same path [] n c t v own off = absurd (none-some t (sym off))
+inside_same [] (i ∷ way) n c t v own off = ap (option_and_then (canvas_along way)) (same_inside i n c t.boxes)
+inside_same (m ∷ path) (i ∷ way) n c t v own off = ⊎_elim
+    (λ (same : i ≡ m).
+    let s = steps m path t v own in
+    let f : Tree → Tree = retyped_at path n c in
+    let is : canvas_in_box m t.boxes ≡ Some s.inner = sub_canvas m t.boxes s.inner s.is in
+    let further : sub_along way s.inner ≡ None =
+    sym (ap (option_and_then (sub_along way)) (ap (λ (j : ℕ). sub_in_box j t.boxes) same ∙ s.is)) ∙ off in
+    ap (λ (j : ℕ). option_and_then (canvas_along way) (canvas_in_box j (change_inside m f t.boxes))) same
+    ∙ ap (option_and_then (canvas_along way)) (changed_here m f t.boxes ∙ ap (option_map f) is)
+    ∙ inside_same path way n c s.inner v s.on further
+    ∙ sym (ap (option_and_then (canvas_along way)) (ap (λ (j : ℕ). canvas_in_box j t.boxes) same ∙ is)))
+    (λ (d : i ≢ m). ap (option_and_then (canvas_along way)) (changed_beside i m (retyped_at path n c) t.boxes d))
+    (cases_eq i m)
+
+-- ---- paths
+
+-- a subpatch is none that holds nothing
+sub_none : (n : Node) → n.inner ≡ None → sub_in (Some n) ≡ None
+sub_none n e = by (is_sub (entry_of n.element).head.form)
+  where
+    by : (b : Bool) → cond b n.inner None ≡ None
+    by true = e
+    by false = refl
+
+-- what each key tells alike, each number of a list of keys does
+each_told : (f g : ℕ → Option ℕ) → ((k : ℕ) → f k ≡ g k) → (o : Option ℕ) → option_and_then f o ≡ option_and_then g o
+each_told f g e None = refl
+each_told f g e (Some k) = e k
+
+module _ (g h : Grove) (path₀ : List ℕ) (canvas key number : ℕ) (n n' : Node) (B : RetypesBoxAt g h path₀ canvas key number n n') where
+  -- what both boxes tell alike
+  told_as : {X : Type 0} (f : Option Node → X) → f (Some n') ≡ f (Some n) → (k : ℕ) → f (get h.nodes k) ≡ f (get g.nodes k)
+  told_as f e k = ⊎_elim
+      (λ (same : k ≡ key). subst (λ j. f (get h.nodes j) ≡ f (get g.nodes j)) (sym same) (ap f B.becomes ∙ e ∙ sym (ap f B.was)))
+      (λ (d : k ≢ key). ap f (B.others k d))
+      (cases_eq k key)
+
+  pub keys_stay : (c : ℕ) → keys_at h c ≡ keys_at g c
+  keys_stay c = ap (λ (s : Slab Board). keys_in (get s c)) B.boards
+
+  step_same : (c m : ℕ) → step_in h c m ≡ step_in g c m
+  step_same c m =
+      ap (λ (s : Slab Board). option_and_then (λ k. inner_in (get h.nodes k)) (slice_get (keys_in (get s c)) m)) B.boards
+      ∙ each_told (λ k. inner_in (get h.nodes k)) (λ k. inner_in (get g.nodes k)) (told_as inner_in (B.leaf ∙ sym B.bare)) (slice_get (keys_in (get g.boards c)) m)
+
+  sub_step_same : (c m : ℕ) → sub_step_in h c m ≡ sub_step_in g c m
+  sub_step_same c m =
+      ap (λ (s : Slab Board). option_and_then (λ k. sub_in (get h.nodes k)) (slice_get (keys_in (get s c)) m)) B.boards
+      ∙ each_told (λ k. sub_in (get h.nodes k)) (λ k. sub_in (get g.nodes k)) (told_as sub_in (sub_none n' B.leaf ∙ sym (sub_none n B.bare))) (slice_get (keys_in (get g.boards c)) m)
+
+  reached_same : (way : List ℕ) (o : Option ℕ) → reached h o way ≡ reached g o way
+  reached_same [] o = refl
+  reached_same (m ∷ way) None = reached_same way None
+  reached_same (m ∷ way) (Some c) = reached_same way (step_in h c m) ∙ ap (λ o. reached g o way) (step_same c m)
+
+  sub_reached_same : (way : List ℕ) (o : Option ℕ) → sub_reached h o way ≡ sub_reached g o way
+  sub_reached_same [] o = refl
+  sub_reached_same (m ∷ way) None = sub_reached_same way None
+  sub_reached_same (m ∷ way) (Some c) = sub_reached_same way (sub_step_in h c m) ∙ ap (λ o. sub_reached g o way) (sub_step_same c m)
+
+  pub from_root : (way : List ℕ) → reached g (Some g.root) way ≡ reached h (Some h.root) way
+  from_root way = sym (ap (λ (r : ℕ). reached h (Some r) way) B.root ∙ reached_same way (Some g.root))
+
+  pub sub_from_root : (way : List ℕ) → sub_reached g (Some g.root) way ≡ sub_reached h (Some h.root) way
+  sub_from_root way = sym (ap (λ (r : ℕ). sub_reached h (Some r) way) B.root ∙ sub_reached_same way (Some g.root))
+
+  pub number_stays : (c i k : ℕ) → slice_get (keys_at h c) i ≡ Some k → slice_get (keys_at g c) i ≡ Some k
+  number_stays c i k at = sym (ap (λ (ks : List ℕ). slice_get ks i) (keys_stay c)) ∙ at
+
+-- ---- a patch
+
+none_along : (g : Grove) (key : Option ℕ) (o : Option Tree) → LeadsTo g key o → key ≡ None → o ≡ None
+none_along g key None L e = refl
+none_along g key (Some u) L e = absurd (none-some L.0 (sym e ∙ L.1))
+
+some_along : (g : Grove) (key : Option ℕ) (o : Option Tree) (c : ℕ) → LeadsTo g key o → key ≡ Some c → (u : Tree) × (o ≡ Some u)
+some_along g key None c L e = absurd (none-some c (sym L ∙ e))
+some_along g key (Some u) c L e = (u, refl)
+
+module _ (p q : Patch) (path : List ℕ) (canvas key number : ℕ) (n n' : Node) (B : RetypesBoxAt p.grove q.grove path canvas key number n n')
+    (web : q.web ≡ p.web) (numbers : q.numbers ≡ p.numbers) where
+  held_on : (t : Tree) → RunsAs p.grove t → HoldsWires p t → HoldsWires q (retyped_at path number (cell_in n') t)
+  held_on t R H =
+      let g = p.grove in
+      let h = q.grove in
+      let c' = cell_in n' in
+      let G = R.stands in
+      let stands : CanvasStands g g.root t = record { holder = None; depth = 0; keys = G.keys; board = G.root; stands = G.stands } in
+      let own = some_along g (sub_reached g (Some g.root) path) (sub_along path t) canvas (sub_path_leads g path g.root t stands) B.leads in
+      record {
+        fed = subst FedOnce (sym web) H.fed;
+        meet = subst Meet (sym web) H.meet;
+        inside = record {
+          all = λ way c u l.
+              let off : sub_reached g (Some g.root) way ≡ None = sub_from_root g h path canvas key number n n' B way ∙ l.inside in
+              let same = inside_same path way number c' t own.0 own.1
+              (none_along g (sub_reached g (Some g.root) way) (sub_along way t) (sub_path_leads g way g.root t stands) off) in
+              subst (λ (w : Web). HasWiresOf w (keys_at h c) u) (sym web)
+              (subst (λ (ks : List ℕ). HasWiresOf p.web ks u) (sym (keys_stay g h path canvas key number n n' B c))
+              (H.inside.all way c u
+              (record { here = record { key = from_root g h path canvas key number n n' B way ∙ l.here.key; canvas = sym same ∙ l.here.canvas }; inside = off })));
+        };
+        order = λ way c l.
+            let O = H.order way c (sub_from_root g h path canvas key number n n' B way ∙ l) in
+            record { all = λ i k inlet is. rw (web, numbers) (O.all i k inlet (number_stays g h path canvas key number n n' B c i k is)) };
+      }
+
+  fit_on : WiresFit p → WiresFit q
+  fit_on F = record { all = λ c. rw (web, numbers, B.boards) (F.all c) }
+
+module _ (old new : Patch) (n : Counts) (name path : List ℕ) (number : ℕ) (text : List Atom) (now : ℕ) (k after : Known) (b : RetypedBox)
+    (X : RetypesBox old new n name path number text now k after b) where
+  abbrev ready : Patch
+  ready = mid old new n name path number text now k after b X
+
+  abbrev new_node : Node
+  new_node = is_now old new n name path number text now k after b X
+
+  abbrev there : RetypesBoxAt ready.grove new.grove path b.canvas b.key number X.node new_node
+  there = box old new n name path number text now k after b X
+
+  pub box_holds : (t : Tree) → RunsAs old.grove t → HoldsWires old t → HoldsWires new (retyped_at path number X.became.can.cell t)
+  box_holds t R H =
+      subst (λ (c : Cell). HoldsWires new (retyped_at path number c t)) (cell_is old new n name path number text now k after b X)
+      (held_on ready new path b.canvas b.key number X.node new_node there X.became.refit.web X.became.refit.numbers t
+      (room_runs old.grove ready.grove X.became.room.grove t R) (room_holds old ready X.became.room t H))
+
+  pub box_fits : WiresFit old → WiresFit new
+  box_fits F = fit_on ready new path b.canvas b.key number X.node new_node there X.became.refit.web X.became.refit.numbers (room_fits old ready X.became.room F)
+
+  pub box_wires : wires_told new.web ≡ wires_told old.web
+  box_wires = ap wires_told X.became.refit.web ∙ room_wires old ready X.became.room
+
+  pub box_owners : (t : Tree) → RunsAs old.grove t → StandsAgain (answer_in k.files) name k.names t → HasOwners old k.names name → HasOwners new after.names name
+  box_owners t R A h =
+      let is : after.names ≡ X.added.known.names = ap (λ (x : Known). x.names) X.known_is in
+      let more : HasOwners old after.names name =
+      own_more (answer_in k.files) name old k.names after.names t R.stands R.shallow A (goes_on old new n name path number text now k after b X) h in
+      let again : HasOwners old X.added.known.names name = subst (λ (ns : Names). HasOwners old ns name) is more in
+      subst (λ (ns : Names). HasOwners new ns name) (sym is) (X.became.refit.owners name (room_own old ready X.added.known.names name X.became.room again))

@@ -1,0 +1,190 @@
+-- A document with another box in the place of one: it is proper where it was and the new box is.
+use Rattle.std.proofs.Common.{◌≡◌, ◌≤◌, ◌+◌, ◌-◌, ℕ, zero, suc, true, false, max, List, [], ◌∷◌, length, Option, Some, None, refl, sym, ap, ◌∙◌, subst, arith}
+use Rattle.std.specs.List.{AllByRecursion}
+use Rattle.pd_atom.specs.declared.Atom.{Atom}
+use Rattle.pd_atom.specs.Names.{Names, Extends, IsTable}
+use Rattle.pd_atom.specs.Tokens.{IsSettled}
+use Rattle.pd_canvas.specs.Pages.{Shape, Sub, Head, Frame, Boxes, End, Box, Entry, boxed, frame_of, page_of, empty_page, weight}
+use Rattle.pd_canvas.specs.Proper.{AreBoxes, AreReady, HoldsNone, IsFrame, IsHead, IsWidth, IsProper, inner_wires, levels}
+use Rattle.pd_doc.proofs.GrowLaws.{are_ready_grows}
+use Rattle.pd_library.specs.Files.{answer_in}
+use Rattle.pd_tree.specs.declared.rows.Sheet.{Sheet}
+use Rattle.pd_tree.specs.Trees.{Cell, Trees, Done, Leaf, Holder, Tree, join, frame_in, box_with, document_boxes, document_in}
+use Rattle.pd_patch.specs.declared.patch.Patch.{Patch}
+use Rattle.pd_gather.specs.Gather.{Known}
+use Rattle.pd_boxes.specs.Put.{CanPut}
+use Rattle.pd_contents_law.specs.Contents.{StaySettled}
+use Rattle.pd_contents_law.proofs.SettledLemmas.{onward, table_before}
+use Rattle.pd_regrowth_law.specs.Canvases.{Nest, Alone, Inside, nested, AreSubpatches}
+use Rattle.pd_reload_law.specs.Reloading.{RunsAs}
+use Rattle.pd_putting_law.specs.Again.{StandsAgain}
+use Rattle.pd_putting_law.proofs.StandLemmas.{path_along}
+use Rattle.pd_putting_law.proofs.WithinLemmas.{path_within}
+use Rattle.pd_adding.specs.declared.counts.Counts.{Counts}
+use Rattle.pd_adding.specs.Boxes.{settled_edit}
+use Rattle.pd_put_law.proofs.CountLemmas.{entry_boxes}
+use Rattle.pd_put_law.proofs.HeadLemmas.{IsPlainHead, put_plain, put_frame}
+use Rattle.pd_retyping.specs.declared.retyping.RetypedBox.{RetypedBox}
+use Rattle.pd_retyping.specs.Asking.{put_instead}
+use Rattle.pd_retyping.specs.Retypes.{RetypesBox}
+use Rattle.pd_canvas.specs.Views.{entry_of}
+use Rattle.pd_retyping_law.specs.Retypes.{boxes_with, retyped_box, retyped_at}
+use Rattle.pd_retype_law.proofs.BecomeLemmas.{drawn, six, goes_on, may, puts, bare, document, box_again}
+
+-- ---- texts that are ready go on to be so
+
+pub ready_later : (names later : Names) → Extends names later → 6 ≤ length names → IsTable later → (text : List Atom) → AreReady names text → AreReady later text
+ready_later names later x six table text h =
+    are_ready_grows names later (record { extends = x; before = table_before names later x six table; after = table }) text h
+
+settled_of : (names : Names) (text : List Atom) → AreReady names text → AllByRecursion (IsSettled names) text
+settled_of names [] h = tt
+settled_of names (a ∷ text) h = (h.0.1, settled_of names text h.1)
+
+pub stays_settled : (names more : Names) → Extends names more → 6 ≤ length names → (text : List Atom) → AreReady names text → StaySettled more text
+stays_settled names more x six text h = λ later y table. settled_of later text (ready_later names later (onward names more later x y) six table text h)
+
+-- ---- boxes of a document
+
+module _ (names : Names) where
+  -- the second boxes are as many as the first, with as many wires inside, and well formed where those are
+  record StayProper (old new : Boxes) : Type 0 where
+    boxes : weight new ≡ weight old
+    wires : inner_wires new ≡ inner_wires old
+    sound : AreBoxes names old → AreBoxes names new
+
+  all_stay : (b : Boxes) → StayProper b b
+  all_stay b = record { boxes = refl; wires = refl; sound = λ a. a }
+
+  rest_stays : (h : Head) (f : Frame) (inner rest other : Boxes) → StayProper rest other → StayProper (Box h f inner rest) (Box h f inner other)
+  rest_stays h f inner rest other m = record {
+    boxes = ap (λ (n : ℕ). weight inner + n + 1) m.boxes;
+    wires = ap (λ (n : ℕ). length f.wires + inner_wires inner + n) m.wires;
+    sound = λ a. (a.0, a.1, a.2, a.3, m.sound a.4);
+  }
+
+  inner_stays : (h : Head) (f : Frame) (inner other rest : Boxes) → h.form ≡ Sub → StayProper inner other → StayProper (Box h f inner rest) (Box h f other rest)
+  inner_stays h f inner other rest form m = record {
+    boxes = ap (λ (n : ℕ). n + weight rest + 1) m.boxes;
+    wires = ap (λ (n : ℕ). length f.wires + n + inner_wires rest) m.wires;
+    sound = λ a. (a.0, subst (λ (y : Shape). HoldsNone y (page_of f other)) (sym form) tt, a.2, m.sound a.3, a.4);
+  }
+
+  with_rest : (form : Shape) (h : Head) (s : Sheet) (inner rest other : Boxes) → StayProper rest other → StayProper (box_with form h s inner rest) (box_with form h s inner other)
+  with_rest Sub h s inner rest other m = rest_stays h (frame_in s) inner rest other m
+  with_rest f h s inner rest other m = rest_stays h (frame_of empty_page) End rest other m
+
+  with_inner : (h : Head) (s : Sheet) (inner other rest : Boxes) → h.form ≡ Sub → StayProper inner other → StayProper (box_with h.form h s inner rest) (box_with h.form h s other rest)
+  with_inner h s inner other rest form m =
+      subst (λ (y : Shape). StayProper (box_with y h s inner rest) (box_with y h s other rest)) (sym form) (inner_stays h (frame_in s) inner other rest form m)
+
+  -- ---- boxes of a tree
+
+  abbrev TreesStay : Trees → Trees → Type 0
+  TreesStay t u = StayProper (document_boxes t) (document_boxes u)
+
+  around_stay : (before t u : Trees) → TreesStay t u → TreesStay (join before t) (join before u)
+  around_stay Done t u m = m
+  around_stay (Leaf c before) t u m =
+      rest_stays c.head (frame_of empty_page) End (document_boxes (join before t)) (document_boxes (join before u)) (around_stay before t u m)
+  around_stay (Holder c sheet inner before) t u m =
+      with_rest c.head.form c.head sheet (document_boxes inner) (document_boxes (join before t)) (document_boxes (join before u)) (around_stay before t u m)
+
+  -- another box, whose element is well formed
+  module _ (c : Cell) (well : AreBoxes names (document_boxes (Leaf c Done))) where
+    first_stays : (old : Cell) (rest : Boxes) → StayProper (Box old.head (frame_of empty_page) End rest) (Box c.head (frame_of empty_page) End rest)
+    first_stays old rest = record { boxes = refl; wires = refl; sound = λ a. (well.0, well.1, well.2, well.3, a.4) }
+
+    boxes_stay : (n : ℕ) (t : Trees) → TreesStay t (boxes_with n c t)
+    boxes_stay n Done = all_stay End
+    boxes_stay zero (Leaf old rest) = first_stays old (document_boxes rest)
+    boxes_stay zero (Holder old s inner rest) = all_stay (document_boxes (Holder old s inner rest))
+    boxes_stay (suc n) (Leaf old rest) =
+        rest_stays old.head (frame_of empty_page) End (document_boxes rest) (document_boxes (boxes_with n c rest)) (boxes_stay n rest)
+    boxes_stay (suc n) (Holder old s inner rest) =
+        with_rest old.head.form old.head s (document_boxes inner) (document_boxes rest) (document_boxes (boxes_with n c rest)) (boxes_stay n rest)
+
+  -- ---- a canvas, and what lies around it
+
+  record CanvasStays (t u : Tree) : Type 0 where
+    sheet : u.sheet ≡ t.sheet
+    boxes : StayProper (document_boxes t.boxes) (document_boxes u.boxes)
+
+  nest_stays : (nest : Nest) (t u : Tree) → AreSubpatches nest → CanvasStays t u → CanvasStays (nested nest t) (nested nest u)
+  nest_stays Alone t u sub m = m
+  nest_stays (Inside sheet before c nest behind) t u sub m =
+      let v = nested nest t in
+      let w = nested nest u in
+      let on = nest_stays nest t u sub.1 m in
+      record {
+        sheet = refl;
+        boxes = around_stay before (Holder c v.sheet v.boxes behind) (Holder c w.sheet w.boxes behind)
+            (subst (λ (s : Sheet). TreesStay (Holder c v.sheet v.boxes behind) (Holder c s w.boxes behind)) (sym on.sheet)
+            (with_inner c.head v.sheet (document_boxes v.boxes) (document_boxes w.boxes) (document_boxes behind) sub.0 on.boxes));
+      }
+
+  stays_proper : (t u : Tree) → CanvasStays t u → levels (document_boxes u.boxes) ≤ 255 → IsProper names (document_in t) → IsProper names (document_in u)
+  stays_proper t u m low p = record {
+    sound = (subst (λ (s : Sheet). IsFrame names (frame_in s)) (sym m.sheet) p.sound.0, m.boxes.sound p.sound.1);
+    limits = record {
+      boxes = subst (λ (n : ℕ). n ≤ 16384) (sym m.boxes.boxes) p.limits.boxes;
+      wires = subst (λ (n : ℕ). length u.sheet.wires + n ≤ 65536) (sym m.boxes.wires)
+          (subst (λ (s : Sheet). length s.wires + inner_wires (document_boxes t.boxes) ≤ 65536) (sym m.sheet) p.limits.wires);
+      levels = more (levels (document_boxes u.boxes)) low;
+    };
+  }
+    where
+      more : (n : ℕ) → n ≤ 255 → n + 1 ≤ 256
+      more n h = omega (arith, h)
+
+-- ---- an edit that made a box another one
+
+module _ (old new : Patch) (n : Counts) (name path : List ℕ) (number : ℕ) (text : List Atom) (now : ℕ) (k after : Known) (b : RetypedBox)
+    (X : RetypesBox old new n name path number text now k after b) (can : CanPut old) (t : Tree) (R : RunsAs old.grove t)
+    (A : StandsAgain (answer_in k.files) name k.names t) where
+  abbrev cell : Cell
+  cell = X.became.can.cell
+
+  abbrev element : Entry
+  element = drawn old new n name path number text now k after b X
+
+  pub text_later : (later : Names) → Extends k.names later → IsTable later → AreReady later element.head.text
+  text_later later on table = ready_later k.names later on (six old new n name path number text now k after b X) table element.head.text X.written.text
+
+  head_proper : (later : Names) → Extends k.names later → IsTable later → IsHead later element.head
+  head_proper later on table =
+      let p : IsPlainHead element.head =
+      put_plain (settled_edit k.names (put_instead (entry_of X.node.element) text)) element (puts old new n name path number text now k after b X) in
+      record {
+        x = X.written.x;
+        y = X.written.y;
+        text = (text_later later on table, (may old new n name path number text now k after b X).short);
+        width = subst IsWidth (sym p.width) tt;
+        tail = subst (AllByRecursion (AreReady later)) (sym p.tail) tt;
+        form = p.form later;
+      }
+
+  box_well : (later : Names) → Extends k.names later → IsTable later → AreBoxes later (document_boxes (Leaf cell Done))
+  box_well later on table =
+      let B = bare old new n name path number text now k after b X in
+      let f : IsFrame later (frame_of element.page) =
+      put_frame later table (settled_edit k.names (put_instead (entry_of X.node.element) text)) element (puts old new n name path number text now k after b X)
+      (text_later later on table) in
+      subst (AreBoxes later) (sym (document old new n name path number text now k after b X can t R A))
+      (entry_boxes later element (head_proper later on table) B.holds f B.boxes)
+
+  tree_stays : (later : Names) → Extends k.names later → IsTable later → CanvasStays later t (retyped_at path number cell t)
+  tree_stays later on table =
+      let at = path_along old.grove path b.canvas t can.forest R.stands X.chosen.leads in
+      let u = at.0 in
+      let v = retyped_box number cell u in
+      let w = path_within path t u at.1 in
+      subst (λ (z : Tree). CanvasStays later t z) (sym (w.changed (retyped_box number cell)))
+      (subst (λ (z : Tree). CanvasStays later z (nested w.nest v)) (sym w.whole)
+      (nest_stays later w.nest u v w.subpatches (record { sheet = refl; boxes = boxes_stay later cell (box_well later on table) number u.boxes })))
+
+  pub box_proper : (later : Names) → Extends after.names later → IsTable later → IsProper later (document_in t) → IsProper later (document_in (retyped_at path number cell t))
+  box_proper later on table h =
+      stays_proper later t (retyped_at path number cell t)
+      (tree_stays later (onward k.names after.names later (goes_on old new n name path number text now k after b X) on) table)
+      (box_again old new n name path number text now k after b X can t R A).shallow h
