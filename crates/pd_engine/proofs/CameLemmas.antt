@@ -169,7 +169,7 @@ module _ (old new : Patch) (now : ℕ) (a : Added) (key : ℕ) where
 
 -- ---- the box that grew
 
-all_by : {X : Type 0} (P : X → Type 0) (xs : List X) → All P xs → AllByRecursion P xs
+pub all_by : {X : Type 0} (P : X → Type 0) (xs : List X) → All P xs → AllByRecursion P xs
 all_by P [] h = tt
 all_by P (x ∷ xs) h = (h 0 x (omega arith), all_by P xs (λ k d lt. h (suc k) d (omega (arith, lt))))
 

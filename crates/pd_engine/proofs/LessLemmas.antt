@@ -98,7 +98,7 @@ module _ (P : Placed → Type 0) where
       let parts : AllOf within inner × AllOf top rest = all_split P (placed_in_order within inner) (placed_in_order top rest) h.1 in
       (h.0, all_append P (placed_in_order within inner) (placed_in_order top (boxes_less n rest)) parts.0 (all_out n top rest parts.1))
 
-  all_inside : (n : ℕ) (f : Tree → Tree) → ((top : Bool) (u : Tree) → AllOf top u.boxes → AllOf top (f u).boxes) → (top : Bool) (t : Trees) → AllOf top t → AllOf top (change_inside n f t)
+  pub all_inside : (n : ℕ) (f : Tree → Tree) → ((top : Bool) (u : Tree) → AllOf top u.boxes → AllOf top (f u).boxes) → (top : Bool) (t : Trees) → AllOf top t → AllOf top (change_inside n f t)
   all_inside n f k top Done h = h
   all_inside zero f k top (Leaf c rest) h = h
   all_inside zero f k top (Holder c s inner rest) h =

@@ -22,3 +22,5 @@ pub mod ShiftLemmas
 pub mod MovingLemmas
 pub mod SubLemmas
 pub mod CameLemmas
+pub mod RetypingLemmas
+pub mod RetypedLemmas

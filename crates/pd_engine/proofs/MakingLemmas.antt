@@ -11,7 +11,7 @@ use Rattle.slab.specs.Slab.{get}
 use Rattle.pd_grove.specs.declared.grove.Grove.{Grove}
 use Rattle.pd_grove.specs.Telling.{state_in}
 use Rattle.pd_queue.specs.Entries.{wire_edit}
-use Rattle.pd_script.specs.Edits.{puts_box, deleted, moved}
+use Rattle.pd_script.specs.Edits.{puts_box}
 use Rattle.pd_web.specs.declared.lines.Line.{Line}
 use Rattle.pd_web.specs.declared.web.Web.{Web}
 use Rattle.pd_web.specs.Changes.{wires_told, Meet}
@@ -23,7 +23,6 @@ use Rattle.pd_say.specs.Lines.{refusal_text}
 use Rattle.pd_say.specs.declared.refusals.Request.{Request}
 use Rattle.pd_say.specs.declared.refusals.Request.TheVariants as request
 use Rattle.pd_say.specs.declared.refusals.Why.{Why}
-use Rattle.pd_say.specs.declared.refusals.Why.TheVariants as why
 use Rattle.pd_wiring.specs.Changes.{CanRewire, SameButRoom, StaysButWire}
 use Rattle.pd_boxes.specs.Room.{SameButRoom as RoomSet}
 use Rattle.pd_putting.specs.Adds.{AddsBox, IsNotPut, IsShortOfRoom, IsNotAdded}
@@ -166,20 +165,6 @@ plans p path (edit.Move n x y) = refl
 faultless : (p : Patch) (path : List ℕ) (e : Edit) (cause : EditRefusal) → planned p path e ≡ Err cause → faults_of_why (why_of cause) ≡ 0
 faultless p path e cause is = subst Faultless is (plans p path e)
 
--- an edit that is none of wires isn't made
-pub no_wire_edit : (p : Patch) (path : List ℕ) (e : Edit) → wire_edit e ≡ None → planned p path e ≡ Err refusal.NoDocument
-no_wire_edit p path (edit.Connect v) none = cc
-no_wire_edit p path (edit.Disconnect v) none = cc
-no_wire_edit p path (edit.Obj x y text) none = refl
-no_wire_edit p path (edit.Msg x y text) none = refl
-no_wire_edit p path (edit.Comment x y text) none = refl
-no_wire_edit p path (edit.FloatBox x y text) none = refl
-no_wire_edit p path (edit.SymbolBox x y text) none = refl
-no_wire_edit p path (edit.Sub x y text) none = refl
-no_wire_edit p path (edit.Delete n) none = refl
-no_wire_edit p path (edit.Retype n text) none = refl
-no_wire_edit p path (edit.Move n x y) none = refl
-
 -- the edit of wires that is stored is the one that was asked for
 pub is_wire_edit : (e f : Edit) → wire_edit e ≡ Some f → f ≡ e
 is_wire_edit (edit.Connect v) f some = cc
@@ -204,31 +189,19 @@ plan_stays : (plan : Plan) (p q : Patch) → IsCarriedOut plan p q → (source :
 plan_stays (Attaches c l) p q h = (l.source, h.rest)
 plan_stays (Detaches c key l) p q h = (l.source, h.rest)
 
--- what an edit comes to that changes wires alone, or is none that is made
-no_edit : (e : EditRefusal) (plan : Plan) → ◌≡◌ {A = Result Plan EditRefusal} (Err e) (Ok plan) → ⊥
-no_edit e plan h = cc
-
-same_cause : (e f : EditRefusal) → ◌≡◌ {A = Result Plan EditRefusal} (Err e) (Err f) → e ≡ f
-same_cause e f h = cc
-
-unmade : (s : Stage) (path : List ℕ) (e : Edit) (c : Choice) → ((p : Patch) → planned p path e ≡ Err refusal.NoDocument) → IsRewiringLawful s path e c → c ≡ stage.Refuses why.NoDocument
-unmade s path e (stage.Refuses reason) none h =
-    ap (λ (w : Why). stage.Refuses w) (h.reason_is ∙ ap (λ (x : EditRefusal). why_of x) (sym (same_cause refusal.NoDocument h.cause (sym (none h.patch) ∙ h.is_planned))))
-unmade s path e (stage.Lacks net) none h = absurd (no_edit refusal.NoDocument h.plan (sym (none h.old) ∙ h.is_planned))
-unmade s path e (stage.Makes m) none h = absurd (no_edit refusal.NoDocument h.rewired.plan (sym (none h.old) ∙ h.rewired.is_planned))
-
-edit_may : (s : Stage) (path : List ℕ) (e : Edit) (c : Choice) → puts_box e ≡ false → deleted e ≡ None → moved e ≡ None → IsRewiringLawful s path e c → IsEditLawful s path e c
-edit_may s path (edit.Connect v) c none stays rests h = h
-edit_may s path (edit.Disconnect v) c none stays rests h = h
-edit_may s path (edit.Delete n) c none stays rests h = cc
-edit_may s path (edit.Retype n text) c none stays rests h = unmade s path (edit.Retype n text) c (λ p. refl) h
-edit_may s path (edit.Move n x y) c none stays rests h = cc
-edit_may s path (edit.Obj x y text) c none stays rests h = cc
-edit_may s path (edit.Msg x y text) c none stays rests h = cc
-edit_may s path (edit.Comment x y text) c none stays rests h = cc
-edit_may s path (edit.FloatBox x y text) c none stays rests h = cc
-edit_may s path (edit.SymbolBox x y text) c none stays rests h = cc
-edit_may s path (edit.Sub x y name) c none stays rests h = cc
+-- what an edit of wires comes to
+edit_may : (s : Stage) (path : List ℕ) (e f : Edit) (c : Choice) → wire_edit e ≡ Some f → IsRewiringLawful s path e c → IsEditLawful s path e c
+edit_may s path (edit.Connect v) f c some h = h
+edit_may s path (edit.Disconnect v) f c some h = h
+edit_may s path (edit.Delete n) f c some h = cc
+edit_may s path (edit.Retype n text) f c some h = cc
+edit_may s path (edit.Move n x y) f c some h = cc
+edit_may s path (edit.Obj x y text) f c some h = cc
+edit_may s path (edit.Msg x y text) f c some h = cc
+edit_may s path (edit.Comment x y text) f c some h = cc
+edit_may s path (edit.FloatBox x y text) f c some h = cc
+edit_may s path (edit.SymbolBox x y text) f c some h = cc
+edit_may s path (edit.Sub x y name) f c some h = cc
 
 -- where the edit puts a box, what may come is what may come of that
 put_may : (s : Stage) (path : List ℕ) (e : Edit) (c : Choice) → puts_box e ≡ true → IsPutLawful s path e c → IsEditLawful s path e c
@@ -253,46 +226,6 @@ own_request : (wanted : Wanted) (path : List ℕ) (e : Edit) → IsOwn wanted pa
 own_request wanted path e (inl is) = ap request_of is
 own_request wanted path e (inr is) = ap request_of is
 
--- a wire edit deletes no box, moves none, and puts none
-pub wire_deletes_none : (e f : Edit) → wire_edit e ≡ Some f → deleted e ≡ None
-wire_deletes_none (edit.Connect v) f some = refl
-wire_deletes_none (edit.Disconnect v) f some = refl
-wire_deletes_none (edit.Delete n) f some = cc
-wire_deletes_none (edit.Retype n text) f some = refl
-wire_deletes_none (edit.Move n x y) f some = refl
-wire_deletes_none (edit.Obj x y text) f some = refl
-wire_deletes_none (edit.Msg x y text) f some = refl
-wire_deletes_none (edit.Comment x y text) f some = refl
-wire_deletes_none (edit.FloatBox x y text) f some = refl
-wire_deletes_none (edit.SymbolBox x y text) f some = refl
-wire_deletes_none (edit.Sub x y name) f some = refl
-
-pub wire_moves_none : (e f : Edit) → wire_edit e ≡ Some f → moved e ≡ None
-wire_moves_none (edit.Connect v) f some = refl
-wire_moves_none (edit.Disconnect v) f some = refl
-wire_moves_none (edit.Delete n) f some = refl
-wire_moves_none (edit.Retype n text) f some = refl
-wire_moves_none (edit.Move n x y) f some = cc
-wire_moves_none (edit.Obj x y text) f some = refl
-wire_moves_none (edit.Msg x y text) f some = refl
-wire_moves_none (edit.Comment x y text) f some = refl
-wire_moves_none (edit.FloatBox x y text) f some = refl
-wire_moves_none (edit.SymbolBox x y text) f some = refl
-wire_moves_none (edit.Sub x y name) f some = refl
-
-pub wire_puts_none : (e f : Edit) → wire_edit e ≡ Some f → puts_box e ≡ false
-wire_puts_none (edit.Connect v) f some = refl
-wire_puts_none (edit.Disconnect v) f some = refl
-wire_puts_none (edit.Delete n) f some = refl
-wire_puts_none (edit.Retype n text) f some = refl
-wire_puts_none (edit.Move n x y) f some = refl
-wire_puts_none (edit.Obj x y text) f some = cc
-wire_puts_none (edit.Msg x y text) f some = cc
-wire_puts_none (edit.Comment x y text) f some = cc
-wire_puts_none (edit.FloatBox x y text) f some = cc
-wire_puts_none (edit.SymbolBox x y text) f some = cc
-wire_puts_none (edit.Sub x y name) f some = cc
-
 pub outcome_by : (c : EditRefusal) → refused_as (why_of c) ≡ edit_outcome (Err c)
 outcome_by refusal.NoDocument = refl
 outcome_by refusal.NoCanvas = refl
@@ -314,8 +247,8 @@ pub record IsWireEdit (wanted : Wanted) (path : List ℕ) (e : Edit) : Type 0 wh
   pub may : (s : Stage) (c : Choice) → IsRewiringLawful s path e c → MayCome wanted s c
   pub request : request_of wanted ≡ request.Edit
 
-pub own_wire : (wanted : Wanted) (path : List ℕ) (e : Edit) → IsOwn wanted path e → puts_box e ≡ false → deleted e ≡ None → moved e ≡ None → IsWireEdit wanted path e
-own_wire wanted path e own none stays rests = record { may = λ s c h. own_may wanted s path e c own (edit_may s path e c none stays rests h); request = own_request wanted path e own }
+pub own_wire : (wanted : Wanted) (path : List ℕ) (e f : Edit) → IsOwn wanted path e → wire_edit e ≡ Some f → IsWireEdit wanted path e
+own_wire wanted path e f own some = record { may = λ s c h. own_may wanted s path e c own (edit_may s path e f c some h); request = own_request wanted path e own }
 
 -- an edit that puts a box, and which is told as an edit
 pub record IsBoxEdit (wanted : Wanted) (path : List ℕ) (e : Edit) : Type 0 where
@@ -494,10 +427,6 @@ edits_within old new counts wires path e r looks looks' d was is t = ∥∥₁_m
   zeros = h.zeros;
 })
 
--- what `make` is told to make is the edit of wires that was asked for, or none
-pub not_made : (p : Patch) (path : List ℕ) (e : Edit) (looks : ℕ) → wire_edit e ≡ None → EditsTo p p path e (Err refusal.NoDocument) looks looks
-not_made p path e looks none = (refl, inr (record { is_planned = no_wire_edit p path e none; same = refl }))
-
 -- ---- what `rewire` answers
 
 is_memory : (c : EditRefusal) → (c ≡ refusal.NoMemory) ⊎ (c ≢ refusal.NoMemory)
@@ -559,6 +488,13 @@ always_told wanted reason s o looks h is = record {
 
 -- ---- a box that an edit puts
 
+-- there may be more room
+pub room_clocks : (file : List ℕ) (names : Names) (base : Base) (time block_end fired : ℕ) (tally : Tally) (old new : Patch) → RoomSet old new → (m : List Choice)
+    → with_net (stage_with file old names base time block_end fired tally m) (net_of new) ≡ stage_with file new names base time block_end fired tally m
+room_clocks file names base time block_end fired tally old new room m =
+    ap (λ (f : ℕ → Option State). record (with_net (stage_with file old names base time block_end fired tally m) (net_of new)) { states = f }) (λ i k. state_in (sym (room.grove.nodes k) i))
+    ∙ ap (λ (c : List Clock). record (stage_with file new names base time block_end fired tally m) { clocks = c }) (sym room.clocks)
+
 module _ (wanted : Wanted) (path : List ℕ) (e : Edit) (is : IsBoxEdit wanted path e) (file : List ℕ) (names : Names) (files : List (ℕ × Answer)) (counts : Counts) (time block_end fired : ℕ) (tally : Tally) (old new : Patch) where
   abbrev before : List Choice → Stage
   before = stage_with file old names (base_of files counts) time block_end fired tally
@@ -614,11 +550,6 @@ module _ (wanted : Wanted) (path : List ℕ) (e : Edit) (is : IsBoxEdit wanted p
   pub request_is : (c : EditRefusal) → refusal_text (request_of wanted) (why_of c) ≡ refusal_text request.Edit (why_of c)
   request_is c = ap (λ (r : Request). refusal_text r (why_of c)) is.request
 
-  pub room_clocks : RoomSet old new → (m : List Choice) → with_net (before m) (net_of new) ≡ stage_with file new names (base_of files counts) time block_end fired tally m
-  room_clocks room m =
-      ap (λ (f : ℕ → Option State). record (with_net (before m) (net_of new)) { states = f }) (λ i k. state_in (sym (room.grove.nodes k) i))
-      ∙ ap (λ (c : List Clock). record (stage_with file new names (base_of files counts) time block_end fired tally m) { clocks = c }) (sym room.clocks)
-
   abbrev pub refused_came : (cause : EditRefusal) → IsReady old → new ≡ old → IsNotPut old counts file path e (known files names) cause
       → Came wanted (before []) (stage_with file new names (base_of files counts) time block_end fired tally) (refusal_text request.Edit (why_of cause)) (edit_outcome (Err cause))
   refused_came cause ready same d = record {
@@ -636,7 +567,7 @@ module _ (wanted : Wanted) (path : List ℕ) (e : Edit) (is : IsBoxEdit wanted p
     choice = stage.Lacks (net_of new);
     may = is.may (before []) (stage.Lacks (net_of new)) (record { old = old; new = new; stands = stands_before ready; short = d; net_is = refl });
     text_is = ap (λ (c : EditRefusal). refusal_text (request_of wanted) (why_of c)) (sym short) ∙ request_is cause;
-    stage = λ m. room_clocks d.room m;
+    stage = λ m. room_clocks file names (base_of files counts) time block_end fired tally old new d.room m;
     answer = ap (λ (c : EditRefusal). edit_outcome (Err c)) (sym short);
   }
 

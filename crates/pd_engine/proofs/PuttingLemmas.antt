@@ -41,7 +41,7 @@ pub no_fault : refusal.NoMemory ≡ refusal.ShelfFault → ⊥
 no_fault is = cc
 
 -- no file is put, and the folder holds what it held
-quiet_took : (wanted : Wanted) (s : Stage) (c : Choice) (t u : Option (List ℕ)) (k : ℕ) (h h' : Option (List FileRow)) (f f' : ℕ) → files_put c ≡ [] → h' ≡ h
+pub quiet_took : (wanted : Wanted) (s : Stage) (c : Choice) (t u : Option (List ℕ)) (k : ℕ) (h h' : Option (List FileRow)) (f f' : ℕ) → files_put c ≡ [] → h' ≡ h
     → RoseBy (faults_of (taken_at wanted s c ∷ [])) f f' → Took (sinks t u k h f) (sinks t u k h' f') (files_put c) (taken_at wanted s c ∷ [])
 quiet_took wanted s c t u k h h' f f' none same rose =
     subst (λ i. Took (sinks t u k h f) (sinks t u k h' f') i (taken_at wanted s c ∷ [])) (sym none) (record {
@@ -57,7 +57,7 @@ one_rose f f' (inl more) = inl (omega (arith, more))
 one_rose f f' (inr most) = inr (omega (arith, most))
 
 -- a refusal for a fault of the folder raised its count
-refusal_rose : (wanted : Wanted) (s : Stage) (cause : EditRefusal) (f f' : ℕ) → (cause ≡ refusal.ShelfFault → Rose f f') → f ≤ f'
+pub refusal_rose : (wanted : Wanted) (s : Stage) (cause : EditRefusal) (f f' : ℕ) → (cause ≡ refusal.ShelfFault → Rose f f') → f ≤ f'
     → RoseBy (faults_of (taken_at wanted s (Refuses (why_of cause)) ∷ [])) f f'
 refusal_rose wanted s refusal.ShelfFault f f' rose low = one_rose f f' (rose refl)
 refusal_rose wanted s refusal.NoDocument f f' rose low = inl (omega (arith, low))

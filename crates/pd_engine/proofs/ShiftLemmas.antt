@@ -17,7 +17,7 @@ deep_moved zero x y (Holder c s inner rest) = refl
 deep_moved (suc n) x y (Leaf c rest) = deep_moved n x y rest
 deep_moved (suc n) x y (Holder c s inner rest) = ap (λ (m : ℕ). max (deep inner + 1) m) (deep_moved n x y rest)
 
-deep_inside : (n : ℕ) (f : Tree → Tree) → ((u : Tree) → deep (f u).boxes ≡ deep u.boxes) → (t : Trees) → deep (change_inside n f t) ≡ deep t
+pub deep_inside : (n : ℕ) (f : Tree → Tree) → ((u : Tree) → deep (f u).boxes ≡ deep u.boxes) → (t : Trees) → deep (change_inside n f t) ≡ deep t
 deep_inside n f h Done = refl
 deep_inside zero f h (Leaf c rest) = refl
 deep_inside zero f h (Holder c s inner rest) = ap (λ (m : ℕ). max (m + 1) (deep rest)) (h (canvas_with s inner))

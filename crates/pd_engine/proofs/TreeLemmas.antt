@@ -4,13 +4,14 @@ use Rattle.std.specs.Prelude.{◌-◌, is_some, option_map, option_and_then}
 use Rattle.std.specs.List.{AllByRecursion}
 use Rattle.slab.specs.Slab.{get}
 use Rattle.pd_atom.specs.Names.{Names, Extends}
+use Rattle.pd_atom.specs.declared.Atom.{Atom}
 use Rattle.pd_canvas.specs.declared.edits.Edit.{Edit}
 use Rattle.pd_clock.specs.Queue.{Clock}
 use Rattle.pd_name.specs.declared.Class.{Class}
 use Rattle.pd_name.specs.Rows.{Row, owners_of}
 use Rattle.pd_fit.specs.Fitting.{wires_inside}
 use Rattle.pd_tree.specs.declared.rows.Sheet.{Sheet}
-use Rattle.pd_tree.specs.Trees.{Cell, Trees, Done, Leaf, Holder, Tree, weight}
+use Rattle.pd_tree.specs.Trees.{Cell, Trees, Done, Leaf, Holder, Tree, Stand, weight}
 use Rattle.pd_grove.specs.declared.grove.Grove.{Grove}
 use Rattle.pd_grove.specs.Grafts.{TakesBox}
 use Rattle.pd_grove.specs.OwnPaths.{sub_in, sub_step_in, sub_reached}
@@ -18,7 +19,7 @@ use Rattle.pd_grove.specs.Places.{CanvasStands}
 use Rattle.pd_grove.specs.Room.{IsSameButRoom}
 use Rattle.pd_grove.specs.Standing.{node_seen, board_seen, Stands, GroveStands}
 use Rattle.pd_grove.specs.Telling.{inner_in}
-use Rattle.pd_grove.specs.TextOrder.{deep, Placed, placed_in_order}
+use Rattle.pd_grove.specs.TextOrder.{deep, Placed, placed, placed_in_order}
 use Rattle.pd_grove.proofs.PlaceLemmas.{seen_keys}
 use Rattle.pd_bind.specs.Naming.{owned_by}
 use Rattle.pd_bind.specs.Owning.{owners_in}
@@ -37,7 +38,7 @@ use Rattle.pd_putting_law.proofs.StandLemmas.{grove_put, path_along}
 use Rattle.pd_wiring.specs.Changes.{CanRewire}
 use Rattle.pd_wiring.proofs.AlikeLemmas.{rewires_alike}
 use Rattle.pd_boxes.specs.declared.room.Place.{Place}
-use Rattle.pd_boxes.specs.Put.{CanPut, HasOwners as OwnersStand}
+use Rattle.pd_boxes.specs.Put.{node_of, CanPut, HasOwners as OwnersStand}
 use Rattle.pd_boxes.specs.Room.{SameButRoom}
 use Rattle.pd_boxes.proofs.RoomLemmas.{keys_same, owners_same, room_put}
 use Rattle.pd_gather.specs.Gather.{Known}
@@ -51,12 +52,12 @@ use Rattle.pd_block.specs.Nets as block
 use Rattle.pd_hearing.specs.Worlds.{Net, bare, net_of}
 use Rattle.pd_stage.specs.Choices.{Base, Made, Choice, Makes}
 use Rattle.pd_stage.specs.Stages.{Stage, with_ahead}
-use Rattle.pd_stage.specs.Lawful.{StandsAt, known_at, IsPutIn, IsTakenOut, IsMovedTo, IsUnputForRoom}
+use Rattle.pd_stage.specs.Lawful.{StandsAt, known_at, IsPutIn, IsTakenOut, IsMovedTo, IsRetypedTo}
 use Rattle.pd_stage.specs.Events.{stage_by, with_net}
 use Rattle.pd_stage.specs.Times.{IsStageOf}
 use Rattle.pd_stage.specs.Trees.{HasTree, HasOwners}
 use Rattle.pd_stage.proofs.FedLemmas.{told_some}
-use Rattle.pd_stage.proofs.EditLemmas.{Changes, ButWires, but_wires, changed_stands, Alters}
+use Rattle.pd_stage.proofs.EditLemmas.{Changes, ButWires, but_wires, changed_stands, HasMoreRoom, Alters}
 use Rattle.pd_taking.specs.Taking.{CanRemove}
 use Rattle.pd_taking.proofs.TakenLemmas.{owners_less, root_same, runs_less, tree_less}
 use Rattle.pd_taking_law.specs.Takes.{taken_at}
@@ -64,6 +65,11 @@ use Rattle.pd_taking_law.specs.Taking.{TakesBoxAt}
 use Rattle.pd_taking_law.proofs.StandLemmas.{grove_less}
 use Rattle.pd_deleting.proofs.DeleteLemmas.{can_remove, leads_there}
 use Rattle.pd_shifting.proofs.MoveLemmas.{is_moving, still_put}
+use Rattle.pd_retyping.specs.Retypes.{counts_but, HasBecome}
+use Rattle.pd_retyping_law.specs.Retypes.{retyped_at}
+use Rattle.pd_retyping_law.specs.Retyping.{RetypesBoxAt, cell_in}
+use Rattle.pd_retyping_law.proofs.CountLemmas.{weight_same as weight_retyped}
+use Rattle.pd_retyping_law.proofs.StandLemmas.{grove_retyped}
 use Rattle.pd_shift_law.specs.Shifts.{cell_at, shifted_at}
 use Rattle.pd_shift_law.proofs.CountLemmas.{weight_same}
 use Rattle.pd_shift_law.proofs.OwnerLemmas.{owned_placed, owners_stay}
@@ -71,6 +77,7 @@ use Rattle.pd_shift_law.proofs.StandLemmas.{grove_shifted}
 use Rattle.pd_engine.proofs.CameLemmas.{CameIn, came_in, leads, low as low_here, own_steady}
 use Rattle.pd_engine.proofs.LessLemmas.{all_taken, deep_taken, weight_out, weight_taken}
 use Rattle.pd_engine.proofs.PutLemmas.{deep_put, weight_put, all_both, all_put}
+use Rattle.pd_engine.proofs.RetypedLemmas.{all_retyped, deep_retyped, retyped_own}
 use Rattle.pd_engine.proofs.ShiftLemmas.{all_shifted, deep_shifted}
 
 -- ---- where room was set aside, each box and each canvas is seen as it was
@@ -218,31 +225,31 @@ module _ (s : Stage) (t : HasTree s) (old : Patch) (at : StandsAt old s) where
           alike = q.alike;
         }
 
--- a box could have come, and there may be more room
-module _ (s : Stage) (t : HasTree s) (path : List ℕ) (e : Edit) (net : Net) (ahead : List Choice) (h : IsUnputForRoom (with_ahead s []) path e net) where
+-- a box could have come, or become another one, and there may be more room
+module _ (s r : Stage) (t : HasTree s) (h : HasMoreRoom s r) where
   stands_there : StandsAt h.old s
   stands_there = record { net = h.stands.net; states = h.stands.states; puts = h.stands.puts; meet = h.stands.meet }
 
-  roomy : Stage
-  roomy = with_net (with_ahead s ahead) net
+  abbrev roomy : Stage
+  roomy = with_net (with_ahead s h.ahead) (net_of h.new)
 
-  pub roomy_tree : HasTree (with_net (with_ahead s ahead) net)
+  pub roomy_tree : HasTree (with_net (with_ahead s h.ahead) (net_of h.new))
   roomy_tree = record {
     patch = h.new;
     tree = t.tree;
-    stands = room_stands s t h.old stands_there h.new h.short.room;
-    of = stage_of h.new (with_net (with_ahead s ahead) net) h.net_is h.short.goes_on.runs;
+    stands = room_stands s t h.old stands_there h.new h.room;
+    of = stage_of h.new roomy refl h.goes_on.runs;
     shallow = t.shallow;
     boxes = t.boxes;
-    wires = room_wires s t h.old stands_there h.new h.short.room ∙ sym (ap (λ (n : Net). wires_told n.web) h.net_is);
+    wires = room_wires s t h.old stands_there h.new h.room;
     within = t.within;
-    own = h.short.goes_on.forest.own;
-    apart = h.short.goes_on.apart;
+    own = h.goes_on.forest.own;
+    apart = h.goes_on.apart;
   }
 
-  pub roomy_owners : HasOwners s t.patch t.tree → HasOwners (with_net (with_ahead s ahead) net) h.new t.tree
+  pub roomy_owners : HasOwners s t.patch t.tree → HasOwners (with_net (with_ahead s h.ahead) (net_of h.new)) h.new t.tree
   roomy_owners o =
-      let q : HasOwners s h.new t.tree = room_owners s t h.old stands_there h.new h.short.room o in
+      let q : HasOwners s h.new t.tree = room_owners s t h.old stands_there h.new h.room o in
       record { table = q.table; goes_on = q.goes_on; owners = q.owners; alike = q.alike }
 
 -- ---- a box came
@@ -528,6 +535,130 @@ module _ (s : Stage) (t : HasTree s) (path : List ℕ) (number : ℕ) (x y : ℤ
             record { root = was.root; boxes = all_shifted (Owns q.table more) x y (same_placed q.table more x y) path number true t.tree was.boxes };
       }
 
+-- ---- a box became another one
+
+module _ (s : Stage) (t : HasTree s) (path : List ℕ) (number : ℕ) (text : List Atom) (m : Made) (ahead : List Choice) (h : IsRetypedTo (with_ahead s []) path number text m) where
+  abbrev became : HasBecome h.old h.new s.time h.box.key h.retypes.node h.retypes.added
+  became = h.retypes.became
+
+  abbrev room_made : Patch
+  room_made = became.ready
+
+  abbrev new_cell : Cell
+  new_cell = became.can.cell
+
+  stands_before : StandsAt h.old s
+  stands_before = record { net = h.stands.net; states = h.stands.states; puts = h.stands.puts; meet = h.stands.meet }
+
+  stood : GroveStands room_made.grove t.tree.sheet t.tree.boxes
+  stood = room_stands s t h.old stands_before room_made became.room
+
+  becomes : RetypesBoxAt room_made.grove h.new.grove path h.box.canvas h.box.key number h.retypes.node (node_of h.retypes.node.board became.seed)
+  becomes = record {
+    forest = became.could.can.forest;
+    leads = sub_stays h.old.grove room_made.grove became.room.grove path (Some room_made.grove.root)
+        ∙ ap (λ (r : ℕ). sub_reached h.old.grove (Some r) path) became.room.grove.root ∙ h.retypes.chosen.leads;
+    is = ap (λ (ks : List ℕ). slice_get ks number) (keys_same h.old.grove room_made.grove became.room.grove h.box.canvas) ∙ h.retypes.chosen.at;
+    was = became.could.is;
+    bare = became.can.bare;
+    becomes = became.refit.grove.is;
+    leaf = refl;
+    board = refl;
+    others = became.refit.grove.others;
+    boards = became.refit.grove.boards;
+    root = became.refit.grove.root;
+  }
+
+  -- the tree with the new box
+  abbrev pub renewed_tree : Tree
+  renewed_tree = retyped_at path number new_cell t.tree
+
+  cell_is : cell_in (node_of h.retypes.node.board became.seed) ≡ new_cell
+  cell_is = ap (λ (x : Stand). x.cell) became.is_row
+
+  stands_renewed : GroveStands h.new.grove renewed_tree.sheet renewed_tree.boxes
+  stands_renewed =
+      subst (λ (c : Cell). GroveStands h.new.grove (retyped_at path number c t.tree).sheet (retyped_at path number c t.tree).boxes) cell_is
+      (grove_retyped room_made.grove h.new.grove path h.box.canvas h.box.key number h.retypes.node (node_of h.retypes.node.board became.seed) becomes t.tree stood)
+
+  counted_renewed : m.base.counts ≡ with_boxes h.old.rate h.retypes.added.boxes (counts_but h.old.rate h.retypes.node s.base.counts)
+  counted_renewed = ap (λ (x : Base). x.counts) h.base ∙ h.retypes.counts ∙ h.retypes.grew.counts
+
+  boxes_renewed : m.base.counts.boxes ≡ weight renewed_tree.boxes
+  boxes_renewed =
+      let g : Grove = room_made.grove in
+      let along = path_along g path h.box.canvas t.tree becomes.forest stood becomes.leads in
+      let u : Tree = along.0 in
+      let C : CanvasStands g h.box.canvas u = along.2 in
+      let at : slice_get C.keys number ≡ Some h.box.key = ap (λ (ks : List ℕ). slice_get ks number) (sym (seen_keys (get g.boards h.box.canvas) _ C.board)) ∙ becomes.is in
+      let leaf : inner_in (get g.nodes h.box.key) ≡ None = ap inner_in becomes.was ∙ becomes.bare in
+      let here = weight_out (get g.nodes) (get g.boards) h.box.canvas C.depth C.keys u.boxes number h.box.key C.stands at leaf in
+      let some : weight (taken_at path number t.tree).boxes + 1 ≡ weight t.tree.boxes = weight_taken path number t.tree u along.1 here in
+      let one : m.base.counts.boxes ≡ s.base.counts.boxes - 1 + weight h.retypes.added.boxes = ap (λ (n : Counts). n.boxes) counted_renewed in
+      let single : weight h.retypes.added.boxes ≡ 1 = ap weight became.can.single in
+      let same : weight renewed_tree.boxes ≡ weight t.tree.boxes = weight_retyped path number new_cell t.tree in
+      let was : s.base.counts.boxes ≡ weight t.tree.boxes = t.boxes in
+      omega (arith, some, one, single, same, was)
+
+  wires_renewed : m.base.counts.wires ≡ wires_told m.net.web
+  wires_renewed =
+      let was : s.base.counts.wires ≡ wires_told room_made.web = room_wires s t h.old stands_before room_made became.room in
+      let same : wires_told h.new.web ≡ wires_told room_made.web = ap wires_told became.refit.web in
+      let sum : m.base.counts.wires ≡ s.base.counts.wires + wires_inside h.retypes.added.boxes = ap (λ (n : Counts). n.wires) counted_renewed in
+      let none : wires_inside h.retypes.added.boxes ≡ 0 = ap wires_inside became.can.single in
+      let net : wires_told m.net.web ≡ wires_told h.new.web = ap (λ (n : Net). wires_told n.web) h.net in
+      omega (arith, was, same, sum, none, net)
+
+  pub retyped_tree : HasTree (stage_by (with_ahead s ahead) (Makes m))
+  retyped_tree = record {
+    patch = h.new;
+    tree = renewed_tree;
+    stands = stands_renewed;
+    of = stage_of h.new (stage_by (with_ahead s ahead) (Makes m)) h.net became.goes_on.runs;
+    shallow = subst (λ (n : ℕ). n ≤ 255) (sym (deep_retyped path number new_cell t.tree)) t.shallow;
+    boxes = boxes_renewed;
+    wires = wires_renewed;
+    within = h.within;
+    own = became.goes_on.forest.own;
+    apart = became.goes_on.apart;
+  }
+
+  -- the names of the table after it
+  abbrev later_names : Names
+  later_names = h.retypes.added.known.names
+
+  later_are : m.names ≡ later_names
+  later_are = h.names ∙ ap (λ (k : Known). k.names) h.retypes.known_is
+
+  abbrev Steady : Names → Names → Placed → Type 0
+  Steady names more p = owned_by more p.is_top p.cell ≡ owned_by names p.is_top p.cell
+
+  own_on : (more : Names) → Extends later_names more → (top : Bool) → Steady later_names more (placed top new_cell)
+  own_on more x top = retyped_own h.old h.new s.base.counts s.file path number text s.time (known_at s) h.after h.box h.retypes more x top
+
+  pub retyped_owners : HasOwners s t.patch t.tree → HasOwners (stage_by (with_ahead s ahead) (Makes m)) h.new renewed_tree
+  retyped_owners o =
+      let q : HasOwners s room_made t.tree = room_owners s t h.old stands_before room_made became.room o in
+      let on : Extends q.table m.names = extends_on q.table s.names m.names q.goes_on h.more in
+      let onward : Extends q.table later_names = subst (λ (n : Names). Extends q.table n) later_are on in
+      let low : deep t.tree.boxes ≤ 256 = (let l = t.shallow in omega (arith, l)) in
+      let before : OwnersStand room_made later_names s.file = λ class name.
+      q.owners class name ∙ sym (owners_alike q.table later_names s.file room_made.grove t.tree.sheet t.tree.boxes class name stood low (q.alike later_names onward)) in
+      let after : OwnersStand h.new later_names s.file = became.refit.owners s.file before in
+      record {
+        table = m.names;
+        goes_on = extends_same m.names;
+        owners = subst (λ (n : Names). OwnersStand h.new n s.file) (sym later_are) after;
+        alike = subst (λ (n : Names). (more : Names) → Extends n more → OwnAlike n more s.file renewed_tree.boxes) (sym later_are) (λ more x.
+            let first : OwnAlike q.table later_names s.file t.tree.boxes = q.alike later_names onward in
+            let further : OwnAlike q.table more s.file t.tree.boxes = q.alike more (extends_on q.table later_names more onward x) in
+            record {
+              root = further.root ∙ sym first.root;
+              boxes = all_retyped (Steady later_names more) new_cell (own_on more x) path number true t.tree
+                  (all_both (Steady q.table later_names) (Steady q.table more) (Steady later_names more) (λ p f g. g ∙ sym f) (placed_in_order true t.tree.boxes) first.boxes further.boxes);
+            });
+      }
+
 -- ---- any edit
 
 pub altered_tree : (s r : Stage) → Alters s r → HasTree s → HasTree r
@@ -535,7 +666,8 @@ altered_tree s r (inl c) t = changed_tree s r c t
 altered_tree s r (inr (inl b)) t = subst HasTree (sym b.is) (new_tree s t b.path b.edit b.made b.ahead b.put)
 altered_tree s r (inr (inr (inl b))) t = subst HasTree (sym b.is) (lost_tree s t b.path b.number b.made b.ahead b.taken)
 altered_tree s r (inr (inr (inr (inl b)))) t = subst HasTree (sym b.is) (moved_tree s t b.path b.number b.x b.y b.made b.ahead b.moved)
-altered_tree s r (inr (inr (inr (inr l)))) t = subst HasTree (sym l.is) (roomy_tree s t l.path l.edit l.net l.ahead l.short)
+altered_tree s r (inr (inr (inr (inr (inl b))))) t = subst HasTree (sym b.is) (retyped_tree s t b.path b.number b.text b.made b.ahead b.retyped)
+altered_tree s r (inr (inr (inr (inr (inr l))))) t = subst HasTree (sym l.is) (roomy_tree s r t l)
 
 -- a tree that stands, with the owners of names
 pub record HasBoth (s : Stage) : Type 0 where
@@ -543,7 +675,7 @@ pub record HasBoth (s : Stage) : Type 0 where
   pub owners : HasOwners s tree.patch tree.tree
 
 pub altered_both : (s r : Stage) → Alters s r → HasBoth s → HasBoth r
-unfolding changed_tree new_tree lost_tree moved_tree roomy_tree
+unfolding changed_tree new_tree lost_tree moved_tree retyped_tree roomy_tree
 altered_both s r (inl c) t = record { tree = changed_tree s r c t.tree; owners = changed_owners s r t.tree.patch t.tree.tree c t.owners }
 altered_both s r (inr (inl n)) t =
     subst HasBoth (sym n.is) (record {
@@ -560,8 +692,9 @@ altered_both s r (inr (inr (inr (inl b)))) t =
       tree = moved_tree s t.tree b.path b.number b.x b.y b.made b.ahead b.moved;
       owners = moved_owners s t.tree b.path b.number b.x b.y b.made b.ahead b.moved t.owners;
     })
-altered_both s r (inr (inr (inr (inr l)))) t =
-    subst HasBoth (sym l.is) (record {
-      tree = roomy_tree s t.tree l.path l.edit l.net l.ahead l.short;
-      owners = roomy_owners s t.tree l.path l.edit l.net l.ahead l.short t.owners;
+altered_both s r (inr (inr (inr (inr (inl b))))) t =
+    subst HasBoth (sym b.is) (record {
+      tree = retyped_tree s t.tree b.path b.number b.text b.made b.ahead b.retyped;
+      owners = retyped_owners s t.tree b.path b.number b.text b.made b.ahead b.retyped t.owners;
     })
+altered_both s r (inr (inr (inr (inr (inr l))))) t = subst HasBoth (sym l.is) (record { tree = roomy_tree s r t.tree l; owners = roomy_owners s r t.tree l t.owners })

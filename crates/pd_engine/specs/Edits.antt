@@ -1,7 +1,9 @@
 -- What an edit of the patch's own document comes to.
 use Rattle.std.specs.Prelude.{◌≡◌, ◌≤◌, ◌+◌, ◌⊎◌, ℕ, true, List, Some, None, Result, Ok, Err}
 use Rattle.std.specs.List.{AllByRecursion}
+use Rattle.pd_atom.specs.declared.Atom.{Atom}
 use Rattle.pd_canvas.specs.declared.edits.Edit.{Edit}
+use Rattle.pd_canvas.specs.declared.edits.Edit.TheVariants as edit
 use Rattle.pd_queue.specs.Entries.{wire_edit}
 use Rattle.pd_queue.specs.Queue.{Waiting}
 use Rattle.pd_script.specs.Edits.{puts_box}
@@ -68,6 +70,10 @@ IsEdited path e outcome from to old new = IsTakenSo (Edits None path e) outcome 
 -- an edit of the canvas at a path of the patch's own document, which a command or a message asks for
 abbrev pub IsOwn : Wanted → List ℕ → Edit → Type 0
 IsOwn wanted path e = (wanted ≡ Edits None path e) ⊎ (wanted ≡ Asks path e)
+
+-- an edit that gives a box another text
+abbrev pub IsRetype : Edit → Type 0
+IsRetype e = (number : ℕ) × (text : List Atom) × (e ≡ edit.Retype number text)
 
 -- what a message can ask a canvas for: where it is no edit of wires, it puts a box
 abbrev pub CanBeAsked : Edit → Type 0

@@ -1,6 +1,6 @@
 //! Edits and saves of the patch's own document.
 
-ghost use Rattle.std.specs.Prelude.{◌≡◌, ◌<◌, ◌≤◌, ℕ, true, List, Option, None, length, slice_index_or, OnOk, OnErr, IfOk};
+ghost use Rattle.std.specs.Prelude.{◌≡◌, ◌<◌, ◌≤◌, ℕ, true, List, Option, Some, None, length, slice_index_or, OnOk, OnErr, IfOk};
 ghost use Rattle.pd_io.specs.Stream.{grown, TookPart};
 ghost use Rattle.pd_io.specs.declared.files.FileRow.{FileRow};
 ghost use Rattle.pd_canvas.specs.declared.edits.Edit.{Edit as EditSeen};
@@ -16,20 +16,21 @@ ghost use Rattle.pd_stage.specs.Lawful.{why_of as why_so};
 ghost use Rattle.pd_stage.specs.Leads.{sinks, Comes, Stops, SaysPart};
 ghost use Rattle.pd_stage.specs.Lines.{put_text};
 ghost use Rattle.pd_engine.specs.Stages.{stage_at};
-ghost use Rattle.pd_engine.specs.Edits.{EditsTo, edit_text, edit_outcome, IsTakenSo, IsEdited, IsSavedSo, IsOwn, AreAskedFor};
+ghost use Rattle.pd_engine.specs.Edits.{EditsTo, edit_text, edit_outcome, IsTakenSo, IsEdited, IsSavedSo, IsOwn, IsRetype, AreAskedFor};
 
 use crate::engine::Engine;
 use crate::printing::print_refusal;
 use crate::refusals::{Outcome, unsaved};
 use crate::remarks::{print_loop, print_unmade};
-use pd_canvas::{Edit, Place};
+use pd_canvas::{Atoms, Edit, Place};
 use pd_deleting::delete_box;
 use pd_edit::{EditRefusal, rewire};
 use pd_io::{Shelf, Sink, SinkFailed};
 use pd_num::Num;
 use pd_order::Steps;
 use pd_patch::Patch;
-use pd_putting::{NewBox, Site, add_box};
+use pd_putting::{Site, add_box};
+use pd_retyping::retype_box;
 use pd_save::put_document;
 use pd_say::{Request, Why};
 use pd_script::CommandEdit;
@@ -69,7 +70,7 @@ impl Engine {
             &mut self.patch,
             &mut self.counts.wires,
             asked.path(),
-            Some(edit),
+            edit,
             steps,
         );
         self.tell(done, lines)?;
@@ -125,12 +126,15 @@ impl Engine {
         if let Some((number, x, y)) = edit.moved() {
             return self.move_own(path, number, x, y, lines);
         }
+        let Some(wire) = edit.wire_edit() else {
+            return self.retype_own(path, edit, shelf, lines);
+        };
         let done = make(
             self.alloc,
             &mut self.patch,
             &mut self.counts.wires,
             path,
-            edit.wire_edit(),
+            wire,
             steps,
         );
         self.tell(done, lines)
@@ -184,6 +188,68 @@ impl Engine {
         let done = move_box(&mut self.patch, path, number, x, y);
         match done {
             Ok(moved) => self.tell(Ok(moved.canvas), lines),
+            Err(why) => self.tell(Err(why), lines),
+        }
+    }
+
+    /// Gives a box in the canvas at a path of the patch's own document another text, or refuses it.
+    fn retype_own<H: Shelf, L: Sink>(
+        &mut self,
+        path: &[u32],
+        edit: &CommandEdit,
+        shelf: &mut H,
+        lines: &mut L,
+    ) -> Result<Outcome, SinkFailed>
+        requires { IsRetype edit.now }
+        ensures ok { IfOk result (λ outcome. (samples : Option (List ℕ)) (looks : ℕ) → IsEdited path.now edit.now outcome (stage_at self.old) (stage_at self.new) (sinks (L.taken lines.old) samples looks (H.holds shelf.old) (H.faults shelf.old)) (sinks (L.taken lines.new) samples looks (H.holds shelf.new) (H.faults shelf.new))) }
+        ensures err { OnErr result ((samples : Option (List ℕ)) (looks : ℕ) → Stops (edit_taken (Edits None path.now edit.now)) (stage_at self.old) (sinks (L.taken lines.old) samples looks (H.holds shelf.old) (H.faults shelf.old)) (sinks (L.taken lines.new) samples looks (H.holds shelf.new) (H.faults shelf.new))) }
+        ensures cause { HasCause (L.faults lines.old) (L.faults lines.new) result }
+        ensures counted { H.faults shelf.old ≤ H.faults shelf.new }
+        ensures stays { self.new.stopped ≡ self.old.stopped }
+    {
+        let copied = edit.copy(self.alloc);
+        let Ok(Edit::Retype { number, text }) = &copied else {
+            return self.tell(Err(EditRefusal::NoMemory), lines);
+        };
+        self.retype_copied(path, *number, text, shelf, lines)
+    }
+
+    /// Gives the box of a number in the canvas at a path of the patch's own document this text, or refuses it.
+    fn retype_copied<H: Shelf, L: Sink>(
+        &mut self,
+        path: &[u32],
+        number: u32,
+        text: &Atoms,
+        shelf: &mut H,
+        lines: &mut L,
+    ) -> Result<Outcome, SinkFailed>
+        ensures ok { IfOk result (λ outcome. (samples : Option (List ℕ)) (looks : ℕ) → IsEdited path.now (edit.Retype number text.now) outcome (stage_at self.old) (stage_at self.new) (sinks (L.taken lines.old) samples looks (H.holds shelf.old) (H.faults shelf.old)) (sinks (L.taken lines.new) samples looks (H.holds shelf.new) (H.faults shelf.new))) }
+        ensures err { OnErr result ((samples : Option (List ℕ)) (looks : ℕ) → Stops (edit_taken (Edits None path.now (edit.Retype number text.now))) (stage_at self.old) (sinks (L.taken lines.old) samples looks (H.holds shelf.old) (H.faults shelf.old)) (sinks (L.taken lines.new) samples looks (H.holds shelf.new) (H.faults shelf.new))) }
+        ensures cause { HasCause (L.faults lines.old) (L.faults lines.new) result }
+        ensures counted { H.faults shelf.old ≤ H.faults shelf.new }
+        ensures stays { self.new.stopped ≡ self.old.stopped }
+    {
+        let site = Site {
+            name: self.file.as_slice(),
+            path,
+            now: self.time,
+        };
+        let done = retype_box(
+            self.alloc,
+            &mut self.patch,
+            self.counts,
+            site,
+            number,
+            text,
+            &mut self.library,
+            shelf,
+            &mut self.symbols,
+        );
+        match done {
+            Ok(retyped) => {
+                self.counts = retyped.counts;
+                self.tell_put(retyped.key, retyped.canvas, lines)
+            }
             Err(why) => self.tell(Err(why), lines),
         }
     }
@@ -247,26 +313,31 @@ impl Engine {
         match done {
             Ok(added) => {
                 self.counts = added.counts;
-                self.tell_put(added, lines)
+                self.tell_put(added.key, added.canvas, lines)
             }
             Err(why) => self.tell(Err(why), lines),
         }
     }
 
-    /// Tells of a box that an edit put: why it could not be made, and a loop of its canvas.
-    fn tell_put<L: Sink>(&mut self, added: NewBox, lines: &mut L) -> Result<Outcome, SinkFailed>
+    /// Tells of a box that an edit put or gave another text: why it could not be made, and a loop of its canvas.
+    fn tell_put<L: Sink>(
+        &mut self,
+        key: u32,
+        canvas: u32,
+        lines: &mut L,
+    ) -> Result<Outcome, SinkFailed>
         ensures stage { stage_at self.new ≡ stage_at self.old }
-        ensures ok { OnOk result (L.taken lines.new ≡ grown (L.taken lines.old) (put_text self.old.symbols self.old.patch added.key added.canvas)) }
+        ensures ok { OnOk result (L.taken lines.new ≡ grown (L.taken lines.old) (put_text self.old.symbols self.old.patch key canvas)) }
         ensures answer { IfOk result (λ outcome. outcome ≡ Outcome.Done) }
-        ensures err { OnErr result (TookPart (L.taken lines.old) (L.taken lines.new) (put_text self.old.symbols self.old.patch added.key added.canvas)) }
+        ensures err { OnErr result (TookPart (L.taken lines.old) (L.taken lines.new) (put_text self.old.symbols self.old.patch key canvas)) }
         ensures cause { HasCause (L.faults lines.old) (L.faults lines.new) result }
         ensures stays { self.new.stopped ≡ self.old.stopped }
         ensures queue { self.new.queue ≡ self.old.queue }
     {
-        print_unmade(&self.patch, added.key, &self.symbols, &mut self.held, lines)?;
+        print_unmade(&self.patch, key, &self.symbols, &mut self.held, lines)?;
         print_loop(
             &self.patch,
-            added.canvas,
+            canvas,
             &mut self.numbers,
             &self.symbols,
             &mut self.held,
@@ -349,24 +420,20 @@ impl Engine {
 }
 
 /// Makes an edit of a patch that joins or cuts a wire, and keeps count of its wires. Gives the key of the edit's canvas.
-/// Other edits aren't made.
 fn make<K: Ledger>(
     alloc: Global,
     patch: &mut Patch,
     wires: &mut usize,
     path: &[u32],
-    edit: Option<Edit>,
+    edit: Edit,
     steps: &mut Steps<K>,
 ) -> Result<u32, EditRefusal>
     requires rewires { CanRewire patch.old }
     requires counted { wires.old ≡ wires_told patch.old.web }
-    ensures edits { (e : EditSeen) → wire_edit e ≡ edit → EditsTo patch.old patch.new path.now e result steps.old steps.new }
+    ensures edits { (e : EditSeen) → wire_edit e ≡ Some edit → EditsTo patch.old patch.new path.now e result steps.old steps.new }
     ensures rewires { CanRewire patch.new }
     ensures counted { wires.new ≡ wires_told patch.new.web }
 {
-    let Some(edit) = edit else {
-        return Err(EditRefusal::NoDocument);
-    };
     let made = rewire(alloc, patch, *wires, path, &edit, steps)?;
     *wires = made.wires;
     Ok(made.canvas)

@@ -12,7 +12,7 @@ use Rattle.pd_engine.specs.Stages.{stage_at}
 use Rattle.pd_engine.proofs.AskedLemmas.{asked_at}
 use Rattle.pd_engine.proofs.CommandLemmas.{if_ok_weaker, if_ok_both}
 use Rattle.pd_engine.proofs.RewireLemmas.{IsKept, puts_sure, ready_sure}
-use Rattle.pd_engine.proofs.MakingLemmas.{own_wire, wire_puts_none, wire_deletes_none, wire_moves_none, says_edit, part_edit, edits_kept, edits_within}
+use Rattle.pd_engine.proofs.MakingLemmas.{own_wire, says_edit, part_edit, edits_kept, edits_within}
 use Rattle.pd_engine.proofs.engine.Engine.take_asked.Goals as goal
 
 pub make-done-requires-clause-rewires : goal.make-done-requires-clause-rewires
@@ -78,7 +78,7 @@ returns-in_err-tell-clause-err g c =
     (subst (λ (path : List ℕ). Stops (edit_taken (Asks path asked.1)) (stage_at e) (sinks (g.L.Sink.taken c.args.lines.now) samples c.args.steps.now (g.H.Shelf.holds c.args.shelf.now) (g.H.Shelf.faults c.args.shelf.now))
     (sinks (g.L.Sink.taken c.tell.new.lines) samples c.make-done.new.steps (g.H.Shelf.holds c.args.shelf.now) (g.H.Shelf.faults c.args.shelf.now)))
     c.path.ensures
-    (part_edit c.tell.result (Asks c.path.result.now asked.1) c.path.result.now asked.1 (own_wire (Asks c.path.result.now asked.1) c.path.result.now asked.1 (inr refl) (wire_puts_none asked.1 c.in-Some-wire_edit.edit some) (wire_deletes_none asked.1 c.in-Some-wire_edit.edit some) (wire_moves_none asked.1 c.in-Some-wire_edit.edit some)) e.file.items e.symbols (base_of e.library e.counts) e.time e.block_end e.fired e.tally e.patch c.make-done.new.patch c.make-done.new.wires e.counted c.make-done.ensures.counted (stage_at c.tell.new.self)
+    (part_edit c.tell.result (Asks c.path.result.now asked.1) c.path.result.now asked.1 (own_wire (Asks c.path.result.now asked.1) c.path.result.now asked.1 c.in-Some-wire_edit.edit (inr refl) some) e.file.items e.symbols (base_of e.library e.counts) e.time e.block_end e.fired e.tally e.patch c.make-done.new.patch c.make-done.new.wires e.counted c.make-done.ensures.counted (stage_at c.tell.new.self)
     c.make-done.result (g.L.Sink.taken c.args.lines.now) (g.L.Sink.taken c.tell.new.lines) c.args.steps.now c.make-done.new.steps
     (ready_sure e.patch e.puts e.meet) c.make-done.ensures.rewires (c.make-done.ensures.edits asked.1 some) c.in_err-tell.ensures.stage c.in_err-tell.ensures.err
     samples (g.H.Shelf.holds c.args.shelf.now) (g.H.Shelf.faults c.args.shelf.now))))
@@ -94,7 +94,7 @@ returns-clause-ok g c = λ d samples.
     (subst (λ (path : List ℕ). Comes (edit_taken (Asks path asked.1)) (stage_at e) (stage_at c.tell.new.self) (sinks (g.L.Sink.taken c.args.lines.now) samples c.args.steps.now (g.H.Shelf.holds c.args.shelf.now) (g.H.Shelf.faults c.args.shelf.now))
     (sinks (g.L.Sink.taken c.tell.new.lines) samples c.make-done.new.steps (g.H.Shelf.holds c.args.shelf.now) (g.H.Shelf.faults c.args.shelf.now)))
     c.path.ensures
-    (says_edit c.tell.result (Asks c.path.result.now asked.1) c.path.result.now asked.1 (own_wire (Asks c.path.result.now asked.1) c.path.result.now asked.1 (inr refl) (wire_puts_none asked.1 c.in-Some-wire_edit.edit some) (wire_deletes_none asked.1 c.in-Some-wire_edit.edit some) (wire_moves_none asked.1 c.in-Some-wire_edit.edit some)) e.file.items e.symbols (base_of e.library e.counts) e.time e.block_end e.fired e.tally e.patch c.make-done.new.patch c.make-done.new.wires e.counted c.make-done.ensures.counted (stage_at c.tell.new.self)
+    (says_edit c.tell.result (Asks c.path.result.now asked.1) c.path.result.now asked.1 (own_wire (Asks c.path.result.now asked.1) c.path.result.now asked.1 c.in-Some-wire_edit.edit (inr refl) some) e.file.items e.symbols (base_of e.library e.counts) e.time e.block_end e.fired e.tally e.patch c.make-done.new.patch c.make-done.new.wires e.counted c.make-done.ensures.counted (stage_at c.tell.new.self)
     c.make-done.result (g.L.Sink.taken c.args.lines.now) (g.L.Sink.taken c.tell.new.lines) c.args.steps.now c.make-done.new.steps
     (ready_sure e.patch e.puts e.meet) c.make-done.ensures.rewires (c.make-done.ensures.edits asked.1 some) c.in_ok-tell.ensures.stage c.in_ok-tell.ensures.ok
     samples (g.H.Shelf.holds c.args.shelf.now) (g.H.Shelf.faults c.args.shelf.now)))

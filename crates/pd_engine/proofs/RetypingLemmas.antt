@@ -1,0 +1,196 @@
+-- What is told of a box that an edit gives another text, or of why none becomes another one.
+use Rattle.std.proofs.Common.{◌≡◌, ◌≤◌, arith, false, ℕ, List, [], ◌∷◌, refl, sym, ap, subst, inl, inr, Option, None, Result, Err, OnErr, OnOk, IfOk, ◌∙◌}
+use Rattle.std.proofs.lemmas.Result.{on_err_weaker}
+use Rattle.pd_io.specs.Faults.{Rose}
+use Rattle.pd_io.specs.Stream.{grown, TookPart}
+use Rattle.pd_io.specs.declared.files.FileRow.{FileRow}
+use Rattle.pd_atom.specs.declared.Atom.{Atom}
+use Rattle.pd_atom.specs.Names.{Names, Extends}
+use Rattle.pd_canvas.specs.declared.edits.Edit.{Edit}
+use Rattle.pd_canvas.specs.declared.edits.Edit.TheVariants as edit
+use Rattle.pd_clock.specs.Queue.{Clock, without}
+use Rattle.pd_library.specs.declared.answers.Answer.{Answer}
+use Rattle.pd_made.specs.declared.tally.Tally.{Tally}
+use Rattle.pd_queue.specs.Entries.{wire_edit}
+use Rattle.pd_script.specs.Edits.{puts_box, deleted, moved}
+use Rattle.pd_say.specs.Lines.{refusal_text}
+use Rattle.pd_say.specs.declared.refusals.Request.TheVariants as request
+use Rattle.pd_patch.specs.declared.patch.Patch.{Patch}
+use Rattle.pd_wiring.specs.declared.refusals.EditRefusal.{EditRefusal}
+use Rattle.pd_wiring.specs.declared.refusals.EditRefusal.TheVariants as refusal
+use Rattle.pd_adding.specs.declared.counts.Counts.{Counts}
+use Rattle.pd_adding.specs.Counts.{AreWithin}
+use Rattle.pd_gather.specs.Gather.{known}
+use Rattle.pd_retyping.specs.declared.retyping.RetypedBox.{RetypedBox}
+use Rattle.pd_retyping.specs.Retypes.{RetypesBox, IsNotRetyped}
+use Rattle.pd_hearing.specs.Worlds.{net_of, states_of}
+use Rattle.pd_stage.specs.Choices.{base_of, Wanted, Edits, Made, Choice}
+use Rattle.pd_stage.specs.Choices as stage
+use Rattle.pd_stage.specs.Stages.{Stage}
+use Rattle.pd_stage.specs.Lawful.{why_of, StandsAt, IsRetypedTo}
+use Rattle.pd_stage.specs.Lines.{put_text}
+use Rattle.pd_stage.specs.Leads.{sinks, Took, Stops}
+use Rattle.pd_stage.specs.Events.{edit_taken, files_put}
+use Rattle.pd_stage.proofs.EditLemmas.{taken_at}
+use Rattle.pd_engine.specs.declared.refusals.Outcome.{Outcome}
+use Rattle.pd_engine.specs.declared.refusals.Outcome.TheVariants.{Done}
+use Rattle.pd_engine.specs.Edits.{edit_outcome, IsEdited, IsRetype}
+use Rattle.pd_engine.proofs.ClockLemmas.{stage_with}
+use Rattle.pd_engine.proofs.RewireLemmas.{IsReady}
+use Rattle.pd_engine.proofs.MakingLemmas.{Came, came_so, came_part, outcome_by, both_ok, room_clocks}
+use Rattle.pd_engine.proofs.PuttingLemmas.{quiet_took, refusal_rose}
+
+-- an edit that puts, deletes and moves no box and is none of wires gives a box another text
+pub rest_retypes : (e : Edit) → puts_box e ≡ false → deleted e ≡ None → moved e ≡ None → wire_edit e ≡ None → IsRetype e
+rest_retypes (edit.Retype n text) none stays rests other = (n, text, refl)
+rest_retypes (edit.Connect v) none stays rests other = cc
+rest_retypes (edit.Disconnect v) none stays rests other = cc
+rest_retypes (edit.Delete n) none stays rests other = cc
+rest_retypes (edit.Move n x y) none stays rests other = cc
+rest_retypes (edit.Obj x y text) none stays rests other = cc
+rest_retypes (edit.Msg x y text) none stays rests other = cc
+rest_retypes (edit.Comment x y text) none stays rests other = cc
+rest_retypes (edit.FloatBox x y text) none stays rests other = cc
+rest_retypes (edit.SymbolBox x y text) none stays rests other = cc
+rest_retypes (edit.Sub x y name) none stays rests other = cc
+
+module _ (path : List ℕ) (number : ℕ) (text : List Atom) (file : List ℕ) (names : Names) (files : List (ℕ × Answer)) (counts : Counts) (time block_end fired : ℕ) (tally : Tally) (old new : Patch)
+    (ready : IsReady old) where
+  abbrev pub wanted : Wanted
+  wanted = Edits None path (edit.Retype number text)
+
+  abbrev from : List Choice → Stage
+  from = stage_with file old names (base_of files counts) time block_end fired tally
+
+  stands : StandsAt old (from [])
+  stands = record { net = refl; states = refl; puts = ready.puts; meet = ready.meet }
+
+  -- it became another one
+  module _ (more : Names) (learned : List (ℕ × Answer)) (b : RetypedBox) (d : RetypesBox old new counts file path number text time (known files names) (known learned more) b) (onward : Extends names more)
+      (within : AreWithin b.counts) where
+    abbrev other : Made
+    other = record {
+      net = net_of new;
+      states = states_of new;
+      clocks = new.timers.clocks.clocks;
+      names = more;
+      base = base_of learned b.counts;
+      lines = put_text more new b.key b.canvas;
+      files = [];
+      looks = 0;
+    }
+
+    pub other_is : IsRetypedTo (from []) path number text other
+    other_is = record {
+      old = old;
+      new = new;
+      after = known learned more;
+      box = b;
+      stands = stands;
+      retypes = d;
+      net = refl;
+      states = refl;
+      clocks = d.became.refit.clocks ∙ ap (λ (c : List Clock). without b.key c) d.became.room.clocks;
+      names = refl;
+      more = onward;
+      base = refl;
+      within = within;
+      lines = refl;
+      files = refl;
+      looks = refl;
+    }
+
+    abbrev pub other_came : Came wanted (from []) (stage_with file new more (base_of learned b.counts) time block_end fired tally) (put_text more new b.key b.canvas) Done
+    other_came = record { choice = stage.Makes other; may = other_is; text_is = refl; stage = λ m. refl; answer = refl }
+
+  -- it was refused
+  abbrev left : List Choice → Stage
+  left = stage_with file new names (base_of files counts) time block_end fired tally
+
+  module _ (cause : EditRefusal) (t u : Option (List ℕ)) (k : ℕ) (h h' : Option (List FileRow)) (f f' : ℕ) (same : h' ≡ h) (low : f ≤ f') (rose : cause ≡ refusal.ShelfFault → Rose f f') where
+    abbrev IsStill : Type 0
+    IsStill = (c : Came wanted (from []) left (refusal_text request.Edit (why_of cause)) (edit_outcome (Err cause)))
+        × Took (sinks t u k h f) (sinks t u k h' f') (files_put c.choice) (taken_at wanted (from []) c.choice ∷ [])
+
+    pub still_by : IsNotRetyped old new counts file path number text (known files names) cause → IsStill
+    still_by (inl (is, d)) = (
+      record {
+        choice = stage.Refuses (why_of cause);
+        may = record { patch = old; cause = cause; stands = stands; refused = d; reason_is = refl };
+        text_is = refl;
+        stage = λ m. ap (λ (p : Patch). stage_with file p names (base_of files counts) time block_end fired tally m) (sym is);
+        answer = outcome_by cause;
+      },
+      quiet_took wanted (from []) (stage.Refuses (why_of cause)) t u k h h' f f' refl same (refusal_rose wanted (from []) cause f f' rose low),
+    )
+    still_by (inr (short, d)) = (
+      record {
+        choice = stage.Lacks (net_of new);
+        may = record { old = old; new = new; stands = stands; short = d; net_is = refl };
+        text_is = ap (λ (c : EditRefusal). refusal_text request.Edit (why_of c)) (sym short);
+        stage = λ m. room_clocks file names (base_of files counts) time block_end fired tally old new d.room m;
+        answer = ap (λ (c : EditRefusal). edit_outcome (Err c)) (sym short);
+      },
+      quiet_took wanted (from []) (stage.Lacks (net_of new)) t u k h h' f f' refl same (inl (omega (arith, low))),
+    )
+
+  -- it was told, and this is answered
+  module _ {E : Type 0} (r : Result Outcome E) (t t' : Option (List ℕ)) (h h' : Option (List FileRow)) (f f' : ℕ) (same : h' ≡ h) (low : f ≤ f') (there : List Choice → Stage) where
+    abbrev pub Answered : Outcome → Type 0
+    Answered o = (samples : Option (List ℕ)) (looks : ℕ) → IsEdited path (edit.Retype number text) o from there (sinks t samples looks h f) (sinks t' samples looks h' f')
+
+    abbrev pub Torn : Type 0
+    Torn = (samples : Option (List ℕ)) (looks : ℕ) → Stops (edit_taken wanted) from (sinks t samples looks h f) (sinks t' samples looks h' f')
+
+    -- whoever took it
+    module _ (to : List Choice → Stage) (said : List ℕ) (outcome : Outcome)
+        (came : (u : Option (List ℕ)) (k : ℕ) → (c : Came wanted (from []) to said outcome) × Took (sinks t u k h f) (sinks t u k h' f') (files_put c.choice) (taken_at wanted (from []) c.choice ∷ [])) where
+      so : there ≡ to → (o : Outcome) → t' ≡ grown t said → o ≡ outcome → Answered o
+      so leads o is answer samples looks =
+          let x = came samples looks in
+          subst (λ (z : List Choice → Stage). IsEdited path (edit.Retype number text) o from z (sinks t samples looks h f) (sinks t' samples looks h' f')) (sym leads)
+          (subst (λ (z : Outcome). IsEdited path (edit.Retype number text) z from to (sinks t samples looks h f) (sinks t' samples looks h' f')) (sym answer)
+          (came_so wanted (from []) to said outcome x.0 (sinks t samples looks h f) t t' samples looks h' f' x.1 is))
+
+      by_all : there ≡ to → OnOk r (t' ≡ grown t said) → IfOk r (λ o. o ≡ outcome) → IfOk r Answered
+      by_all leads is answer = both_ok r (λ o a b. so leads o a b) is answer
+
+      by_part : OnErr r (TookPart t t' said) → OnErr r Torn
+      by_part part = on_err_weaker r (λ a samples looks. let x = came samples looks in came_part wanted (from []) to said outcome x.0 (sinks t samples looks h f) t t' samples looks h' f' x.1 a) part
+
+    -- it became another one
+    module _ (more : Names) (learned : List (ℕ × Answer)) (b : RetypedBox) (d : RetypesBox old new counts file path number text time (known files names) (known learned more) b) (onward : Extends names more)
+        (within : AreWithin b.counts) where
+      abbrev to : List Choice → Stage
+      to = stage_with file new more (base_of learned b.counts) time block_end fired tally
+
+      abbrev IsOther : Option (List ℕ) → ℕ → Type 0
+      IsOther u k = (c : Came wanted (from []) to (put_text more new b.key b.canvas) Done) × Took (sinks t u k h f) (sinks t u k h' f') (files_put c.choice) (taken_at wanted (from []) c.choice ∷ [])
+
+      other_by : (u : Option (List ℕ)) (k : ℕ) → IsOther u k
+      other_by u k = (
+        other_came more learned b d onward within,
+        quiet_took wanted (from []) (stage.Makes (other more learned b d onward within)) t u k h h' f f' refl same (inl (omega (arith, low))),
+      )
+
+      pub retyped_answered : there ≡ to → OnOk r (t' ≡ grown t (put_text more new b.key b.canvas)) → IfOk r (λ o. o ≡ Done) → IfOk r Answered
+      retyped_answered leads is answer = by_all to (put_text more new b.key b.canvas) Done other_by leads is answer
+
+      pub retyped_torn : OnErr r (TookPart t t' (put_text more new b.key b.canvas)) → OnErr r Torn
+      retyped_torn part = by_part to (put_text more new b.key b.canvas) Done other_by part
+
+    -- it was refused, and names and files are as before
+    module _ (cause : EditRefusal) (rose : cause ≡ refusal.ShelfFault → Rose f f') (d : IsNotRetyped old new counts file path number text (known files names) cause) where
+      abbrev still : (u : Option (List ℕ)) (k : ℕ) → IsStill cause t u k h h' f f' same low rose
+      still u k = still_by cause t u k h h' f f' same low rose d
+
+      pub still_answered : (names' : Names) (files' : List (ℕ × Answer)) → names' ≡ names → files' ≡ files → there ≡ stage_with file new names' (base_of files' counts) time block_end fired tally
+          → OnOk r (t' ≡ grown t (refusal_text request.Edit (why_of cause))) → IfOk r (λ o. o ≡ edit_outcome (Err cause)) → IfOk r Answered
+      still_answered names' files' named known_are leads is answer =
+          let on : there ≡ left =
+          leads ∙ ap (λ (n : Names). stage_with file new n (base_of files' counts) time block_end fired tally) named
+          ∙ ap (λ (x : List (ℕ × Answer)). stage_with file new names (base_of x counts) time block_end fired tally) known_are in
+          by_all left (refusal_text request.Edit (why_of cause)) (edit_outcome (Err cause)) still on is answer
+
+      pub still_torn : OnErr r (TookPart t t' (refusal_text request.Edit (why_of cause))) → OnErr r Torn
+      still_torn part = by_part left (refusal_text request.Edit (why_of cause)) (edit_outcome (Err cause)) still part
