@@ -236,10 +236,10 @@ module _ (old new : Patch) (n : Counts) (name path : List ℕ) (number : ℕ) (t
     abbrev from : Stock
     from = stock_by X.files.names without_it
 
-    runs_ready : RunsAs mid.grove t
+    pub runs_ready : RunsAs mid.grove t
     runs_ready = room_runs old.grove mid.grove X.became.room.grove t R
 
-    again_then : StandsAgain lib name X.files.names t
+    pub again_then : StandsAgain lib name X.files.names t
     again_then =
         stands_on (answer_in k.files) lib name k.names X.files.names t A (goes_alike k.files X.files.files grew_so.behind) grew_so.extends
         (library_of X.files.names X.files.files grew_so.found)

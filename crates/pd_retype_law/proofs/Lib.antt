@@ -3,3 +3,4 @@ pub mod InsideLemmas
 pub mod CountLemmas
 pub mod ProperLemmas
 pub mod WrittenLemmas
+pub mod PageLemmas

@@ -3,10 +3,12 @@
 ghost use Rattle.std.specs.Prelude.{◌≡◌, ◌≤◌, ℕ, List, Option};
 ghost use Rattle.pd_atom.specs.declared.Atom.{Atom};
 ghost use Rattle.pd_atom.specs.Names.{Names, Extends, IsTable};
-ghost use Rattle.pd_canvas.specs.Edits.{edited};
-ghost use Rattle.pd_canvas.specs.Paths.{edit_at};
+ghost use Rattle.pd_canvas.specs.Edits.{edited, retyped};
+ghost use Rattle.pd_canvas.specs.Paths.{change_box, edit_at};
 ghost use Rattle.pd_canvas.specs.Proper.{IsProper};
 ghost use Rattle.pd_canvas.specs.declared.edits.Edit.TheVariants as edit;
+ghost use Rattle.pd_kind.specs.States.{start_of};
+ghost use Rattle.pd_kind.specs.Tables.{started};
 ghost use Rattle.pd_library.specs.Files.{answer_in};
 ghost use Rattle.pd_tree.specs.Trees.{Tree, weight, zeros_of, document_in};
 ghost use Rattle.pd_web.specs.Changes.{wires_told};
@@ -23,17 +25,23 @@ ghost use Rattle.pd_sized.specs.Kinds.{kinds_of};
 ghost use Rattle.pd_contents_law.specs.Contents.{HaveContents, counts_of};
 ghost use Rattle.pd_proper_law.specs.Saves.{IsWritten};
 ghost use Rattle.pd_putting_law.specs.Again.{StandsAgain};
+ghost use Rattle.pd_putting_law.specs.Putting.{KeepsText, entry_kept};
 ghost use Rattle.pd_adding.specs.declared.counts.Counts.{Counts};
 ghost use Rattle.pd_retyping.specs.declared.retyping.RetypedBox.{RetypedBox};
 ghost use Rattle.pd_retyping.specs.Asking.{settled_text};
 ghost use Rattle.pd_retyping.specs.Retypes.{RetypesBox};
 ghost use Rattle.pd_retyping_law.specs.Retypes.{retyped_at};
 
-/// Where an edit made a box another one, the document of the patch is the one after the edit.
+/// Where an edit made a box another one, the document of the patch has the element with the new text in its place, with what the new box keeps of it: it
+/// is the document after the edit, but for a toggle with other values in its text than it keeps at first.
 pub fn documents_follow_retypes()
-    ensures { (old new : Patch) (n : Counts) (name path : List ℕ) (number : ℕ) (text : List Atom) (now : ℕ) (k after : Known) (b : RetypedBox) (t : Tree) →
-        RetypesBox old new n name path number text now k after b → CanPut old → RunsAs old.grove t → StandsAgain (answer_in k.files) name k.names t →
-        present_document new ≡ edit_at path (edited (edit.Retype number (settled_text k.names text))) (present_document old) }
+    ensures kept { (old new : Patch) (n : Counts) (name path : List ℕ) (number : ℕ) (text : List Atom) (now : ℕ) (k after : Known) (b : RetypedBox) (t : Tree) →
+        (r : RetypesBox old new n name path number text now k after b) → CanPut old → RunsAs old.grove t → StandsAgain (answer_in k.files) name k.names t →
+        present_document new ≡
+        edit_at path (change_box number (λ e. entry_kept (Some (started (start_of r.became.can.cell.kind old.rate) now)) (retyped (settled_text k.names text) e))) (present_document old) }
+    ensures edited { (old new : Patch) (n : Counts) (name path : List ℕ) (number : ℕ) (text : List Atom) (now : ℕ) (k after : Known) (b : RetypedBox) (t : Tree) →
+        (r : RetypesBox old new n name path number text now k after b) → CanPut old → RunsAs old.grove t → StandsAgain (answer_in k.files) name k.names t →
+        KeepsText r.became.can.cell → present_document new ≡ edit_at path (edited (edit.Retype number (settled_text k.names text))) (present_document old) }
 {}
 
 /// The table of names goes on, and the tree that stood stands with the new box in the place of the old one. It grows again from its own document, with the
