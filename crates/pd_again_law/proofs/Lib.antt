@@ -3,6 +3,7 @@ pub mod HeldLemmas
 pub mod PutLemmas
 pub mod TakeLemmas
 pub mod ShiftLemmas
+pub mod RetypeLemmas
 pub mod StandLemmas
 pub mod FoundLemmas
 pub mod AgainLemmas

@@ -1,8 +1,9 @@
--- An edit of a run leaves a tree that grows again from its own document, whatever wires and boxes came, went and moved.
+-- An edit of a run leaves a tree that grows again from its own document, whatever wires and boxes came, went and moved, and what boxes became.
 use Rattle.std.proofs.Common.{◌≡◌, ◌≤◌, inl, inr, ℕ, ℤ, List, [], length, Option, Some, None, refl, sym, ap, ◌∙◌, subst, arith}
 use Rattle.std.specs.Prelude.{option_map}
 use Rattle.slab.specs.Slab.{get}
 use Rattle.pd_atom.specs.Names.{Names, Extends, IsTable}
+use Rattle.pd_atom.specs.declared.Atom.{Atom}
 use Rattle.pd_canvas.specs.declared.edits.Edit.{Edit}
 use Rattle.pd_canvas.specs.declared.edits.Edit.TheVariants as edit
 use Rattle.pd_canvas.specs.Proper.{IsProper}
@@ -23,7 +24,9 @@ use Rattle.pd_hearing.specs.Worlds.{Net, net_of, states_of}
 use Rattle.pd_reload_law.specs.Reloading.{RunsAs}
 use Rattle.pd_putting_law.specs.Again.{StandsAgain}
 use Rattle.pd_taking_law.specs.Takes.{taken_at}
+use Rattle.pd_retyping_law.specs.Retypes.{retyped_at}
 use Rattle.pd_boxes.specs.Put.{CanPut}
+use Rattle.pd_boxes.specs.Room.{SameButRoom}
 use Rattle.pd_putting_law.specs.Puts.{put_at}
 use Rattle.pd_shift_law.specs.Shifts.{shifted_at}
 use Rattle.pd_put_law.proofs.OwnerLemmas.{room_own}
@@ -34,7 +37,7 @@ use Rattle.pd_sized.specs.Kinds.{kinds_of, blank_of, KeepsOfKind}
 use Rattle.pd_contents_law.proofs.SettledLemmas.{onward}
 use Rattle.pd_proper_law.proofs.SavableLemmas.{kinds_savable}
 use Rattle.pd_stage.specs.Choices.{Base, base_of, Wanted, Edits, Asks, Saves, Undoes, Redoes, Made, Choice, Refuses, Lacks, Makes, later}
-use Rattle.pd_stage.specs.Lawful.{StandsAt, known_at, IsMade, IsShort, IsRewiringLawful, IsPutIn, IsUnputForRoom, IsPutLawful, IsTakenOut, IsLeftInForRoom, IsTakingLawful, IsMovedTo, IsMovingLawful, IsEditLawful, IsSaved, MayCome}
+use Rattle.pd_stage.specs.Lawful.{StandsAt, known_at, IsMade, IsShort, IsRewiringLawful, IsPutIn, IsUnputForRoom, IsPutLawful, IsTakenOut, IsLeftInForRoom, IsTakingLawful, IsMovedTo, IsMovingLawful, IsRetypedTo, IsUnretypedForRoom, IsRetypingLawful, IsEditLawful, IsSaved, MayCome}
 use Rattle.pd_stage.specs.Stages.{Stage, with_ahead}
 use Rattle.pd_stage.specs.Events.{with_net, stage_by}
 use Rattle.pd_steady.specs.Steady.{IsSteady}
@@ -47,6 +50,8 @@ use Rattle.pd_again_law.proofs.PutLemmas as put
 use Rattle.pd_again_law.proofs.TakeLemmas.{TakeLaws}
 use Rattle.pd_again_law.proofs.TakeLemmas as take
 use Rattle.pd_again_law.proofs.ShiftLemmas.{ShiftLaws}
+use Rattle.pd_again_law.proofs.RetypeLemmas.{RetypeLaws}
+use Rattle.pd_again_law.proofs.RetypeLemmas as retype
 
 -- ---- what is so of a stage of a run
 
@@ -70,6 +75,7 @@ pub record EditLaws : Type 0 where
   pub puts : PutLaws
   pub takes : TakeLaws
   pub shifts : ShiftLaws
+  pub retypes : RetypeLaws
 
 module _ (library : List (ℕ × Answer)) (rate : Rate) (name : List ℕ) where
   -- A tree stands in each patch of which the stage tells, and grows again from its own document. Its `$0` numbers are the first ones from 1001 on; what was
@@ -237,21 +243,20 @@ module _ (library : List (ℕ × Answer)) (rate : Rate) (name : List ℕ) where
           (subst (λ (f : ℕ → Option State). IsHeld s.file x.after.names f now x.new) (sym x.states) held));
     }
 
-  -- a box could have come
-  unput_stands : (most : ℕ) (s : Stage) (path : List ℕ) (e : Edit) (net : Net) → IsUnputForRoom s path e net → IsSteady most s → IsStanding s → IsStanding (with_net s net)
-  unput_stands most s path e net x steady h =
-      let was : IsHeld s.file s.names s.states h.tree x.old = held_at s x.old h x.stands in
-      let same = x.short.room in
-      let held : IsHeld s.file s.names s.states h.tree x.new = record {
-        stands = (room.room_runs x.old.grove x.new.grove same.grove h.tree (runs_at most s x.old h steady x.stands)).stands;
-        fit = room.room_fits x.old x.new same was.fit;
-        holds = room.room_holds x.old x.new same h.tree was.holds;
-        owners = room_own x.old x.new s.names s.file same was.owners;
-        contents = room_contents x.old x.new s.names s.states same was.contents;
+  -- there is more room for boxes
+  room_stands : (most : ℕ) (s : Stage) (net : Net) (p q : Patch) → StandsAt p s → SameButRoom p q → net ≡ net_of q → IsSteady most s → IsStanding s → IsStanding (with_net s net)
+  room_stands most s net p q at same is steady h =
+      let was : IsHeld s.file s.names s.states h.tree p = held_at s p h at in
+      let held : IsHeld s.file s.names s.states h.tree q = record {
+        stands = (room.room_runs p.grove q.grove same.grove h.tree (runs_at most s p h steady at)).stands;
+        fit = room.room_fits p q same was.fit;
+        holds = room.room_holds p q same h.tree was.holds;
+        owners = room_own p q s.names s.file same was.owners;
+        contents = room_contents p q s.names s.states same was.contents;
       } in
       record {
         file = h.file;
-        rates = ap (λ (n : Net). n.rate) x.net_is ∙ same.rate ∙ rate_at s x.old h x.stands;
+        rates = ap (λ (n : Net). n.rate) is ∙ same.rate ∙ rate_at s p h at;
         six = h.six;
         tree = h.tree;
         low = h.low;
@@ -260,8 +265,12 @@ module _ (library : List (ℕ × Answer)) (rate : Rate) (name : List ℕ) where
         numbers = h.numbers;
         files = h.files;
         counted = h.counted;
-        held = held_in s.file s.names s.states h.tree x.new net x.net_is held;
+        held = held_in s.file s.names s.states h.tree q net is held;
       }
+
+  -- a box could have come
+  unput_stands : (most : ℕ) (s : Stage) (path : List ℕ) (e : Edit) (net : Net) → IsUnputForRoom s path e net → IsSteady most s → IsStanding s → IsStanding (with_net s net)
+  unput_stands most s path e net x steady h = room_stands most s net x.old x.new x.stands x.short.room x.net_is steady h
 
   -- an edit that took a box out
   module _ (takes : TakeLaws) (most : ℕ) (s : Stage) (path : List ℕ) (number : ℕ) (m : Made) (x : IsTakenOut s path number m) (steady : IsSteady most s) (h : IsStanding s) where
@@ -379,6 +388,84 @@ module _ (library : List (ℕ × Answer)) (rate : Rate) (name : List ℕ) where
           (subst (λ (f : ℕ → Option State). IsHeld s.file s.names f moved x.new) (sym x.states) held_moved));
     }
 
+  -- an edit that made a box another one
+  module _ (retypes : RetypeLaws) (most : ℕ) (s : Stage) (path : List ℕ) (number : ℕ) (text : List Atom) (m : Made) (x : IsRetypedTo s path number text m) (steady : IsSteady most s) (h : IsStanding s)
+    where
+      abbrev known_then : Known
+      known_then = known_at s
+
+      abbrev other : Tree
+      other = retyped_at path number x.retypes.became.can.cell h.tree
+
+      one_stood : IsHeld s.file s.names s.states h.tree x.old
+      one_stood = held_at s x.old h x.stands
+
+      one_ran : RunsAs x.old.grove h.tree
+      one_ran = runs_at most s x.old h steady x.stands
+
+      runs_other : RunsAs x.new.grove other
+      runs_other = retypes.runs x.old x.new s.base.counts s.file path number text s.time known_then x.after x.box h.tree x.retypes x.stands.puts one_ran h.again
+
+      grows_other : StandsAgain (answer_in x.after.files) s.file x.after.names other
+      grows_other = retypes.again x.old x.new s.base.counts s.file path number text s.time known_then x.after x.box h.tree x.retypes x.stands.puts one_ran h.again
+
+      names_go_on : Extends s.names x.after.names
+      names_go_on = retypes.names x.old x.new s.base.counts s.file path number text s.time known_then x.after x.box x.retypes
+
+      files_go_on : GoesOn library x.after.files
+      files_go_on = goes_behind library s.base.files x.after.files h.files
+          (subst (GoesOn s.base.files) (sym (ap (λ (k : Known). k.files) (x.retypes.known_is ∙ x.retypes.grew.known_is))) x.retypes.grew.behind)
+
+      other_counted : HasCounted rate (base_of x.after.files x.box.counts) other
+      other_counted = record {
+        boxes = retypes.boxes x.old x.new s.base.counts s.file path number text s.time known_then x.after x.box h.tree x.retypes x.stands.puts one_ran h.counted.boxes;
+        sound = subst (λ (r : Rate). x.box.counts.sound ≡ sound_of r other.boxes) (rate_at s x.old h x.stands)
+            (retypes.sound x.old x.new s.base.counts s.file path number text s.time known_then x.after x.box h.tree x.retypes x.stands.puts one_ran
+            (subst (λ (r : Rate). s.base.counts.sound ≡ sound_of r h.tree.boxes) (sym (rate_at s x.old h x.stands)) h.counted.sound));
+      }
+
+      few_there : weight h.tree.boxes ≤ 16384
+      few_there = subst (λ (n : ℕ). n ≤ 16384) h.counted.boxes steady.tree.within.boxes
+
+      held_other : IsHeld s.file x.after.names (states_of x.new) other x.new
+      held_other = record {
+        stands = runs_other.stands;
+        fit = retypes.fit x.old x.new s.base.counts s.file path number text s.time known_then x.after x.box x.retypes x.stands.puts one_stood.fit;
+        holds = retypes.holds x.old x.new s.base.counts s.file path number text s.time known_then x.after x.box h.tree x.retypes x.stands.puts one_ran one_stood.holds;
+        owners = retypes.owners x.old x.new s.base.counts s.file path number text s.time known_then x.after x.box h.tree x.retypes x.stands.puts one_ran h.again one_stood.owners;
+        contents = retypes.contents x.old x.new s.base.counts s.file path number text s.time known_then x.after x.box h.tree x.retypes x.stands.puts one_ran h.again
+            (subst (λ (f : ℕ → Option State). Settled x.old s.names f) x.stands.states one_stood.contents);
+      }
+
+      stays_proper : StaysProper x.after.names other
+      stays_proper more on table =
+          retypes.proper x.old x.new s.base.counts s.file path number text s.time known_then x.after x.box h.tree more x.retypes x.stands.puts one_ran h.again on table few_there
+          (h.proper more (onward s.names x.after.names more names_go_on on) table)
+
+      retyped_stands : IsStanding (stage_by s (Makes m))
+      retyped_stands = record {
+        file = h.file;
+        rates = ap (λ (n : Net). n.rate) x.net ∙ retype.same_rate x.old x.new s.base.counts s.file path number text s.time known_then x.after x.box x.retypes ∙ rate_at s x.old h x.stands;
+        six = subst (λ (ns : Names). 6 ≤ length ns) (sym x.names) (six_more s.names x.after.names names_go_on h.six);
+        tree = other;
+        low = runs_other.shallow;
+        again = subst (λ (c : Base). StandsAgain (answer_in c.files) s.file m.names other) (sym x.base)
+            (subst (λ (ns : Names). StandsAgain (answer_in x.after.files) s.file ns other) (sym x.names) grows_other);
+        proper = subst (λ (ns : Names). StaysProper ns other) (sym x.names) stays_proper;
+        numbers = still_first h.tree other
+            (retypes.zeros x.old x.new s.base.counts s.file path number text s.time known_then x.after x.box h.tree x.retypes x.stands.puts one_ran) h.numbers;
+        files = subst (λ (c : Base). GoesOn library c.files) (sym x.base) files_go_on;
+        counted = subst (λ (c : Base). HasCounted rate c other) (sym x.base) other_counted;
+        held = held_in s.file m.names m.states other x.new m.net x.net
+            (subst (λ (ns : Names). IsHeld s.file ns m.states other x.new) (sym x.names)
+            (subst (λ (f : ℕ → Option State). IsHeld s.file x.after.names f other x.new) (sym x.states) held_other));
+      }
+
+  -- a box could have become another one
+  unretyped_stands : (most : ℕ) (s : Stage) (path : List ℕ) (number : ℕ) (text : List Atom) (net : Net) → IsUnretypedForRoom s path number text net → IsSteady most s → IsStanding s
+      → IsStanding (with_net s net)
+  unretyped_stands most s path number text net x steady h = room_stands most s net x.old x.new x.stands x.short.room x.net_is steady h
+
   saved_stands : (s : Stage) (m : Made) → IsSaved s m → IsStanding s → IsStanding (stage_by s (Makes m))
   saved_stands s m x h = record {
     file = h.file;
@@ -421,6 +508,11 @@ module _ (library : List (ℕ × Answer)) (rate : Rate) (name : List ℕ) where
     placed_stands path number a b (Lacks net) x = absurd x
     placed_stands path number a b (Makes m) x = on_ahead (stage_by (with_ahead s []) (Makes m)) (moved_stands laws.shifts most (with_ahead s []) path number a b m x steady h)
 
+    become_stands : (path : List ℕ) (number : ℕ) (text : List Atom) (c : Choice) → IsRetypingLawful (with_ahead s []) path number text c → IsStanding (stage_by (with_ahead s ahead) c)
+    become_stands path number text (Refuses why) x = on_ahead (with_ahead s []) h
+    become_stands path number text (Lacks net) x = on_ahead (with_net (with_ahead s []) net) (unretyped_stands most (with_ahead s []) path number text net x steady h)
+    become_stands path number text (Makes m) x = on_ahead (stage_by (with_ahead s []) (Makes m)) (retyped_stands laws.retypes most (with_ahead s []) path number text m x steady h)
+
     save_stands : (c : Choice) → MayCome (Saves None) (with_ahead s []) c → IsStanding (stage_by (with_ahead s ahead) c)
     save_stands (Refuses why) x = on_ahead (with_ahead s []) h
     save_stands (Lacks net) x = absurd x
@@ -433,7 +525,7 @@ module _ (library : List (ℕ × Answer)) (rate : Rate) (name : List ℕ) where
     edit_stands path (edit.Connect v) c x = wire_stands path (edit.Connect v) c x
     edit_stands path (edit.Disconnect v) c x = wire_stands path (edit.Disconnect v) c x
     edit_stands path (edit.Delete number) c x = gone_stands path number c x
-    edit_stands path (edit.Retype number text) c x = none_stands c _ x
+    edit_stands path (edit.Retype number text) c x = become_stands path number text c x
     edit_stands path (edit.Move number a b) c x = placed_stands path number a b c x
     edit_stands path (edit.Obj a b text) c x = box_stands path (edit.Obj a b text) c x
     edit_stands path (edit.Msg a b text) c x = box_stands path (edit.Msg a b text) c x

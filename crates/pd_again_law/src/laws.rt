@@ -41,6 +41,9 @@ pub fn saves_open_again()
     pd_shift_law::wires_follow_moves();
     pd_shift_law::moved_trees_grow_again();
     pd_shift_law::moved_documents_can_be_saved();
+    pd_retype_law::boxes_become_others_in_trees();
+    pd_retype_law::counts_follow_retypes();
+    pd_retype_law::retyped_boxes_can_be_saved();
     pd_reload_law::documents_tell_trees();
     pd_doc::written_read();
 }
@@ -71,6 +74,9 @@ pub fn stages_open_again()
     pd_shift_law::wires_follow_moves();
     pd_shift_law::moved_trees_grow_again();
     pd_shift_law::moved_documents_can_be_saved();
+    pd_retype_law::boxes_become_others_in_trees();
+    pd_retype_law::counts_follow_retypes();
+    pd_retype_law::retyped_boxes_can_be_saved();
     pd_reload_law::documents_tell_trees();
     pd_doc::written_read();
 }

@@ -58,6 +58,19 @@ returns c = λ holds name rate d names table p base most steps ahead x top k l.
         proper = c.moved_documents_can_be_saved.ensures.proper;
         contents = c.moved_documents_can_be_saved.ensures.contents;
       };
+      retypes = record {
+        names = c.boxes_become_others_in_trees.ensures.names;
+        runs = c.boxes_become_others_in_trees.ensures.runs;
+        again = c.boxes_become_others_in_trees.ensures.again;
+        zeros = c.boxes_become_others_in_trees.ensures.zeros;
+        holds = c.boxes_become_others_in_trees.ensures.holds;
+        fit = c.boxes_become_others_in_trees.ensures.fit;
+        owners = c.boxes_become_others_in_trees.ensures.owners;
+        boxes = c.counts_follow_retypes.ensures.boxes;
+        sound = c.counts_follow_retypes.ensures.sound;
+        proper = c.retyped_boxes_can_be_saved.ensures.proper;
+        contents = c.retyped_boxes_can_be_saved.ensures.contents;
+      };
     } in
     all_again c.documents_tell_trees.ensures.document c.written_read.ensures x.files.files rate name (most + block_units) (run_by own_ways name p table base ahead steps).edits
     (run_found x.files.files rate name guards edits name p table base ahead steps most top

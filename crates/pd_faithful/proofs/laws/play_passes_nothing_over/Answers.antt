@@ -58,6 +58,19 @@ returns-clause-opened c = opened_free (record {
       proper = c.moved_documents_can_be_saved.ensures.proper;
       contents = c.moved_documents_can_be_saved.ensures.contents;
     };
+    retypes = record {
+      names = c.boxes_become_others_in_trees.ensures.names;
+      runs = c.boxes_become_others_in_trees.ensures.runs;
+      again = c.boxes_become_others_in_trees.ensures.again;
+      zeros = c.boxes_become_others_in_trees.ensures.zeros;
+      holds = c.boxes_become_others_in_trees.ensures.holds;
+      fit = c.boxes_become_others_in_trees.ensures.fit;
+      owners = c.boxes_become_others_in_trees.ensures.owners;
+      boxes = c.counts_follow_retypes.ensures.boxes;
+      sound = c.counts_follow_retypes.ensures.sound;
+      proper = c.retyped_boxes_can_be_saved.ensures.proper;
+      contents = c.retyped_boxes_can_be_saved.ensures.contents;
+    };
   };
   tells = c.documents_tell_trees.ensures.document;
   reads = c.written_read.ensures;
@@ -119,6 +132,19 @@ returns-clause-made c = made_free (record {
       holds = c.moved_trees_grow_again.ensures.holds;
       proper = c.moved_documents_can_be_saved.ensures.proper;
       contents = c.moved_documents_can_be_saved.ensures.contents;
+    };
+    retypes = record {
+      names = c.boxes_become_others_in_trees.ensures.names;
+      runs = c.boxes_become_others_in_trees.ensures.runs;
+      again = c.boxes_become_others_in_trees.ensures.again;
+      zeros = c.boxes_become_others_in_trees.ensures.zeros;
+      holds = c.boxes_become_others_in_trees.ensures.holds;
+      fit = c.boxes_become_others_in_trees.ensures.fit;
+      owners = c.boxes_become_others_in_trees.ensures.owners;
+      boxes = c.counts_follow_retypes.ensures.boxes;
+      sound = c.counts_follow_retypes.ensures.sound;
+      proper = c.retyped_boxes_can_be_saved.ensures.proper;
+      contents = c.retyped_boxes_can_be_saved.ensures.contents;
     };
   };
   tells = c.documents_tell_trees.ensures.document;
