@@ -1,4 +1,4 @@
--- An edit of a run leaves a tree that grows again from its own document, whatever wires and boxes came, went and moved, and what boxes became.
+-- An edit of a run leaves a tree that grows again from its own document, whatever wires and boxes came, went and moved, and whatever boxes became.
 use Rattle.std.proofs.Common.{◌≡◌, ◌≤◌, inl, inr, ℕ, ℤ, List, [], length, Option, Some, None, refl, sym, ap, ◌∙◌, subst, arith}
 use Rattle.std.specs.Prelude.{option_map}
 use Rattle.slab.specs.Slab.{get}

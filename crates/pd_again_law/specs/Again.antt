@@ -65,7 +65,7 @@ pub record OpensAgain (files : List (ℕ × Answer)) (name : List ℕ) (rate : R
   pub alike : (more : List ℕ) (room : ℕ) → GrowsAgain (grown_alike files name page names t more room) (stock names more room) name rate t p names
 
 -- A patch that stands at a stage opens again from its text, with the files that are known there: those that were known where the patch opened, with what
--- boxes that came have asked for behind them.
+-- boxes that came or became others have asked for behind them.
 pub record Reopens (library : List (ℕ × Answer)) (name : List ℕ) (rate : Rate) (s : Stage) (p : Patch) : Type 0 where
   pub tree : Tree
   pub files : GoesOn library s.base.files

@@ -15,9 +15,9 @@ ghost use Rattle.pd_steady.specs.Runs.{own_ways};
 ghost use Rattle.pd_steady.specs.Steps.{Step, AreSteps, steps_by, run_by};
 ghost use Rattle.pd_again_law.specs.Again.{Reopens, AreAgain};
 
-/// In a run in which each edit is lawful, from where a patch opens to its end, whatever wires and boxes come, go and move, each save puts a text that
-/// opens again, as a file that is opened does, as the patch that was saved. It does so with the files that are known by then, which begin with those
-/// that were gathered where the patch opened.
+/// In a run in which each edit is lawful, from where a patch opens to its end, whatever wires and boxes come, go and move, and whatever boxes become,
+/// each save puts a text that opens again, as a file that is opened does, as the patch that was saved. It does so with the files that are known by
+/// then, which begin with those that were gathered where the patch opened.
 pub fn saves_open_again()
     ensures { (holds : Option (List FileRow)) (name : List ℕ) (rate : Rate) (d : Page) (names table : Names) (p : Patch) (base : Base) (most : ℕ)
         (steps : List Step) (ahead : List Choice) → (grows : Grows holds name rate d names p table base) → most + block_units ≤ 2 ^ 101 →
