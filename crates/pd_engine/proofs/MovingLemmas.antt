@@ -1,5 +1,5 @@
 -- What is told of a box that an edit moves, or of why none moves.
-use Rattle.std.proofs.Common.{◌≡◌, arith, Bool, true, false, cond, ℕ, ℤ, List, [], refl, sym, ap, subst, slice_get, Option, Some, None, Result, Ok, Err, OnErr, OnOk, IfOk, ◌∙◌}
+use Rattle.std.proofs.Common.{◌≡◌, arith, Bool, true, false, cond, ℕ, ℤ, List, [], refl, sym, ap, subst, slice_get, Option, Some, None, Result, Ok, Err, OnErr, OnOk, IfOk, IfErr, ◌∙◌}
 use Rattle.std.proofs.lemmas.Result.{on_err_weaker}
 use Rattle.std.proofs.lemmas.Option.{same_Some}
 use Rattle.slab.specs.Slab.{get}
@@ -19,6 +19,7 @@ use Rattle.pd_web.specs.declared.web.Web.{Web}
 use Rattle.pd_patch.specs.declared.patch.Patch.{Patch}
 use Rattle.pd_wiring.specs.declared.refusals.EditRefusal.{EditRefusal}
 use Rattle.pd_wiring.specs.declared.refusals.EditRefusal.TheVariants as refusal
+use Rattle.pd_shifting.specs.declared.shifting.MovedBox.{MovedBox}
 use Rattle.pd_shifting.specs.Moves.{is_array_in, is_port_around, moving, moving_in, moving_box, MovesBox, IsNotMoved}
 use Rattle.pd_hearing.specs.Worlds.{net_of, states_of}
 use Rattle.pd_stage.specs.Choices.{Base, Wanted, Edits, Made, Choice, faults_of_why}
@@ -81,8 +82,10 @@ canvas_same p path number a b key key' is same = ap canvas_of (sym is ∙ same)
 
 -- ---- wires are as many
 
-pub moved_wires : (old new : Patch) (path : List ℕ) (number : ℕ) (x y : ℤ) (key : ℕ) → MovesBox old new path number x y key → wires_told new.web ≡ wires_told old.web
-moved_wires old new path number x y key d = ap (λ (w : Web). wires_told w) d.rest.web
+pub as_many_wires : (old new : Patch) (path : List ℕ) (number : ℕ) (x y : ℤ) (r : Result MovedBox EditRefusal) → IfOk r (λ b. MovesBox old new path number x y b.key)
+    → IfErr r (λ why. IsNotMoved old new path number why) → wires_told new.web ≡ wires_told old.web
+as_many_wires old new path number x y (Ok b) d e = ap (λ (w : Web). wires_told w) d.rest.web
+as_many_wires old new path number x y (Err why) d e = ap (λ (p : Patch). wires_told p.web) e.0
 
 -- ---- what it comes to
 

@@ -1,5 +1,5 @@
 -- A patch of which a box became another one with the same ports.
-use Rattle.std.proofs.Common.{◌≡◌, ◌≢◌, ℕ, suc, Bool, ◌||◌, is_some, List, [], ◌∷◌, map, slice_get, Option, Some, None, IsSome, refl, sym, ap, ◌∙◌, subst}
+use Rattle.std.proofs.Common.{◌≡◌, ◌≢◌, ℕ, suc, ◌||◌, is_some, List, [], ◌∷◌, map, slice_get, Option, Some, None, IsSome, refl, sym, ap, ◌∙◌, subst}
 use Rattle.std.specs.Prelude.{◌⊎◌}
 use Rattle.std.specs.List.{AllByRecursion}
 use mathlib.Core.Logic.{⊎_elim}

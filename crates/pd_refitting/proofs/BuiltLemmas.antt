@@ -20,7 +20,7 @@ use Rattle.pd_patch.specs.Built.{IsBuilt, block_sizes}
 use Rattle.pd_patch.specs.Values.{block_count, block_at, blocks_told}
 use Rattle.pd_boxes.specs.Put.{node_of}
 use Rattle.pd_refitting.specs.Refits.{CanRefit, IsRefitted}
-use Rattle.pd_refitting.proofs.BoxLemmas.{boards_as, none_as, other_box, still_put}
+use Rattle.pd_refitting.proofs.BoxLemmas.{boards_as, other_box, still_put}
 
 silent_count : length silent_block ≡ 64
 unfolding silent_block

@@ -1,6 +1,6 @@
 -- Room for what a box becomes, and the names of the box that was and of the one that is.
 use Rattle.std.proofs.Common.{◌≡◌, ℕ, ℤ, suc, ◌+◌, ◌≤◌, ◌^◌, Bool, true, false, List, ◌++◌, take, drop, length, Option, Some, None, inl, inr, nat_eq, refl, sym, ap, ◌∙◌, subst, arith}
-use Rattle.std.specs.Prelude.{◌⊎◌, option_map, option_and_then, position, remove, replicate}
+use Rattle.std.specs.Prelude.{option_map, option_and_then, position, remove, replicate}
 use Rattle.std.specs.Option.{option_map_or}
 use mathlib.Core.Logic.{⊎_elim}
 use Rattle.std.proofs.lemmas.List.{length-append, length-drop, length-take}

@@ -1,6 +1,6 @@
 //! Laws over a running patch of which a box became another one.
 
-ghost use Rattle.std.specs.Prelude.{◌≡◌, ℕ, List, Some};
+ghost use Rattle.std.specs.Prelude.{ℕ, List};
 ghost use Rattle.slab.specs.Slab.{get};
 ghost use Rattle.pd_atom.specs.Names.{Names};
 ghost use Rattle.pd_clock.specs.declared.times.Rate.{Rate};

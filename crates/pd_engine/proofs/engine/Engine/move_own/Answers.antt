@@ -3,11 +3,11 @@ use mathlib.Core.Logic.{∥∥₁_map}
 use Rattle.pd_stage.specs.Choices.{base_of}
 use Rattle.pd_engine.specs.Stages.{stage_at}
 use Rattle.pd_engine.proofs.RewireLemmas.{puts_sure, ready_sure}
-use Rattle.pd_engine.proofs.MovingLemmas.{canvas_same, moved_wires, moved_told, stays_told, moved_so, moved_part}
+use Rattle.pd_engine.proofs.MovingLemmas.{as_many_wires, canvas_same, moved_told, stays_told, moved_so, moved_part}
 use Rattle.pd_engine.proofs.engine.Engine.move_own.Goals as goal
 
 pub move_box-done-requires : goal.move_box-done-requires
-move_box-done-requires g c = puts_sure c.args.self.now.patch c.args.self.now.puts
+move_box-done-requires g c = record { can = puts_sure c.args.self.now.patch c.args.self.now.puts }
 
 pub invariant_of-self : goal.invariant_of-self
 invariant_of-self g c =
@@ -16,7 +16,7 @@ invariant_of-self g c =
       puts = ∣ c.move_box-done.ensures.goes_on ∣₁;
       meet = ∥∥₁_map e.meet c.move_box-done.ensures.meet;
       counted = e.counted
-          ∙ sym (moved_wires e.patch c.move_box-done.new.patch c.args.path.now c.args.number c.args.x c.args.y c.in-Ok.moved.key c.in-Ok.ensures.moved);
+          ∙ sym (as_many_wires e.patch c.move_box-done.new.patch c.args.path.now c.args.number c.args.x c.args.y c.move_box-done.result c.move_box-done.ensures.moved c.move_box-done.ensures.refused);
       within = e.within;
       zero = subst (λ (n : ℕ). n ≤ 1000000000) (sym c.move_box-done.ensures.zero) e.zero;
       found = e.found;
