@@ -1,5 +1,5 @@
 -- The counts of a patch in which a box became another one are those of its tree.
-use Rattle.std.proofs.Common.{◌≡◌, ◌≤◌, ◌+◌, ◌-◌, ℕ, zero, suc, List, [], ◌∷◌, slice_get, Option, Some, None, refl, sym, ap, ◌∙◌, subst, arith}
+use Rattle.std.proofs.Common.{◌≡◌, ◌≤◌, ◌+◌, ◌-◌, ℕ, zero, suc, List, [], ◌∷◌, slice_get, Some, sym, ap, ◌∙◌, subst, arith}
 use Rattle.std.specs.Prelude.{option_map}
 use Rattle.std.proofs.lemmas.Option.{none-some, same_Some}
 use Rattle.slab.specs.Slab.{get}
@@ -10,8 +10,8 @@ use Rattle.pd_tree.specs.declared.rows.Sheet.{Sheet}
 use Rattle.pd_tree.specs.Trees.{Cell, Trees, Done, Leaf, Holder, Tree, join, weight, zeros_of}
 use Rattle.pd_grove.specs.declared.nodes.Node.{Node}
 use Rattle.pd_grove.specs.declared.grove.Grove.{Grove}
-use Rattle.pd_grove.proofs.PlaceLemmas.{seen_keys}
 use Rattle.pd_grove.specs.Standing.{NodeSeen, node_seen, Stands}
+use Rattle.pd_grove.proofs.PlaceLemmas.{seen_keys}
 use Rattle.pd_patch.specs.declared.patch.Patch.{Patch}
 use Rattle.pd_patch.specs.Sounds.{sound_of}
 use Rattle.pd_gather.specs.Gather.{Known}

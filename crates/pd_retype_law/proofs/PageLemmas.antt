@@ -1,5 +1,5 @@
 -- The document of a patch where room was set aside, and where a box became another one.
-use Rattle.std.proofs.Common.{◌≡◌, ℕ, zero, suc, List, [], ◌∷◌, ◌++◌, length, slice_get, Option, Some, None, refl, sym, ap, ◌∙◌, subst}
+use Rattle.std.proofs.Common.{◌≡◌, ℕ, zero, suc, List, [], ◌∷◌, ◌++◌, length, Option, Some, None, refl, sym, ap, ◌∙◌, subst}
 use Rattle.std.specs.Prelude.{option_map, replicate, map}
 use Rattle.std.specs.List.{flat_map, range_with_len}
 use Rattle.slab.specs.Slab.{get}
@@ -7,7 +7,7 @@ use Rattle.pd_atom.specs.declared.Atom.{Atom}
 use Rattle.pd_canvas.specs.declared.edits.Edit.TheVariants as edit
 use Rattle.pd_canvas.specs.declared.wires.Wire.{Wire}
 use Rattle.pd_canvas.specs.Edits.{edited, retyped}
-use Rattle.pd_canvas.specs.Pages.{Entry, Page, boxed, empty_page}
+use Rattle.pd_canvas.specs.Pages.{Page, boxed, empty_page}
 use Rattle.pd_canvas.specs.Paths.{change_box, edit_at}
 use Rattle.pd_kind.specs.States.{start_of}
 use Rattle.pd_kind.specs.Tables.{started}
@@ -17,9 +17,9 @@ use Rattle.pd_tree.specs.Trees.{Cell, Tree}
 use Rattle.pd_growth.specs.Steps.{Stock}
 use Rattle.pd_grove.specs.declared.boards.Board.{Board}
 use Rattle.pd_grove.specs.declared.nodes.Node.{Node}
+use Rattle.pd_grove.specs.declared.ports.Side.TheVariants.{Outlets}
 use Rattle.pd_grove.specs.Standing.{BoardSeen, board_seen}
 use Rattle.pd_web.specs.declared.jacks.Jack.{Jack}
-use Rattle.pd_grove.specs.declared.ports.Side.TheVariants.{Outlets}
 use Rattle.pd_web.specs.declared.web.Hop.{Hop}
 use Rattle.pd_web.specs.declared.web.Web.{Web}
 use Rattle.pd_web.specs.Hops.{ports_told, fan_hops}

@@ -1,11 +1,12 @@
 -- A document with another box in the place of one: it is proper where it was and the new box is.
-use Rattle.std.proofs.Common.{◌≡◌, ◌≤◌, ◌+◌, ◌-◌, ℕ, zero, suc, true, false, max, List, [], ◌∷◌, length, Option, Some, None, refl, sym, ap, ◌∙◌, subst, arith}
+use Rattle.std.proofs.Common.{◌≡◌, ◌≤◌, ◌+◌, ℕ, zero, suc, List, [], ◌∷◌, length, refl, sym, ap, subst, arith}
 use Rattle.std.specs.List.{AllByRecursion}
 use Rattle.pd_atom.specs.declared.Atom.{Atom}
 use Rattle.pd_atom.specs.Names.{Names, Extends, IsTable}
 use Rattle.pd_atom.specs.Tokens.{IsSettled}
-use Rattle.pd_canvas.specs.Pages.{Shape, Sub, Head, Frame, Boxes, End, Box, Entry, boxed, frame_of, page_of, empty_page, weight}
+use Rattle.pd_canvas.specs.Pages.{Shape, Sub, Head, Frame, Boxes, End, Box, Entry, frame_of, page_of, empty_page, weight}
 use Rattle.pd_canvas.specs.Proper.{AreBoxes, AreReady, HoldsNone, IsFrame, IsHead, IsWidth, IsProper, inner_wires, levels}
+use Rattle.pd_canvas.specs.Views.{entry_of}
 use Rattle.pd_doc.proofs.GrowLaws.{are_ready_grows}
 use Rattle.pd_library.specs.Files.{answer_in}
 use Rattle.pd_tree.specs.declared.rows.Sheet.{Sheet}
@@ -27,7 +28,6 @@ use Rattle.pd_put_law.proofs.HeadLemmas.{IsPlainHead, put_plain, put_frame}
 use Rattle.pd_retyping.specs.declared.retyping.RetypedBox.{RetypedBox}
 use Rattle.pd_retyping.specs.Asking.{put_instead}
 use Rattle.pd_retyping.specs.Retypes.{RetypesBox}
-use Rattle.pd_canvas.specs.Views.{entry_of}
 use Rattle.pd_retyping_law.specs.Retypes.{boxes_with, retyped_box, retyped_at}
 use Rattle.pd_retype_law.proofs.BecomeLemmas.{drawn, six, goes_on, may, puts, bare, document, box_again}
 
