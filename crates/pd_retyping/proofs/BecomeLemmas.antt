@@ -198,3 +198,10 @@ module _ (p q : Patch) (key : ℕ) (n : Node) (s : Seed) (room : RefitRoom) (F :
 
 pub lives_there : (p : Patch) (key : ℕ) (n : Node) → get p.grove.nodes key ≡ Some n → IsSome (get p.grove.nodes key)
 lives_there p key n e = lives (get p.grove.nodes key) n e
+
+pub refits_same : (p : Patch) (key : ℕ) (m n : Node) (s : Seed) → CanRefit p key m s → get p.grove.nodes key ≡ Some n → CanRefit p key n s
+refits_same p key m n s C is = subst (λ (x : Node). CanRefit p key x s) (same_Some m n (sym C.is ∙ is)) C
+
+pub some_there : (o : Option Node) → IsSome o → (n : Node) × (o ≡ Some n)
+some_there None h = cc
+some_there (Some n) h = (n, refl)

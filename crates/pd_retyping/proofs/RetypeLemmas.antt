@@ -29,10 +29,11 @@ use Rattle.pd_adding.specs.Boxes.{CanBeWritten, settled_edit, box_put}
 use Rattle.pd_adding.specs.Coming.{coming, IsComing}
 use Rattle.pd_adding.specs.Growing.{Added}
 use Rattle.pd_adding.specs.Adding.{ComesTo, GrewWith, Grows}
+use Rattle.pd_retyping.specs.declared.asking.Plan.{Plan}
 use Rattle.pd_retyping.specs.declared.retyping.RetypedBox.{RetypedBox}
 use Rattle.pd_retyping.specs.Asking.{keeps_inside, settled_text, retyping, put_instead}
 use Rattle.pd_retyping.specs.Retypes.{counts_but, IsChosen, RetypesTo, CanBecome, HasBecome, RetypesBox, IsKept, IsRefused, IsNotRetyped}
-use Rattle.pd_retyping.specs.Becoming.{IsUnplanned, HasGrown, StaysItself}
+use Rattle.pd_retyping.specs.Becoming.{IsPlanned, IsUnplanned, HasGrown, StaysItself}
 use Rattle.pd_retyping.proofs.AskLemmas.{new_entry, comes_ok, comes_asks}
 
 -- the text isn't of the table
@@ -74,94 +75,96 @@ document_no_fault why a b = cc
 pub no_fault : (old new : Patch) (n : Node) (a : Added) (why : EditRefusal) → StaysItself old new n a why → why ≡ ShelfFault → ⊥
 no_fault old new n a why out f = ⊎_elim (λ s. memory_no_fault why s.0 f) (λ o. document_no_fault why o.0 f) out
 
-module _ (p : Patch) (n left : Counts) (name path : List ℕ) (number : ℕ) (text : List Atom) (k : Known) (canvas key : ℕ) (node : Node) (e : Edit)
-    (C : IsChosen p path number canvas key node) (new : keeps_inside (entry_of node.element) (settled_text k.names text) ≡ false)
-    (is_edit : e ≡ put_instead (entry_of node.element) text) (is_left : left ≡ counts_but p.rate node n) where
+module _ (p : Patch) (n left : Counts) (name path : List ℕ) (number : ℕ) (text : List Atom) (k : Known) (plan : Plan) (P : IsPlanned k.names p path number text plan)
+    (L : (m : Node) → get p.grove.nodes plan.key ≡ Some m → left ≡ counts_but p.rate m n) where
+  abbrev at_left : left ≡ counts_but p.rate P.node n
+  at_left = L P.node P.chosen.is
+
   abbrev instead : Edit
-  instead = put_instead (entry_of node.element) text
+  instead = put_instead (entry_of P.node.element) text
 
-  comes_so : (holds : Option (List FileRow)) (r : Result Added EditRefusal) → ComesTo holds p left name path e k r → ComesTo None p (counts_but p.rate node n) name path instead k r
+  comes_so : (holds : Option (List FileRow)) (r : Result Added EditRefusal) → ComesTo holds p left name path plan.edit k r → ComesTo None p (counts_but p.rate P.node n) name path instead k r
   comes_so holds r c =
-      subst (λ (m : Counts). ComesTo None p m name path instead k r) is_left
-      (subst (λ (x : Edit). ComesTo None p left name path x k r) is_edit (comes_anyhow holds p left name path e k r c))
+      subst (λ (m : Counts). ComesTo None p m name path instead k r) at_left
+      (subst (λ (x : Edit). ComesTo None p left name path x k r) P.edit (comes_anyhow holds p left name path plan.edit k r c))
 
-  pub retypes_to : (holds : Option (List FileRow)) (r : Result Added EditRefusal) → ComesTo holds p left name path e k r → RetypesTo p n name path number text k r
-  retypes_to holds r c = record { canvas = canvas; key = key; node = node; chosen = C; new = new; comes = comes_so holds r c }
+  pub retypes_to : (holds : Option (List FileRow)) (r : Result Added EditRefusal) → ComesTo holds p left name path plan.edit k r → RetypesTo p n name path number text k r
+  retypes_to holds r c = record { canvas = plan.canvas; key = plan.key; node = P.node; chosen = P.chosen; new = P.new; comes = comes_so holds r c }
 
   -- growth is refused
-  not_so : (holds : Option (List FileRow)) (why : EditRefusal) → (why ≢ NoMemory → why ≢ ShelfFault → ComesTo holds p left name path e k (Err why))
-      → (why ≡ ShelfFault → IsComing (coming k.names p path e)) → IsRefused p n name path number text k why
+  not_so : (holds : Option (List FileRow)) (why : EditRefusal) → (why ≢ NoMemory → why ≢ ShelfFault → ComesTo holds p left name path plan.edit k (Err why))
+      → (why ≡ ShelfFault → IsComing (coming k.names p path plan.edit)) → IsRefused p n name path number text k why
   not_so holds NoMemory comes asks = inl refl
   not_so holds ShelfFault comes asks =
-      inr (inr (inl (refl, comes_asks k.names p path number text canvas key node C new (subst (λ (x : Edit). IsComing (coming k.names p path x)) is_edit (asks refl)))))
+      inr (inr (inl (refl, comes_asks k.names p path number text plan.canvas plan.key P.node P.chosen P.new (subst (λ (x : Edit). IsComing (coming k.names p path x)) P.edit (asks refl)))))
   not_so holds why comes asks = inr (inr (inr (inl (retypes_to holds (Err why) (comes (λ q. cc) (λ q. cc))))))
 
-  pub not_grown : (holds : Option (List FileRow)) (why : EditRefusal) → (why ≢ NoMemory → why ≢ ShelfFault → ComesTo holds p left name path e k (Err why))
-      → (why ≡ ShelfFault → IsComing (coming k.names p path e)) → IsNotRetyped p p n name path number text k why
+  pub not_grown : (holds : Option (List FileRow)) (why : EditRefusal) → (why ≢ NoMemory → why ≢ ShelfFault → ComesTo holds p left name path plan.edit k (Err why))
+      → (why ≡ ShelfFault → IsComing (coming k.names p path plan.edit)) → IsNotRetyped p p n name path number text k why
   not_grown holds why comes asks = inl (refl, not_so holds why comes asks)
 
   -- the box stays itself
-  pub left_so : (holds : Option (List FileRow)) (q : Patch) (a : Added) (why : EditRefusal) → ComesTo holds p left name path e k (Ok a) → CanPut q → StaysItself p q node a why
+  pub left_so : (holds : Option (List FileRow)) (q : Patch) (a : Added) (why : EditRefusal) → ComesTo holds p left name path plan.edit k (Ok a) → CanPut q → StaysItself p q P.node a why
       → IsNotRetyped p q n name path number text k why
   unfolding retypes_to
   left_so holds q a why comes can out = ⊎_elim
-      (λ (s : (why ≡ NoMemory) × (CanBecome p node a × SameButRoom p q)).
+      (λ (s : (why ≡ NoMemory) × (CanBecome p P.node a × SameButRoom p q)).
       inr (s.0, record { added = a; comes = retypes_to holds (Ok a) comes; can = s.1.0; room = s.1.1; goes_on = can }))
-      (λ (o : (why ≡ NoDocument) × ((q ≡ p) × (CanBecome p node a → ⊥))).
+      (λ (o : (why ≡ NoDocument) × ((q ≡ p) × (CanBecome p P.node a → ⊥))).
       inl (o.1.0, inr (inr (inr (inr (o.0, inr (inr (record { added = a; comes = retypes_to holds (Ok a) comes; other = o.1.1 }))))))) ) out
 
-  module _ (holds : Option (List FileRow)) (files : List (ℕ × Answer)) (names : Names) (g : Grown) (G : Grows holds p left name path e k (known files names) g) where
+  module _ (holds : Option (List FileRow)) (files : List (ℕ × Answer)) (names : Names) (g : Grown) (G : Grows holds p left name path plan.edit k (known files names) g) where
     pub names_grown : G.added.known.names ≡ names
     names_grown = sym (ap (λ (x : Known). x.names) G.known)
 
     pub has_grown : HasGrown g names
     has_grown = record { added = G.added; is = G.is; names_are = names_grown }
 
-    comes_there : (retyping k.names p path number text ≡ Ok (canvas, (key, retyped (settled_text k.names text) (entry_of node.element)))) × (canvas ≡ G.added.canvas)
-    comes_there = comes_ok k.names p path number text canvas key node C new (G.added.canvas, G.grew.entry) (subst (λ (x : Edit). coming k.names p path x ≡ Ok (G.added.canvas, G.grew.entry)) is_edit G.grew.comes)
+    comes_there : (retyping k.names p path number text ≡ Ok (plan.canvas, (plan.key, retyped (settled_text k.names text) (entry_of P.node.element)))) × (plan.canvas ≡ G.added.canvas)
+    comes_there = comes_ok k.names p path number text plan.canvas plan.key P.node P.chosen P.new (G.added.canvas, G.grew.entry) (subst (λ (x : Edit). coming k.names p path x ≡ Ok (G.added.canvas, G.grew.entry)) P.edit G.grew.comes)
 
     -- wires are as many as were counted
-    pub count_grown : (q : Patch) (now : ℕ) (b : RetypedBox) → n.wires ≡ wires_told p.web → b.counts ≡ g.counts → HasBecome p q now key node G.added → wires_told q.web ≡ wires_told p.web
+    pub count_grown : (q : Patch) (now : ℕ) (b : RetypedBox) → n.wires ≡ wires_told p.web → b.counts ≡ g.counts → HasBecome p q now plan.key P.node G.added → wires_told q.web ≡ wires_told p.web
         → b.counts.wires ≡ wires_told q.web
     count_grown q now b counted same H as_many =
         let x : b.counts.wires ≡ G.added.counts.wires = ap (λ (c : Counts). c.wires) (same ∙ G.is.counts) in
         let y : G.added.counts.wires ≡ left.wires + wires_inside G.added.boxes = ap (λ (c : Counts). c.wires) G.grew.counts in
         let z : wires_inside G.added.boxes ≡ 0 = ap wires_inside H.can.single in
-        let w : left.wires ≡ n.wires = ap (λ (c : Counts). c.wires) is_left in
+        let w : left.wires ≡ n.wires = ap (λ (c : Counts). c.wires) at_left in
         omega (arith, counted, x, y, z, w, as_many)
 
-    pub retypes_box : (q : Patch) (now : ℕ) (b : RetypedBox) (last : Names) → AreProper k.names k.files → All (IsOf k.names) text → IfSome (box_put (settled_edit k.names e)) (CanBeWritten k.names)
-        → HasBecome p q now key node G.added → b.key ≡ key → b.canvas ≡ g.canvas → b.counts ≡ g.counts → last ≡ names → RetypesBox p q n name path number text now k (known files last) b
+    pub retypes_box : (q : Patch) (now : ℕ) (b : RetypedBox) (last : Names) → AreProper k.names k.files → All (IsOf k.names) text → IfSome (box_put (settled_edit k.names plan.edit)) (CanBeWritten k.names)
+        → HasBecome p q now plan.key P.node G.added → b.key ≡ plan.key → b.canvas ≡ g.canvas → b.counts ≡ g.counts → last ≡ names → RetypesBox p q n name path number text now k (known files last) b
     retypes_box q now b last found is_known written H is_key canvas_is counts table =
         let there = comes_there in
-        let there_canvas : b.canvas ≡ canvas = canvas_is ∙ G.is.canvas ∙ sym there.1 in
-        let put = new_entry k.names p path number text canvas key node C new in
+        let there_canvas : b.canvas ≡ plan.canvas = canvas_is ∙ G.is.canvas ∙ sym there.1 in
+        let put = new_entry k.names p path number text plan.canvas plan.key P.node P.chosen P.new in
         record {
-          node = node;
-          chosen = record { leads = C.leads ∙ ap (λ (x : ℕ). Some x) (sym there_canvas); at = at_of b.canvas b.key there_canvas is_key; is = ap (λ (x : ℕ). get p.grove.nodes x) is_key ∙ C.is; takes = C.takes };
-          is = there.0 ∙ (λ i. Ok (sym there_canvas i, (sym is_key i, retyped (settled_text k.names text) (entry_of node.element))));
+          node = P.node;
+          chosen = record { leads = P.chosen.leads ∙ ap (λ (x : ℕ). Some x) (sym there_canvas); at = at_of b.canvas b.key there_canvas is_key; is = ap (λ (x : ℕ). get p.grove.nodes x) is_key ∙ P.chosen.is; takes = P.chosen.takes };
+          is = there.0 ∙ (λ i. Ok (sym there_canvas i, (sym is_key i, retyped (settled_text k.names text) (entry_of P.node.element))));
           new_entry = put;
           table = G.table;
           found = found;
           is_known = is_known;
-          written = written_so put (subst (λ (x : Edit). IfSome (box_put (settled_edit k.names x)) (CanBeWritten k.names)) is_edit written);
+          written = written_so put (subst (λ (x : Edit). IfSome (box_put (settled_edit k.names x)) (CanBeWritten k.names)) P.edit written);
           added = G.added;
           comes = comes_so holds (Ok G.added) G.comes;
           files = G.files;
           grew = grew_so;
-          became = subst (λ (x : ℕ). HasBecome p q now x node G.added) (sym is_key) H;
+          became = subst (λ (x : ℕ). HasBecome p q now x P.node G.added) (sym is_key) H;
           canvas = canvas_is ∙ G.is.canvas;
           counts = counts ∙ G.is.counts;
           known_is = ap (known files) table ∙ G.known;
           table_after = subst IsTable (sym table) G.table_after;
         }
       where
-        at_of : (c x : ℕ) → c ≡ canvas → x ≡ key → slice_get (keys_at p.grove c) number ≡ Some x
-        at_of c x e f = ap (λ (y : ℕ). slice_get (keys_at p.grove y) number) e ∙ C.at ∙ ap (λ (y : ℕ). Some y) (sym f)
+        at_of : (c x : ℕ) → c ≡ plan.canvas → x ≡ plan.key → slice_get (keys_at p.grove c) number ≡ Some x
+        at_of c x e f = ap (λ (y : ℕ). slice_get (keys_at p.grove y) number) e ∙ P.chosen.at ∙ ap (λ (y : ℕ). Some y) (sym f)
 
-        written_so : box_put (settled_edit k.names instead) ≡ Some (retyped (settled_text k.names text) (entry_of node.element)) → IfSome (box_put (settled_edit k.names instead)) (CanBeWritten k.names)
-            → CanBeWritten k.names (retyped (settled_text k.names text) (entry_of node.element))
+        written_so : box_put (settled_edit k.names instead) ≡ Some (retyped (settled_text k.names text) (entry_of P.node.element)) → IfSome (box_put (settled_edit k.names instead)) (CanBeWritten k.names)
+            → CanBeWritten k.names (retyped (settled_text k.names text) (entry_of P.node.element))
         written_so is w = subst (λ (o : Option Entry). IfSome o (CanBeWritten k.names)) is w
 
-        grew_so : GrewWith p (counts_but p.rate node n) name path instead k G.files G.added
-        grew_so = subst (λ (m : Counts). GrewWith p m name path instead k G.files G.added) is_left (subst (λ (x : Edit). GrewWith p left name path x k G.files G.added) is_edit G.grew)
+        grew_so : GrewWith p (counts_but p.rate P.node n) name path instead k G.files G.added
+        grew_so = subst (λ (m : Counts). GrewWith p m name path instead k G.files G.added) at_left (subst (λ (x : Edit). GrewWith p left name path x k G.files G.added) P.edit G.grew)

@@ -1,0 +1,89 @@
+use Rattle.std.proofs.Common.{sym, ◌∙◌, subst}
+use Rattle.pd_atom.specs.Names.{Names}
+use Rattle.pd_refitting.specs.Room.{TakesRefit}
+use Rattle.pd_deleting.proofs.DeleteLemmas.{still_meet}
+use Rattle.pd_retyping.proofs.BecomeLemmas.{lives_there, room_zero, room_wires, refit_zero, refit_wires, for_can, for_made, refits_same}
+use Rattle.pd_retyping.proofs.becoming.make_other.Goals as goal
+
+pub reserve_refit-requires-clause-here : goal.reserve_refit-requires-clause-here
+reserve_refit-requires-clause-here c = let C = c.requires.can.1 in lives_there c.args.patch.now c.args.key c.requires.can.0 C.is
+
+pub reserve_refit-requires-clause-apart : goal.reserve_refit-requires-clause-apart
+reserve_refit-requires-clause-apart c = let C = c.requires.can.1 in C.can.apart
+
+pub reserve_refit-requires-clause-small : goal.reserve_refit-requires-clause-small
+reserve_refit-requires-clause-small c = let C = c.requires.can.1 in C.leaf.small
+
+pub refit-requires-clause-can : goal.refit-requires-clause-can
+refit-requires-clause-can c =
+    let p = c.args.patch.now in
+    let q = c.reserve_refit.new.patch in
+    let n = c.requires.can.0 in
+    let can = c.refit_room_changes_nothing.ensures p q c.args.key n c.args.seed c.reserve_refit.ensures.same c.requires.can.1 in
+    (n, for_can p q c.args.key n c.args.seed c.in_ok-room.room c.in_ok-room.ensures.refits can)
+
+pub refit-requires-clause-room : goal.refit-requires-clause-room
+refit-requires-clause-room c =
+    subst (λ (t : Names). TakesRefit c.reserve_refit.new.patch c.in_ok-room.room t) (sym c.reserve_refit.ensures.table) c.in_ok-room.ensures.room
+
+pub returns-clause-made : goal.returns-clause-made
+returns-clause-made c = λ n is.
+    let p = c.args.patch.now in
+    let q = c.reserve_refit.new.patch in
+    let can = refits_same p c.args.key c.requires.can.0 n c.args.seed c.requires.can.1 is in
+    for_made p q c.args.key n c.args.seed c.in_ok-room.room c.in_ok-room.ensures.refits c.refit.new.patch c.reserve_refit.new.symbols c.args.symbols.now c.reserve_refit.ensures.table
+    c.reserve_refit.ensures.same (c.refit_room_changes_nothing.ensures p q c.args.key n c.args.seed c.reserve_refit.ensures.same can) c.refit.ensures.refitted
+
+pub returns-clause-goes_on : goal.returns-clause-goes_on
+returns-clause-goes_on c =
+    let p = c.args.patch.now in
+    let q = c.reserve_refit.new.patch in
+    let n = c.requires.can.0 in
+    let C = for_can p q c.args.key n c.args.seed c.in_ok-room.room c.in_ok-room.ensures.refits
+    (c.refit_room_changes_nothing.ensures p q c.args.key n c.args.seed c.reserve_refit.ensures.same c.requires.can.1) in
+    c.patches_run_on_refitted.ensures.can c.reserve_refit.new.patch c.refit.new.patch c.reserve_refit.new.symbols c.in_ok-room.room.key n c.in_ok-room.room.seed C
+    (c.refit.ensures.refitted n C.is)
+
+pub returns-clause-meet : goal.returns-clause-meet
+returns-clause-meet c = λ M.
+    let p = c.args.patch.now in
+    let q = c.reserve_refit.new.patch in
+    let n = c.requires.can.0 in
+    let C = for_can p q c.args.key n c.args.seed c.in_ok-room.room c.in_ok-room.ensures.refits
+    (c.refit_room_changes_nothing.ensures p q c.args.key n c.args.seed c.reserve_refit.ensures.same c.requires.can.1) in
+    c.patches_run_on_refitted.ensures.meet c.reserve_refit.new.patch c.refit.new.patch c.reserve_refit.new.symbols c.in_ok-room.room.key n c.in_ok-room.room.seed
+    (c.refit.ensures.refitted n C.is) (still_meet c.args.patch.now.web c.reserve_refit.new.patch.web c.reserve_refit.ensures.same.web M)
+
+pub returns-clause-as_many : goal.returns-clause-as_many
+returns-clause-as_many c =
+    let p = c.args.patch.now in
+    let q = c.reserve_refit.new.patch in
+    let n = c.requires.can.0 in
+    let C = for_can p q c.args.key n c.args.seed c.in_ok-room.room c.in_ok-room.ensures.refits
+    (c.refit_room_changes_nothing.ensures p q c.args.key n c.args.seed c.reserve_refit.ensures.same c.requires.can.1) in
+    refit_wires c.reserve_refit.new.patch c.refit.new.patch c.reserve_refit.new.symbols c.in_ok-room.room.key n c.in_ok-room.room.seed (c.refit.ensures.refitted n C.is)
+    ∙ room_wires c.args.patch.now c.reserve_refit.new.patch c.reserve_refit.ensures.same
+
+pub returns-clause-zero : goal.returns-clause-zero
+returns-clause-zero c =
+    let p = c.args.patch.now in
+    let q = c.reserve_refit.new.patch in
+    let n = c.requires.can.0 in
+    let C = for_can p q c.args.key n c.args.seed c.in_ok-room.room c.in_ok-room.ensures.refits
+    (c.refit_room_changes_nothing.ensures p q c.args.key n c.args.seed c.reserve_refit.ensures.same c.requires.can.1) in
+    refit_zero c.reserve_refit.new.patch c.refit.new.patch c.reserve_refit.new.symbols c.in_ok-room.room.key n c.in_ok-room.room.seed (c.refit.ensures.refitted n C.is)
+    ∙ room_zero c.args.patch.now c.reserve_refit.new.patch c.reserve_refit.ensures.same
+
+pub returns-in_err-room-clause-goes_on : goal.returns-in_err-room-clause-goes_on
+returns-in_err-room-clause-goes_on c =
+    let C = c.requires.can.1 in
+    c.room_changes_nothing.ensures.can c.args.patch.now c.reserve_refit.new.patch c.reserve_refit.ensures.same C.can
+
+pub returns-in_err-room-clause-meet : goal.returns-in_err-room-clause-meet
+returns-in_err-room-clause-meet c = λ M. still_meet c.args.patch.now.web c.reserve_refit.new.patch.web c.reserve_refit.ensures.same.web M
+
+pub returns-in_err-room-clause-as_many : goal.returns-in_err-room-clause-as_many
+returns-in_err-room-clause-as_many c = room_wires c.args.patch.now c.reserve_refit.new.patch c.reserve_refit.ensures.same
+
+pub returns-in_err-room-clause-zero : goal.returns-in_err-room-clause-zero
+returns-in_err-room-clause-zero c = room_zero c.args.patch.now c.reserve_refit.new.patch c.reserve_refit.ensures.same

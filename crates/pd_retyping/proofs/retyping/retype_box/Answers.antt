@@ -1,0 +1,78 @@
+use Rattle.std.proofs.Common.{ℕ, List, take, length, sym, ap, ◌∙◌, subst}
+use Rattle.std.specs.List.{All}
+use Rattle.pd_atom.specs.declared.Atom.{Atom}
+use Rattle.pd_atom.specs.Atoms.{IsOf}
+use Rattle.pd_atom.specs.Names.{Names, Extends}
+use Rattle.pd_gather.specs.Gather.{known}
+use Rattle.pd_gather.proofs.AskLemmas.{names_cut}
+use Rattle.pd_wiring.specs.declared.refusals.EditRefusal.TheVariants.{ShelfFault}
+use Rattle.pd_adding.proofs.AddLemmas.{extends_same}
+use Rattle.pd_retyping.proofs.RetypeLemmas.{not_known, left_so, no_fault, same_err, has_grown, names_grown, count_grown, retypes_box}
+use Rattle.pd_retyping.proofs.BecomeLemmas.{lives_there}
+use Rattle.pd_retyping.proofs.retyping.retype_box.Goals as goal
+
+pub plan_of-requires : goal.plan_of-requires
+plan_of-requires g c =
+    record { known = subst (λ (text : List Atom). All (IsOf c.args.symbols.now) text) c.as_slice.ensures (c.are_of.ensures.all c.if-not-are_of.false) }
+
+pub returns-then-not-are_of-clause-refused : goal.returns-then-not-are_of-clause-refused
+returns-then-not-are_of-clause-refused g c =
+    not_known c.args.patch.now c.args.counts c.args.site.name.now c.args.site.path.now c.args.number c.args.text.now (known c.args.library.now c.args.symbols.now)
+    (subst (λ (text : List Atom). All (IsOf c.args.symbols.now) text → ⊥) c.as_slice.ensures (c.are_of.ensures.some c.if-not-are_of.true))
+
+pub become_grown-requires-clause-here : goal.become_grown-requires-clause-here
+become_grown-requires-clause-here g c =
+    let P = c.in_ok-plan.ensures.planned in
+    lives_there c.args.patch.now c.in_ok-plan.plan.key P.node P.chosen.is
+
+pub become_grown-requires-clause-grown : goal.become_grown-requires-clause-grown
+become_grown-requires-clause-grown g c =
+    has_grown c.args.patch.now c.args.counts c.counts_without-left.result c.args.site.name.now c.args.site.path.now c.args.number c.args.text.now (known c.args.library.now c.args.symbols.now)
+    c.in_ok-plan.plan c.in_ok-plan.ensures.planned c.counts_without-left.ensures.less
+    (g.H.Shelf.holds c.args.shelf.now) c.grow_aside.new.library c.grow_aside.new.symbols c.in_ok-grown.grown c.in_ok-grown.ensures.grown
+
+pub returns-in-Ok-clause-retyped : goal.returns-in-Ok-clause-retyped
+returns-in-Ok-clause-retyped g c =
+    let G = c.in_ok-grown.ensures.grown in
+    let P = c.in_ok-plan.ensures.planned in
+    let k = known c.args.library.now c.args.symbols.now in
+    let holds = g.H.Shelf.holds c.args.shelf.now in
+    let names = names_grown c.args.patch.now c.args.counts c.counts_without-left.result c.args.site.name.now c.args.site.path.now c.args.number c.args.text.now k c.in_ok-plan.plan P
+    c.counts_without-left.ensures.less holds c.grow_aside.new.library c.grow_aside.new.symbols c.in_ok-grown.grown G in
+    retypes_box c.args.patch.now c.args.counts c.counts_without-left.result c.args.site.name.now c.args.site.path.now c.args.number c.args.text.now k c.in_ok-plan.plan P
+    c.counts_without-left.ensures.less holds c.grow_aside.new.library c.grow_aside.new.symbols c.in_ok-grown.grown G
+    c.become_grown.new.patch c.args.site.now c.in-Ok.retyped c.become_grown.new.symbols c.requires.found
+    (subst (λ (text : List Atom). All (IsOf c.args.symbols.now) text) c.as_slice.ensures (c.are_of.ensures.all c.if-not-are_of.false)) c.in_ok-grown.ensures.written
+    (c.in-Ok.ensures.became P.node G.added P.chosen.is G.is names) c.in-Ok.ensures.key c.in-Ok.ensures.canvas c.in-Ok.ensures.counts c.become_grown.ensures.table
+
+pub returns-in-Ok-clause-counted : goal.returns-in-Ok-clause-counted
+returns-in-Ok-clause-counted g c =
+    let G = c.in_ok-grown.ensures.grown in
+    let P = c.in_ok-plan.ensures.planned in
+    let k = known c.args.library.now c.args.symbols.now in
+    let holds = g.H.Shelf.holds c.args.shelf.now in
+    let names = names_grown c.args.patch.now c.args.counts c.counts_without-left.result c.args.site.name.now c.args.site.path.now c.args.number c.args.text.now k c.in_ok-plan.plan P
+    c.counts_without-left.ensures.less holds c.grow_aside.new.library c.grow_aside.new.symbols c.in_ok-grown.grown G in
+    count_grown c.args.patch.now c.args.counts c.counts_without-left.result c.args.site.name.now c.args.site.path.now c.args.number c.args.text.now k c.in_ok-plan.plan P
+    c.counts_without-left.ensures.less holds c.grow_aside.new.library c.grow_aside.new.symbols c.in_ok-grown.grown G
+    c.become_grown.new.patch c.args.site.now c.in-Ok.retyped c.requires.counted c.in-Ok.ensures.counts (c.in-Ok.ensures.became P.node G.added P.chosen.is G.is names) c.become_grown.ensures.as_many
+
+pub returns-clause-refused : goal.returns-clause-refused
+returns-clause-refused g c =
+    let G = c.in_ok-grown.ensures.grown in
+    let P = c.in_ok-plan.ensures.planned in
+    left_so c.args.patch.now c.args.counts c.counts_without-left.result c.args.site.name.now c.args.site.path.now c.args.number c.args.text.now (known c.args.library.now c.args.symbols.now)
+    c.in_ok-plan.plan P c.counts_without-left.ensures.less (g.H.Shelf.holds c.args.shelf.now) c.become_grown.new.patch G.added c.in-Err.why G.comes c.become_grown.ensures.goes_on
+    (c.in-Err.ensures.refused P.node G.added P.chosen.is G.is)
+
+pub returns-clause-cause : goal.returns-clause-cause
+returns-clause-cause g c = λ h.
+    let G = c.in_ok-grown.ensures.grown in
+    let P = c.in_ok-plan.ensures.planned in
+    absurd (no_fault c.args.patch.now c.become_grown.new.patch P.node G.added c.in-Err.why (c.in-Err.ensures.refused P.node G.added P.chosen.is G.is) (same_err c.in-Err.why ShelfFault h))
+
+pub returns-clause-extends : goal.returns-clause-extends
+returns-clause-extends g c =
+    let same = names_cut c.args.symbols.now c.grow_aside.new.symbols c.forget.new.symbols c.len-names.result c.grow_aside.ensures.extends c.len-names.ensures.value
+    (c.forget.ensures.names ∙ ap (λ (names : Names). take c.len-names.result names) c.become_grown.ensures.table) in
+    subst (Extends c.args.symbols.now) (sym same) (extends_same c.args.symbols.now)
