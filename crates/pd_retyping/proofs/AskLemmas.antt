@@ -113,8 +113,16 @@ module _ (names : Names) (p : Patch) (path : List ℕ) (number : ℕ) (text : Li
     kept_refused why k is kept true long same =
         inl (chosen_is ∙ kept_long names depth text canvas key (entry_of node.element) kept long ∙ ap (λ (x : EditRefusal). Err x) (sym same))
     kept_refused why k is kept false short same =
-        inr (same, record { canvas = canvas; key = key; node = node; chosen = C;
-          kept = subst (λ (t : Names). keeps_inside (entry_of node.element) (settled_text t text) ≡ true) (sym is) kept })
+        inr (
+          same,
+          record {
+            canvas = canvas;
+            key = key;
+            node = node;
+            chosen = C;
+            kept = subst (λ (t : Names). keeps_inside (entry_of node.element) (settled_text t text) ≡ true) (sym is) kept;
+          },
+        )
 
     module _ (new : keeps_inside (entry_of node.element) written ≡ false) where
       pub new_entry : box_put (settled_edit names (put_instead (entry_of node.element) text)) ≡ Some (retyped written (entry_of node.element))

@@ -1,6 +1,6 @@
 -- Why an edit makes no box another one, and what is counted where it makes one.
 use Rattle.std.proofs.Common.{◌≡◌, ◌≢◌, ◌+◌, ℕ, false, List, [], slice_get, Option, Some, None, Result, Ok, Err, IfSome, inl, inr, refl, sym, ap, ◌∙◌, subst, arith}
-use Rattle.std.specs.Prelude.{◌⊎◌}
+use Rattle.std.specs.Prelude.{◌⊎◌, IsErrAnd, IfErr}
 use Rattle.std.specs.List.{All}
 use mathlib.Core.Logic.{⊎_elim}
 use Rattle.slab.specs.Slab.{get}
@@ -44,11 +44,14 @@ not_known p n name path number text k other = inl (refl, inr (inr (inr (inr (ref
 -- the box, or its text, is refused
 pub not_planned : (p : Patch) (n : Counts) (name path : List ℕ) (number : ℕ) (text : List Atom) (k : Known) (why : EditRefusal)
     → IsUnplanned k.names p path number text why → IsNotRetyped p p n name path number text k why
-not_planned p n name path number text k why un = inl (refl, ⊎_elim
-    (λ (m : why ≡ NoMemory). inl m)
-    (λ (o : (retyping k.names p path number text ≡ Err why) ⊎ ((why ≡ NoDocument) × IsKept p path number text (known [] k.names))). ⊎_elim
-    (λ (r : retyping k.names p path number text ≡ Err why). inr (inl r))
-    (λ (q : (why ≡ NoDocument) × IsKept p path number text (known [] k.names)). inr (inr (inr (inr (q.0, inr (inl (kept_anyhow q.1))))))) o) un)
+not_planned p n name path number text k why un = inl (
+  refl,
+  ⊎_elim
+      (λ (m : why ≡ NoMemory). inl m)
+      (λ (o : (retyping k.names p path number text ≡ Err why) ⊎ ((why ≡ NoDocument) × IsKept p path number text (known [] k.names))). ⊎_elim
+      (λ (r : retyping k.names p path number text ≡ Err why). inr (inl r))
+      (λ (q : (why ≡ NoDocument) × IsKept p path number text (known [] k.names)). inr (inr (inr (inr (q.0, inr (inl (kept_anyhow q.1))))))) o) un,
+)
   where
     kept_anyhow : IsKept p path number text (known [] k.names) → IsKept p path number text k
     kept_anyhow K = record { canvas = K.canvas; key = K.key; node = K.node; chosen = K.chosen; kept = K.kept }
@@ -65,6 +68,11 @@ the_err d (Err e) = e
 pub same_err : {A E : Type 0} (x y : E) → ◌≡◌ {A = Result A E} (Err x) (Err y) → x ≡ y
 unfolding the_err
 same_err x y h = ap (the_err x) h
+
+-- what `?` gives back
+pub as_told : {T : Type 0} (r : Result T EditRefusal) (why : EditRefusal) (P : EditRefusal → Type 0) → IsErrAnd r (λ e. e ≡ why) → P why → IfErr r P
+as_told (Ok x) why P h t = absurd h
+as_told (Err e) why P h t = subst P (sym h) t
 
 memory_no_fault : (why : EditRefusal) → why ≡ NoMemory → why ≡ ShelfFault → ⊥
 memory_no_fault why a b = cc
@@ -111,7 +119,7 @@ module _ (p : Patch) (n left : Counts) (name path : List ℕ) (number : ℕ) (te
       (λ (s : (why ≡ NoMemory) × (CanBecome p P.node a × SameButRoom p q)).
       inr (s.0, record { added = a; comes = retypes_to holds (Ok a) comes; can = s.1.0; room = s.1.1; goes_on = can }))
       (λ (o : (why ≡ NoDocument) × ((q ≡ p) × (CanBecome p P.node a → ⊥))).
-      inl (o.1.0, inr (inr (inr (inr (o.0, inr (inr (record { added = a; comes = retypes_to holds (Ok a) comes; other = o.1.1 }))))))) ) out
+      inl (o.1.0, inr (inr (inr (inr (o.0, inr (inr (record { added = a; comes = retypes_to holds (Ok a) comes; other = o.1.1 })))))))) out
 
   module _ (holds : Option (List FileRow)) (files : List (ℕ × Answer)) (names : Names) (g : Grown) (G : Grows holds p left name path plan.edit k (known files names) g) where
     pub names_grown : G.added.known.names ≡ names

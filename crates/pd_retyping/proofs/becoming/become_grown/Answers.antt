@@ -22,8 +22,11 @@ make_other-requires c =
     let n = some_there (get p.grove.nodes c.args.key) c.requires.here in
     let P = c.can_become.ensures.yes c.if-not-can_become.false n.0 h.added n.1 h.is in
     record {
-      can = (n.0, seed_refits p n.0 c.args.grown h.added h.is P c.in-Ok.seed c.in-Ok.ensures.stand c.args.key c.requires.can n.1
-          (seed_leaf p n.0 c.args.grown h.added h.is P c.in-Ok.seed c.in-Ok.ensures.stand c.in-Ok.ensures.leaf));
+      can = (
+        n.0,
+        seed_refits p n.0 c.args.grown h.added h.is P c.in-Ok.seed c.in-Ok.ensures.stand c.args.key c.requires.can n.1
+            (seed_leaf p n.0 c.args.grown h.added h.is P c.in-Ok.seed c.in-Ok.ensures.stand c.in-Ok.ensures.leaf),
+      );
     }
 
 pub returns-clause-became : goal.returns-clause-became

@@ -1,13 +1,15 @@
-use Rattle.std.proofs.Common.{ℕ, List, take, length, sym, ap, ◌∙◌, subst}
+use Rattle.std.proofs.Common.{ℕ, List, Err, take, length, sym, ap, ◌∙◌, subst}
 use Rattle.std.specs.List.{All}
 use Rattle.pd_atom.specs.declared.Atom.{Atom}
 use Rattle.pd_atom.specs.Atoms.{IsOf}
 use Rattle.pd_atom.specs.Names.{Names, Extends}
 use Rattle.pd_gather.specs.Gather.{known}
 use Rattle.pd_gather.proofs.AskLemmas.{names_cut}
+use Rattle.pd_wiring.specs.declared.refusals.EditRefusal.{EditRefusal}
 use Rattle.pd_wiring.specs.declared.refusals.EditRefusal.TheVariants.{ShelfFault}
 use Rattle.pd_adding.proofs.AddLemmas.{extends_same}
-use Rattle.pd_retyping.proofs.RetypeLemmas.{not_known, left_so, no_fault, same_err, has_grown, names_grown, count_grown, retypes_box}
+use Rattle.pd_retyping.proofs.RetypeLemmas.{as_told, not_known, not_grown, left_so, no_fault, same_err, has_grown, names_grown, count_grown, retypes_box}
+use Rattle.pd_retyping.specs.Retypes.{IsNotRetyped}
 use Rattle.pd_retyping.proofs.BecomeLemmas.{lives_there}
 use Rattle.pd_retyping.proofs.retyping.retype_box.Goals as goal
 
@@ -76,3 +78,12 @@ returns-clause-extends g c =
     let same = names_cut c.args.symbols.now c.grow_aside.new.symbols c.forget.new.symbols c.len-names.result c.grow_aside.ensures.extends c.len-names.ensures.value
     (c.forget.ensures.names ∙ ap (λ (names : Names). take c.len-names.result names) c.become_grown.ensures.table) in
     subst (Extends c.args.symbols.now) (sym same) (extends_same c.args.symbols.now)
+
+pub returns-in_err-grown-clause-refused : goal.returns-in_err-grown-clause-refused
+returns-in_err-grown-clause-refused g c =
+    let k = known c.args.library.now c.args.symbols.now in
+    let why = c.in_err-grown.field-0.0 in
+    as_told c.from_residual-in_err-grown.result why
+    (IsNotRetyped c.args.patch.now c.args.patch.now c.args.counts c.args.site.name.now c.args.site.path.now c.args.number c.args.text.now k) c.from_residual-in_err-grown.ensures.1
+    (not_grown c.args.patch.now c.args.counts c.counts_without-left.result c.args.site.name.now c.args.site.path.now c.args.number c.args.text.now k c.in_ok-plan.plan c.in_ok-plan.ensures.planned
+    c.counts_without-left.ensures.less (g.H.Shelf.holds c.args.shelf.now) why c.in_err-grown.ensures.refused (λ h. c.in_err-grown.ensures.asks (ap (λ (x : EditRefusal). Err x) h)))
