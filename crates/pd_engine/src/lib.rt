@@ -7,9 +7,11 @@
 //! planned to be or for want of memory; one that puts a box grows it, with the files for which it asks, and puts it
 //! last into its canvas where it is one box without a canvas and no port of a box around, or a subpatch without boxes,
 //! and tells why it could not be made; one that deletes a box without a canvas takes it out with its wires and its
-//! clock; one that moves a box gives it another place in its window; a save puts the document's text under the name
-//! of its file; every other edit or save is refused, and there is nothing to undo or redo. It makes no difference
-//! whether a command or a message asks for an edit. Looks at signal wires are at most those of the edits.
+//! clock; one that moves a box gives it another place in its window; one that gives a box another text grows what it
+//! becomes, puts that in its place where both are boxes without a canvas and have the same ports, and tells why it
+//! could not be made; a save puts the document's text under the name of its file; every other edit or save is refused,
+//! and there is nothing to undo or redo. It makes no difference whether a command or a message asks for an edit. Looks
+//! at signal wires are at most those of the edits.
 //!
 //! `command` does what its command says: a `send` is its event, that is pd_walk's deliveries under 1,000,000, and
 //! then each edit that was asked for is taken; `show` prints the order of the canvas that its path leads to; an edit,
@@ -28,15 +30,16 @@
 //! stands for the tree that growth gives, with `$0` from 1001; the lines are those of growth and of the load event,
 //! and the engine stands where these lead, from the files that were gathered and the counts of the patch on. Edits
 //! that put boxes go on from these, also those that messages ask for while boxes load or time passes (`advance`,
-//! `finish`): the folder is asked for the files that a box names, holds what it held (`kept`), and each refusal for a
-//! fault of it raised its count. A refusal to open has its cause (`refused`): no such file, a text that isn't read,
-//! files whose names fill the table, a limit of growth, each with its number and cause; after each but `WriteFault`
-//! no line was printed (`quiet`). A fault of the folder is answered only where its count rose (`causes`).
+//! `finish`), and those that give boxes another text: the folder is asked for the files that a box names, holds what it
+//! held (`kept`), and each refusal for a fault of it raised its count. A refusal to open has its cause (`refused`): no
+//! such file, a text that isn't read, files whose names fill the table, a limit of growth, each with its number and
+//! cause; after each but `WriteFault` no line was printed (`quiet`). A fault of the folder is answered only where its
+//! count rose (`causes`).
 //!
 //! Law: from where a patch opens on, through commands and through time, a tree stands (pd_stage's `HasTree`): it stays
 //! as it grew but for its clocks, what its boxes keep, the blocks of their outlets, its wires with their links and
-//! orders, which stay sound, and the boxes that edits put, delete or move; and so each block that sounds is the whole
-//! one, however deep its canvases lie (`blocks_are_whole`).
+//! orders, which stay sound, and the boxes that edits put, delete, move or make others; and so each block that sounds is
+//! the whole one, however deep its canvases lie (`blocks_are_whole`).
 //!
 //! Free: want of memory, in opening, and of an edit or a save. A line tells the numbers of at most 16,384 boxes,
 //! which is as many as a patch may have: the lines of `show` tell all boxes of an order, and the line of a signal
