@@ -1,6 +1,5 @@
 -- Which box can become another one in its place.
-use Rattle.std.proofs.Common.{◌≡◌, ℕ, Bool, true, false, ◌||◌, not, is_some, List, map, Option, Some, None, inl, inr, refl, sym, ap, ◌∙◌}
-use Rattle.std.specs.Prelude.{◌⊎◌}
+use Rattle.std.proofs.Common.{◌≡◌, ℕ, Bool, true, false, ◌||◌, not, is_some, map, Option, Some, None, inl, inr, refl, sym, ◌∙◌}
 use Rattle.std.proofs.lemmas.Bool.{true≢false}
 use mathlib.Core.Logic.{⊎_elim}
 use Rattle.slab.specs.Slab.{get}

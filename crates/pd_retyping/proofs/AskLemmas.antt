@@ -1,12 +1,12 @@
 -- Which box an edit makes another one, and the edit that would put what it becomes.
-use Rattle.std.proofs.Common.{◌≡◌, ℕ, Bool, true, false, cond, nat_lt, ◌&&◌, not, if◌then◌else◌, List, [], ◌∷◌, length, map, slice_get, Option, Some, None, Result, Ok, Err, inl, inr, refl, sym, ap, ◌∙◌, subst}
+use Rattle.std.proofs.Common.{◌≡◌, ℕ, Bool, true, false, cond, nat_lt, ◌&&◌, not, if◌then◌else◌, List, length, slice_get, Some, None, Result, Ok, Err, inl, inr, refl, sym, ap, ◌∙◌, subst}
 use Rattle.std.specs.Prelude.{◌⊎◌}
 use Rattle.std.proofs.lemmas.List.{length-map}
 use Rattle.slab.specs.Slab.{get}
 use Rattle.pd_atom.specs.declared.Atom.{Atom}
 use Rattle.pd_atom.specs.Names.{Names}
 use Rattle.pd_atom.specs.Tokens.{settled}
-use Rattle.pd_canvas.specs.Pages.{Shape, Obj, Msg, Comment, FloatBox, SymbolBox, Sub, Array, Other, Entry, elements_of, empty_page}
+use Rattle.pd_canvas.specs.Pages.{Shape, Obj, Msg, Comment, FloatBox, SymbolBox, Sub, Array, Other, Entry}
 use Rattle.pd_canvas.specs.Edits.{begins_with_pd, element, object, retyped, retyped_as, takes_text}
 use Rattle.pd_canvas.specs.Views.{entry_of}
 use Rattle.pd_gather.specs.Gather.{Known}
@@ -21,7 +21,6 @@ use Rattle.pd_adding.specs.Boxes.{settled_edit, box_put}
 use Rattle.pd_adding.specs.Coming.{coming, coming_by, coming_in, IsComing}
 use Rattle.pd_retyping.specs.Asking.{takes_text_so, keeps_inside, settled_text, retyping, retyping_in, retyping_box, retyping_node, retyping_to, IsRetyping, put_as, put_instead}
 use Rattle.pd_retyping.specs.Retypes.{IsChosen, IsKept}
-use Rattle.pd_retyping.specs.Becoming.{IsUnplanned}
 
 -- ---- what an edit would put is what the box becomes
 

@@ -9,7 +9,6 @@ use Rattle.pd_atom.specs.Names.{Names}
 use Rattle.pd_object.specs.declared.kinds.Kind.{Kind}
 use Rattle.pd_object.specs.Ports.{IsSmallKind}
 use Rattle.pd_tree.specs.declared.rows.Row.{Row}
-use Rattle.pd_tree.specs.declared.rows.Sheet.{Sheet}
 use Rattle.pd_tree.specs.Trees.{Cell, Stand, Done, Leaf, stand_of, stands_of, stands_in}
 use Rattle.pd_growth.specs.Suits.{TextSuits, RowSuits}
 use Rattle.pd_grove.specs.declared.boards.Board.{Board}

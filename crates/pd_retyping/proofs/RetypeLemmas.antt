@@ -1,5 +1,5 @@
 -- Why an edit makes no box another one, and what is counted where it makes one.
-use Rattle.std.proofs.Common.{◌≡◌, ◌≢◌, ◌+◌, ℕ, false, List, [], slice_get, Option, Some, None, Result, Ok, Err, IfSome, inl, inr, refl, sym, ap, ◌∙◌, subst, arith}
+use Rattle.std.proofs.Common.{◌≡◌, ◌≢◌, ◌+◌, ℕ, List, [], slice_get, Option, Some, None, Result, Ok, Err, IfSome, inl, inr, refl, sym, ap, ◌∙◌, subst, arith}
 use Rattle.std.specs.Prelude.{◌⊎◌, IsErrAnd, IfErr}
 use Rattle.std.specs.List.{All}
 use mathlib.Core.Logic.{⊎_elim}
@@ -31,8 +31,8 @@ use Rattle.pd_adding.specs.Growing.{Added}
 use Rattle.pd_adding.specs.Adding.{ComesTo, GrewWith, Grows}
 use Rattle.pd_retyping.specs.declared.asking.Plan.{Plan}
 use Rattle.pd_retyping.specs.declared.retyping.RetypedBox.{RetypedBox}
-use Rattle.pd_retyping.specs.Asking.{keeps_inside, settled_text, retyping, put_instead}
-use Rattle.pd_retyping.specs.Retypes.{counts_but, IsChosen, RetypesTo, CanBecome, HasBecome, RetypesBox, IsKept, IsRefused, IsNotRetyped}
+use Rattle.pd_retyping.specs.Asking.{settled_text, retyping, put_instead}
+use Rattle.pd_retyping.specs.Retypes.{counts_but, RetypesTo, CanBecome, HasBecome, RetypesBox, IsKept, IsRefused, IsNotRetyped}
 use Rattle.pd_retyping.specs.Becoming.{IsPlanned, IsUnplanned, HasGrown, StaysItself}
 use Rattle.pd_retyping.proofs.AskLemmas.{new_entry, comes_ok, comes_asks}
 

@@ -1,5 +1,5 @@
 -- Which box an edit makes another one, and what it becomes, before that grows.
-use Rattle.std.specs.Prelude.{ℕ, ℤ, nat_lt, Bool, false, ◌&&◌, not, cond, if◌then◌else◌, length, map, List, slice_get, Option, Some, None, Result, Ok, Err}
+use Rattle.std.specs.Prelude.{ℕ, ℤ, nat_lt, Bool, ◌&&◌, not, cond, if◌then◌else◌, length, map, List, slice_get, Option, Some, None, Result, Ok, Err}
 use Rattle.slab.specs.Slab.{get}
 use Rattle.pd_atom.specs.declared.Atom.{Atom}
 use Rattle.pd_atom.specs.Names.{Names}

@@ -1,21 +1,19 @@
 -- A box that an edit makes another one in a canvas of a running patch.
-use Rattle.std.specs.Prelude.{◌≡◌, ◌⊎◌, ℕ, true, false, List, Option, Some, None, Result, Ok, Err, IfSome, slice_get}
+use Rattle.std.specs.Prelude.{◌≡◌, ◌⊎◌, ℕ, true, false, List, Some, None, Result, Ok, Err, slice_get}
+use Rattle.std.specs.List.{All}
 use Rattle.slab.specs.Slab.{get}
 use Rattle.pd_atom.specs.declared.Atom.{Atom}
 use Rattle.pd_atom.specs.Names.{IsTable}
-use Rattle.std.specs.List.{All}
 use Rattle.pd_atom.specs.Atoms.{IsOf}
 use Rattle.pd_clock.specs.declared.times.Rate.{Rate}
 use Rattle.pd_object.specs.declared.kinds.Kind.{Kind}
 use Rattle.pd_object.specs.Ports.{ports_of}
 use Rattle.pd_kind.specs.States.{size_of}
-use Rattle.pd_canvas.specs.Pages.{Entry}
 use Rattle.pd_canvas.specs.Edits.{retyped}
 use Rattle.pd_canvas.specs.Views.{entry_of}
 use Rattle.pd_tree.specs.Ports.{is_made}
 use Rattle.pd_tree.specs.Trees.{Cell, Done, Leaf, stand_of}
 use Rattle.pd_growth.specs.Suits.{RowSuits}
-use Rattle.pd_gather.specs.declared.fetching.Fetch.{Fetch}
 use Rattle.pd_gather.specs.Gather.{Known, AreProper}
 use Rattle.pd_grove.specs.declared.nodes.Node.{Node}
 use Rattle.pd_grove.specs.declared.seeds.Seed.{Seed}
@@ -32,7 +30,7 @@ use Rattle.pd_refitting.specs.Refits.{IsPlainIn, CanRefit, IsRefitted}
 use Rattle.pd_adding.specs.declared.counts.Counts.{Counts}
 use Rattle.pd_adding.specs.Boxes.{CanBeWritten, settled_edit, box_put}
 use Rattle.pd_adding.specs.Growing.{Added}
-use Rattle.pd_adding.specs.Adding.{coming_to, ComesTo, GrewWith}
+use Rattle.pd_adding.specs.Adding.{ComesTo, GrewWith}
 use Rattle.pd_deleting.specs.Deletes.{counts_less}
 use Rattle.pd_retyping.specs.declared.retyping.RetypedBox.{RetypedBox}
 use Rattle.pd_retyping.specs.Asking.{takes_text_so, keeps_inside, settled_text, retyping, IsRetyping, put_instead}

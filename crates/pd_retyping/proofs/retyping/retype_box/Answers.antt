@@ -1,4 +1,4 @@
-use Rattle.std.proofs.Common.{ℕ, List, Err, take, length, sym, ap, ◌∙◌, subst}
+use Rattle.std.proofs.Common.{List, Err, take, sym, ap, ◌∙◌, subst}
 use Rattle.std.specs.List.{All}
 use Rattle.pd_atom.specs.declared.Atom.{Atom}
 use Rattle.pd_atom.specs.Atoms.{IsOf}
