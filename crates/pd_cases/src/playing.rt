@@ -3,8 +3,8 @@
 use crate::runs::push_runs;
 use crate::stage::{Failing, Stage, stage_of};
 use anyhow::{Result, bail};
-use pd_faithful::play;
 use pd_io::{MemShelf, MemSink, MemSource};
+use pd_play::play;
 use std::alloc::Global;
 
 /// The room of the lines and of the samples.
