@@ -1,28 +1,11 @@
 //! The law of saves in whole runs.
-ghost use Rattle.std.specs.Prelude.{◌+◌, ◌≤◌, ◌^◌, ℕ, List, Option};
-ghost use Rattle.pd_io.specs.declared.files.FileRow.{FileRow};
-ghost use Rattle.pd_atom.specs.Names.{Names, IsTable};
-ghost use Rattle.pd_canvas.specs.Pages.{Page};
-ghost use Rattle.pd_clock.specs.declared.times.Rate.{Rate};
-ghost use Rattle.pd_patch.specs.declared.patch.Patch.{Patch};
-ghost use Rattle.pd_reload_law.specs.Wires.{StandOnce};
-ghost use Rattle.pd_stage.specs.Choices.{Base, Choice};
-ghost use Rattle.pd_stage.specs.Lawful.{StandsAt, AreLawful};
-ghost use Rattle.pd_stage.specs.Stages.{followed_by};
-ghost use Rattle.pd_stage.specs.Times.{block_units};
-ghost use Rattle.pd_engine.specs.Opening.{Grows, opened};
-ghost use Rattle.pd_steady.specs.Runs.{own_ways};
-ghost use Rattle.pd_steady.specs.Steps.{Step, AreSteps, steps_by, run_by};
-ghost use Rattle.pd_again_law.specs.Again.{Reopens, AreAgain};
+ghost use Rattle.pd_again_law.specs.Laws.{SavesOpenAgain, StagesOpenAgain};
 
 /// In a run in which each edit is lawful, from where a patch opens to its end, whatever wires and boxes come, go and move, and whatever boxes become,
 /// each save puts a text that opens again, as a file that is opened does, as the patch that was saved. It does so with the files that are known by
 /// then, which begin with those that were gathered where the patch opened.
 pub fn saves_open_again()
-    ensures { (holds : Option (List FileRow)) (name : List ℕ) (rate : Rate) (d : Page) (names table : Names) (p : Patch) (base : Base) (most : ℕ)
-        (steps : List Step) (ahead : List Choice) → (grows : Grows holds name rate d names p table base) → most + block_units ≤ 2 ^ 101 →
-        AreSteps most steps (opened name p table base ahead).stage → AreLawful (run_by own_ways name p table base ahead steps).edits →
-        AreAgain grows.files.files name rate (run_by own_ways name p table base ahead steps).edits }
+    ensures { SavesOpenAgain }
 {
     pd_guards::delivery_passes_nothing_over();
     pd_guards::messages_keep_values();
@@ -50,12 +33,7 @@ pub fn saves_open_again()
 
 /// In such a run a patch that stands anywhere between two steps has a text that opens again as that patch, also where nothing is saved.
 pub fn stages_open_again()
-    ensures { (holds : Option (List FileRow)) (name : List ℕ) (rate : Rate) (d : Page) (names table : Names) (p : Patch) (base : Base) (most : ℕ)
-        (steps : List Step) (ahead : List Choice) → (grows : Grows holds name rate d names p table base) → most ≤ 2 ^ 101 →
-        AreSteps most steps (opened name p table base ahead).stage →
-        let run = followed_by (opened name p table base ahead) (steps_by own_ways steps) in
-        AreLawful run.edits → (q : Patch) → StandsAt q run.stage → IsTable run.stage.names → StandOnce q.web →
-        Reopens grows.files.files name rate run.stage q }
+    ensures { StagesOpenAgain }
 {
     pd_guards::delivery_passes_nothing_over();
     pd_guards::messages_keep_values();

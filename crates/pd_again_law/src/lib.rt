@@ -12,7 +12,7 @@
 //! the same boxes run, in the same order, and the same are stuck. What grows is within the limits of a patch: it is refused for want of memory alone.
 //! The same holds of the patch wherever the run has come to between two steps, also where nothing is saved (`stages_open_again`).
 //!
-//! Definitions: `Again`.
+//! Definitions: `Again`; `Laws` (what the laws say).
 #![tactic(auto)]
 
 mod laws;

@@ -42,7 +42,7 @@
 //! is refused then with its line.
 //!
 //! Definitions: `Whole` (a play in which no message is passed over), `Complete` (when a run is sure to end),
-//! `Scripts` (runs with events that are given), `Points` (steady points, steps).
+//! `Scripts` (runs with events that are given), `Points` (steady points, steps), `Laws` (what the laws say).
 #![tactic(auto)]
 
 mod laws;

@@ -1,0 +1,32 @@
+-- What the laws of saves say.
+use Rattle.std.specs.Prelude.{◌+◌, ◌≤◌, ◌^◌, ℕ, List, Option}
+use Rattle.pd_io.specs.declared.files.FileRow.{FileRow}
+use Rattle.pd_atom.specs.Names.{Names, IsTable}
+use Rattle.pd_canvas.specs.Pages.{Page}
+use Rattle.pd_clock.specs.declared.times.Rate.{Rate}
+use Rattle.pd_patch.specs.declared.patch.Patch.{Patch}
+use Rattle.pd_reload_law.specs.Wires.{StandOnce}
+use Rattle.pd_stage.specs.Choices.{Base, Choice}
+use Rattle.pd_stage.specs.Lawful.{StandsAt, AreLawful}
+use Rattle.pd_stage.specs.Stages.{followed_by}
+use Rattle.pd_stage.specs.Times.{block_units}
+use Rattle.pd_engine.specs.Opening.{Grows, opened}
+use Rattle.pd_steady.specs.Runs.{own_ways}
+use Rattle.pd_steady.specs.Steps.{Step, AreSteps, steps_by, run_by}
+use Rattle.pd_again_law.specs.Again.{Reopens, AreAgain}
+
+-- each save of a run from where a patch opens to its end, in which each edit is lawful, opens again as the patch that was saved
+abbrev pub SavesOpenAgain : Type 0
+SavesOpenAgain = (holds : Option (List FileRow)) (name : List ℕ) (rate : Rate) (d : Page) (names table : Names) (p : Patch) (base : Base) (most : ℕ)
+    (steps : List Step) (ahead : List Choice) → (grows : Grows holds name rate d names p table base) → most + block_units ≤ 2 ^ 101 →
+    AreSteps most steps (opened name p table base ahead).stage → AreLawful (run_by own_ways name p table base ahead steps).edits →
+    AreAgain grows.files.files name rate (run_by own_ways name p table base ahead steps).edits
+
+-- each patch that stands between two steps of such a run has a text that opens again as that patch
+abbrev pub StagesOpenAgain : Type 0
+StagesOpenAgain = (holds : Option (List FileRow)) (name : List ℕ) (rate : Rate) (d : Page) (names table : Names) (p : Patch) (base : Base) (most : ℕ)
+    (steps : List Step) (ahead : List Choice) → (grows : Grows holds name rate d names p table base) → most ≤ 2 ^ 101 →
+    AreSteps most steps (opened name p table base ahead).stage →
+    let run = followed_by (opened name p table base ahead) (steps_by own_ways steps) in
+    AreLawful run.edits → (q : Patch) → StandsAt q run.stage → IsTable run.stage.names → StandOnce q.web →
+    Reopens grows.files.files name rate run.stage q
