@@ -10,7 +10,7 @@ use Rattle.pd_doc.specs.Writing.{text_of}
 use Rattle.pd_library.specs.Files.{answer_in}
 use Rattle.pd_library.specs.declared.answers.Answer.{Answer}
 use Rattle.pd_tree.specs.Trees.{Tree, weight, zeros_of}
-use Rattle.pd_growth.specs.Steps.{Stock, Step, gives}
+use Rattle.pd_growth.specs.Steps.{Stock, Step, gives, zeros_from}
 use Rattle.pd_growth.specs.Growth.{grown}
 use Rattle.pd_gather.specs.Gather.{GoesOn, known}
 use Rattle.pd_grove.specs.Standing.{GroveStands}
@@ -51,17 +51,17 @@ pub record GrowsAgain (grows : Step Tree) (rest : Stock) (name : List ℕ) (rate
   pub same : (q : Patch) (names' : Names) → IsTree q names' rate grows → IsFresh q names' name rate → IsSamePatch p (tree_now p.grove p.web p.numbers.items t) names q names'
   pub refused : (why : GrowRefusal) → HasCause why grows rate → why ≡ NoMemory
 
--- The patch stands as the tree t. Its text reads back as its document with no name more. From this, with these files, the tree grows that the patch is by
--- now: as a file that is opened grows, whose `$0` numbers are those from 1001 on; and with the `$0` numbers of t, whatever numbers and room there are
--- besides.
+-- The patch stands as the tree t. Its text reads back as its document with no name more. From this, with these files and with the `$0` numbers of t,
+-- whatever numbers and room there are besides, the tree grows that the patch is by now. So it does as a file that is opened grows, whose `$0`
+-- numbers are those from 1001 on, where t has these: as it has until a box with a `$0` of its own goes.
 pub record OpensAgain (files : List (ℕ × Answer)) (name : List ℕ) (rate : Rate) (t : Tree) (p : Patch) (names : Names) (text : List ℕ) : Type 0 where
   pub stands : RunsAs p.grove t
   pub page : Page
   pub reads : document_of names text ≡ Ok (page, names)
   pub is_now : page ≡ present_document p
-  pub numbers_left : List ℕ
   pub room_left : ℕ
-  pub opened : GrowsAgain (growth_of name page (known files names)) (stock names numbers_left room_left) name rate t p names
+  pub opened : (numbers_left : List ℕ) → zeros_from 1001 ≡ zeros_of t ++ numbers_left →
+      GrowsAgain (growth_of name page (known files names)) (stock names numbers_left room_left) name rate t p names
   pub alike : (more : List ℕ) (room : ℕ) → GrowsAgain (grown_alike files name page names t more room) (stock names more room) name rate t p names
 
 -- A patch that stands at a stage opens again from its text, with the files that are known there: those that were known where the patch opened, with what

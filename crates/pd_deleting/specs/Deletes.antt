@@ -1,15 +1,14 @@
 -- A box that an edit takes out of a canvas of the patch's own document.
-use Rattle.std.specs.Prelude.{◌≡◌, ◌⊎◌, ◌-◌, ℕ, Bool, false, ◌&&◌, ◌||◌, not, is_some, cond, List, slice_get, Option, Some, None, Result, Ok, Err}
+use Rattle.std.specs.Prelude.{◌≡◌, ◌⊎◌, ◌-◌, ℕ, Bool, false, ◌&&◌, ◌||◌, not, is_some, cond, List, length, map, slice_get, Option, Some, None, Result, Ok, Err}
 use Rattle.slab.specs.Slab.{get}
 use Rattle.pd_atom.specs.Names.{Names}
-use Rattle.pd_kind.specs.States.{size_of}
 use Rattle.pd_grove.specs.declared.grove.Grove.{Grove}
 use Rattle.pd_grove.specs.declared.nodes.Node.{Node}
 use Rattle.pd_grove.specs.declared.ports.Side.TheVariants.{Inlets, Outlets}
 use Rattle.pd_grove.specs.Forest.{holder_in}
+use Rattle.pd_clock.specs.declared.times.Rate.{Rate}
 use Rattle.pd_grove.specs.OwnPaths.{sub_reached}
 use Rattle.pd_grove.specs.Ports.{port_signal}
-use Rattle.pd_grove.specs.Telling.{inner_in}
 use Rattle.pd_web.specs.Canvases.{keys_at}
 use Rattle.pd_web.specs.Changes.{wires_told}
 use Rattle.pd_patch.specs.declared.patch.Patch.{Patch}
@@ -17,7 +16,8 @@ use Rattle.pd_wiring.specs.declared.refusals.EditRefusal.{EditRefusal}
 use Rattle.pd_wiring.specs.declared.refusals.EditRefusal.TheVariants.{NoDocument, NoCanvas, NoBox, NoMemory}
 use Rattle.pd_wiring.specs.Changes.{SameButRoom}
 use Rattle.pd_adding.specs.declared.counts.Counts.{Counts}
-use Rattle.pd_taking.specs.Taking.{IsRemoved}
+use Rattle.pd_adding.specs.Counted.{sound_among}
+use Rattle.pd_clearing.specs.Clearing.{IsCleared}
 use Rattle.pd_deleting.specs.declared.deleting.OldBox.{OldBox}
 
 -- whether a box is a port of its canvas
@@ -25,9 +25,9 @@ abbrev pub is_port_in : Option Node → Bool
 is_port_in None = false
 is_port_in (Some n) = is_some (port_signal Inlets n.kind) || is_some (port_signal Outlets n.kind)
 
--- whether a box holds no canvas and is no port of a box around; others don't go yet
+-- whether a box is no port of a box around; others don't go yet
 abbrev pub is_plain : Grove → ℕ → ℕ → Bool
-is_plain g canvas key = not (is_some (inner_in (get g.nodes key))) && not (is_some (holder_in (get g.boards canvas)) && is_port_in (get g.nodes key))
+is_plain g canvas key = not (is_some (holder_in (get g.boards canvas)) && is_port_in (get g.nodes key))
 
 abbrev pub going_box : Grove → ℕ → ℕ → Option ℕ → Result (ℕ × ℕ) EditRefusal
 going_box g canvas number None = Err (NoBox number)
@@ -41,20 +41,22 @@ going_in g number (Some canvas) = going_box g canvas number (slice_get (keys_at 
 abbrev pub going : Patch → List ℕ → ℕ → Result (ℕ × ℕ) EditRefusal
 going p path number = going_in p.grove number (sub_reached p.grove (Some p.grove.root) path)
 
--- counts with one box less, which keeps so many values of tables, arrays and delay lines, and with so many wires
-abbrev pub counts_less : Counts → ℕ → ℕ → Counts
-counts_less n size wires = record { boxes = n.boxes - 1; wires = wires; sound = n.sound - size; next_zero = n.next_zero }
+-- counts with so many boxes less, which keep so many values of tables, arrays and delay lines, and with so many wires
+abbrev pub counts_less : Counts → ℕ → ℕ → ℕ → Counts
+counts_less n boxes values wires = record { boxes = n.boxes - boxes; wires = wires; sound = n.sound - values; next_zero = n.next_zero }
 
--- The box of a number went from the canvas at a path, with its wires. `n` were the counts of the patch. All else stays, but that there may be
--- more room.
+-- how many values of tables, arrays and delay lines the boxes of these keys keep
+abbrev pub values_of : Rate → Grove → List ℕ → ℕ
+values_of rate g keys = sound_among rate (map (cell_under (get g.nodes)) keys)
+
+-- The box of a number went from the canvas at a path, with all that lay in it and with its wires. `n` were the counts of the patch. All else
+-- stays, but that there may be more room.
 pub record DeletesBox (old new : Patch) (n : Counts) (table : Names) (path : List ℕ) (number steps steps' : ℕ) (b : OldBox) : Type 0 where
   pub is : going old path number ≡ Ok (b.canvas, b.key)
-  pub node : Node
-  pub was : get old.grove.nodes b.key ≡ Some node
   pub ready : Patch
   pub room : SameButRoom old ready
-  pub removed : IsRemoved ready new table (record { canvas = b.canvas; number = number }) b.key steps steps'
-  pub counts : b.counts ≡ counts_less n (size_of node.kind old.rate) (wires_told new.web)
+  pub cleared : IsCleared ready new table (record { canvas = b.canvas; number = number }) b.key steps steps'
+  pub counts : b.counts ≡ counts_less n (length cleared.part) (values_of old.rate old.grove cleared.part) (wires_told new.web)
 
 -- the box could go, and memory was wanting
 pub record IsShortOfRoom (old new : Patch) (path : List ℕ) (number : ℕ) : Type 0 where

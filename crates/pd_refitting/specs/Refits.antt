@@ -1,5 +1,5 @@
 -- A box that becomes another one in its place, in a canvas of a running patch.
-use Rattle.std.specs.Prelude.{◌≡◌, ◌≢◌, ◌⊎◌, ℕ, true, false, List, Option, Some, None}
+use Rattle.std.specs.Prelude.{◌≡◌, ◌≢◌, ◌⊎◌, ◌==◌, ◌&&◌, ℕ, Bool, true, false, not, cond, List, slice_get, Option, Some, None}
 use Rattle.slab.specs.Slab.{get}
 use Rattle.pd_atom.specs.Names.{Names}
 use Rattle.pd_clock.specs.Queue.{without}
@@ -17,18 +17,45 @@ use Rattle.pd_grove.specs.Ports.{port_signal}
 use Rattle.pd_grove.specs.Standing.{node_seen}
 use Rattle.pd_bind.specs.Naming.{Owned, owned_by}
 use Rattle.pd_bind.specs.Owning.{is_owned}
+use Rattle.pd_grove.specs.declared.ports.Side.TheVariants.{Inlets, Outlets}
+use Rattle.pd_web.specs.declared.jacks.Jack.{Jack}
+use Rattle.pd_web.specs.declared.lines.Line.{Line}
+use Rattle.pd_web.specs.declared.web.Web.{Web}
+use Rattle.pd_web.specs.Changes.{line_told, Meet}
+use Rattle.pd_web.specs.Hops.{jack_told, port_told}
 use Rattle.pd_web.specs.Jacks.{kind_jacks}
+use Rattle.pd_web.specs.Sockets.{made_at}
+use Rattle.pd_ports.specs.Boxes.{HasPorts}
 use Rattle.pd_patch.specs.declared.patch.Patch.{Patch}
-use Rattle.pd_patch.specs.Orders.{is_signal}
+use Rattle.pd_patch.specs.Orders.{is_signal, HasOrder}
+use Rattle.pd_patch.specs.Telling.{order_in}
 use Rattle.pd_patch.specs.Values.{blocks_told, first_blocks}
+use Rattle.pd_wiring.specs.Changes.{is_signal_line}
+use Rattle.pd_taking.specs.Loosening.{IsAt}
 use Rattle.pd_boxes.specs.Put.{node_of, CanPut, HasOwners, IsLeaf}
 use Rattle.pd_boxes.specs.Rows.{PutsUnder}
 
--- boxes of both kinds have the same ports, and both stand in signal orders or neither does
-pub record SamePorts (k l : Kind) : Type 0 where
-  pub jacks : (side : Side) → kind_jacks side l ≡ kind_jacks side k
-  pub made : is_made l ≡ is_made k
-  pub signal : is_signal l ≡ is_signal k
+-- a port of a box, where the box of the key is of this kind
+abbrev pub jack_with : Web → ℕ → Kind → Side → ℕ → ℕ → Option Jack
+jack_with w key k side node port = cond (node == key) (slice_get (kind_jacks side k) port) (jack_told w side node port)
+
+-- whether a box is made, where the box of the key is of this kind
+abbrev pub made_with : Web → ℕ → Kind → ℕ → Bool
+made_with w key k node = cond (node == key) (is_made k) (made_at w.sockets.items node)
+
+-- The wire along the line fits where the box of the key is of this kind: both ports are there, and it carries signals into no port without of a box
+-- that is made. It is a signal wire then just where it is one now.
+pub record StaysWire (w : Web) (key : ℕ) (k : Kind) (l : Line) : Type 0 where
+  pub from : Jack
+  pub to : Jack
+  pub source : jack_with w key k Outlets l.source l.outlet ≡ Some from
+  pub sink : jack_with w key k Inlets l.sink l.inlet ≡ Some to
+  pub fits : (from.is_signal && (not to.is_signal && made_with w key k l.sink)) ≡ false
+  pub same : (from.is_signal && to.is_signal) ≡ is_signal_line w l
+
+-- the wires at a box are still wires where it is of this kind, and carry what they carry now
+abbrev pub TakesWires : Web → ℕ → Kind → Type 0
+TakesWires w key k = (x : ℕ) (l : Line) → line_told w x ≡ Some l → IsAt key l → StaysWire w key k l
 
 -- the box of a key is this one now, and all else stays
 pub record Becomes (old new : Grove) (k : ℕ) (n : Node) : Type 0 where
@@ -42,14 +69,15 @@ pub record Becomes (old new : Grove) (k : ℕ) (n : Node) : Type 0 where
 abbrev pub IsPlainIn : Patch → ℕ → Kind → Type 0
 IsPlainIn p c kind = (holder_in (get p.grove.boards c) ≡ None) ⊎ ((side : Side) → port_signal side kind ≡ None)
 
--- Under the key stands this box, which holds no canvas. The box of the seed holds none either, and has the same ports. Neither is a port of
--- a box around.
+-- Under the key stands this box, which holds no canvas. The box of the seed holds none either, and the wires can stay. Neither is a port of a
+-- box around.
 pub record CanRefit (p : Patch) (key : ℕ) (n : Node) (s : Seed) : Type 0 where
   pub can : CanPut p
   pub is : get p.grove.nodes key ≡ Some n
   pub bare : n.inner ≡ None
   pub leaf : IsLeaf s
-  pub ports : SamePorts n.kind s.row.kind
+  pub wires : TakesWires p.web key s.row.kind
+  pub meet : Meet p.web
   pub plain : IsPlainIn p n.board n.kind
   pub stays_plain : IsPlainIn p n.board s.row.kind
 
@@ -58,15 +86,22 @@ pub record OthersStay (old new : List Row) (o o' : Option Owned) : Type 0 where
   pub owners : (class : Class) (name : ℕ) → is_owned class name o ≡ false → is_owned class name o' ≡ false → owners_of new class name ≡ owners_of old class name
   pub spare : (class : Class) (name : ℕ) → is_owned class name o ≡ false → is_owned class name o' ≡ false → spare_of new class name ≡ spare_of old class name
 
--- The box of a key is that of the seed now, at its place and with its wires. It is among the owners of the name that it owns, and no owner of
--- the name that the old one owned; it has silent blocks, and no clock. Of all else only room for owners may differ.
+-- the most looks at signal wires: eight where the new box stands in the signal order of its canvas and the old one did not
+abbrev pub refit_looks : Kind → Kind → ℕ
+refit_looks old new = cond (is_signal new && not (is_signal old)) 8 0
+
+-- The box of a key is that of the seed now, at its place and with its wires; it has the ports of its kind. It is among the owners of the name
+-- that it owns, and no owner of the name that the old one owned; it has silent blocks, and no clock. Its canvas has its order, and the other
+-- canvases have the orders that they had. Of all else only room may differ.
 pub record IsRefitted (p q : Patch) (table : Names) (key : ℕ) (n : Node) (s : Seed) : Type 0 where
   pub grove : Becomes p.grove q.grove key (node_of n.board s)
-  pub web : q.web ≡ p.web
+  pub ports : HasPorts p.web q.web key (λ side. kind_jacks side s.row.kind) (is_made s.row.kind)
+  pub homes : (j : ℕ) → port_told q.web j ≡ port_told p.web j
   pub owners : (file : List ℕ) → HasOwners p table file → HasOwners q table file
   pub other_owners : OthersStay p.names q.names (owned_by table true (node_seen n).cell) (owned_by table true (stand_of s.row).cell)
   pub links : q.links ≡ p.links
-  pub orders : q.orders ≡ p.orders
+  pub order : HasOrder q.grove q.web (get q.grove.boards n.board) (order_in q.orders.items n.board)
+  pub other_orders : (c : ℕ) → c ≢ n.board → order_in q.orders.items c ≡ order_in p.orders.items c
   pub numbers : q.numbers ≡ p.numbers
   pub blocks : PutsUnder (blocks_told p) (blocks_told q) key (first_blocks q.web key)
   pub clocks : q.timers.clocks.clocks ≡ without key p.timers.clocks.clocks

@@ -11,13 +11,13 @@ use Rattle.pd_patch.specs.declared.patch.Patch.{Patch}
 use Rattle.pd_wiring.specs.declared.refusals.EditRefusal.{EditRefusal}
 use Rattle.pd_wiring.specs.declared.refusals.EditRefusal.TheVariants.{NoDocument, NoMemory}
 use Rattle.pd_boxes.specs.Room.{SameButRoom}
-use Rattle.pd_refitting.specs.Refits.{IsPlainIn, CanRefit, IsRefitted}
+use Rattle.pd_refitting.specs.Refits.{IsPlainIn, TakesWires, CanRefit, IsRefitted}
 use Rattle.pd_adding.specs.declared.adding.Grown.{Grown}
 use Rattle.pd_adding.specs.Growing.{Added}
 use Rattle.pd_adding.specs.Adding.{IsAdded}
 use Rattle.pd_retyping.specs.declared.asking.Plan.{Plan}
 use Rattle.pd_retyping.specs.Asking.{keeps_inside, settled_text, retyping, put_instead}
-use Rattle.pd_retyping.specs.Retypes.{IsChosen, HasPortsOf, CanBecome, IsKept}
+use Rattle.pd_retyping.specs.Retypes.{IsChosen, CanBecome, IsKept}
 
 -- the box that is to become another one, which keeps nothing inside, and the edit that would put what it becomes
 pub record IsPlanned (names : Names) (p : Patch) (path : List ℕ) (number : ℕ) (text : List Atom) (plan : Plan) : Type 0 where
@@ -32,9 +32,9 @@ IsUnplanned names p path number text why =
     (why ≡ NoMemory) ⊎ ((retyping names p path number text ≡ Err why) ⊎ ((why ≡ NoDocument) × IsKept p path number text (known [] names)))
 
 -- a box without a canvas can become one of this kind in its place
-pub record IsAlike (p : Patch) (n : Node) (k : Kind) : Type 0 where
+pub record IsAlike (p : Patch) (key : ℕ) (n : Node) (k : Kind) : Type 0 where
   pub bare : n.inner ≡ None
-  pub ports : HasPortsOf n.kind k
+  pub wires : TakesWires p.web key k
   pub plain : IsPlainIn p n.board n.kind
   pub stays_plain : IsPlainIn p n.board k
 
@@ -46,9 +46,9 @@ pub record MakesOther (old new : Patch) (table : Names) (key : ℕ) (n : Node) (
   pub refit : IsRefitted ready new table key n s
 
 -- The box stays: memory was wanting, and there may be more room; or it can't become what grew yet, and the patch stays.
-abbrev pub StaysItself : Patch → Patch → Node → Added → EditRefusal → Type 0
-StaysItself old new n a why =
-    ((why ≡ NoMemory) × (CanBecome old n a × SameButRoom old new)) ⊎ ((why ≡ NoDocument) × ((new ≡ old) × (CanBecome old n a → ⊥)))
+abbrev pub StaysItself : Patch → Patch → ℕ → Node → Added → EditRefusal → Type 0
+StaysItself old new key n a why =
+    ((why ≡ NoMemory) × (CanBecome old key n a × SameButRoom old new)) ⊎ ((why ≡ NoDocument) × ((new ≡ old) × (CanBecome old key n a → ⊥)))
 
 -- what grew aside is this, with these names
 pub record HasGrown (g : Grown) (names : Names) : Type 0 where

@@ -6,12 +6,9 @@ use Rattle.pd_atom.specs.declared.Atom.{Atom}
 use Rattle.pd_atom.specs.Names.{IsTable}
 use Rattle.pd_atom.specs.Atoms.{IsOf}
 use Rattle.pd_clock.specs.declared.times.Rate.{Rate}
-use Rattle.pd_object.specs.declared.kinds.Kind.{Kind}
-use Rattle.pd_object.specs.Ports.{ports_of}
 use Rattle.pd_kind.specs.States.{size_of}
 use Rattle.pd_canvas.specs.Edits.{retyped}
 use Rattle.pd_canvas.specs.Views.{entry_of}
-use Rattle.pd_tree.specs.Ports.{is_made}
 use Rattle.pd_tree.specs.Trees.{Cell, Done, Leaf, stand_of}
 use Rattle.pd_growth.specs.Suits.{RowSuits}
 use Rattle.pd_gather.specs.Gather.{Known, AreProper}
@@ -21,12 +18,11 @@ use Rattle.pd_grove.specs.OwnPaths.{sub_reached}
 use Rattle.pd_grove.specs.States.{IsFresh}
 use Rattle.pd_web.specs.Canvases.{keys_at}
 use Rattle.pd_patch.specs.declared.patch.Patch.{Patch}
-use Rattle.pd_patch.specs.Orders.{is_signal}
 use Rattle.pd_wiring.specs.declared.refusals.EditRefusal.{EditRefusal}
 use Rattle.pd_wiring.specs.declared.refusals.EditRefusal.TheVariants.{NoDocument, ShelfFault, NoMemory}
 use Rattle.pd_boxes.specs.Room.{SameButRoom}
 use Rattle.pd_boxes.specs.Put.{CanPut, IsLeaf}
-use Rattle.pd_refitting.specs.Refits.{IsPlainIn, CanRefit, IsRefitted}
+use Rattle.pd_refitting.specs.Refits.{IsPlainIn, TakesWires, CanRefit, IsRefitted}
 use Rattle.pd_adding.specs.declared.counts.Counts.{Counts}
 use Rattle.pd_adding.specs.Boxes.{CanBeWritten, settled_edit, box_put}
 use Rattle.pd_adding.specs.Growing.{Added}
@@ -37,7 +33,7 @@ use Rattle.pd_retyping.specs.Asking.{takes_text_so, keeps_inside, settled_text, 
 
 -- the counts of a patch without a box that holds no canvas
 abbrev pub counts_but : Rate → Node → Counts → Counts
-counts_but rate n c = counts_less c (size_of n.kind rate) c.wires
+counts_but rate n c = counts_less c 1 (size_of n.kind rate) c.wires
 
 -- the path leads to this canvas, whose box of the number has this key and can have another text
 pub record IsChosen (p : Patch) (path : List ℕ) (number canvas key : ℕ) (n : Node) : Type 0 where
@@ -56,24 +52,19 @@ pub record RetypesTo (p : Patch) (n : Counts) (name path : List ℕ) (number : �
   pub new : keeps_inside (entry_of node.element) (settled_text k.names text) ≡ false
   pub comes : ComesTo None p (counts_but p.rate node n) name path (put_instead (entry_of node.element) text) k r
 
--- boxes of both kinds have the same ports, both are made or neither, and both stand in signal orders or neither
-pub record HasPortsOf (k l : Kind) : Type 0 where
-  pub ports : ports_of l ≡ ports_of k
-  pub made : is_made l ≡ is_made k
-  pub signal : is_signal l ≡ is_signal k
-
--- The box holds no canvas, and what grew is one box that holds none and has the same ports. Neither is a port of a box around.
-pub record CanBecome (p : Patch) (n : Node) (a : Added) : Type 0 where
+-- The box of the key holds no canvas, and what grew is one box that holds none. All its wires fit the new box and carry what they carried. Neither is
+-- a port of a box around.
+pub record CanBecome (p : Patch) (key : ℕ) (n : Node) (a : Added) : Type 0 where
   pub cell : Cell
   pub single : a.boxes ≡ Leaf cell Done
   pub bare : n.inner ≡ None
-  pub ports : HasPortsOf n.kind cell.kind
+  pub wires : TakesWires p.web key cell.kind
   pub plain : IsPlainIn p n.board n.kind
   pub stays_plain : IsPlainIn p n.board cell.kind
 
 -- The box of a key became what grew, and keeps what its kind keeps at first. All else of the patch stays, but that there is more room.
 pub record HasBecome (old new : Patch) (now key : ℕ) (n : Node) (a : Added) : Type 0 where
-  pub can : CanBecome old n a
+  pub can : CanBecome old key n a
   pub ready : Patch
   pub room : SameButRoom old ready
   pub seed : Seed
@@ -119,7 +110,7 @@ pub record IsKept (p : Patch) (path : List ℕ) (number : ℕ) (text : List Atom
 pub record IsNotYet (p : Patch) (n : Counts) (name path : List ℕ) (number : ℕ) (text : List Atom) (k : Known) : Type 0 where
   pub added : Added
   pub comes : RetypesTo p n name path number text k (Ok added)
-  pub other : CanBecome p comes.node added → ⊥
+  pub other : CanBecome p comes.key comes.node added → ⊥
 
 -- Why an edit makes no box another one: memory was wanting; or there is no such box, or a reason against its text; or the folder gave no file for
 -- which growing asks; or growing comes to this refusal; or the text names what the table hasn't, or such a box isn't made another one yet.
@@ -133,7 +124,7 @@ IsRefused p n name path number text k why =
 pub record IsShortOfRoom (old new : Patch) (n : Counts) (name path : List ℕ) (number : ℕ) (text : List Atom) (k : Known) : Type 0 where
   pub added : Added
   pub comes : RetypesTo old n name path number text k (Ok added)
-  pub can : CanBecome old comes.node added
+  pub can : CanBecome old comes.key comes.node added
   pub room : SameButRoom old new
   pub goes_on : CanPut new
 

@@ -20,7 +20,8 @@ use Rattle.pd_boxes.specs.Put.{CanPut}
 use Rattle.pd_adding.specs.Counts.{AreWithin}
 use Rattle.pd_putting.specs.Adds.{AddsBox, IsNotPut, IsShortOfRoom}
 use Rattle.pd_putting.specs.declared.adding.NewBox.{NewBox}
-use Rattle.pd_taking.specs.Loosening.{looks_for}
+use Rattle.pd_clearing.specs.Losing.{looks_for_all}
+use Rattle.pd_clearing.specs.Clearing.{without_all}
 use Rattle.pd_deleting.specs.Deletes as deleting
 use Rattle.pd_deleting.specs.Deletes.{going, DeletesBox}
 use Rattle.pd_deleting.specs.declared.deleting.OldBox.{OldBox}
@@ -28,6 +29,7 @@ use Rattle.pd_shifting.specs.Moves.{moving, MovesBox}
 use Rattle.pd_retyping.specs.Retypes as retyping
 use Rattle.pd_retyping.specs.Retypes.{RetypesBox}
 use Rattle.pd_retyping.specs.declared.retyping.RetypedBox.{RetypedBox}
+use Rattle.pd_refitting.specs.Refits.{refit_looks}
 use Rattle.pd_say.specs.declared.refusals.Why.{Why}
 use Rattle.pd_say.specs.declared.refusals.Why.TheVariants as why
 use Rattle.pd_hearing.specs.Worlds.{Net, net_of, states_of}
@@ -149,8 +151,9 @@ IsPutLawful s path e (Refuses reason) = IsUnput s path e reason
 IsPutLawful s path e (Lacks net) = IsUnputForRoom s path e net
 IsPutLawful s path e (Makes m) = IsPutIn s path e m
 
--- An edit took a box out with its wires: all other boxes keep what they kept, and their clocks; names and files stay, the counts stay within the
--- limits of a patch, and a loop of its canvas is told. It looks at no more signal wires than the mends for the wires that went.
+-- An edit took a box out with all that lay in it and with its wires: all other boxes keep what they kept, and their clocks; names and files stay,
+-- the counts stay within the limits of a patch, and a loop of its canvas is told. It looks at no more signal wires than the mends for the wires
+-- that went.
 pub record IsTakenOut (s : Stage) (path : List ℕ) (number : ℕ) (m : Made) : Type 0 where
   pub old : Patch
   pub new : Patch
@@ -161,13 +164,13 @@ pub record IsTakenOut (s : Stage) (path : List ℕ) (number : ℕ) (m : Made) : 
   pub deletes : DeletesBox old new s.base.counts s.names path number steps steps' box
   pub net : m.net ≡ net_of new
   pub states : m.states ≡ states_of new
-  pub clocks : m.clocks ≡ without box.key s.clocks
+  pub clocks : m.clocks ≡ without_all deletes.cleared.part s.clocks
   pub names : m.names ≡ s.names
   pub base : m.base ≡ base_of s.base.files box.counts
   pub within : AreWithin m.base.counts
   pub lines : m.lines ≡ loops_text new box.canvas
   pub files : m.files ≡ []
-  pub looks : m.looks ≡ looks_for box.canvas deletes.removed.loosens.gone deletes.removed.loose
+  pub looks : m.looks ≡ looks_for_all deletes.cleared.lost deletes.cleared.loose
 
 -- no box goes, for this reason
 pub record IsLeftIn (s : Stage) (path : List ℕ) (number : ℕ) (reason : Why) : Type 0 where
@@ -223,7 +226,8 @@ IsMovingLawful s path number x y (Lacks net) = ⊥
 IsMovingLawful s path number x y (Makes m) = IsMovedTo s path number x y m
 
 -- An edit made a box another one: all other boxes keep what they kept, and their clocks; names and files go on, the counts stay within the limits of a
--- patch, and it is told why the box could not be made, and a loop of its canvas. It looks at no signal wire.
+-- patch, and it is told why the box could not be made, and a loop of its canvas. It looks at no more signal wires than a new box in the order of its
+-- canvas takes.
 pub record IsRetypedTo (s : Stage) (path : List ℕ) (number : ℕ) (text : List Atom) (m : Made) : Type 0 where
   pub old : Patch
   pub new : Patch
@@ -240,7 +244,7 @@ pub record IsRetypedTo (s : Stage) (path : List ℕ) (number : ℕ) (text : List
   pub within : AreWithin m.base.counts
   pub lines : m.lines ≡ put_text m.names new box.key box.canvas
   pub files : m.files ≡ []
-  pub looks : m.looks ≡ 0
+  pub looks : m.looks ≡ refit_looks retypes.node.kind retypes.became.can.cell.kind
 
 -- no box becomes another one, for this reason
 pub record IsUnretyped (s : Stage) (path : List ℕ) (number : ℕ) (text : List Atom) (reason : Why) : Type 0 where

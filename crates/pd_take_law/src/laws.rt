@@ -47,7 +47,7 @@ pub fn documents_follow_edits()
 {}
 
 /// Where an edit deleted a box, the tree that stood stands with the box less. It grows again from its own document, in the same files and names
-/// and with the same `$0` numbers. Its wires hold and fit, and there are no more than before; each name has its owners.
+/// and its `$0` numbers are some of those. Its wires hold and fit, and there are no more than before; each name has its owners.
 pub fn boxes_go_from_trees()
     ensures runs { (old new : Patch) (n : Counts) (table : Names) (path : List ℕ) (number steps steps' : ℕ) (b : OldBox) (t : Tree) →
         DeletesBox old new n table path number steps steps' b → CanPut old → RunsAs old.grove t → RunsAs new.grove (taken_at path number t) }
@@ -55,7 +55,8 @@ pub fn boxes_go_from_trees()
         DeletesBox old new n table path number steps steps' b → CanPut old → RunsAs old.grove t →
         (lib : ℕ → Option Answer) (file : List ℕ) (names : Names) → StandsAgain lib file names t → StandsAgain lib file names (taken_at path number t) }
     ensures zeros { (old new : Patch) (n : Counts) (table : Names) (path : List ℕ) (number steps steps' : ℕ) (b : OldBox) (t : Tree) →
-        DeletesBox old new n table path number steps steps' b → CanPut old → RunsAs old.grove t → zeros_of (taken_at path number t) ≡ zeros_of t }
+        DeletesBox old new n table path number steps steps' b → CanPut old → RunsAs old.grove t → (P : ℕ → Type 0) → AllByRecursion P (zeros_of t) →
+        AllByRecursion P (zeros_of (taken_at path number t)) }
     ensures holds { (old new : Patch) (n : Counts) (table : Names) (path : List ℕ) (number steps steps' : ℕ) (b : OldBox) (t : Tree) →
         DeletesBox old new n table path number steps steps' b → CanPut old → RunsAs old.grove t → HoldsWires old t →
         HoldsWires new (taken_at path number t) }
