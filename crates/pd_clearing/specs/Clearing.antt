@@ -6,7 +6,10 @@ use Rattle.pd_clock.specs.Queue.{Clock, without}
 use Rattle.pd_clock.specs.declared.times.Rate.{Rate}
 use Rattle.pd_owning.specs.Bound.{is_among, AreNew}
 use Rattle.pd_owning.specs.Parts.{ArePart}
+use Rattle.pd_grove.specs.declared.grove.Grove.{Grove}
 use Rattle.pd_grove.specs.declared.nodes.Node.{Node}
+use Rattle.pd_grove.specs.declared.spots.Spot.{Spot}
+use Rattle.pd_grove.specs.TextOrder.{keys_of_spots, spots_in_order}
 use Rattle.pd_grove.specs.declared.ports.Side.{Side}
 use Rattle.pd_grove.specs.Grafts.{TakesBox}
 use Rattle.pd_web.specs.declared.lines.Line.{Line}
@@ -25,6 +28,12 @@ use Rattle.pd_boxes.specs.Put.{CanPut, HasOwners, IsNoPort, keys_before}
 use Rattle.pd_taking.specs.Loosening.{is_of_other}
 use Rattle.pd_taking.specs.Taking.{keys_past}
 use Rattle.pd_clearing.specs.Losing.{Lost, IsAtOne, AreLost, looks_for_all}
+
+-- these are the box of a key and all boxes that lie in it, each once and as it stands in text order
+pub record IsPartOf (g : Grove) (key : ℕ) (spots : List Spot) : Type 0 where
+  pub are : ArePart (get g.nodes) (get g.boards) key (keys_of_spots spots)
+  pub once : AreNew (keys_of_spots spots) []
+  pub stand : (j : ℕ) (p : Spot) → slice_get spots j ≡ Some p → (i : ℕ) × (slice_get (spots_in_order g) i ≡ Some p)
 
 -- the clocks of the other owners than these
 abbrev pub without_all : List ℕ → List Clock → List Clock
