@@ -79,6 +79,8 @@ pub record IsCleared (p q : Patch) (table : Names) (place : Place) (key steps st
   pub loose : Patch
   pub one_by_one : AreLost part p lost loose
   pub looks : steps' ≤ steps + looks_for_all lost loose
+  pub lines : (k : ℕ) → line_told q.web k ≡ line_told loose.web k
+  pub feeds : (node inlet : ℕ) → feed_hops q.web node inlet ≡ feed_hops loose.web node inlet
   pub count : wires_told q.web + length lost ≡ wires_told p.web
   pub node : Node
   pub grove : TakesBox (get p.grove.nodes) (get q.grove.nodes) (get p.grove.boards) (get q.grove.boards) place.canvas key node (keys_before p place) (keys_past p place)
