@@ -20,8 +20,9 @@ use Rattle.pd_bind.specs.Owning.{is_owned}
 use Rattle.pd_grove.specs.declared.ports.Side.TheVariants.{Inlets, Outlets}
 use Rattle.pd_web.specs.declared.jacks.Jack.{Jack}
 use Rattle.pd_web.specs.declared.lines.Line.{Line}
+use Rattle.pd_web.specs.declared.web.Hop.{Hop}
 use Rattle.pd_web.specs.declared.web.Web.{Web}
-use Rattle.pd_web.specs.Changes.{line_told, Meet}
+use Rattle.pd_web.specs.Changes.{Meet}
 use Rattle.pd_web.specs.Hops.{jack_told, port_told}
 use Rattle.pd_web.specs.Jacks.{kind_jacks}
 use Rattle.pd_web.specs.Sockets.{made_at}
@@ -31,7 +32,7 @@ use Rattle.pd_patch.specs.Orders.{is_signal, HasOrder}
 use Rattle.pd_patch.specs.Telling.{order_in}
 use Rattle.pd_patch.specs.Values.{blocks_told, first_blocks}
 use Rattle.pd_wiring.specs.Changes.{is_signal_line}
-use Rattle.pd_taking.specs.Loosening.{IsAt}
+use Rattle.pd_taking.specs.Loosening.{hops_at, line_at}
 use Rattle.pd_boxes.specs.Put.{node_of, CanPut, HasOwners, IsLeaf}
 use Rattle.pd_boxes.specs.Rows.{PutsUnder}
 
@@ -55,7 +56,7 @@ pub record StaysWire (w : Web) (key : ℕ) (k : Kind) (l : Line) : Type 0 where
 
 -- the wires at a box are still wires where it is of this kind, and carry what they carry now
 abbrev pub TakesWires : Web → ℕ → Kind → Type 0
-TakesWires w key k = (x : ℕ) (l : Line) → line_told w x ≡ Some l → IsAt key l → StaysWire w key k l
+TakesWires w key k = (side : Side) (port i : ℕ) (h : Hop) → slice_get (hops_at w side key port) i ≡ Some h → StaysWire w key k (line_at side key port h)
 
 -- the box of a key is this one now, and all else stays
 pub record Becomes (old new : Grove) (k : ℕ) (n : Node) : Type 0 where
