@@ -9,6 +9,7 @@ use Rattle.pd_grove.specs.Forest.{holder_in}
 use Rattle.pd_clock.specs.declared.times.Rate.{Rate}
 use Rattle.pd_grove.specs.OwnPaths.{sub_reached}
 use Rattle.pd_grove.specs.Ports.{port_signal}
+use Rattle.pd_grove.specs.TextOrder.{cell_under}
 use Rattle.pd_web.specs.Canvases.{keys_at}
 use Rattle.pd_web.specs.Changes.{wires_told}
 use Rattle.pd_patch.specs.declared.patch.Patch.{Patch}
