@@ -1,5 +1,5 @@
 -- A box that is to become another one, and one that did.
-use Rattle.std.specs.Prelude.{◌≡◌, ◌⊎◌, ℕ, false, List, [], None, Err}
+use Rattle.std.specs.Prelude.{◌≡◌, ◌⊎◌, ℕ, Bool, false, cond, List, [], Option, Some, None, Err, slice_get}
 use Rattle.pd_atom.specs.declared.Atom.{Atom}
 use Rattle.pd_atom.specs.Names.{Names}
 use Rattle.pd_object.specs.declared.kinds.Kind.{Kind}
@@ -7,11 +7,17 @@ use Rattle.pd_canvas.specs.Views.{entry_of}
 use Rattle.pd_gather.specs.Gather.{known}
 use Rattle.pd_grove.specs.declared.nodes.Node.{Node}
 use Rattle.pd_grove.specs.declared.seeds.Seed.{Seed}
+use Rattle.pd_grove.specs.declared.ports.Side.{Side}
+use Rattle.pd_web.specs.declared.jacks.Jack.{Jack}
+use Rattle.pd_web.specs.declared.web.Hop.{Hop}
+use Rattle.pd_web.specs.declared.web.Web.{Web}
+use Rattle.pd_web.specs.Jacks.{plain_jack}
 use Rattle.pd_patch.specs.declared.patch.Patch.{Patch}
 use Rattle.pd_wiring.specs.declared.refusals.EditRefusal.{EditRefusal}
 use Rattle.pd_wiring.specs.declared.refusals.EditRefusal.TheVariants.{NoDocument, NoMemory}
 use Rattle.pd_boxes.specs.Room.{SameButRoom}
-use Rattle.pd_refitting.specs.Refits.{IsPlainIn, TakesWires, CanRefit, IsRefitted}
+use Rattle.pd_taking.specs.Loosening.{hops_at, line_at}
+use Rattle.pd_refitting.specs.Refits.{IsPlainIn, StaysWire, TakesWires, CanRefit, IsRefitted}
 use Rattle.pd_adding.specs.declared.adding.Grown.{Grown}
 use Rattle.pd_adding.specs.Growing.{Added}
 use Rattle.pd_adding.specs.Adding.{IsAdded}
@@ -30,6 +36,14 @@ pub record IsPlanned (names : Names) (p : Patch) (path : List ℕ) (number : ℕ
 abbrev pub IsUnplanned : Names → Patch → List ℕ → ℕ → List Atom → EditRefusal → Type 0
 IsUnplanned names p path number text why =
     (why ≡ NoMemory) ⊎ ((retyping names p path number text ≡ Err why) ⊎ ((why ≡ NoDocument) × IsKept p path number text (known [] names)))
+
+-- the wires at a port of the box of the key fit where that is of this kind, and carry what they carry now
+abbrev pub StayAt : Web → ℕ → Kind → Side → ℕ → Type 0
+StayAt w key k side port = (i : ℕ) (h : Hop) → slice_get (hops_at w side key port) i ≡ Some h → StaysWire w key k (line_at side key port h)
+
+-- a port that no box is, if it is there
+abbrev pub plain_jack_if : Bool → Bool → Option Jack
+plain_jack_if is_there is_signal = cond is_there (Some (plain_jack is_signal)) None
 
 -- a box without a canvas can become one of this kind in its place
 pub record IsAlike (p : Patch) (key : ℕ) (n : Node) (k : Kind) : Type 0 where

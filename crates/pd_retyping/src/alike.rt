@@ -3,70 +3,36 @@
 ghost use Rattle.std.specs.Prelude.{◌≡◌, ◌||◌, true, false, is_some};
 ghost use Rattle.slab.specs.Slab.{get};
 ghost use Rattle.pd_object.specs.Ports.{IsSmallKind};
-ghost use Rattle.pd_tree.specs.Ports.{is_made as is_made_so};
 ghost use Rattle.pd_grove.specs.declared.ports.Side.TheVariants.{Inlets, Outlets};
 ghost use Rattle.pd_grove.specs.Forest.{holder_in};
 ghost use Rattle.pd_grove.specs.Ports.{port_signal};
-ghost use Rattle.pd_patch.specs.Orders.{is_signal as is_signal_so};
+ghost use Rattle.pd_web.specs.Changes.{Meet};
 ghost use Rattle.pd_refitting.specs.Refits.{IsPlainIn};
-ghost use Rattle.pd_retyping.specs.Retypes.{HasPortsOf};
 ghost use Rattle.pd_retyping.specs.Becoming.{IsAlike};
 
+use crate::wires::takes_wires;
 use pd_grove::Node;
-use pd_kind::{Glue, Kind, Signal, ports};
+use pd_kind::{Glue, Kind, Signal};
 use pd_patch::Patch;
 
-/// Whether a box can become one of a kind that holds no canvas: it holds none either, both have the same ports, and neither is a port of a box
-/// around.
-pub(crate) fn is_alike(patch: &Patch, node: &Node, kind: &Kind) -> bool
-    requires small { IsSmallKind node.now.kind }
-    requires new_small { IsSmallKind kind.now }
-    ensures yes { result ≡ true → IsAlike patch.now node.now kind.now }
-    ensures no { result ≡ false → IsAlike patch.now node.now kind.now → ⊥ }
+/// Whether the box of a key can become one of a kind that holds no canvas: it holds none either, its wires can stay, and neither is a port of
+/// a box around.
+pub(crate) fn is_alike(patch: &Patch, key: u32, node: &Node, kind: &Kind) -> bool
+    requires small { IsSmallKind kind.now }
+    requires meet { Meet patch.now.web }
+    ensures yes { result ≡ true → IsAlike patch.now key node.now kind.now }
+    ensures no { result ≡ false → IsAlike patch.now key node.now kind.now → ⊥ }
 {
     if node.inner.is_some() {
-        return false;
-    }
-    if !has_ports_of(&node.kind, kind) {
         return false;
     }
     if !is_plain_in(patch, node.board, &node.kind) {
         return false;
     }
-    is_plain_in(patch, node.board, kind)
-}
-
-/// Whether boxes of two kinds have the same ports, are both made or neither, and stand both in signal orders or neither.
-fn has_ports_of(old: &Kind, new: &Kind) -> bool
-    requires small { IsSmallKind old.now }
-    requires new_small { IsSmallKind new.now }
-    ensures yes { result ≡ true → HasPortsOf old.now new.now }
-    ensures no { result ≡ false → HasPortsOf old.now new.now → ⊥ }
-{
-    if ports(new) != ports(old) {
+    if !is_plain_in(patch, node.board, kind) {
         return false;
     }
-    if is_made(new) != is_made(old) {
-        return false;
-    }
-    is_signal(new) == is_signal(old)
-}
-
-/// Whether boxes of a kind are made.
-fn is_made(kind: &Kind) -> bool
-    ensures { result ≡ is_made_so kind.now }
-{
-    match kind {
-        Kind::Unmade => false,
-        _ => true,
-    }
-}
-
-/// Whether boxes of a kind stand in signal orders.
-fn is_signal(kind: &Kind) -> bool
-    ensures { result ≡ is_signal_so kind.now }
-{
-    matches!(kind, Kind::Tone(_) | Kind::Signal(_) | Kind::Vline)
+    takes_wires(&patch.web, key, kind)
 }
 
 /// Whether a box of a kind is no port of a box around a canvas.

@@ -1,15 +1,14 @@
 //! A box that becomes what grew aside.
 
-ghost use Rattle.std.specs.Prelude.{◌≡◌, ◌∷◌, [], true, false, length, Some, None, IfOk, IfErr, OnOk, OnErr};
+ghost use Rattle.std.specs.Prelude.{◌≡◌, ◌≤◌, ◌+◌, ◌∷◌, [], true, false, length, Some, None, IfOk, IfErr, OnOk, OnErr};
 ghost use Rattle.slab.specs.Slab.{get, ContainsKey};
 ghost use Rattle.pd_grove.specs.declared.nodes.Node.{Node};
 ghost use Rattle.pd_grove.specs.States.{AreSmall, IsFresh};
 ghost use Rattle.pd_tree.specs.Trees.{stand_of, stands_in};
 ghost use Rattle.pd_web.specs.Changes.{wires_told, Meet};
-ghost use Rattle.pd_web.specs.Jacks.{KindsSmall};
 ghost use Rattle.pd_boxes.specs.Room.{SameButRoom};
 ghost use Rattle.pd_boxes.specs.Put.{CanPut, IsLeaf};
-ghost use Rattle.pd_refitting.specs.Refits.{CanRefit};
+ghost use Rattle.pd_refitting.specs.Refits.{CanRefit, refit_looks};
 ghost use Rattle.pd_adding.specs.Adding.{IsAdded};
 ghost use Rattle.pd_adding.specs.Coming.{own_zero};
 ghost use Rattle.pd_adding.specs.Growing.{Added};
@@ -23,26 +22,31 @@ use pd_atom::Symbols;
 use pd_boxes::room_changes_nothing;
 use pd_clock::{Rate, Time};
 use pd_grove::{Seed, Seeds};
+use pd_order::Steps;
 use pd_patch::Patch;
 use pd_refitting::{patches_run_on_refitted, refit, refit_room_changes_nothing, reserve_refit};
 use pd_tree::Row;
 use pd_wiring::EditRefusal;
 use std::alloc::{AllocError, Global};
+use std::sync::ledger::Ledger;
 
-/// Makes the box of a key what grew aside, where it can become that.
+/// Makes the box of a key what grew aside, where it can become that. Looks at signal wires are counted in `steps`.
 ///
 /// # Errors
 ///
-/// `NoDocument` where it can't; `NoMemory` where memory ran out, or where the name that the new box owns has as many owners as can be counted.
-pub(crate) fn become_grown(
+/// `NoDocument` where it can't; `NoMemory` where memory ran out, or where the name that the new box owns has as many owners, or its canvas as
+/// many boxes in its order, as can be counted.
+pub(crate) fn become_grown<L: Ledger>(
     alloc: Global,
     patch: &mut Patch,
     key: u32,
     grown: Grown,
     now: Time,
     symbols: &mut Symbols,
+    steps: &mut Steps<L>,
 ) -> Result<RetypedBox, EditRefusal>
     requires can { CanPut patch.old }
+    requires meet { Meet patch.old.web }
     requires here { ContainsKey patch.old.grove.nodes key }
     requires grown { HasGrown grown symbols.old }
     ensures became { IfOk result (λ b. (n : Node) (a : Added) → get patch.old.grove.nodes key ≡ Some n → IsAdded grown a → a.known.names ≡ symbols.old →
@@ -50,12 +54,14 @@ pub(crate) fn become_grown(
     ensures key { IfOk result (λ b. b.key ≡ key) }
     ensures canvas { IfOk result (λ b. b.canvas ≡ grown.canvas) }
     ensures counts { IfOk result (λ b. b.counts ≡ grown.counts) }
-    ensures refused { IfErr result (λ why. (n : Node) (a : Added) → get patch.old.grove.nodes key ≡ Some n → IsAdded grown a → StaysItself patch.old patch.new n a why) }
+    ensures refused { IfErr result (λ why. (n : Node) (a : Added) → get patch.old.grove.nodes key ≡ Some n → IsAdded grown a → StaysItself patch.old patch.new key n a why) }
     ensures goes_on { CanPut patch.new }
-    ensures meet { Meet patch.old.web → Meet patch.new.web }
+    ensures meet { Meet patch.new.web }
     ensures as_many { wires_told patch.new.web ≡ wires_told patch.old.web }
     ensures zero { own_zero patch.new ≡ own_zero patch.old }
     ensures table { symbols.new ≡ symbols.old }
+    ensures looks { IfOk result (λ b. (n m : Node) → get patch.old.grove.nodes key ≡ Some n → get patch.new.grove.nodes key ≡ Some m → steps.new ≤ steps.old + refit_looks n.kind m.kind) }
+    ensures no_looks { OnErr result (steps.new ≡ steps.old) }
 {
     if !can_become(patch, key, &grown) {
         return Err(EditRefusal::NoDocument);
@@ -65,7 +71,7 @@ pub(crate) fn become_grown(
     let Ok(seed) = seed_of(alloc, grown.rows, patch.rate, now) else {
         return Err(EditRefusal::NoMemory);
     };
-    let Ok(()) = make_other(alloc, patch, key, seed, symbols) else {
+    let Ok(()) = make_other(alloc, patch, key, seed, symbols, steps) else {
         return Err(EditRefusal::NoMemory);
     };
     Ok(RetypedBox {
@@ -77,10 +83,10 @@ pub(crate) fn become_grown(
 
 /// Whether the box of a key can become what grew.
 fn can_become(patch: &Patch, key: u32, grown: &Grown) -> bool
-    requires small { KindsSmall patch.now.grove }
+    requires meet { Meet patch.now.web }
     requires rows_small { AreSmall grown.now.rows.items }
-    ensures yes { result ≡ true → (n : Node) (a : Added) → get patch.now.grove.nodes key ≡ Some n → IsAdded grown.now a → CanBecome patch.now n a }
-    ensures no { result ≡ false → (n : Node) (a : Added) → get patch.now.grove.nodes key ≡ Some n → IsAdded grown.now a → CanBecome patch.now n a → ⊥ }
+    ensures yes { result ≡ true → (n : Node) (a : Added) → get patch.now.grove.nodes key ≡ Some n → IsAdded grown.now a → CanBecome patch.now key n a }
+    ensures no { result ≡ false → (n : Node) (a : Added) → get patch.now.grove.nodes key ≡ Some n → IsAdded grown.now a → CanBecome patch.now key n a → ⊥ }
 {
     single_boxes();
     let rows = grown.rows.as_slice();
@@ -92,7 +98,7 @@ fn can_become(patch: &Patch, key: u32, grown: &Grown) -> bool
         return false;
     }
     match patch.grove.node(key) {
-        Some(node) => is_alike(patch, node, &row.kind),
+        Some(node) => is_alike(patch, key, node, &row.kind),
         None => false,
     }
 }
@@ -116,31 +122,35 @@ fn seed_of(alloc: Global, rows: Vec<Row>, rate: Rate, now: Time) -> Result<Seed,
     }
 }
 
-/// Makes the box of a key that of a seed.
+/// Makes the box of a key that of a seed. Looks at signal wires are counted in `steps`.
 ///
 /// # Errors
 ///
-/// `AllocError` where memory ran out, or where the name that the new box owns has as many owners as can be counted.
-fn make_other(
+/// `AllocError` where memory ran out, or where the name that the new box owns has as many owners, or its canvas as many boxes in its order,
+/// as can be counted.
+fn make_other<L: Ledger>(
     alloc: Global,
     patch: &mut Patch,
     key: u32,
     seed: Seed,
     symbols: &mut Symbols,
+    steps: &mut Steps<L>,
 ) -> Result<(), AllocError>
     requires can { (n : Node) × CanRefit patch.old key n seed }
     ensures made { OnOk result ((n : Node) → get patch.old.grove.nodes key ≡ Some n → MakesOther patch.old patch.new symbols.old key n seed) }
     ensures short { OnErr result (SameButRoom patch.old patch.new) }
     ensures goes_on { CanPut patch.new }
-    ensures meet { Meet patch.old.web → Meet patch.new.web }
+    ensures meet { Meet patch.new.web }
     ensures as_many { wires_told patch.new.web ≡ wires_told patch.old.web }
     ensures zero { own_zero patch.new ≡ own_zero patch.old }
     ensures table { symbols.new ≡ symbols.old }
+    ensures looks { OnOk result ((n : Node) → get patch.old.grove.nodes key ≡ Some n → steps.new ≤ steps.old + refit_looks n.kind seed.row.kind) }
+    ensures no_looks { OnErr result (steps.new ≡ steps.old) }
 {
     patches_run_on_refitted();
     refit_room_changes_nothing();
     room_changes_nothing();
     let room = reserve_refit(alloc, patch, key, seed, symbols)?;
-    refit(patch, room, symbols);
+    refit(patch, room, symbols, steps);
     Ok(())
 }

@@ -1,12 +1,13 @@
 //! A box that an edit makes another one, grown aside and put in its place.
 
-ghost use Rattle.std.specs.Prelude.{◌≡◌, ◌≤◌, Err, IfOk, IfErr, OnErr};
+ghost use Rattle.std.specs.Prelude.{◌≡◌, ◌≤◌, ◌+◌, Err, IfOk, IfErr, OnErr};
 ghost use Rattle.pd_io.specs.Faults.{Rose};
 ghost use Rattle.pd_atom.specs.Names.{Extends};
 ghost use Rattle.pd_gather.specs.Gather.{known, AreProper};
 ghost use Rattle.pd_web.specs.Changes.{wires_told, Meet};
 ghost use Rattle.pd_wiring.specs.declared.refusals.EditRefusal.TheVariants.{ShelfFault};
 ghost use Rattle.pd_boxes.specs.Put.{CanPut};
+ghost use Rattle.pd_refitting.specs.Refits.{refit_looks};
 ghost use Rattle.pd_adding.specs.Coming.{own_zero};
 ghost use Rattle.pd_adding.specs.Counts.{AreWithin};
 ghost use Rattle.pd_retyping.specs.Retypes.{RetypesBox, IsNotRetyped};
@@ -19,10 +20,12 @@ use pd_atom::Symbols;
 use pd_canvas::Atoms;
 use pd_gather::Library;
 use pd_io::Shelf;
+use pd_order::Steps;
 use pd_patch::Patch;
 use pd_putting::Site;
 use pd_wiring::EditRefusal;
 use std::alloc::Global;
+use std::sync::ledger::Ledger;
 
 /// A box that an edit made another one: its key, the key of its canvas, and the counts of the patch with what it became.
 #[derive(Clone, Copy, Debug, PartialEq, Eq)]
@@ -33,7 +36,7 @@ pub struct RetypedBox {
 }
 
 /// Makes the box of a number in the canvas at a path of the patch's own document what it becomes with another text. `counts` are the counts of
-/// the patch.
+/// the patch. Looks at signal wires are counted in `steps`.
 ///
 /// # Errors
 ///
@@ -41,7 +44,7 @@ pub struct RetypedBox {
 /// `TextTooLong`, `TooDeep`; then `ShelfFault`, `SymbolsFull` or `TooManyBoxes`, whichever growth comes to first; then `TooManyWires` and
 /// `TooMuchSound`; then `NoDocument` for a box that isn't made another one yet. `NoMemory` may come in place of any. Names and files are
 /// then as before.
-pub fn retype_box<H: Shelf>(
+pub fn retype_box<H: Shelf, L: Ledger>(
     alloc: Global,
     patch: &mut Patch,
     counts: Counts,
@@ -51,8 +54,10 @@ pub fn retype_box<H: Shelf>(
     library: &mut Library,
     shelf: &mut H,
     symbols: &mut Symbols,
+    steps: &mut Steps<L>,
 ) -> Result<RetypedBox, EditRefusal>
     requires can { CanPut patch.old }
+    requires meet { Meet patch.old.web }
     requires counted { counts.wires ≡ wires_told patch.old.web }
     requires within { AreWithin counts }
     requires zero { own_zero patch.old ≤ 1000000000 }
@@ -60,7 +65,7 @@ pub fn retype_box<H: Shelf>(
     ensures retyped { IfOk result (λ b. RetypesBox patch.old patch.new counts site.entry.name.now site.entry.path.now number text.now site.entry.now (known library.old symbols.old) (known library.new symbols.new) b) }
     ensures refused { IfErr result (IsNotRetyped patch.old patch.new counts site.entry.name.now site.entry.path.now number text.now (known library.old symbols.old)) }
     ensures goes_on { CanPut patch.new }
-    ensures meet { Meet patch.old.web → Meet patch.new.web }
+    ensures meet { Meet patch.new.web }
     ensures counted { IfOk result (λ b. b.counts.wires ≡ wires_told patch.new.web) }
     ensures as_many { wires_told patch.new.web ≡ wires_told patch.old.web }
     ensures within { IfOk result (λ b. AreWithin b.counts) }
@@ -72,6 +77,9 @@ pub fn retype_box<H: Shelf>(
     ensures kept { H.holds shelf.new ≡ H.holds shelf.old }
     ensures cause { result ≡ Err ShelfFault → Rose (H.faults shelf.old) (H.faults shelf.new) }
     ensures shelf_counted { H.faults shelf.old ≤ H.faults shelf.new }
+    ensures looks { IfOk result (λ b. (r : RetypesBox patch.old patch.new counts site.entry.name.now site.entry.path.now number text.now site.entry.now (known library.old symbols.old) (known library.new symbols.new) b) →
+        steps.new ≤ steps.old + refit_looks r.node.kind r.became.can.cell.kind) }
+    ensures no_looks { OnErr result (steps.new ≡ steps.old) }
 {
     if !are_of(symbols, text.as_slice()) {
         return Err(EditRefusal::NoDocument);
@@ -83,7 +91,7 @@ pub fn retype_box<H: Shelf>(
     let grown = grow_aside(
         alloc, patch, left, site.name, site.path, &plan.edit, library, shelf, symbols,
     )?;
-    match become_grown(alloc, patch, plan.key, grown, site.now, symbols) {
+    match become_grown(alloc, patch, plan.key, grown, site.now, symbols, steps) {
         Ok(retyped) => Ok(retyped),
         Err(why) => {
             library.forget(files, names, symbols);
