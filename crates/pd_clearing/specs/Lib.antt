@@ -1,2 +1,3 @@
 pub mod Losing
 pub mod Clearing
+pub mod Layers

@@ -15,5 +15,7 @@
 #![tactic(auto)]
 
 mod clearing;
+mod loosening;
+mod rows;
 
 pub use clearing::{Part, clear, part_of};
