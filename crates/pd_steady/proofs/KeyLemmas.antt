@@ -184,14 +184,14 @@ shell_under p q table place seed key put =
       low = c.low;
     }
 
--- one that became another one keeps its wires
+-- one that became another one keeps its wires, and has the ports of its kind
 pub refit_under : (p q : Patch) (table : Names) (key : ℕ) (n : Node) (seed : Seed) → IsRefitted p q table key n seed → StandsUnder p q key (node_of n.board seed)
 refit_under p q table key n seed refit = record {
   is = refit.grove.is;
   others = refit.grove.others;
-  lines = λ k. ap (λ (w : Web). line_told w k) refit.web;
-  feeds = λ node inlet. ap (λ (w : Web). feed_hops w node inlet) refit.web;
-  ports = λ k other. ap (λ (w : Web). ports_told w Outlets k) refit.web;
+  lines = refit.ports.lines;
+  feeds = refit.ports.feeds;
+  ports = refit.ports.other_ports Outlets;
   blocks = refit.blocks;
 }
 

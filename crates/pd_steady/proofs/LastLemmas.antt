@@ -1,7 +1,9 @@
--- In a run in which each edit is lawful the boxes that were there, and that no edit deletes or makes another one, go on keeping what is of the same
--- objects.
+-- In a run in which each edit is lawful the boxes that were there, and that no edit deletes, by itself or with a box around it, or makes another one,
+-- go on keeping what is of the same objects.
 use Rattle.std.proofs.Common.{◌≡◌, ◌≢◌, ◌+◌, ◌-◌, ℕ, ℤ, zero, suc, Bool, true, false, nat_le, if◌then◌else◌, List, [], ◌∷◌, ◌++◌, Option, Some, None, IsSome, option_map, refl, sym, ap, subst, ◌∙◌}
 use Rattle.std.proofs.lemmas.Option.{none-some}
+use Rattle.std.specs.Prelude.{option_and_then}
+use Rattle.slab.specs.Slab.{get}
 use Rattle.pd_atom.specs.Names.{Names}
 use Rattle.pd_atom.specs.declared.Atom.{Atom}
 use Rattle.pd_canvas.specs.declared.edits.Edit.{Edit}
@@ -11,10 +13,15 @@ use Rattle.pd_script.specs.declared.commands.Command.{Command}
 use Rattle.pd_script.specs.declared.commands.Command.TheVariants as command
 use Rattle.pd_kind.specs.declared.states.State.{State}
 use Rattle.pd_kind.specs.Fit.{blank}
+use Rattle.pd_grove.specs.declared.grove.Grove.{Grove}
 use Rattle.pd_grove.specs.declared.nodes.Node.{Node}
+use Rattle.pd_grove.specs.Forest.{holder_in}
+use Rattle.pd_grove.specs.Owning.{board_in}
 use Rattle.pd_grove.specs.Telling.{state_in}
+use Rattle.pd_owning.specs.Order.{holder_of, box_out}
+use Rattle.pd_owning.specs.Parts.{LiesWithin}
 use Rattle.pd_turns.specs.Turns.{World}
-use Rattle.pd_hearing.specs.Worlds.{Kept, states_of}
+use Rattle.pd_hearing.specs.Worlds.{Net, Kept, bare, net_of, states_of}
 use Rattle.pd_patch.specs.declared.patch.Patch.{Patch}
 use Rattle.pd_sized.specs.Alike.{AreAlike}
 use Rattle.pd_sized.proofs.AlikeRunLemmas.{outcome_alike}
@@ -29,11 +36,11 @@ use Rattle.pd_engine.specs.Commands.{commanded}
 use Rattle.pd_engine.specs.Opening.{first_stage, opened}
 use Rattle.pd_steady.specs.Runs.{own_ways}
 use Rattle.pd_steady.specs.Steps.{Step, Does, Learns, Comes, step_by, steps_by}
-use Rattle.pd_steady.specs.Serving.{ended_in, ended, LeavesBox, LeaveBox, StayAlike}
+use Rattle.pd_steady.specs.Serving.{EndsIn, Ends, LeavesBox, LeaveBox, StayAlike}
 use Rattle.pd_steady.proofs.EventLemmas.{start_of, outcome_is}
 use Rattle.pd_steady.proofs.ComeLemmas.{come_node, come_more}
 use Rattle.pd_steady.proofs.KeyLemmas.{HasOneNew, HasOneMore, more_alike}
-use Rattle.pd_steady.proofs.LessLemmas.{HasOneLess}
+use Rattle.pd_steady.proofs.LessLemmas.{HasLess}
 use Rattle.pd_steady.proofs.MadeLemmas.{take_at, retype_at}
 use Rattle.pd_steady.proofs.TakeLemmas.{taken_less}
 use Rattle.pd_steady.proofs.MoveLemmas.{moved_state}
@@ -84,6 +91,22 @@ if_lasts false s p q f g = g
 abbrev IsSameAt : Stage → Stage → ℕ → Type 0
 IsSameAt s r k = option_map blank (r.states k) ≡ option_map blank (s.states k)
 
+-- boxes lie where they lie, whatever they keep
+bare_board : (o : Option Node) → board_in (bare o) ≡ board_in o
+bare_board None = refl
+bare_board (Some n) = refl
+
+bare_out : (g : Grove) (m k : ℕ) → box_out (λ j. bare (get g.nodes j)) (get g.boards) m k ≡ box_out (get g.nodes) (get g.boards) m k
+bare_out g zero k = refl
+bare_out g (suc m) k = ap (option_and_then (holder_of (λ j. bare (get g.nodes j)) (get g.boards))) (bare_out g m k) ∙ same (box_out (get g.nodes) (get g.boards) m k)
+  where
+    same : (o : Option ℕ) → option_and_then (holder_of (λ j. bare (get g.nodes j)) (get g.boards)) o ≡ option_and_then (holder_of (get g.nodes) (get g.boards)) o
+    same None = refl
+    same (Some h) = ap (option_and_then (λ c. holder_in (get g.boards c))) (bare_board (get g.nodes h))
+
+bare_within : (g : Grove) (top k : ℕ) → LiesWithin (get g.nodes) (get g.boards) top k → LiesWithin (λ j. bare (get g.nodes j)) (get g.boards) top k
+bare_within g top k h = (h.0, bare_out g h.0 k ∙ h.1)
+
 -- other wires
 wires_same : (s : Stage) (ahead : List Choice) (path : List ℕ) (e : Edit) (c : Choice) → IsRewiringLawful (with_ahead s []) path e c → (k : ℕ) → IsSameAt s (stage_by (with_ahead s ahead) c) k
 wires_same s ahead path e (Refuses why) h k = refl
@@ -105,15 +128,18 @@ put_same s ahead path e (Makes m) h k there =
     (subst (λ (states : ℕ → Option State). IsSome (states k) → option_map blank (states_of q k) ≡ option_map blank (states k)) (sym h.stands.states)
     (more_alike p q h.box.key n more k) there)
 
--- a box that went
+-- a box that went, with all that lay in it
 take_same : (s : Stage) (ahead : List Choice) (path : List ℕ) (number : ℕ) (wanted : Wanted) (c : Choice) → IsTakingLawful (with_ahead s []) path number c
-    → ended s.net wanted ≡ ended_in s.net path (edit.Delete number) → (k : ℕ) → LeavesBox k s.net wanted c → IsSameAt s (stage_by (with_ahead s ahead) c) k
-take_same s ahead path number wanted (Refuses why) h is k left = refl
-take_same s ahead path number wanted (Lacks net) h is k left = refl
-take_same s ahead path number wanted (Makes m) h is k left =
-    let less : HasOneLess h.old h.new h.box.key = taken_less (with_ahead s []) path number m h in
-    let other : k ≢ h.box.key = λ e. left (is ∙ take_at (with_ahead s []) path number m h ∙ ap (λ (x : ℕ). Some x) (sym e)) in
-    ap (λ (states : ℕ → Option State). option_map blank (states k)) h.states ∙ ap (λ (o : Option Node). option_map blank (state_in o)) (less.others k other)
+    → (k : ℕ) → (EndsIn s.net path (edit.Delete number) k → Ends s.net wanted k) → LeavesBox k s.net wanted c → IsSameAt s (stage_by (with_ahead s ahead) c) k
+take_same s ahead path number wanted (Refuses why) h k is left = refl
+take_same s ahead path number wanted (Lacks net) h k is left = refl
+take_same s ahead path number wanted (Makes m) h k is left =
+    let less : HasLess h.old h.new h.box.key = taken_less (with_ahead s []) path number m h in
+    let net : (x : Net) → s.net ≡ x → LiesWithin x.nodes (get x.boards) h.box.key k → LiesWithin s.net.nodes (get s.net.boards) h.box.key k =
+    λ x e within. subst (λ (y : Net). LiesWithin y.nodes (get y.boards) h.box.key k) (sym e) within in
+    let out : LiesWithin (get h.old.grove.nodes) (get h.old.grove.boards) h.box.key k → ⊥ =
+    λ within. left (is (h.box.key, take_at (with_ahead s []) path number m h, net (net_of h.old) h.stands.net (bare_within h.old.grove h.box.key k within))) in
+    ap (λ (states : ℕ → Option State). option_map blank (states k)) h.states ∙ ap (λ (o : Option Node). option_map blank (state_in o)) (less.others k out)
     ∙ sym (ap (λ (states : ℕ → Option State). option_map blank (states k)) h.stands.states)
 
 -- a box that moved
@@ -127,13 +153,13 @@ move_same s ahead path number x y (Makes m) h k =
 
 -- a box that became another one
 retype_same : (s : Stage) (ahead : List Choice) (path : List ℕ) (number : ℕ) (text : List Atom) (wanted : Wanted) (c : Choice) → IsRetypingLawful (with_ahead s []) path number text c
-    → ended s.net wanted ≡ ended_in s.net path (edit.Retype number text) → (k : ℕ) → LeavesBox k s.net wanted c → IsSameAt s (stage_by (with_ahead s ahead) c) k
-retype_same s ahead path number text wanted (Refuses why) h is k left = refl
-retype_same s ahead path number text wanted (Lacks net) h is k left = refl
-retype_same s ahead path number text wanted (Makes m) h is k left =
+    → (k : ℕ) → (EndsIn s.net path (edit.Retype number text) k → Ends s.net wanted k) → LeavesBox k s.net wanted c → IsSameAt s (stage_by (with_ahead s ahead) c) k
+retype_same s ahead path number text wanted (Refuses why) h k is left = refl
+retype_same s ahead path number text wanted (Lacks net) h k is left = refl
+retype_same s ahead path number text wanted (Makes m) h k is left =
     let n : Node = retyped_node (with_ahead s []) path number text m h in
     let new : HasOneNew h.old h.new h.box.key n = retyped_new (with_ahead s []) path number text m h in
-    let other : k ≢ h.box.key = λ e. left (is ∙ retype_at (with_ahead s []) path number text m h ∙ ap (λ (x : ℕ). Some x) (sym e)) in
+    let other : k ≢ h.box.key = λ e. left (is (retype_at (with_ahead s []) path number text m h ∙ ap (λ (x : ℕ). Some x) (sym e))) in
     ap (λ (states : ℕ → Option State). option_map blank (states k)) h.states ∙ ap (λ (o : Option Node). option_map blank (state_in o)) (new.others k other)
     ∙ sym (ap (λ (states : ℕ → Option State). option_map blank (states k)) h.stands.states)
 
@@ -148,24 +174,24 @@ refused_same s ahead c why h k = subst (λ (x : Choice). IsSameAt s (stage_by (w
 
 -- edits
 edit_same : (s : Stage) (ahead : List Choice) (path : List ℕ) (e : Edit) (wanted : Wanted) (c : Choice) → IsEditLawful (with_ahead s []) path e c
-    → ended s.net wanted ≡ ended_in s.net path e → (k : ℕ) → IsSome (s.states k) → LeavesBox k s.net wanted c → IsSameAt s (stage_by (with_ahead s ahead) c) k
-edit_same s ahead path (edit.Connect v) wanted c h is k there left = wires_same s ahead path (edit.Connect v) c h k
-edit_same s ahead path (edit.Disconnect v) wanted c h is k there left = wires_same s ahead path (edit.Disconnect v) c h k
-edit_same s ahead path (edit.Delete number) wanted c h is k there left = take_same s ahead path number wanted c h is k left
-edit_same s ahead path (edit.Retype number text) wanted c h is k there left = retype_same s ahead path number text wanted c h is k left
-edit_same s ahead path (edit.Move number x y) wanted c h is k there left = move_same s ahead path number x y c h k
-edit_same s ahead path (edit.Obj x y text) wanted c h is k there left = put_same s ahead path (edit.Obj x y text) c h k there
-edit_same s ahead path (edit.Msg x y text) wanted c h is k there left = put_same s ahead path (edit.Msg x y text) c h k there
-edit_same s ahead path (edit.Comment x y text) wanted c h is k there left = put_same s ahead path (edit.Comment x y text) c h k there
-edit_same s ahead path (edit.FloatBox x y text) wanted c h is k there left = put_same s ahead path (edit.FloatBox x y text) c h k there
-edit_same s ahead path (edit.SymbolBox x y text) wanted c h is k there left = put_same s ahead path (edit.SymbolBox x y text) c h k there
-edit_same s ahead path (edit.Sub x y name) wanted c h is k there left = put_same s ahead path (edit.Sub x y name) c h k there
+    → (k : ℕ) → (EndsIn s.net path e k → Ends s.net wanted k) → IsSome (s.states k) → LeavesBox k s.net wanted c → IsSameAt s (stage_by (with_ahead s ahead) c) k
+edit_same s ahead path (edit.Connect v) wanted c h k is there left = wires_same s ahead path (edit.Connect v) c h k
+edit_same s ahead path (edit.Disconnect v) wanted c h k is there left = wires_same s ahead path (edit.Disconnect v) c h k
+edit_same s ahead path (edit.Delete number) wanted c h k is there left = take_same s ahead path number wanted c h k is left
+edit_same s ahead path (edit.Retype number text) wanted c h k is there left = retype_same s ahead path number text wanted c h k is left
+edit_same s ahead path (edit.Move number x y) wanted c h k is there left = move_same s ahead path number x y c h k
+edit_same s ahead path (edit.Obj x y text) wanted c h k is there left = put_same s ahead path (edit.Obj x y text) c h k there
+edit_same s ahead path (edit.Msg x y text) wanted c h k is there left = put_same s ahead path (edit.Msg x y text) c h k there
+edit_same s ahead path (edit.Comment x y text) wanted c h k is there left = put_same s ahead path (edit.Comment x y text) c h k there
+edit_same s ahead path (edit.FloatBox x y text) wanted c h k is there left = put_same s ahead path (edit.FloatBox x y text) c h k there
+edit_same s ahead path (edit.SymbolBox x y text) wanted c h k is there left = put_same s ahead path (edit.SymbolBox x y text) c h k there
+edit_same s ahead path (edit.Sub x y name) wanted c h k is there left = put_same s ahead path (edit.Sub x y name) c h k there
 
 choice_same : (wanted : Wanted) (s : Stage) (ahead : List Choice) (c : Choice) → MayCome wanted (with_ahead s []) c → (k : ℕ) → IsSome (s.states k) → LeavesBox k s.net wanted c
     → IsSameAt s (stage_by (with_ahead s ahead) c) k
-choice_same (Edits None path e) s ahead c h k there left = edit_same s ahead path e (Edits None path e) c h refl k there left
+choice_same (Edits None path e) s ahead c h k there left = edit_same s ahead path e (Edits None path e) c h k (λ ends. ends) there left
 choice_same (Edits (Some document) path e) s ahead c h k there left = refused_same s ahead c _ h k
-choice_same (Asks path e) s ahead c h k there left = edit_same s ahead path e (Asks path e) c h refl k there left
+choice_same (Asks path e) s ahead c h k there left = edit_same s ahead path e (Asks path e) c h k (λ ends. ends) there left
 choice_same (Saves None) s ahead c h k there left = save_same s ahead c h k
 choice_same (Saves (Some document)) s ahead c h k there left = refused_same s ahead c _ h k
 choice_same Undoes s ahead c h k there left = refused_same s ahead c _ h k

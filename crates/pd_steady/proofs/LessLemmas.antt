@@ -1,8 +1,8 @@
--- A patch with one box less: what holds of all boxes of the old one holds of all that are left.
-use Rattle.std.proofs.Common.{arith, ◌≡◌, ◌≢◌, ℕ, ℤ, ◌<◌, ◌≤◌, ◌==◌, Bool, true, List, [], ◌∷◌, length, slice_get, Option, Some, None, IfSome, IsSome, option_map, refl, sym, ap, subst, ◌∙◌, true≢false}
+-- A patch with a box less and all that lay in it: what holds of all boxes of the old one holds of all that are left.
+use Rattle.std.proofs.Common.{arith, ◌≡◌, ◌⊎◌, inl, inr, ⊎_elim, ℕ, ℤ, zero, suc, ◌<◌, ◌≤◌, ◌==◌, Bool, true, false, List, [], ◌∷◌, length, slice_get, Option, Some, None, IfSome, IsSome, is_some, option_map, refl, sym, ap, subst, ◌∙◌, true≢false}
 use Rattle.std.specs.Prelude.{option_and_then, not, filter}
 use Rattle.std.specs.List.{AllByRecursion}
-use Rattle.std.proofs.lemmas.Option.{none-some}
+use Rattle.std.proofs.lemmas.Option.{none-some, same_Some}
 use Rattle.slab.specs.Slab.{get}
 use Rattle.pd_atom.specs.Names.{Names}
 use Rattle.pd_object.specs.declared.kinds.Kind.{Kind}
@@ -14,9 +14,10 @@ use Rattle.pd_grove.specs.declared.boards.Board.{Board}
 use Rattle.pd_grove.specs.declared.grove.Grove.{Grove}
 use Rattle.pd_grove.specs.declared.nodes.Node.{Node}
 use Rattle.pd_grove.specs.declared.ports.Side.TheVariants.{Outlets}
-use Rattle.pd_grove.specs.Grafts.{TakesBox}
+use Rattle.pd_grove.specs.Forest.{IsForest, holder_in, around, out_of}
+use Rattle.pd_grove.specs.Grafts.{LiesInBox, TakesBox}
 use Rattle.pd_grove.specs.Owning.{board_in}
-use Rattle.pd_grove.specs.Telling.{inner_in, kind_in, state_in}
+use Rattle.pd_grove.specs.Telling.{kind_in, state_in}
 use Rattle.pd_web.specs.declared.jacks.Jack.{Jack}
 use Rattle.pd_web.specs.declared.lines.Line.{Line}
 use Rattle.pd_web.specs.declared.web.Hop.{Hop}
@@ -29,8 +30,12 @@ use Rattle.pd_patch.specs.Values.{Blocks, block_at, blocks_told}
 use Rattle.pd_wiring.specs.Changes.{SameButRoom}
 use Rattle.pd_boxes.specs.declared.room.Place.{Place}
 use Rattle.pd_boxes.specs.Put.{keys_before}
-use Rattle.pd_taking.specs.Loosening.{Gone, AreGone}
-use Rattle.pd_taking.specs.Taking.{keys_past, GoesOut, IsRemoved}
+use Rattle.pd_owning.specs.Bound.{is_among}
+use Rattle.pd_owning.specs.Order.{holder_of, box_out}
+use Rattle.pd_owning.specs.Parts.{LiesWithin}
+use Rattle.pd_taking.specs.Taking.{keys_past}
+use Rattle.pd_clearing.specs.Losing.{Lost, AreLost}
+use Rattle.pd_clearing.specs.Clearing.{IsCleared}
 use Rattle.pd_hearing.specs.Worlds.{bare, net_of, states_of}
 use Rattle.pd_guards.specs.Sounds.{AreValues}
 use Rattle.pd_guards.proofs.FactLemmas.{either, all-at, all-from}
@@ -38,7 +43,7 @@ use Rattle.pd_sized.specs.Sizes.{IsBlock}
 use Rattle.pd_sized.specs.Kinds.{blank_of, KeepsOfKind}
 use Rattle.pd_sound_law.specs.Ready.{HasBlocks}
 use Rattle.pd_stage.proofs.FedLemmas.{same_fed}
-use Rattle.pd_steady.proofs.KeyLemmas.{by_key, fed_same}
+use Rattle.pd_steady.proofs.KeyLemmas.{fed_same}
 
 -- ---- wires that went
 
@@ -86,30 +91,62 @@ module _ (w v : Web) (key : ℕ) (c : CutsWire w v key) (f : AreFed w) where
   }
 
 -- one after the other
-gone_fed : (box : ℕ) (p : Patch) (gone : List Gone) (q : Patch) → AreGone box p gone q → AreFed p.web → AreFed q.web
-gone_fed box p [] q e h = subst (λ (x : Patch). AreFed x.web) (sym e) h
-gone_fed box p (x ∷ xs) q g h = cut_fed x.before.web q.web x.key g.0.done.cuts (gone_fed box p xs x.before g.1 h)
+lost_fed : (part : List ℕ) (p : Patch) (lost : List Lost) (q : Patch) → AreLost part p lost q → AreFed p.web → AreFed q.web
+lost_fed part p [] q e h = subst (λ (x : Patch). AreFed x.web) (sym e) h
+lost_fed part p (x ∷ xs) q g h = cut_fed x.before.web q.web x.key g.0.done.cuts (lost_fed part p xs x.before g.1 h)
 
--- ---- a patch with a box less, where room was set aside for that before
+-- ---- boxes that lie in no other one
 
-pub record HasOneLess (p q : Patch) (key : ℕ) : Type 0 where
-  pub gone : get q.grove.nodes key ≡ None
-  pub others : (k : ℕ) → k ≢ key → get q.grove.nodes k ≡ get p.grove.nodes k
+-- a box whose canvas lies in one that another box holds lies in that box
+inner_out : (nodes : ℕ → Option Node) (boards : ℕ → Option Board) (k x : ℕ) → board_in (nodes k) ≡ Some x → (m j top : ℕ) → out_of nodes boards m x ≡ Some j → holder_in (boards j) ≡ Some top
+    → box_out nodes boards (suc m) k ≡ Some top
+inner_out nodes boards k x lies zero j top out held =
+    ap (option_and_then (λ c. holder_in (boards c))) lies ∙ ap (λ (c : ℕ). holder_in (boards c)) (same_Some x j out) ∙ held
+inner_out nodes boards k x lies (suc m) j top out held = by (λ y h e holds. inner_out nodes boards k x lies m y h e holds) (out_of nodes boards m x) refl out
+  where
+    Further : Type 0
+    Further = (y h : ℕ) → out_of nodes boards m x ≡ Some y → holder_in (boards y) ≡ Some h → box_out nodes boards (suc m) k ≡ Some h
+
+    held_by : Further → (y : ℕ) (o : Option ℕ) → out_of nodes boards m x ≡ Some y → holder_in (boards y) ≡ o → option_and_then (λ h. board_in (nodes h)) o ≡ Some j
+        → box_out nodes boards (suc (suc m)) k ≡ Some top
+    held_by rest y None e holds own = absurd (none-some j own)
+    held_by rest y (Some h) e holds own =
+        ap (option_and_then (holder_of nodes boards)) (rest y h e holds) ∙ ap (option_and_then (λ c. holder_in (boards c))) own ∙ held
+
+    by : Further → (o : Option ℕ) → out_of nodes boards m x ≡ o → option_and_then (around nodes boards) o ≡ Some j → box_out nodes boards (suc (suc m)) k ≡ Some top
+    by rest None e own = absurd (none-some j own)
+    by rest (Some y) e own = held_by rest y (holder_in (boards y)) e refl own
+
+-- where a box goes with all that lies in it, each other one stays
+module _ (nodes new : ℕ → Option Node) (boards left : ℕ → Option Board) (root c key : ℕ) (n : Node) (before behind : List ℕ) (F : IsForest nodes boards root)
+    (T : TakesBox nodes new boards left c key n before behind) where
+  not_inside : (k x : ℕ) → (LiesWithin nodes boards key k → ⊥) → board_in (nodes k) ≡ Some x → LiesInBox nodes boards key x → ⊥
+  not_inside k x out lies inside =
+      out (suc inside.2.0, inner_out nodes boards k x lies inside.2.0 inside.0 key inside.2.1 (F.inside key inside.0 inside.1))
+
+  node_stays : (k : ℕ) (o : Option Node) → nodes k ≡ o → (LiesWithin nodes boards key k → ⊥) → new k ≡ nodes k
+  node_stays k None e out = by (new k) refl
+    where
+      by : (o : Option Node) → new k ≡ o → new k ≡ nodes k
+      by None is = is ∙ sym e
+      by (Some m) is = T.none_comes k (ap is_some is)
+  node_stays k (Some m) e out =
+      T.nodes_stay k m.board (λ same. out (0, ap (λ (x : ℕ). Some x) same)) (ap board_in e) (not_inside k m.board out (ap board_in e))
+
+-- ---- a patch with a box less and all that lay in it, where room was set aside for that before
+
+pub record HasLess (p q : Patch) (key : ℕ) : Type 0 where
+  pub each : (k : ℕ) → (get q.grove.nodes k ≡ None) ⊎ (get q.grove.nodes k ≡ get p.grove.nodes k)
+  pub others : (k : ℕ) → (LiesWithin (get p.grove.nodes) (get p.grove.boards) key k → ⊥) → get q.grove.nodes k ≡ get p.grove.nodes k
   pub fed : AreFed p.web → AreFed q.web
   pub blocks : HasBlocks p.web (blocks_told p) → HasBlocks q.web (blocks_told q)
   pub values : AllByRecursion (AllByRecursion AreValues) (blocks_told p) → AllByRecursion (AllByRecursion AreValues) (blocks_told q)
   pub sizes : AllByRecursion (AllByRecursion IsBlock) (blocks_told p) → AllByRecursion (AllByRecursion IsBlock) (blocks_told q)
 
--- where nothing was, nothing comes
-none_comes : (now was : Option Node) → was ≡ None → (IsSome now → now ≡ was) → now ≡ was
-none_comes None was e f = sym e
-none_comes (Some n) was e f = f refl
-
--- a box without a canvas inside goes alone
-module _ (nodes new : ℕ → Option Node) (boards left : ℕ → Option Board) (c key : ℕ) (n : Node) (before behind : List ℕ) (T : TakesBox nodes new boards left c key n before behind) (leaf : n.inner ≡ None) where
-  node_stays : (k : ℕ) (o : Option Node) → nodes k ≡ o → k ≢ key → new k ≡ nodes k
-  node_stays k None e other = none_comes (new k) (nodes k) e (T.none_comes k)
-  node_stays k (Some m) e other = T.nodes_stay k m.board other (ap board_in e) (λ lies. none-some lies.0 (sym (ap inner_in T.was ∙ leaf) ∙ lies.1))
+-- what is no more is none, and what is stays
+gone_or : (now was : Option Node) → (IsSome now → now ≡ was) → (now ≡ None) ⊎ (now ≡ was)
+gone_or None was f = inl refl
+gone_or (Some n) was f = inr (f refl)
 
 -- under a key without a block there is no value
 row_empty : (P : List ℤ → Type 0) (row : Option (List (List ℤ))) → ((o : ℕ) → option_and_then (λ (own : List (List ℤ)). slice_get own o) row ≡ None) → IfSome row (AllByRecursion P)
@@ -120,48 +157,49 @@ row_empty P (Some own) h = all-from P own (λ o. subst (λ (x : Option (List ℤ
 abbrev HasBlock : Patch → ℕ → Type 0
 HasBlock p k = (o : ℕ) → signal_in (slice_get (ports_told p.web Outlets k) o) ≡ true → IsSome (block_at (blocks_told p) k o)
 
-module _ (p r q : Patch) (table : Names) (place : Place) (key steps steps' : ℕ) (room : SameButRoom p r) (removed : IsRemoved r q table place key steps steps') where
-  abbrev goes : GoesOut removed.loose q table place key
-  goes = removed.taken.goes
+module _ (p r q : Patch) (table : Names) (place : Place) (key steps steps' : ℕ) (room : SameButRoom p r) (cleared : IsCleared r q table place key steps steps')
+    (F : IsForest (get p.grove.nodes) (get p.grove.boards) p.grove.root) where
+  abbrev went : ℕ → Bool
+  went k = is_among cleared.part k
 
-  same_grove : removed.loose.grove ≡ p.grove
-  same_grove = removed.loosens.rest.grove ∙ room.grove
+  same_blocks : blocks_told r ≡ blocks_told p
+  same_blocks = rw room.values refl
 
-  same_blocks : blocks_told removed.loose ≡ blocks_told p
-  same_blocks = rw (removed.loosens.rest.values ∙ room.values) refl
+  same_ports : (k : ℕ) → went k ≡ false → ports_told q.web Outlets k ≡ ports_told p.web Outlets k
+  same_ports k stays = cleared.ports.ports Outlets k stays ∙ room.web.kept.ports Outlets k
 
-  same_ports : (k : ℕ) → k ≢ key → ports_told q.web Outlets k ≡ ports_told p.web Outlets k
-  same_ports k other = goes.ports.other_ports Outlets k other ∙ removed.wires.kept.ports Outlets k ∙ room.web.kept.ports Outlets k
-
-  other_row : (k : ℕ) → k ≢ key → slice_get (blocks_told q) k ≡ slice_get (blocks_told p) k
-  other_row k other = goes.blocks.others k other ∙ ap (λ (b : Blocks). slice_get b k) same_blocks
+  other_row : (k : ℕ) → went k ≡ false → slice_get (blocks_told q) k ≡ slice_get (blocks_told p) k
+  other_row k stays = cleared.blocks.others k stays ∙ ap (λ (b : Blocks). slice_get b k) same_blocks
 
   left_fed : AreFed p.web → AreFed q.web
   left_fed h =
-      fed_same removed.loose.web q.web goes.ports.lines goes.ports.feeds
-      (gone_fed key r removed.loosens.gone removed.loose removed.loosens.one_by_one (same_fed p.web r.web room.web h))
+      fed_same cleared.loose.web q.web cleared.lines cleared.feeds
+      (lost_fed cleared.part r cleared.lost cleared.loose cleared.one_by_one (same_fed p.web r.web room.web h))
 
   left_blocks : HasBlocks p.web (blocks_told p) → HasBlocks q.web (blocks_told q)
-  left_blocks h =
-      by_key (HasBlock q) key
-      (λ o sounds. absurd (true≢false (sym sounds ∙ ap (λ (js : List Jack). signal_in (slice_get js o)) (goes.ports.ports Outlets))))
-      (λ k other o sounds. subst (λ (row : Option (List (List ℤ))). IsSome (option_and_then (λ (own : List (List ℤ)). slice_get own o) row)) (sym (other_row k other))
-      (h k o (ap (λ (js : List Jack). signal_in (slice_get js o)) (sym (same_ports k other)) ∙ sounds)))
+  left_blocks h k = by_test (went k)
+      (λ goes o sounds. absurd (true≢false (sym sounds ∙ ap (λ (js : List Jack). signal_in (slice_get js o)) (cleared.ports.gone Outlets k goes))))
+      (λ stays o sounds. subst (λ (row : Option (List (List ℤ))). IsSome (option_and_then (λ (own : List (List ℤ)). slice_get own o) row)) (sym (other_row k stays))
+      (h k o (ap (λ (js : List Jack). signal_in (slice_get js o)) (sym (same_ports k stays)) ∙ sounds)))
 
   left_all : (P : List ℤ → Type 0) → AllByRecursion (AllByRecursion P) (blocks_told p) → AllByRecursion (AllByRecursion P) (blocks_told q)
   left_all P h =
       all-from (AllByRecursion P) (blocks_told q)
-      (by_key (λ k. IfSome (slice_get (blocks_told q) k) (AllByRecursion P)) key (row_empty P (slice_get (blocks_told q) key) goes.blocks.gone)
-      (λ k other. subst (λ (o : Option (List (List ℤ))). IfSome o (AllByRecursion P)) (sym (other_row k other)) (all-at (AllByRecursion P) (blocks_told p) k h)))
+      (λ k. by_test (went k)
+      (λ goes. row_empty P (slice_get (blocks_told q) k) (λ o. cleared.blocks.gone k o goes))
+      (λ stays. subst (λ (o : Option (List (List ℤ))). IfSome o (AllByRecursion P)) (sym (other_row k stays)) (all-at (AllByRecursion P) (blocks_told p) k h)))
 
-  pub one_less : HasOneLess p q key
-  one_less = record {
-    gone = goes.grove.gone;
-    others = λ k other.
-        node_stays (get removed.loose.grove.nodes) (get q.grove.nodes) (get removed.loose.grove.boards) (get q.grove.boards) place.canvas key goes.node
-        (keys_before removed.loose place) (keys_past removed.loose place) goes.grove goes.leaf
-        k (get removed.loose.grove.nodes k) refl other
-        ∙ ap (λ (g : Grove). get g.nodes k) same_grove;
+  abbrev taking : TakesBox (get p.grove.nodes) (get q.grove.nodes) (get p.grove.boards) (get q.grove.boards) place.canvas key cleared.node (keys_before r place) (keys_past r place)
+  taking =
+      subst (λ (g : Grove). TakesBox (get g.nodes) (get q.grove.nodes) (get g.boards) (get q.grove.boards) place.canvas key cleared.node (keys_before r place) (keys_past r place))
+      room.grove cleared.grove
+
+  pub has_less : HasLess p q key
+  has_less = record {
+    each = λ k. gone_or (get q.grove.nodes k) (get p.grove.nodes k) (taking.none_comes k);
+    others = λ k.
+        node_stays (get p.grove.nodes) (get q.grove.nodes) (get p.grove.boards) (get q.grove.boards) p.grove.root place.canvas key cleared.node (keys_before r place) (keys_past r place) F taking
+        k (get p.grove.nodes k) refl;
     fed = left_fed;
     blocks = left_blocks;
     values = left_all AreValues;
@@ -170,26 +208,22 @@ module _ (p r q : Patch) (table : Names) (place : Place) (key steps steps' : ℕ
 
 -- ---- what holds of all that are left
 
-module _ (p q : Patch) (key : ℕ) (less : HasOneLess p q key) where
+module _ (p q : Patch) (key : ℕ) (less : HasLess p q key) where
+  -- what holds of no box, and of each that was, holds of each that is
+  left : (P : ℕ → Option Node → Type 0) → ((k : ℕ) → P k None) → ((k : ℕ) → P k (get p.grove.nodes k)) → (k : ℕ) → P k (get q.grove.nodes k)
+  left P none old k =
+      ⊎_elim (λ (gone : get q.grove.nodes k ≡ None). subst (P k) (sym gone) (none k)) (λ (stays : get q.grove.nodes k ≡ get p.grove.nodes k). subst (P k) (sym stays) (old k)) (less.each k)
+
   pub left_states : (P : State → Type 0) → ((k : ℕ) → IfSome (states_of p k) P) → (k : ℕ) → IfSome (states_of q k) P
-  left_states P old =
-      by_key (λ k. IfSome (states_of q k) P) key (subst (λ (o : Option Node). IfSome (state_in o) P) (sym less.gone) tt)
-      (λ k other. subst (λ (o : Option Node). IfSome (state_in o) P) (sym (less.others k other)) (old k))
+  left_states P old = left (λ k o. IfSome (state_in o) P) (λ k. tt) old
 
   pub left_kinds : (P : Kind → Type 0) → ((k : ℕ) → IfSome (kind_in ((net_of p).nodes k)) P) → (k : ℕ) → IfSome (kind_in ((net_of q).nodes k)) P
-  left_kinds P old =
-      by_key (λ k. IfSome (kind_in ((net_of q).nodes k)) P) key (subst (λ (o : Option Node). IfSome (kind_in (bare o)) P) (sym less.gone) tt)
-      (λ k other. subst (λ (o : Option Node). IfSome (kind_in (bare o)) P) (sym (less.others k other)) (old k))
+  left_kinds P old = left (λ k o. IfSome (kind_in (bare o)) P) (λ k. tt) old
 
   -- what boxes keep is of their kinds
   pub left_objects : KeepsOfKind (λ k. kind_in ((net_of p).nodes k)) (states_of p) → KeepsOfKind (λ k. kind_in ((net_of q).nodes k)) (states_of q)
-  left_objects old =
-      by_key (λ k. option_map blank (states_of q k) ≡ option_map blank_of (kind_in ((net_of q).nodes k))) key
-      (subst (λ (o : Option Node). option_map blank (state_in o) ≡ option_map blank_of (kind_in (bare o))) (sym less.gone) refl)
-      (λ k other. subst (λ (o : Option Node). option_map blank (state_in o) ≡ option_map blank_of (kind_in (bare o))) (sym (less.others k other)) (old k))
+  left_objects old = left (λ k o. option_map blank (state_in o) ≡ option_map blank_of (kind_in (bare o))) (λ k. refl) old
 
   -- under other keys nothing is kept
   pub left_keys : (n : ℕ) → ((k : ℕ) → n ≤ k → states_of p k ≡ None) → (k : ℕ) → n ≤ k → states_of q k ≡ None
-  left_keys n old =
-      by_key (λ k. n ≤ k → states_of q k ≡ None) key (λ far. ap (λ (o : Option Node). state_in o) less.gone)
-      (λ k other far. ap (λ (o : Option Node). state_in o) (less.others k other) ∙ old k far)
+  left_keys n old = left (λ k o. n ≤ k → state_in o ≡ None) (λ k far. refl) old

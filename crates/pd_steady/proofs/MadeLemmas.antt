@@ -29,6 +29,7 @@ use Rattle.pd_wiring.specs.declared.refusals.EditRefusal.{EditRefusal}
 use Rattle.pd_wiring.specs.declared.refusals.EditRefusal.TheVariants.{TooManyWires, NoDocument, NoBox}
 use Rattle.pd_wiring.specs.Changes.{CanRewire}
 use Rattle.pd_wiring.specs.Plans.{Plan, Attaches, Detaches, canvas_of, attaching, wire_found, detaching, connecting, disconnecting, planned, IsCarriedOut, IsRewired}
+use Rattle.pd_boxes.specs.declared.room.Place.{Place}
 use Rattle.pd_boxes.specs.Put.{keys_before}
 use Rattle.pd_boxes.proofs.PutLemmas.{longer_by_one}
 use Rattle.pd_taking.specs.Taking.{keys_past}
@@ -45,7 +46,7 @@ use Rattle.pd_stage.specs.Times.{with_wires, IsStageOf}
 use Rattle.pd_stage.proofs.EditLemmas.{AsksAlike}
 use Rattle.pd_engine.specs.Commands.{led_to}
 use Rattle.pd_engine.proofs.ShowLemmas.{led_is}
-use Rattle.pd_steady.specs.Serving.{ended_in}
+use Rattle.pd_steady.specs.Serving.{box_of}
 use Rattle.pd_steady.specs.Told.{TellsLoop}
 use Rattle.pd_steady.proofs.AddedLemmas.{added_at}
 use Rattle.pd_steady.proofs.ComeLemmas.{seen_keys, HasLonger, come_longer}
@@ -251,12 +252,12 @@ going_key : (g : Grove) (number : ℕ) (o : Option ℕ) (x : ℕ × ℕ) → goi
 going_key g number None x h = absurd (cc)
 going_key g number (Some c) x h = box_key g c number (slice_get (keys_at g c) number) x h
 
-pub take_at : (s : Stage) (path : List ℕ) (number : ℕ) (m : Made) → (h : IsTakenOut s path number m) → ended_in s.net path (edit.Delete number) ≡ Some h.box.key
+pub take_at : (s : Stage) (path : List ℕ) (number : ℕ) (m : Made) → (h : IsTakenOut s path number m) → box_of s.net path number ≡ Some h.box.key
 take_at s path number m h =
     let g : Grove = h.old.grove in
     let found : sub_reached g (Some g.root) path ≡ Some h.box.canvas = going_at g number (sub_reached g (Some g.root) path) (h.box.canvas, h.box.key) h.deletes.is in
     let same : led_to (net_of h.old) (Some g.root) path ≡ sub_reached g (Some g.root) path = led_is h.old (Some g.root) path ∙ sub_leads g path (Some g.root) h.box.canvas found ∙ sym found in
-    ap (λ (n : Net). ended_in n path (edit.Delete number)) h.stands.net ∙ ap (λ (o : Option ℕ). option_and_then (λ c. slice_get (keys_at g c) number) o) same
+    ap (λ (n : Net). box_of n path number) h.stands.net ∙ ap (λ (o : Option ℕ). option_and_then (λ c. slice_get (keys_at g c) number) o) same
     ∙ going_key g number (sub_reached g (Some g.root) path) (h.box.canvas, h.box.key) h.deletes.is
 
 pub take_short : (s : Stage) (path : List ℕ) (number : ℕ) (m : Made) → HasTree s → (h : IsTakenOut s path number m) → (o : Listing) → order_in h.new.orders.items h.box.canvas ≡ Some o
@@ -265,24 +266,26 @@ take_short s path number m t h o order =
     let p : Patch = h.old in
     let q : Patch = h.new in
     let c : ℕ = h.box.canvas in
-    let x = h.deletes.removed in
-    let g = x.taken.goes.grove in
+    let x = h.deletes.cleared in
+    let r : Patch = h.deletes.ready in
+    let place : Place = record { canvas = c; number = number } in
     let leads : reached p.grove (Some p.grove.root) path ≡ Some c =
     sub_leads p.grove path (Some p.grove.root) c (going_at p.grove number (sub_reached p.grove (Some p.grove.root) path) (c, h.box.key) h.deletes.is) in
     let there : reached t.patch.grove (Some t.patch.grove.root) path ≡ Some c = led_at (patch_now s t) p s path c h.stands.net t.of.net leads in
     let few : length (keys_at t.patch.grove c) ≤ weight t.tree.boxes = canvas_few t.patch.grove t.tree t.stands path c there in
-    let same : g.old.nodes.items ≡ keys_at t.patch.grove c =
-    sym (ap (λ (o : Option Board). keys_in o) g.board) ∙ ap (λ (y : Grove). keys_at y c) (x.loosens.rest.grove ∙ h.deletes.room.grove)
+    let same : x.grove.old.nodes.items ≡ keys_at t.patch.grove c =
+    sym (ap (λ (o : Option Board). keys_in o) x.grove.board) ∙ ap (λ (y : Grove). keys_at y c) h.deletes.room.grove
     ∙ ap (λ (boards : Slab Board). keys_in (get boards c)) (boards_same s t p h.stands.net) in
-    let before : List ℕ = keys_before x.loose (record { canvas = c; number = number }) in
-    let behind : List ℕ = keys_past x.loose (record { canvas = c; number = number }) in
-    let had : length g.old.nodes.items ≡ suc (length (before ++ behind)) = ap (λ (ks : List ℕ). length ks) g.had ∙ longer_by_one before behind h.box.key in
+    let before : List ℕ = keys_before r place in
+    let behind : List ℕ = keys_past r place in
+    let had : length x.grove.old.nodes.items ≡ suc (length (before ++ behind)) = ap (λ (ks : List ℕ). length ks) x.grove.had ∙ longer_by_one before behind h.box.key in
     let all : length (before ++ behind) ≤ 16384 =
-    few_left (length (before ++ behind)) (weight t.tree.boxes) (length g.old.nodes.items) s.base.counts.boxes had
+    few_left (length (before ++ behind)) (weight t.tree.boxes) (length x.grove.old.nodes.items) s.base.counts.boxes had
     (subst (λ (ks : List ℕ). length ks ≤ weight t.tree.boxes) (sym same) few) t.boxes t.within.boxes in
-    let short : length o.chain + length o.stuck ≤ length g.new.nodes.items =
-    order_short q.grove q.web (get q.grove.boards c) (board_seen g.new) (order_in q.orders.items c) o (ap (λ (y : Option Board). option_map board_seen y) g.without) (x.taken.orders c) order in
-    through (length o.chain + length o.stuck) (length g.new.nodes.items) short (subst (λ (ks : List ℕ). length ks ≤ 16384) (sym g.has) all)
+    let short : length o.chain + length o.stuck ≤ length x.grove.new.nodes.items =
+    order_short q.grove q.web (get q.grove.boards c) (board_seen x.grove.new) (order_in q.orders.items c) o (ap (λ (y : Option Board). option_map board_seen y) x.grove.without)
+    (x.can.runs.orders c) order in
+    through (length o.chain + length o.stuck) (length x.grove.new.nodes.items) short (subst (λ (ks : List ℕ). length ks ≤ 16384) (sym x.grove.has) all)
 
 -- ---- the order of the canvas in which an edit moved a box
 
@@ -323,12 +326,12 @@ move_short s path number x y m t h o order =
 -- ---- the order of the canvas in which an edit made a box another one
 
 pub retype_at : (s : Stage) (path : List ℕ) (number : ℕ) (text : List Atom) (m : Made) → (h : IsRetypedTo s path number text m)
-    → ended_in s.net path (edit.Retype number text) ≡ Some h.box.key
+    → box_of s.net path number ≡ Some h.box.key
 retype_at s path number text m h =
     let g : Grove = h.old.grove in
     let found : sub_reached g (Some g.root) path ≡ Some h.box.canvas = h.retypes.chosen.leads in
     let there : led_to (net_of h.old) (Some g.root) path ≡ Some h.box.canvas = led_is h.old (Some g.root) path ∙ sub_leads g path (Some g.root) h.box.canvas found in
-    ap (λ (n : Net). ended_in n path (edit.Retype number text)) h.stands.net ∙ ap (λ (o : Option ℕ). option_and_then (λ c. slice_get (keys_at g c) number) o) there
+    ap (λ (n : Net). box_of n path number) h.stands.net ∙ ap (λ (o : Option ℕ). option_and_then (λ c. slice_get (keys_at g c) number) o) there
     ∙ h.retypes.chosen.at
 
 pub retype_short : (s : Stage) (path : List ℕ) (number : ℕ) (text : List Atom) (m : Made) → HasTree s → (h : IsRetypedTo s path number text m) → (o : Listing)

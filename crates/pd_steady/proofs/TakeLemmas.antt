@@ -16,7 +16,7 @@ use Rattle.pd_stage.specs.Events.{stage_by}
 use Rattle.pd_stage.specs.Times.{block_units}
 use Rattle.pd_stage.specs.Lawful.{IsTakenOut}
 use Rattle.pd_steady.specs.Steady.{IsSteady}
-use Rattle.pd_steady.proofs.LessLemmas.{HasOneLess, one_less, left_states, left_kinds, left_objects, left_keys}
+use Rattle.pd_steady.proofs.LessLemmas.{HasLess, has_less, left_states, left_kinds, left_objects, left_keys}
 use Rattle.pd_steady.proofs.PutLemmas.{standing, is_standing}
 use Rattle.pd_steady.proofs.StandLemmas.{tree_near, tree_serves}
 use Rattle.pd_engine.proofs.TreeLemmas.{HasBoth}
@@ -41,13 +41,13 @@ pub made_is : (s : Stage) (q : Patch) (ahead : List Choice) (m : Made) → m.net
     → stage_by (with_ahead s ahead) (Makes m) ≡ taken_stage s q m.clocks m.base ahead
 made_is s q ahead m net states names = rw (net, states, names) refl
 
--- the patch with one box less is the one that was, where a box went
-pub taken_less : (s : Stage) (path : List ℕ) (number : ℕ) (m : Made) → (h : IsTakenOut s path number m) → HasOneLess h.old h.new h.box.key
+-- the patch is the one that was, less a box and all that lay in it
+pub taken_less : (s : Stage) (path : List ℕ) (number : ℕ) (m : Made) → (h : IsTakenOut s path number m) → HasLess h.old h.new h.box.key
 taken_less s path number m h =
-    one_less h.old h.deletes.ready h.new s.names (record { canvas = h.box.canvas; number = number }) h.box.key h.steps h.steps' h.deletes.room h.deletes.removed
+    has_less h.old h.deletes.ready h.new s.names (record { canvas = h.box.canvas; number = number }) h.box.key h.steps h.steps' h.deletes.room h.deletes.cleared h.stands.puts.forest
 
--- a patch with one box less stands
-less_steady : (most : ℕ) (s : Stage) (p q : Patch) (clocks : List Clock) (base : Base) (ahead : List Choice) (key : ℕ) → IsSteady most (standing s p) → HasOneLess p q key
+-- a patch with a box less stands
+less_steady : (most : ℕ) (s : Stage) (p q : Patch) (clocks : List Clock) (base : Base) (ahead : List Choice) (key : ℕ) → IsSteady most (standing s p) → HasLess p q key
     → HasBoth (taken_stage s q clocks base ahead) → IsSteady most (taken_stage s q clocks base ahead)
 less_steady most s p q clocks base ahead key h less tree =
     let objects : KeepsOfKind (λ k. kind_in ((net_of q).nodes k)) (states_of q) = left_objects p q key less h.ready.kinds in
