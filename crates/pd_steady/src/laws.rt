@@ -149,8 +149,8 @@ pub fn loops_tell_all_boxes()
 
 /// In a run in which each edit is lawful, from where a patch opens through any commands, names and times, each box that was there, and that no edit
 /// deletes, by itself or with a box around it, or makes another one, keeps what is of the same objects as what it kept at first; and so does, from
-/// any stage on, each box that is there, also one that came. And where each table of names that is read goes on, the first owner of the name that a box looks for always keeps what that box
-/// looks for, also at the end, whatever boxes came, moved, became others and went.
+/// any stage on, each box that is there, also one that came. And where each table of names that is read goes on, the first owner of the name that a
+/// box looks for always keeps what that box looks for, also at the end, whatever boxes came, moved, became others and went.
 pub fn owners_go_on()
     ensures alike { (file : List ℕ) (p : Patch) (names : Names) (base : Base) (steps : List Step) (ahead : List Choice) →
         let run = followed_by (opened file p names base ahead) (steps_by own_ways steps) in

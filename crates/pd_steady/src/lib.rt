@@ -10,8 +10,8 @@
 //! edits of wires and saves leave all that steadiness speaks of; a box that an edit puts, also a subpatch without
 //! boxes, is of a kind in order and keeps what its kind keeps at first, and so does one that another box becomes,
 //! whatever ports the two have; where an edit takes a box out with all that lies in it, all others keep what they
-//! kept, and their names have their owners; and where one moves a box all keep what they kept. So it is with those that a script asks for and with those that messages ask for,
-//! which are taken at the end of their event.
+//! kept, and their names have their owners; and where one moves a box all keep what they kept. So it is with those
+//! that a script asks for and with those that messages ask for, which are taken at the end of their event.
 //!
 //! So a whole run in which each edit is lawful, from where a patch opens to its end, is the one in which each event
 //! is the depth-first recursion over the objects' own definitions, and in each block each box runs its own row
@@ -22,8 +22,9 @@
 //! patch opens and where an edit makes one (`loops_tell_all_boxes`).
 //!
 //! Where each edit is lawful, what each box keeps is of the objects of what it kept at first, until an edit deletes
-//! it, or a box in which it lies, or makes it another one. And a box that looks for a bus, a sum or a delay line finds one in the first owner of
-//! its name, wherever a run has come to in which each table of names that is read goes on (`owners_go_on`).
+//! it, or a box in which it lies, or makes it another one. And a box that looks for a bus, a sum or a delay line finds
+//! one in the first owner of its name, wherever a run has come to in which each table of names that is read goes on
+//! (`owners_go_on`).
 //!
 //! Definitions: `Steady`, `Runs` and `Steps` (a run where it is given what events and blocks come to), `Freely`
 //! (events and blocks where nothing is passed over), `Told`, `Serving`.
