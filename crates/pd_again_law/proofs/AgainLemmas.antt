@@ -1,5 +1,5 @@
 -- A patch that was saved opens again.
-use Rattle.std.proofs.Common.{◌≡◌, ◌≤◌, ◌+◌, ◌-◌, inl, ℕ, List, [], ◌∷◌, length, Option, Some, None, Ok, IfSome, refl, sym, ap, ◌∙◌, subst, arith, append-nil}
+use Rattle.std.proofs.Common.{◌≡◌, ◌≤◌, ◌+◌, ◌-◌, inl, ℕ, List, [], ◌∷◌, ◌++◌, length, Option, Some, None, Ok, IfSome, refl, sym, ap, ◌∙◌, subst, arith, append-nil}
 use Rattle.slab.specs.Slab.{get}
 use Rattle.pd_io.specs.declared.files.FileRow.{FileRow}
 use Rattle.pd_atom.specs.Names.{Names, Extends, IsTable}
@@ -18,8 +18,8 @@ use Rattle.pd_object.specs.declared.kinds.Glue.TheVariants as glue
 use Rattle.pd_kind.specs.declared.states.State.{State}
 use Rattle.pd_library.specs.Files.{answer_in}
 use Rattle.pd_library.specs.declared.answers.Answer.{Answer}
-use Rattle.pd_tree.specs.Trees.{Tree, weight, document_in}
-use Rattle.pd_growth.specs.Steps.{Stock, Step, beginning, gives}
+use Rattle.pd_tree.specs.Trees.{Tree, weight, zeros_of, document_in}
+use Rattle.pd_growth.specs.Steps.{Stock, Step, beginning, gives, zeros_from}
 use Rattle.pd_growth.specs.Growth.{grown}
 use Rattle.pd_gather.specs.Gather.{GoesOn, known}
 use Rattle.pd_grove.specs.declared.grove.Grove.{Grove}
@@ -79,7 +79,7 @@ use Rattle.pd_stage.specs.Stages.{Stage, Taken}
 use Rattle.pd_engine.specs.Opening.{Grows, first_stage, growth_of}
 use Rattle.pd_steady.specs.Steady.{IsSteady}
 use Rattle.pd_again_law.specs.Again.{IsSamePatch, grown_alike, GrowsAgain, Reopens, SavedOpensAgain, AreAgain}
-use Rattle.pd_again_law.proofs.NumberLemmas.{HasFirstNumbers, as_opened}
+use Rattle.pd_again_law.proofs.FileLemmas.{as_opened}
 use Rattle.pd_again_law.proofs.StandLemmas.{six_more, HasCounted, StaysProper, runs_at}
 use Rattle.pd_again_law.proofs.FoundLemmas.{IsGood, AreFound}
 use Rattle.pd_again_law.proofs.HeldLemmas.{IsHeld, Settled, bare_kind, told, held_in}
@@ -139,11 +139,6 @@ module _ (holds : Option (List FileRow)) (name : List ℕ) (rate : Rate) (d : Pa
       (subst (λ (n : Names). StandsAgain (answer_in grows.files.files) name n t) (sym grows.tree.given.table)
       (grown_stands (answer_in grows.files.files) name d (beginning before 1001) grows.tree.given.after t grew))
 
-  numbers : HasFirstNumbers t
-  numbers =
-      let after : Stock = grows.tree.given.after in
-      (after.zeros, (patch_takes (answer_in grows.files.files) name d (beginning before 1001) after t grows.tree.given.step).zeros)
-
   gathered : GoesOn grows.files.files base.files
   gathered = record { more = []; is = grows.first.files_are ∙ sym (append-nil grows.files.files) }
 
@@ -186,7 +181,6 @@ module _ (holds : Option (List FileRow)) (name : List ℕ) (rate : Rate) (d : Pa
       low = no_deeper (deep t.boxes) grows.tree.shallow;
       again = again;
       proper = proper;
-      numbers = numbers;
       files = gathered;
       counted = counted_first;
       held = held_in name table (states_of p) t p (net_of p) refl held;
@@ -312,16 +306,14 @@ module _ (tells : Tells) (reads : ReadsBack) (library : List (ℕ × Answer)) (r
     grows_again : GrowsAgain grows (stock s.names more room) name rate tree p s.names
     grows_again = record { tree = is; same = same_patch; refused = for_memory }
 
-  -- the numbers and the room that are left where its text is opened as a file
-  abbrev numbers_left : List ℕ
-  numbers_left = good.stands.numbers.0
-
+  -- the room that is left where its text is opened as a file
   abbrev room_left : ℕ
   room_left = 16384 - weight tree.boxes
 
-  opened_so : growth_of name (present_document p) (known files s.names) ≡ gives (now_of p tree) (stock s.names numbers_left room_left)
-  opened_so =
-      ap (grown (answer_in files) name (present_document p)) (as_opened s.names tree numbers_left few_boxes good.stands.numbers.1) ∙ grown_so numbers_left room_left
+  opened_so : (numbers_left : List ℕ) → zeros_from 1001 ≡ zeros_of tree ++ numbers_left
+      → growth_of name (present_document p) (known files s.names) ≡ gives (now_of p tree) (stock s.names numbers_left room_left)
+  opened_so numbers_left first =
+      ap (grown (answer_in files) name (present_document p)) (as_opened s.names tree numbers_left few_boxes first) ∙ grown_so numbers_left room_left
 
   pub reopens : Reopens library name rate s p
   reopens = record {
@@ -332,9 +324,8 @@ module _ (tells : Tells) (reads : ReadsBack) (library : List (ℕ × Answer)) (r
       page = present_document p;
       reads = reads s.names (present_document p) table is_proper;
       is_now = refl;
-      numbers_left = numbers_left;
       room_left = room_left;
-      opened = grows_again (growth_of name (present_document p) (known files s.names)) numbers_left room_left opened_so;
+      opened = λ numbers_left first. grows_again (growth_of name (present_document p) (known files s.names)) numbers_left room_left (opened_so numbers_left first);
       alike = λ more room. grows_again (grown_alike files name (present_document p) s.names tree more room) more room (grown_so more room);
     };
   }

@@ -146,7 +146,6 @@ module _ (library : List (ℕ × Answer)) (rate : Rate) (name : List ℕ) where
             low = h.stands.low;
             again = again_on s (delivered s b).kept.names h.stands on;
             proper = proper_on s (delivered s b).kept.names h.stands on;
-            numbers = h.stands.numbers;
             files = h.stands.files;
             counted = h.stands.counted;
             held = held_on s (delivered s b).kept.names (delivered s b).kept.states h.stands on (λ p c.
@@ -174,7 +173,6 @@ module _ (library : List (ℕ × Answer)) (rate : Rate) (name : List ℕ) where
           (subst (λ (f : List ℕ). StandsAgain (answer_in s.base.files) f r.names h.tree) (sym file)
           (subst (λ (ns : Names). StandsAgain (answer_in s.base.files) s.file ns h.tree) (sym names) h.again));
       proper = subst (λ (ns : Names). StaysProper ns h.tree) (sym names) h.proper;
-      numbers = h.numbers;
       files = subst (λ (b : Base). GoesOn library b.files) (sym base) h.files;
       counted = subst (λ (b : Base). HasCounted rate b h.tree) (sym base) h.counted;
       held = subst (λ (n : Net). NetHeld r.file r.names r.states h.tree n) (sym net)
@@ -232,7 +230,6 @@ module _ (library : List (ℕ × Answer)) (rate : Rate) (name : List ℕ) where
           low = h.stands.low;
           again = h.stands.again;
           proper = h.stands.proper;
-          numbers = h.stands.numbers;
           files = h.stands.files;
           counted = h.stands.counted;
           held = played_held s h.stands;
@@ -302,7 +299,6 @@ module _ (library : List (ℕ × Answer)) (rate : Rate) (name : List ℕ) where
         low = h.stands.low;
         again = again_on s names h.stands x;
         proper = proper_on s names h.stands x;
-        numbers = h.stands.numbers;
         files = h.stands.files;
         counted = h.stands.counted;
         held = held_on s names s.states h.stands x (λ p c. all_more (IsWritten p.grove) (counts_of (kinds_of p)) s.names names x s.states c);

@@ -1,4 +1,4 @@
-pub mod NumberLemmas
+pub mod FileLemmas
 pub mod HeldLemmas
 pub mod PutLemmas
 pub mod TakeLemmas

@@ -43,7 +43,7 @@ use Rattle.pd_stage.specs.Events.{with_net, stage_by}
 use Rattle.pd_steady.specs.Steady.{IsSteady}
 use Rattle.pd_steady.proofs.FairLemmas.{IsRefusal, IsFair}
 use Rattle.pd_steady.proofs.TimeLemmas.{within}
-use Rattle.pd_again_law.proofs.NumberLemmas.{HasFirstNumbers, still_first, put_first, goes_behind}
+use Rattle.pd_again_law.proofs.FileLemmas.{goes_behind}
 use Rattle.pd_again_law.proofs.HeldLemmas.{Settled, IsHeld, bare_kind, NetHeld, told, held_in, held_edit, held_room}
 use Rattle.pd_again_law.proofs.PutLemmas.{PutLaws}
 use Rattle.pd_again_law.proofs.PutLemmas as put
@@ -78,8 +78,8 @@ pub record EditLaws : Type 0 where
   pub retypes : RetypeLaws
 
 module _ (library : List (ℕ × Answer)) (rate : Rate) (name : List ℕ) where
-  -- A tree stands in each patch of which the stage tells, and grows again from its own document. Its `$0` numbers are the first ones from 1001 on; what was
-  -- known of files where the patch opened is known still; and as many boxes and values are counted as it has.
+  -- A tree stands in each patch of which the stage tells, and grows again from its own document. What was known of files where the patch opened is known
+  -- still, and as many boxes and values are counted as it has.
   pub record IsStanding (s : Stage) : Type 0 where
     pub file : s.file ≡ name
     pub rates : s.net.rate ≡ rate
@@ -88,7 +88,6 @@ module _ (library : List (ℕ × Answer)) (rate : Rate) (name : List ℕ) where
     pub low : deep tree.boxes ≤ 256
     pub again : StandsAgain (answer_in s.base.files) s.file s.names tree
     pub proper : StaysProper s.names tree
-    pub numbers : HasFirstNumbers tree
     pub files : GoesOn library s.base.files
     pub counted : HasCounted rate s.base tree
     pub held : NetHeld s.file s.names s.states tree s.net
@@ -102,7 +101,6 @@ module _ (library : List (ℕ × Answer)) (rate : Rate) (name : List ℕ) where
     low = h.low;
     again = h.again;
     proper = h.proper;
-    numbers = h.numbers;
     files = h.files;
     counted = h.counted;
     held = h.held;
@@ -140,7 +138,6 @@ module _ (library : List (ℕ × Answer)) (rate : Rate) (name : List ℕ) where
         low = h.low;
         again = subst (λ (ns : Names). StandsAgain (answer_in m.base.files) s.file ns h.tree) (sym x.names) rest.0;
         proper = subst (λ (ns : Names). StaysProper ns h.tree) (sym x.names) h.proper;
-        numbers = h.numbers;
         files = subst (GoesOn library) (sym (ap (λ (b : Base). b.files) x.base)) h.files;
         counted = rest.1;
         held = subst (λ (ns : Names). NetHeld s.file ns m.states h.tree m.net) (sym x.names)
@@ -156,7 +153,7 @@ module _ (library : List (ℕ × Answer)) (rate : Rate) (name : List ℕ) where
       let held : IsHeld s.file s.names s.states h.tree x.new =
       held_room s.file s.names s.states h.tree h.low x.old x.new x.same (held_at s x.old h x.stands) in
       let rest = rewired_stands s net s.base x.old x.new h x.stands x.net_is x.same.rate refl refl refl held in
-      record { file = h.file; rates = rest.3; six = h.six; tree = h.tree; low = h.low; again = rest.0; proper = h.proper; numbers = h.numbers; files = h.files; counted = rest.1; held = rest.2 }
+      record { file = h.file; rates = rest.3; six = h.six; tree = h.tree; low = h.low; again = rest.0; proper = h.proper; files = h.files; counted = rest.1; held = rest.2 }
 
   -- a patch that stands at a steady stage
   keeps_at : (most : ℕ) (s : Stage) (p : Patch) → IsSteady most s → StandsAt p s → KeepsOfKind (kinds_of p) (states_of p)
@@ -235,7 +232,6 @@ module _ (library : List (ℕ × Answer)) (rate : Rate) (name : List ℕ) where
           let later : Extends x.after.names more = subst (λ (ns : Names). Extends ns more) x.names on_more in
           puts.proper x.old x.new s.base.counts s.file path s.time e before x.after x.box h.tree more x.adds can runs h.again later table few
           (h.proper more (onward s.names x.after.names more on later) table);
-      numbers = put_first x.adds.added.boxes (put.no_numbers x.old x.new s.time x.adds.added x.box.key x.adds.put) path h.tree h.numbers;
       files = subst (λ (b : Base). GoesOn library b.files) (sym x.base) files;
       counted = subst (λ (b : Base). HasCounted rate b now) (sym x.base) counted;
       held = held_in s.file m.names m.states now x.new m.net x.net
@@ -262,7 +258,6 @@ module _ (library : List (ℕ × Answer)) (rate : Rate) (name : List ℕ) where
         low = h.low;
         again = h.again;
         proper = h.proper;
-        numbers = h.numbers;
         files = h.files;
         counted = h.counted;
         held = held_in s.file s.names s.states h.tree q net is held;
@@ -320,7 +315,6 @@ module _ (library : List (ℕ × Answer)) (rate : Rate) (name : List ℕ) where
           (subst (λ (ns : Names). StandsAgain (answer_in s.base.files) s.file ns less) (sym x.names) grows_less);
       proper = subst (λ (ns : Names). StaysProper ns less) (sym x.names) (λ more on table.
           takes.proper x.old x.new s.base.counts s.names path number x.steps x.steps' x.box h.tree more x.deletes x.stands.puts ran (h.proper more on table));
-      numbers = still_first h.tree less (takes.zeros x.old x.new s.base.counts s.names path number x.steps x.steps' x.box h.tree x.deletes x.stands.puts ran) h.numbers;
       files = subst (λ (b : Base). GoesOn library b.files) (sym x.base) h.files;
       counted = subst (λ (b : Base). HasCounted rate b less) (sym x.base) fewer_counted;
       held = held_in s.file m.names m.states less x.new m.net x.net
@@ -334,7 +328,7 @@ module _ (library : List (ℕ × Answer)) (rate : Rate) (name : List ℕ) where
       let held : IsHeld s.file s.names s.states h.tree x.new =
       held_room s.file s.names s.states h.tree h.low x.old x.new x.short.room (held_at s x.old h x.stands) in
       let rest = rewired_stands s net s.base x.old x.new h x.stands x.net_is x.short.room.rate refl refl refl held in
-      record { file = h.file; rates = rest.3; six = h.six; tree = h.tree; low = h.low; again = rest.0; proper = h.proper; numbers = h.numbers; files = h.files; counted = rest.1; held = rest.2 }
+      record { file = h.file; rates = rest.3; six = h.six; tree = h.tree; low = h.low; again = rest.0; proper = h.proper; files = h.files; counted = rest.1; held = rest.2 }
 
   -- an edit that moved a box
   module _ (shifts : ShiftLaws) (most : ℕ) (s : Stage) (path : List ℕ) (number : ℕ) (a b : ℤ) (m : Made) (x : IsMovedTo s path number a b m) (steady : IsSteady most s) (h : IsStanding s) where
@@ -380,7 +374,6 @@ module _ (library : List (ℕ × Answer)) (rate : Rate) (name : List ℕ) where
           (subst (λ (ns : Names). StandsAgain (answer_in s.base.files) s.file ns moved) (sym x.names) grows_moved);
       proper = subst (λ (ns : Names). StaysProper ns moved) (sym x.names) (λ more on table.
           shifts.proper x.old x.new path number a b x.key h.tree more x.moves x.stands.puts ran_there (h.proper more on table));
-      numbers = still_first h.tree moved (shifts.zeros path number a b h.tree) h.numbers;
       files = subst (λ (c : Base). GoesOn library c.files) (sym x.base) h.files;
       counted = subst (λ (c : Base). HasCounted rate c moved) (sym x.base) same_counted;
       held = held_in s.file m.names m.states moved x.new m.net x.net
@@ -452,8 +445,6 @@ module _ (library : List (ℕ × Answer)) (rate : Rate) (name : List ℕ) where
         again = subst (λ (c : Base). StandsAgain (answer_in c.files) s.file m.names other) (sym x.base)
             (subst (λ (ns : Names). StandsAgain (answer_in x.after.files) s.file ns other) (sym x.names) grows_other);
         proper = subst (λ (ns : Names). StaysProper ns other) (sym x.names) stays_proper;
-        numbers = still_first h.tree other
-            (retypes.zeros x.old x.new s.base.counts s.file path number text s.time known_then x.after x.box h.tree x.retypes x.stands.puts one_ran) h.numbers;
         files = subst (λ (c : Base). GoesOn library c.files) (sym x.base) files_go_on;
         counted = subst (λ (c : Base). HasCounted rate c other) (sym x.base) other_counted;
         held = held_in s.file m.names m.states other x.new m.net x.net
@@ -476,7 +467,6 @@ module _ (library : List (ℕ × Answer)) (rate : Rate) (name : List ℕ) where
     again = subst (λ (b : Base). StandsAgain (answer_in b.files) s.file m.names h.tree) (sym x.base)
         (subst (λ (ns : Names). StandsAgain (answer_in s.base.files) s.file ns h.tree) (sym x.names) h.again);
     proper = subst (λ (ns : Names). StaysProper ns h.tree) (sym x.names) h.proper;
-    numbers = h.numbers;
     files = subst (λ (b : Base). GoesOn library b.files) (sym x.base) h.files;
     counted = subst (λ (b : Base). HasCounted rate b h.tree) (sym x.base) h.counted;
     held = subst (λ (n : Net). NetHeld s.file m.names m.states h.tree n) (sym x.net)

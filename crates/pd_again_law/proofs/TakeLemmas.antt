@@ -3,7 +3,7 @@ use Rattle.std.proofs.Common.{◌≡◌, ℕ, List, Option, ◌∙◌}
 use Rattle.pd_atom.specs.Names.{Names}
 use Rattle.pd_canvas.specs.Proper.{IsProper}
 use Rattle.pd_library.specs.declared.answers.Answer.{Answer}
-use Rattle.pd_tree.specs.Trees.{Tree, weight, zeros_of, document_in}
+use Rattle.pd_tree.specs.Trees.{Tree, weight, document_in}
 use Rattle.pd_web.specs.Changes.{Meet}
 use Rattle.pd_patch.specs.declared.patch.Patch.{Patch}
 use Rattle.pd_patch.specs.Sounds.{sound_of}
@@ -25,8 +25,6 @@ pub record TakeLaws : Type 0 where
   pub again : (old new : Patch) (n : Counts) (table : Names) (path : List ℕ) (number steps steps' : ℕ) (b : OldBox) (t : Tree)
       → DeletesBox old new n table path number steps steps' b → CanPut old → RunsAs old.grove t
       → (lib : ℕ → Option Answer) (file : List ℕ) (names : Names) → StandsAgain lib file names t → StandsAgain lib file names (taken_at path number t)
-  pub zeros : (old new : Patch) (n : Counts) (table : Names) (path : List ℕ) (number steps steps' : ℕ) (b : OldBox) (t : Tree)
-      → DeletesBox old new n table path number steps steps' b → CanPut old → RunsAs old.grove t → zeros_of (taken_at path number t) ≡ zeros_of t
   pub holds : (old new : Patch) (n : Counts) (table : Names) (path : List ℕ) (number steps steps' : ℕ) (b : OldBox) (t : Tree)
       → DeletesBox old new n table path number steps steps' b → CanPut old → RunsAs old.grove t → HoldsWires old t → HoldsWires new (taken_at path number t)
   pub fit : (old new : Patch) (n : Counts) (table : Names) (path : List ℕ) (number steps steps' : ℕ) (b : OldBox)
@@ -48,4 +46,4 @@ pub record TakeLaws : Type 0 where
 -- the patch runs on at its rate
 pub same_rate : (old new : Patch) (n : Counts) (table : Names) (path : List ℕ) (number steps steps' : ℕ) (b : OldBox)
     → DeletesBox old new n table path number steps steps' b → new.rate ≡ old.rate
-same_rate old new n table path number steps steps' b x = x.removed.taken.goes.rate ∙ x.removed.loosens.rest.rate ∙ x.room.rate
+same_rate old new n table path number steps steps' b x = x.cleared.rate ∙ x.room.rate
