@@ -2,8 +2,9 @@
 ghost use Rattle.pd_again_law.specs.Laws.{SavesOpenAgain, StagesOpenAgain};
 
 /// In a run in which each edit is lawful, from where a patch opens to its end, whatever wires and boxes come, go and move, and whatever boxes become,
-/// each save puts a text that opens again, as a file that is opened does, as the patch that was saved. It does so with the files that are known by
-/// then, which begin with those that were gathered where the patch opened.
+/// each save puts a text that opens again, under the patch's own `$0` numbers, as the patch that was saved. So it does as a file that is opened does,
+/// where these numbers are the first ones from 1001 on. It does so with the files that are known by then, which begin with those that were gathered
+/// where the patch opened.
 pub fn saves_open_again()
     ensures { SavesOpenAgain }
 {
@@ -31,7 +32,7 @@ pub fn saves_open_again()
     pd_doc::written_read();
 }
 
-/// In such a run a patch that stands anywhere between two steps has a text that opens again as that patch, also where nothing is saved.
+/// In such a run a patch that stands anywhere between two steps has a text that opens again so as that patch, also where nothing is saved.
 pub fn stages_open_again()
     ensures { StagesOpenAgain }
 {
