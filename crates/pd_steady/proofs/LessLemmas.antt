@@ -95,7 +95,7 @@ lost_fed : (part : List ℕ) (p : Patch) (lost : List Lost) (q : Patch) → AreL
 lost_fed part p [] q e h = subst (λ (x : Patch). AreFed x.web) (sym e) h
 lost_fed part p (x ∷ xs) q g h = cut_fed x.before.web q.web x.key g.0.done.cuts (lost_fed part p xs x.before g.1 h)
 
--- ---- boxes that lie in no other one
+-- ---- the boxes that a box that goes leaves
 
 -- a box whose canvas lies in one that another box holds lies in that box
 inner_out : (nodes : ℕ → Option Node) (boards : ℕ → Option Board) (k x : ℕ) → board_in (nodes k) ≡ Some x → (m j top : ℕ) → out_of nodes boards m x ≡ Some j → holder_in (boards j) ≡ Some top
