@@ -1,5 +1,5 @@
 -- A patch with room for a box that goes, and which box that is.
-use Rattle.std.proofs.Common.{◌≡◌, ℕ, Bool, true, false, cond, ◌&&◌, ◌||◌, not, is_some, List, slice_get, Option, Some, None, inl, inr, refl, sym, ap, ◌∙◌, subst, ◌≢◌, ◌≤◌, arith}
+use Rattle.std.proofs.Common.{◌≡◌, ℕ, ◌+◌, ◌-◌, min, Bool, true, false, cond, ◌&&◌, ◌||◌, not, is_some, List, length, slice_get, Option, Some, None, IsSome, inl, inr, refl, sym, ap, ◌∙◌, subst, ◌≢◌, ◌≤◌, arith}
 use Rattle.std.specs.Prelude.{◌⊎◌, Result, Ok, Err}
 use Rattle.std.proofs.lemmas.Option.{none-some, same_Some}
 use mathlib.Core.Logic.{⊎_elim}
@@ -15,14 +15,15 @@ use Rattle.pd_grove.specs.declared.ports.Side.{Side}
 use Rattle.pd_grove.specs.declared.ports.Side.TheVariants.{Inlets, Outlets}
 use Rattle.pd_grove.specs.Forest.{holder_in}
 use Rattle.pd_grove.specs.OwnPaths.{sub_reached}
+use Rattle.pd_grove.specs.Owning.{board_in}
 use Rattle.pd_grove.specs.Ports.{port_signal}
-use Rattle.pd_grove.specs.Telling.{inner_in}
 use Rattle.pd_web.specs.declared.web.Hop.{Hop}
 use Rattle.pd_web.specs.declared.web.Web.{Web}
 use Rattle.pd_web.specs.Canvases.{keys_at}
-use Rattle.pd_web.specs.Changes.{hop_at, IsListed, IsSame, Meet, wires_told}
+use Rattle.pd_web.specs.Changes.{hop_at, HasRoom, IsListed, IsSame, Meet, wires_told}
 use Rattle.pd_web.proofs.CountLemmas.{same_are_as_many}
 use Rattle.pd_patch.specs.declared.patch.Patch.{Patch}
+use Rattle.pd_patch.proofs.BlockLemmas.{live_below}
 use Rattle.pd_wiring.specs.declared.refusals.EditRefusal.{EditRefusal}
 use Rattle.pd_wiring.specs.declared.refusals.EditRefusal.TheVariants.{NoDocument}
 use Rattle.pd_wiring.specs.Changes.{SameButRoom}
@@ -33,8 +34,7 @@ use Rattle.pd_adding.specs.declared.counts.Counts.{Counts}
 use Rattle.pd_adding.specs.Coming.{own_zero, zero_in}
 use Rattle.pd_adding.specs.Counts.{AreWithin}
 use Rattle.pd_boxes.specs.declared.room.Place.{Place}
-use Rattle.pd_taking.specs.Taking.{CanRemove, IsRemoved}
-use Rattle.pd_taking.proofs.TakenLemmas.{count_less, root_same, tree_less}
+use Rattle.pd_clearing.specs.Clearing.{CanClear, IsCleared}
 use Rattle.pd_deleting.specs.Deletes.{counts_less, going, going_box, going_in, is_plain, is_port_in}
 
 -- Room.
@@ -70,17 +70,9 @@ ok_part : Result (ℕ × ℕ) EditRefusal → Option (ℕ × ℕ)
 ok_part (Ok x) = Some x
 ok_part (Err why) = None
 
-both_yes : (a b : Bool) → (a && b) ≡ true → (a ≡ true) × (b ≡ true)
-both_yes true b h = (refl, h)
-both_yes false b h = cc
-
 not_true : (b : Bool) → not b ≡ true → b ≡ false
 not_true true h = cc
 not_true false h = refl
-
-none_of : (o : Option ℕ) → is_some o ≡ false → o ≡ None
-none_of None h = refl
-none_of (Some a) h = cc
 
 no_signal : (o : Option Bool) → is_some o ≡ false → o ≡ None
 no_signal None h = refl
@@ -145,47 +137,66 @@ pub leads_there : (g : Grove) (number : ℕ) (o : Option ℕ) (canvas key : ℕ)
 leads_there g number None canvas key e = cc
 leads_there g number (Some d) canvas key e = ap (λ x. Some x) (canvas_same g number d (slice_get (keys_at g d) number) canvas key e)
 
-pub can_remove : (p q : Patch) (path : List ℕ) (number canvas key : ℕ) → SameButRoom p q → CanPut p → Meet p.web → going p path number ≡ Ok (canvas, key)
-    → CanRemove q (record { canvas = canvas; number = number }) key
-can_remove p q path number canvas key S C meet e =
+pub can_clear : (p q : Patch) (path : List ℕ) (number canvas key : ℕ) → SameButRoom p q → CanPut p → Meet p.web → going p path number ≡ Ok (canvas, key)
+    → CanClear q (record { canvas = canvas; number = number }) key
+can_clear p q path number canvas key S C meet e =
     let F = found_in p.grove number (sub_reached p.grove (Some p.grove.root) path) canvas key e in
-    let parts = both_yes (not (is_some (inner_in (get p.grove.nodes key)))) (not (is_some (holder_in (get p.grove.boards canvas)) && is_port_in (get p.grove.nodes key))) F.plain in
     record {
       can = still_put p q S C;
       is = subst (λ (g : Grove). slice_get (keys_at g canvas) number ≡ Some key) (sym S.grove) F.is;
-      leaf = subst (λ (g : Grove). inner_in (get g.nodes key) ≡ None) (sym S.grove) (none_of (inner_in (get p.grove.nodes key)) (not_true (is_some (inner_in (get p.grove.nodes key))) parts.0));
       plain = λ n is. subst (λ (g : Grove). (holder_in (get g.boards canvas) ≡ None) ⊎ ((side : Side) → port_signal side n.kind ≡ None)) (sym S.grove)
           (no_port (holder_in (get p.grove.boards canvas)) n
           (ap (λ (o : Option Node). is_some (holder_in (get p.grove.boards canvas)) && is_port_in o) (sym (ap (λ (g : Grove). get g.nodes key) (sym S.grove) ∙ is))
-          ∙ not_true (is_some (holder_in (get p.grove.boards canvas)) && is_port_in (get p.grove.nodes key)) parts.1));
+          ∙ not_true (is_some (holder_in (get p.grove.boards canvas)) && is_port_in (get p.grove.nodes key)) F.plain));
       meet = still_meet p.web q.web S.web meet;
     }
 
+-- the box lives
+lies_there : (o : Option Node) (c : ℕ) → board_in o ≡ Some c → IsSome o
+lies_there None c e = absurd (none-some c e)
+lies_there (Some n) c e = refl
+
+pub box_lives : (p : Patch) (path : List ℕ) (number canvas key : ℕ) → CanPut p → going p path number ≡ Ok (canvas, key) → IsSome (get p.grove.nodes key)
+box_lives p path number canvas key C e =
+    lies_there (get p.grove.nodes key) canvas
+    (C.forest.own.home canvas number key (found_in p.grove number (sub_reached p.grove (Some p.grove.root) path) canvas key e).is)
+
+-- room for as many boxes as keys
+pub room_for : (g : Grove) (w : Web) (end k : ℕ) → length g.nodes.slots ≤ end → HasRoom w end 0 0 → IsSome (get g.nodes k) → HasRoom w (k + 1) 0 0
+room_for g w end k far R live =
+    let l = live_below g.nodes k end end far refl live in
+    let boxes = R.boxes in
+    let homes = R.homes in
+    record { boxes = omega (arith, l, boxes); homes = omega (arith, l, homes); ends = R.ends; wires = R.wires }
+
 -- Counts.
 
-pub within_less : (n : Counts) (size wires : ℕ) → wires ≤ n.wires → AreWithin n → AreWithin (counts_less n size wires)
-within_less n size wires l W =
+pub within_less : (n : Counts) (boxes values wires : ℕ) → wires ≤ n.wires → AreWithin n → AreWithin (counts_less n boxes values wires)
+within_less n boxes values wires l W =
     let b = W.boxes in
     let w = W.wires in
     let s = W.sound in
     record { boxes = omega (arith, b); wires = omega (arith, w, l); sound = omega (arith, s); zeros = W.zeros }
 
-pub fewer_wires : (p q loose : Patch) (table : Names) (place : Place) (key steps steps' : ℕ) (S : SameButRoom p loose) (I : IsRemoved loose q table place key steps steps') → wires_told q.web ≤ wires_told p.web
-fewer_wires p q loose table place key steps steps' S I =
-    let a = count_less loose q table place key steps steps' I in
-    let b = same_are_as_many p.web loose.web S.web in
+pub fewer_wires : (p q ready : Patch) (table : Names) (place : Place) (key steps steps' : ℕ) → SameButRoom p ready → IsCleared ready q table place key steps steps' → wires_told q.web ≤ wires_told p.web
+fewer_wires p q ready table place key steps steps' S I =
+    let a = I.count in
+    let b = same_are_as_many p.web ready.web S.web in
     omega (arith, a, b)
+
+-- of counts with limits
+pub taken_off : (n size sum most : ℕ) → size ≡ min sum most → n ≤ most → n - size ≡ n - sum
+taken_off n size sum most e l = omega (arith, e, l)
 
 -- the `$0` of the patch's own document stays
 zero_same : (o o' : Option Board) (b b' : Board) → o ≡ Some b → o' ≡ Some b' → b'.sheet ≡ b.sheet → zero_in o' ≡ zero_in o
 zero_same o o' b b' e e' s = ap zero_in e' ∙ ap (λ (x : Sheet). x.zero) s ∙ sym (ap zero_in e)
 
-pub zero_stays : (p q : Patch) (table : Names) (place : Place) (key steps steps' : ℕ) → IsRemoved p q table place key steps steps' → CanRemove p place key → own_zero q ≡ own_zero p
-zero_stays p q table place key steps steps' I C =
-    let T = tree_less p q table place key steps steps' I in
-    let root = root_same p q table place key steps steps' I in
-    ap (λ r. zero_in (get q.grove.boards r)) root ∙ ⊎_elim
+pub zero_stays : (p q : Patch) (table : Names) (place : Place) (key steps steps' : ℕ) → IsCleared p q table place key steps steps' → own_zero q ≡ own_zero p
+zero_stays p q table place key steps steps' I =
+    let T = I.grove in
+    ap (λ r. zero_in (get q.grove.boards r)) I.root ∙ ⊎_elim
     (λ (e : p.grove.root ≡ place.canvas). ap (λ r. zero_in (get q.grove.boards r)) e ∙ zero_same (get p.grove.boards place.canvas) (get q.grove.boards place.canvas) T.old T.new T.board T.without T.sheet
     ∙ ap (λ r. zero_in (get p.grove.boards r)) (sym e))
-    (λ (d : p.grove.root ≢ place.canvas). ap zero_in (T.boards_stay p.grove.root d (λ L. none-some L.0 (sym C.leaf ∙ L.1))))
+    (λ (d : p.grove.root ≢ place.canvas). ap zero_in (T.no_canvas_comes p.grove.root d (subst (λ r. IsSome (get q.grove.boards r)) I.root I.can.forest.rooted.0)))
     (cases_eq p.grove.root place.canvas)

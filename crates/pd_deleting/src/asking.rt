@@ -36,13 +36,10 @@ pub(crate) fn box_to_go(patch: &Patch, path: &[u32], number: u32) -> Result<Goin
     Ok(Going { canvas, key })
 }
 
-/// Whether a box of a canvas holds no canvas and is no port of a box around.
+/// Whether a box of a canvas is no port of a box around.
 fn is_plain(grove: &Grove, canvas: u32, key: u32) -> bool
     ensures { result ≡ is_plain_so grove.now canvas key }
 {
-    if grove.canvas_in(key).is_some() {
-        return false;
-    }
     !(is_held(grove, canvas) && is_port_box(grove, key))
 }
 

@@ -1,27 +1,30 @@
-//! A box that an edit deletes, taken out of the running patch.
+//! A box that an edit deletes, taken out of the running patch with all that lies in it.
 
-ghost use Rattle.std.specs.Prelude.{◌≡◌, IfOk, IfErr, OnErr};
-ghost use Rattle.pd_kind.specs.States.{size_of};
+ghost use Rattle.std.specs.Prelude.{◌≡◌, ◌-◌, ◌^◌, min, map, length, IfOk, IfErr, OnErr};
+ghost use Rattle.slab.specs.Slab.{get};
+ghost use Rattle.pd_grove.specs.TextOrder.{cell_under, keys_of_spots};
 ghost use Rattle.pd_web.specs.Changes.{wires_told, Meet};
 ghost use Rattle.pd_boxes.specs.Put.{CanPut};
 ghost use Rattle.pd_adding.specs.Coming.{own_zero};
+ghost use Rattle.pd_adding.specs.Counted.{sound_seen, sound_among};
 ghost use Rattle.pd_adding.specs.Counts.{AreWithin};
-ghost use Rattle.pd_deleting.specs.Deletes.{counts_less, DeletesBox, IsNotDeleted};
+ghost use Rattle.pd_deleting.specs.Deletes.{counts_less, values_of as values_so, DeletesBox, IsNotDeleted};
 
 use crate::asking::box_to_go;
 use pd_adding::Counts;
 use pd_atom::Symbols;
 use pd_boxes::Place;
+use pd_clearing::{clear, part_of};
 use pd_clock::Rate;
+use pd_grove::{Grove, Spot};
 use pd_kind::sound_size;
 use pd_order::Steps;
 use pd_patch::Patch;
-use pd_taking::{Removed, remove};
 use pd_wiring::EditRefusal;
 use std::alloc::Global;
 use std::sync::ledger::Ledger;
 
-/// A box that an edit deleted: the key that it had, the key of its canvas, and the counts of the patch without it.
+/// A box that an edit deleted: the key that it had, the key of its canvas, and the counts of the patch without it and all that lay in it.
 #[derive(Clone, Copy, Debug, PartialEq, Eq)]
 pub struct OldBox {
     pub key: u32,
@@ -29,8 +32,8 @@ pub struct OldBox {
     pub counts: Counts,
 }
 
-/// Deletes the box of a number in the canvas at a path of the patch's own document, with its wires: one without a canvas inside, which is no
-/// port of a box around. `counts` are the counts of the patch. Looks at signal wires are counted in `steps`.
+/// Deletes the box of a number in the canvas at a path of the patch's own document, with all that lies in it and its wires: one that is no port
+/// of a box around. `counts` are the counts of the patch. Looks at signal wires are counted in `steps`.
 ///
 /// # Errors
 ///
@@ -58,31 +61,56 @@ pub fn delete_box<L: Ledger>(
     ensures no_looks { OnErr result (steps.new ≡ steps.old) }
 {
     let going = box_to_go(patch, path, number)?;
-    let keys = going.key as usize + 1;
+    let Ok(part) = part_of(alloc, &patch.grove, going.key) else {
+        return Err(EditRefusal::NoMemory);
+    };
+    let keys = patch.grove.nodes_end();
     let Ok(()) = patch.web.reserve(alloc, keys, 0, 0) else {
         return Err(EditRefusal::NoMemory);
     };
+    let left = counts_without(counts, &patch.grove, patch.rate, &part.spots);
     let place = Place {
         canvas: going.canvas,
         number,
     };
-    let removed = remove(patch, alloc, place, going.key, counts.wires, symbols, steps);
+    let wires = clear(patch, alloc, place, going.key, &part, counts.wires, symbols, steps);
     Ok(OldBox {
         key: going.key,
         canvas: going.canvas,
-        counts: counts_without(counts, removed, patch.rate),
+        counts: Counts { wires, ..left },
     })
 }
 
-/// The counts of a patch without a box that went.
-fn counts_without(counts: Counts, removed: Removed, rate: Rate) -> Counts
-    ensures { result ≡ counts_less counts (size_of removed.node.kind rate) removed.wires }
+/// The counts of a patch without these boxes, with the wires that there are.
+fn counts_without(counts: Counts, grove: &Grove, rate: Rate, part: &[Spot]) -> Counts
+    ensures { result ≡ counts_less counts (length part.now) (values_so rate grove.now (keys_of_spots part.now)) counts.wires }
 {
-    let size = sound_size(&removed.node.kind, rate);
+    let boxes = (counts.boxes as usize).saturating_sub(part.len());
     Counts {
-        boxes: counts.boxes.saturating_sub(1),
-        wires: removed.wires,
-        sound: counts.sound.saturating_sub(size),
+        boxes: boxes as u32,
+        wires: counts.wires,
+        sound: counts.sound.saturating_sub(values_of(grove, rate, part)),
         next_zero: counts.next_zero,
+    }
+}
+
+/// How many values of tables, arrays and delay lines boxes keep.
+fn values_of(grove: &Grove, rate: Rate, part: &[Spot]) -> u64
+    ensures { result ≡ min (sound_among rate (map (cell_under (get grove.now.nodes)) (keys_of_spots part.now))) (2 ^ 64 - 1) }
+{
+    let mut values: u64 = 0;
+    for spot in part {
+        values = values.saturating_add(values_at(grove, rate, spot.node));
+    }
+    values
+}
+
+/// How many a box keeps; 0 where none lives under the key.
+fn values_at(grove: &Grove, rate: Rate, key: u32) -> u64
+    ensures { result ≡ sound_seen rate (cell_under (get grove.now.nodes) key) }
+{
+    match grove.node(key) {
+        Some(node) => sound_size(&node.kind, rate),
+        None => 0,
     }
 }

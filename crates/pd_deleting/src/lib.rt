@@ -1,12 +1,12 @@
 //! An edit that deletes a box of a canvas of the patch's own document, made on the running patch.
 //!
-//! `delete_box` takes the box of a number out of the canvas at a path, with its wires (`DeletesBox`); higher numbers of that canvas fall by
-//! one. It deletes boxes without a canvas inside that are no port of a box around, and refuses others with `NoDocument`. A refused edit
-//! (`IsNotDeleted`) leaves the patch as it was; where memory ran out there may be more room in it, and all that it tells stays. It can
-//! be refused for want of memory only where the lists of ports don't reach to the key of the box. It looks at no more signal wires than
-//! mending the order of the canvas takes for each signal wire at the box.
+//! `delete_box` takes the box of a number out of the canvas at a path, with all that lies in it and with all wires at these boxes
+//! (`DeletesBox`); higher numbers of that canvas fall by one. It deletes every box but the ports of a box around, which it refuses with
+//! `NoDocument`. A refused edit (`IsNotDeleted`) leaves the patch as it was; where memory ran out there may be more room in it, and all that
+//! it tells stays. Memory is taken for the list of the boxes that go, and where the lists of ports don't reach to all keys. It looks at no
+//! more signal wires than mending the orders of the canvases takes for each signal wire at these boxes.
 //!
-//! The caller keeps the counts of the patch from one edit to the next, so that no edit counts boxes, wires or values.
+//! The caller keeps the counts of the patch from one edit to the next, so that an edit counts no more boxes and values than go.
 //!
 //! Free: want of memory.
 //!
