@@ -73,7 +73,7 @@ pub fn delete_box<L: Ledger>(
         canvas: going.canvas,
         number,
     };
-    let wires = clear(patch, alloc, place, going.key, &part, counts.wires, symbols, steps);
+    let wires = clear(patch, alloc, place, &part, counts.wires, symbols, steps);
     Ok(OldBox {
         key: going.key,
         canvas: going.canvas,
