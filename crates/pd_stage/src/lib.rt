@@ -21,13 +21,14 @@
 //! of the plan; or memory was wanting. An edit that puts a box comes to what `pd_putting` tells (`AddsBox`,
 //! `IsNotPut`): the box comes last into its canvas, all other boxes keep what they kept, and it is told why the box
 //! could not be made, and a loop of its canvas; or it is refused for one of those reasons; or memory was wanting. An
-//! edit that deletes a box comes to what `pd_deleting` tells (`DeletesBox`, `going`): the box goes with its wires and
-//! its clock, all other boxes keep what they kept, and a loop of its canvas is told; or it is refused; or memory was
-//! wanting. An edit that moves a box comes to what `pd_shifting` tells (`MovesBox`, `moving`): the box stands at
-//! another place of its canvas, all else stays, and a loop of its canvas is told; or it is refused. An edit that gives
-//! a box another text comes to what `pd_retyping` tells (`RetypesBox`, `IsRefused`): the box becomes another one in its
-//! place, with its wires and without a clock, all other boxes keep what they kept, and it is told why the new one could
-//! not be made, and a loop of its canvas; or it is refused; or memory was wanting.
+//! edit that deletes a box comes to what `pd_deleting` tells (`DeletesBox`, `going`): the box goes with all that lies in
+//! it, with the wires and the clocks of these boxes, all other boxes keep what they kept, and a loop of its canvas is
+//! told; or it is refused; or memory was wanting. An edit that moves a box comes to what `pd_shifting` tells
+//! (`MovesBox`, `moving`): the box stands at another place of its canvas, all else stays, and a loop of its canvas is
+//! told; or it is refused. An edit that gives a box another text comes to what `pd_retyping` tells (`RetypesBox`,
+//! `IsRefused`): the box becomes another one in its place, with the ports of its kind, with its wires and without a
+//! clock, all other boxes keep what they kept, and it is told why the new one could not be made, and a loop of its
+//! canvas; or it is refused; or memory was wanting.
 //! It makes no difference whether a command or a message asks for an edit. A save of that document puts its text under
 //! the name of its file, and nothing else changes; or it is refused for a fault of the folder or for want of memory.
 //! Edits and saves of drafts are refused, and there is nothing to undo or redo.
