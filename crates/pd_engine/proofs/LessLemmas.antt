@@ -1,4 +1,4 @@
--- A tree with one box less, which holds no canvas.
+-- A tree with one box less, with all that lies in it.
 use Rattle.std.proofs.Common.{◌≡◌, ◌≤◌, ℕ, zero, suc, ◌+◌, max, Bool, ◌&&◌, List, [], ◌∷◌, slice_get, Option, Some, None, refl, sym, ◌∙◌, ap, arith}
 use Rattle.std.specs.Prelude.{option_map, option_and_then}
 use Rattle.std.specs.List.{AllByRecursion}
@@ -48,39 +48,53 @@ pub deep_taken : (path : List ℕ) (number : ℕ) (t : Tree) → deep (taken_at 
 deep_taken [] number t = deep_out number t.boxes
 deep_taken (n ∷ path) number t = deep_inside n (change_at path (less_box number)) (λ u. deep_taken path number u) t.boxes
 
--- ---- there is one box less, where it stands in the canvas to which the path leads and holds none
+-- ---- there are as many boxes less as the box is with those that lie in it
 
+abbrev pub box_weight : ℕ → Trees → ℕ
+box_weight n Done = 0
+box_weight zero (Leaf c rest) = 1
+box_weight zero (Holder c s inner rest) = weight inner + 1
+box_weight (suc n) (Leaf c rest) = box_weight n rest
+box_weight (suc n) (Holder c s inner rest) = box_weight n rest
+
+pub weight_out : (n : ℕ) (t : Trees) → weight (boxes_less n t) + box_weight n t ≡ weight t
+weight_out n Done = refl
+weight_out zero (Leaf c rest) = refl
+weight_out zero (Holder c s inner rest) = omega arith
+weight_out (suc n) (Leaf c rest) = let e : weight (boxes_less n rest) + box_weight n rest ≡ weight rest = weight_out n rest in omega (arith, e)
+weight_out (suc n) (Holder c s inner rest) = let e : weight (boxes_less n rest) + box_weight n rest ≡ weight rest = weight_out n rest in omega (arith, e)
+
+-- one that stands and holds no canvas is one
 module _ (nodes : ℕ → Option Node) (boards : ℕ → Option Board) where
   no_holder : (j : ℕ) (c : Cell) (b : ℕ) (o : Option Node) → option_map node_seen o ≡ Some (record { board = b; cell = c; inner = Some j }) → inner_in o ≡ None → ⊥
   no_holder j c b None is leaf = none-some _ is
   no_holder j c b (Some n) is leaf = none-some j (sym leaf ∙ ap (λ (x : NodeSeen). x.inner) (same_Some (node_seen n) (record { board = b; cell = c; inner = Some j }) is))
 
-  pub weight_out : (b d : ℕ) (keys : List ℕ) (t : Trees) (n key : ℕ) → Stands nodes boards b d keys t → slice_get keys n ≡ Some key → inner_in (nodes key) ≡ None
-      → weight (boxes_less n t) + 1 ≡ weight t
-  weight_out b d [] t n key S at leaf = absurd (none-some key at)
-  weight_out b d (k ∷ ks) Done n key S at leaf = absurd S
-  weight_out b d (k ∷ ks) (Leaf c rest) zero key S at leaf = refl
-  weight_out b d (k ∷ ks) (Holder c s inner rest) zero key S at leaf = absurd (no_holder S.0 c b (nodes key) (ap (λ (x : ℕ). option_map node_seen (nodes x)) (sym (same_Some k key at)) ∙ S.2) leaf)
-  weight_out b d (k ∷ ks) (Leaf c rest) (suc n) key S at leaf = let e : weight (boxes_less n rest) + 1 ≡ weight rest = weight_out b d ks rest n key S.1 at leaf in omega (arith, e)
-  weight_out b d (k ∷ ks) (Holder c s inner rest) (suc n) key S at leaf = let e : weight (boxes_less n rest) + 1 ≡ weight rest = weight_out b d ks rest n key S.5 at leaf in omega (arith, e)
+  pub weight_alone : (b d : ℕ) (keys : List ℕ) (t : Trees) (n key : ℕ) → Stands nodes boards b d keys t → slice_get keys n ≡ Some key → inner_in (nodes key) ≡ None → box_weight n t ≡ 1
+  weight_alone b d [] t n key S at leaf = absurd (none-some key at)
+  weight_alone b d (k ∷ ks) Done n key S at leaf = absurd S
+  weight_alone b d (k ∷ ks) (Leaf c rest) zero key S at leaf = refl
+  weight_alone b d (k ∷ ks) (Holder c s inner rest) zero key S at leaf = absurd (no_holder S.0 c b (nodes key) (ap (λ (x : ℕ). option_map node_seen (nodes x)) (sym (same_Some k key at)) ∙ S.2) leaf)
+  weight_alone b d (k ∷ ks) (Leaf c rest) (suc n) key S at leaf = weight_alone b d ks rest n key S.1 at leaf
+  weight_alone b d (k ∷ ks) (Holder c s inner rest) (suc n) key S at leaf = weight_alone b d ks rest n key S.5 at leaf
 
-weight_inside : (n : ℕ) (path : List ℕ) (f : Tree → Tree) (u : Tree) → ((v : Tree) → own_along path v ≡ Some u → weight (f v).boxes + 1 ≡ weight v.boxes) → (t : Trees)
-    → option_and_then (own_along path) (own_in_box n t) ≡ Some u → weight (change_inside n f t) + 1 ≡ weight t
-weight_inside n path f u h Done on = absurd (none-some u on)
-weight_inside zero path f u h (Leaf c rest) on = absurd (none-some u on)
-weight_inside zero path f u h (Holder c s inner rest) on =
-    let e : weight (f (canvas_with s inner)).boxes + 1 ≡ weight inner = h (canvas_with s inner) (sub_there c.head.form path s inner u on) in
+weight_inside : (n w : ℕ) (path : List ℕ) (f : Tree → Tree) (u : Tree) → ((v : Tree) → own_along path v ≡ Some u → weight (f v).boxes + w ≡ weight v.boxes) → (t : Trees)
+    → option_and_then (own_along path) (own_in_box n t) ≡ Some u → weight (change_inside n f t) + w ≡ weight t
+weight_inside n w path f u h Done on = absurd (none-some u on)
+weight_inside zero w path f u h (Leaf c rest) on = absurd (none-some u on)
+weight_inside zero w path f u h (Holder c s inner rest) on =
+    let e : weight (f (canvas_with s inner)).boxes + w ≡ weight inner = h (canvas_with s inner) (sub_there c.head.form path s inner u on) in
     omega (arith, e)
-weight_inside (suc n) path f u h (Leaf c rest) on = let e : weight (change_inside n f rest) + 1 ≡ weight rest = weight_inside n path f u h rest on in omega (arith, e)
-weight_inside (suc n) path f u h (Holder c s inner rest) on = let e : weight (change_inside n f rest) + 1 ≡ weight rest = weight_inside n path f u h rest on in omega (arith, e)
+weight_inside (suc n) w path f u h (Leaf c rest) on = let e : weight (change_inside n f rest) + w ≡ weight rest = weight_inside n w path f u h rest on in omega (arith, e)
+weight_inside (suc n) w path f u h (Holder c s inner rest) on = let e : weight (change_inside n f rest) + w ≡ weight rest = weight_inside n w path f u h rest on in omega (arith, e)
 
 tree_same : (t u : Tree) → own_along [] t ≡ Some u → t ≡ u
 tree_same t u on = same_Some t u on
 
-pub weight_taken : (path : List ℕ) (number : ℕ) (t u : Tree) → own_along path t ≡ Some u → weight (boxes_less number u.boxes) + 1 ≡ weight u.boxes
-    → weight (taken_at path number t).boxes + 1 ≡ weight t.boxes
-weight_taken [] number t u on less = rw (tree_same t u on) less
-weight_taken (n ∷ path) number t u on less = weight_inside n path (change_at path (less_box number)) u (λ v h. weight_taken path number v u h less) t.boxes on
+pub weight_taken : (path : List ℕ) (number w : ℕ) (t u : Tree) → own_along path t ≡ Some u → weight (boxes_less number u.boxes) + w ≡ weight u.boxes
+    → weight (taken_at path number t).boxes + w ≡ weight t.boxes
+weight_taken [] number w t u on less = rw (tree_same t u on) less
+weight_taken (n ∷ path) number w t u on less = weight_inside n w path (change_at path (less_box number)) u (λ v h. weight_taken path number w v u h less) t.boxes on
 
 -- ---- what holds of all boxes holds of those that are left
 

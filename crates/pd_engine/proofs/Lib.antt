@@ -18,6 +18,7 @@ pub mod PuttingLemmas
 pub mod FreshLemmas
 pub mod DeletingLemmas
 pub mod LessLemmas
+pub mod PartLemmas
 pub mod ShiftLemmas
 pub mod MovingLemmas
 pub mod SubLemmas
