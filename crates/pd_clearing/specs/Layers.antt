@@ -1,5 +1,5 @@
 -- What lists by key, webs and orders tell where some boxes go.
-use Rattle.std.specs.Prelude.{◌≡◌, ◌≢◌, ℕ, Bool, false, cond, List, [], Option, Some, None, IsTrue, slice_get}
+use Rattle.std.specs.Prelude.{◌≡◌, ◌≢◌, ℕ, false, cond, List, [], Option, Some, None, IsTrue, slice_get}
 use Rattle.slab.specs.Slab.{get}
 use Rattle.pd_order.specs.Listing.{Listing}
 use Rattle.pd_grove.specs.declared.grove.Grove.{Grove}
@@ -12,6 +12,7 @@ use Rattle.pd_web.specs.Hops.{fan_hops, feed_hops, ports_told, port_told}
 use Rattle.pd_web.specs.Sockets.{made_at}
 use Rattle.pd_ports.specs.Known.{KnowsHomes}
 use Rattle.pd_patch.specs.Telling.{order_in}
+use Rattle.pd_patch.specs.Values.{Blocks, block_at}
 
 -- the port that a box is known to be, but where it is one of these boxes
 abbrev pub but_of_all : List ℕ → Option (ℕ × ℕ) → Option (ℕ × ℕ)
@@ -39,3 +40,8 @@ IsHeldByOne g part c = (k : ℕ) × IsTrue (is_among part k) × (inner_in (get g
 pub record DropsOrders (g : Grove) (old new : List (Option Listing)) (part : List ℕ) : Type 0 where
   pub gone : (c : ℕ) → IsHeldByOne g part c → order_in new c ≡ None
   pub others : (c : ℕ) → (IsHeldByOne g part c → ⊥) → order_in new c ≡ order_in old c
+
+-- no block is under a key any more, and what is under other keys stays
+pub record DropsUnder (old new : Blocks) (key : ℕ) : Type 0 where
+  pub gone : (outlet : ℕ) → block_at new key outlet ≡ None
+  pub others : (k : ℕ) → k ≢ key → slice_get new k ≡ slice_get old k

@@ -12,15 +12,14 @@ ghost use Rattle.pd_patch.specs.Numbers.{AreApart};
 ghost use Rattle.pd_patch.specs.Telling.{order_in};
 ghost use Rattle.pd_placing.specs.Placing.{StayBut};
 ghost use Rattle.pd_boxes.specs.Rows.{NumbersFrom, PutsUnder};
-ghost use Rattle.pd_taking.specs.Taking.{DropsUnder};
 ghost use Rattle.pd_clearing.specs.Clearing.{DropsAll, without_all};
-ghost use Rattle.pd_clearing.specs.Layers.{ClosesAll, DropsOrders};
+ghost use Rattle.pd_clearing.specs.Layers.{ClosesAll, DropsOrders, DropsUnder};
 
 use pd_boxes::{Blocks, Place};
 use pd_grove::{Grove, Spot};
 use pd_order::Order;
 use pd_placing::close_order;
-use pd_ports::close_box;
+use pd_ports::{close_box, port_boxes_stay_known};
 use pd_timers::Timers;
 use pd_web::Web;
 use std::alloc::Global;
@@ -61,6 +60,7 @@ pub(crate) fn close_boxes(web: &mut Web, alloc: Global, spots: &[Spot])
     requires known { KnowsHomes web.old }
     ensures { ClosesAll web.old web.new (keys_of_spots spots.now) }
 {
+    port_boxes_stay_known();
     for spot in spots {
         close_box(web, alloc, spot.node);
     }
