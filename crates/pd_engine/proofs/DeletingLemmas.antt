@@ -1,33 +1,27 @@
 -- What is told of a box that an edit deletes, or of why none is deleted.
 use Rattle.std.proofs.Common.{◌≡◌, arith, Bool, true, false, cond, ℕ, List, [], refl, sym, ◌∙◌, ap, subst, inl, inr, slice_get, Option, Some, None, Result, Ok, Err, OnErr, OnOk, IfOk}
 use Rattle.std.proofs.lemmas.Result.{on_err_weaker}
-use Rattle.slab.specs.Slab.{get}
 use Rattle.pd_io.specs.Stream.{grown, TookPart}
 use Rattle.pd_io.specs.declared.files.FileRow.{FileRow}
 use Rattle.pd_atom.specs.Names.{Names}
 use Rattle.pd_canvas.specs.declared.edits.Edit.{Edit}
 use Rattle.pd_canvas.specs.declared.edits.Edit.TheVariants as edit
-use Rattle.pd_clock.specs.Queue.{without}
 use Rattle.pd_library.specs.declared.answers.Answer.{Answer}
 use Rattle.pd_made.specs.declared.tally.Tally.{Tally}
 use Rattle.pd_script.specs.Edits.{deleted}
 use Rattle.pd_grove.specs.declared.grove.Grove.{Grove}
-use Rattle.pd_grove.specs.Owning.{board_in}
 use Rattle.pd_grove.specs.OwnPaths.{sub_reached}
 use Rattle.pd_web.specs.Canvases.{keys_at}
 use Rattle.pd_patch.specs.declared.patch.Patch.{Patch}
 use Rattle.pd_wiring.specs.declared.refusals.EditRefusal.{EditRefusal}
 use Rattle.pd_wiring.specs.declared.refusals.EditRefusal.TheVariants as refusal
 use Rattle.pd_wiring.specs.Changes.{CanRewire, SameButRoom}
-use Rattle.pd_boxes.specs.declared.room.Place.{Place}
 use Rattle.pd_adding.specs.declared.counts.Counts.{Counts}
 use Rattle.pd_adding.specs.Counts.{AreWithin}
-use Rattle.pd_taking.specs.Loosening.{looks_for}
-use Rattle.pd_taking.specs.Taking.{CanRemove}
-use Rattle.pd_taking.proofs.TakenLemmas.{clocks_less}
+use Rattle.pd_clearing.specs.Losing.{looks_for_all}
+use Rattle.pd_clearing.specs.Clearing.{without_all}
 use Rattle.pd_deleting.specs.declared.deleting.OldBox.{OldBox}
 use Rattle.pd_deleting.specs.Deletes.{going, going_in, going_box, is_plain, DeletesBox, IsNotDeleted}
-use Rattle.pd_deleting.proofs.DeleteLemmas.{can_remove}
 use Rattle.pd_hearing.specs.Worlds.{net_of, states_of}
 use Rattle.pd_stage.specs.Choices.{base_of, Wanted, Edits, Made, Choice, faults_of_why}
 use Rattle.pd_stage.specs.Choices as stage
@@ -94,12 +88,6 @@ module _ (path : List ℕ) (number : ℕ) (file : List ℕ) (names : Names) (fil
 
   -- it went
   module _ (b : OldBox) (steps steps' : ℕ) (d : DeletesBox old new counts names path number steps steps' b) (within : AreWithin b.counts) where
-    abbrev place : Place
-    place = record { canvas = b.canvas; number = number }
-
-    could : CanRemove d.ready place b.key
-    could = can_remove old d.ready path number b.canvas b.key d.room ready.puts ready.meet d.is
-
     abbrev gone : Made
     gone = record {
       net = net_of new;
@@ -109,7 +97,7 @@ module _ (path : List ℕ) (number : ℕ) (file : List ℕ) (names : Names) (fil
       base = base_of files b.counts;
       lines = loops_text new b.canvas;
       files = [];
-      looks = looks_for b.canvas d.removed.loosens.gone d.removed.loose;
+      looks = looks_for_all d.cleared.lost d.cleared.loose;
     }
 
     gone_is : IsTakenOut (from []) path number gone
@@ -123,7 +111,7 @@ module _ (path : List ℕ) (number : ℕ) (file : List ℕ) (names : Names) (fil
       deletes = d;
       net = refl;
       states = refl;
-      clocks = clocks_less d.ready new names place b.key steps steps' d.removed ∙ ap (λ t. without b.key t.clocks.clocks) d.room.timers;
+      clocks = d.cleared.clocks ∙ ap (λ t. without_all d.cleared.part t.clocks.clocks) d.room.timers;
       names = refl;
       base = refl;
       within = within;
@@ -132,14 +120,10 @@ module _ (path : List ℕ) (number : ℕ) (file : List ℕ) (names : Names) (fil
       looks = refl;
     }
 
-    -- the box stood in its canvas
-    home : board_in (get d.ready.grove.nodes b.key) ≡ Some b.canvas
-    home = could.can.forest.own.home b.canvas number b.key could.is
-
     pub gone_told : Told wanted (from []) (stage_with file new names (base_of files b.counts) time block_end fired tally) (loops_text new b.canvas) Done steps steps'
     gone_told = record {
       came = record { choice = stage.Makes gone; may = gone_is; text_is = refl; stage = λ m. refl; answer = refl };
-      few = (refl, refl, d.removed.loosens.looks b.canvas home);
+      few = (refl, refl, d.cleared.looks);
     }
 
   -- it was refused

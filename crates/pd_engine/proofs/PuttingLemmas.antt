@@ -21,7 +21,7 @@ use Rattle.pd_gather.specs.Gather.{known}
 use Rattle.pd_putting.specs.Adds.{AddsBox, IsNotAdded}
 use Rattle.pd_putting.specs.declared.adding.NewBox.{NewBox}
 use Rattle.pd_hearing.specs.Worlds.{net_of}
-use Rattle.pd_stage.specs.Choices.{base_of, Wanted, Asks, Choice, Refuses, Lacks}
+use Rattle.pd_stage.specs.Choices.{base_of, Wanted, Asks, Choice, Refuses, Lacks, looks_of_choice}
 use Rattle.pd_stage.specs.Stages.{Stage, faults_of}
 use Rattle.pd_stage.specs.Lawful.{why_of}
 use Rattle.pd_stage.specs.Lines.{put_text}
@@ -40,17 +40,21 @@ use Rattle.pd_engine.proofs.MakingLemmas.{IsBoxEdit, own_box, Came, came_so, cam
 pub no_fault : refusal.NoMemory ≡ refusal.ShelfFault → ⊥
 no_fault is = cc
 
--- no file is put, and the folder holds what it held
-pub quiet_took : (wanted : Wanted) (s : Stage) (c : Choice) (t u : Option (List ℕ)) (k : ℕ) (h h' : Option (List FileRow)) (f f' : ℕ) → files_put c ≡ [] → h' ≡ h
-    → RoseBy (faults_of (taken_at wanted s c ∷ [])) f f' → Took (sinks t u k h f) (sinks t u k h' f') (files_put c) (taken_at wanted s c ∷ [])
-quiet_took wanted s c t u k h h' f f' none same rose =
-    subst (λ i. Took (sinks t u k h f) (sinks t u k h' f') i (taken_at wanted s c ∷ [])) (sym none) (record {
+-- no file is put, the folder holds what it held, and there are no more looks than it may take
+pub looking_took : (wanted : Wanted) (s : Stage) (c : Choice) (t u : Option (List ℕ)) (k k' : ℕ) (h h' : Option (List FileRow)) (f f' : ℕ) → files_put c ≡ [] → k' ≤ k + looks_of_choice c → h' ≡ h
+    → RoseBy (faults_of (taken_at wanted s c ∷ [])) f f' → Took (sinks t u k h f) (sinks t u k' h' f') (files_put c) (taken_at wanted s c ∷ [])
+looking_took wanted s c t u k k' h h' f f' none few same rose =
+    subst (λ i. Took (sinks t u k h f) (sinks t u k' h' f') i (taken_at wanted s c ∷ [])) (sym none) (record {
       lines_are = no_lines t;
       samples_are = no_samples u;
-      few_looks = omega arith;
+      few_looks = omega (arith, few);
       held_are = subst (λ (o : Option (List FileRow)). KeptOrUntold o h') (sym (held-none h)) (inl same);
       few_faults = rose;
     })
+
+quiet_took : (wanted : Wanted) (s : Stage) (c : Choice) (t u : Option (List ℕ)) (k : ℕ) (h h' : Option (List FileRow)) (f f' : ℕ) → files_put c ≡ [] → h' ≡ h
+    → RoseBy (faults_of (taken_at wanted s c ∷ [])) f f' → Took (sinks t u k h f) (sinks t u k h' f') (files_put c) (taken_at wanted s c ∷ [])
+quiet_took wanted s c t u k h h' f f' none same rose = looking_took wanted s c t u k k h h' f f' none (omega arith) same rose
 
 one_rose : (f f' : ℕ) → Rose f f' → RoseBy (1 + 0) f f'
 one_rose f f' (inl more) = inl (omega (arith, more))

@@ -1,5 +1,5 @@
 -- What is told of a box that an edit gives another text, or of why none becomes another one.
-use Rattle.std.proofs.Common.{◌≡◌, ◌≤◌, arith, false, ℕ, List, [], ◌∷◌, refl, sym, ap, subst, inl, inr, Option, None, Result, Err, OnErr, OnOk, IfOk, ◌∙◌}
+use Rattle.std.proofs.Common.{◌≡◌, ◌≤◌, ◌+◌, arith, false, ℕ, List, [], ◌∷◌, refl, sym, ap, subst, inl, inr, Option, None, Result, Err, OnErr, OnOk, IfOk, ◌∙◌}
 use Rattle.std.proofs.lemmas.Result.{on_err_weaker}
 use Rattle.pd_io.specs.Faults.{Rose}
 use Rattle.pd_io.specs.Stream.{grown, TookPart}
@@ -23,6 +23,7 @@ use Rattle.pd_adding.specs.Counts.{AreWithin}
 use Rattle.pd_gather.specs.Gather.{known}
 use Rattle.pd_retyping.specs.declared.retyping.RetypedBox.{RetypedBox}
 use Rattle.pd_retyping.specs.Retypes.{RetypesBox, IsNotRetyped}
+use Rattle.pd_refitting.specs.Refits.{refit_looks}
 use Rattle.pd_hearing.specs.Worlds.{net_of, states_of}
 use Rattle.pd_stage.specs.Choices.{base_of, Wanted, Edits, Made, Choice}
 use Rattle.pd_stage.specs.Choices as stage
@@ -38,7 +39,7 @@ use Rattle.pd_engine.specs.Edits.{edit_outcome, IsEdited, IsRetype}
 use Rattle.pd_engine.proofs.ClockLemmas.{stage_with}
 use Rattle.pd_engine.proofs.RewireLemmas.{IsReady}
 use Rattle.pd_engine.proofs.MakingLemmas.{Came, came_so, came_part, outcome_by, both_ok, room_clocks}
-use Rattle.pd_engine.proofs.PuttingLemmas.{quiet_took, refusal_rose}
+use Rattle.pd_engine.proofs.PuttingLemmas.{looking_took, refusal_rose}
 
 -- an edit that puts, deletes and moves no box and is none of wires gives a box another text
 pub rest_retypes : (e : Edit) → puts_box e ≡ false → deleted e ≡ None → moved e ≡ None → wire_edit e ≡ None → IsRetype e
@@ -77,7 +78,7 @@ module _ (path : List ℕ) (number : ℕ) (text : List Atom) (file : List ℕ) (
       base = base_of learned b.counts;
       lines = put_text more new b.key b.canvas;
       files = [];
-      looks = 0;
+      looks = refit_looks d.node.kind d.became.can.cell.kind;
     }
 
     pub other_is : IsRetypedTo (from []) path number text other
@@ -107,10 +108,10 @@ module _ (path : List ℕ) (number : ℕ) (text : List Atom) (file : List ℕ) (
   abbrev left : List Choice → Stage
   left = stage_with file new names (base_of files counts) time block_end fired tally
 
-  module _ (cause : EditRefusal) (t u : Option (List ℕ)) (k : ℕ) (h h' : Option (List FileRow)) (f f' : ℕ) (same : h' ≡ h) (low : f ≤ f') (rose : cause ≡ refusal.ShelfFault → Rose f f') where
+  module _ (cause : EditRefusal) (t u : Option (List ℕ)) (k k' : ℕ) (looks : k' ≡ k) (h h' : Option (List FileRow)) (f f' : ℕ) (same : h' ≡ h) (low : f ≤ f') (rose : cause ≡ refusal.ShelfFault → Rose f f') where
     abbrev IsStill : Type 0
     IsStill = (c : Came wanted (from []) left (refusal_text request.Edit (why_of cause)) (edit_outcome (Err cause)))
-        × Took (sinks t u k h f) (sinks t u k h' f') (files_put c.choice) (taken_at wanted (from []) c.choice ∷ [])
+        × Took (sinks t u k h f) (sinks t u k' h' f') (files_put c.choice) (taken_at wanted (from []) c.choice ∷ [])
 
     pub still_by : IsNotRetyped old new counts file path number text (known files names) cause → IsStill
     still_by (inl (is, d)) = (
@@ -121,7 +122,7 @@ module _ (path : List ℕ) (number : ℕ) (text : List Atom) (file : List ℕ) (
         stage = λ m. ap (λ (p : Patch). stage_with file p names (base_of files counts) time block_end fired tally m) (sym is);
         answer = outcome_by cause;
       },
-      quiet_took wanted (from []) (stage.Refuses (why_of cause)) t u k h h' f f' refl same (refusal_rose wanted (from []) cause f f' rose low),
+      looking_took wanted (from []) (stage.Refuses (why_of cause)) t u k k' h h' f f' refl (omega (arith, looks)) same (refusal_rose wanted (from []) cause f f' rose low),
     )
     still_by (inr (short, d)) = (
       record {
@@ -131,46 +132,46 @@ module _ (path : List ℕ) (number : ℕ) (text : List Atom) (file : List ℕ) (
         stage = λ m. room_clocks file names (base_of files counts) time block_end fired tally old new d.room m;
         answer = ap (λ (c : EditRefusal). edit_outcome (Err c)) (sym short);
       },
-      quiet_took wanted (from []) (stage.Lacks (net_of new)) t u k h h' f f' refl same (inl (omega (arith, low))),
+      looking_took wanted (from []) (stage.Lacks (net_of new)) t u k k' h h' f f' refl (omega (arith, looks)) same (inl (omega (arith, low))),
     )
 
   -- it was told, and this is answered
-  module _ {E : Type 0} (r : Result Outcome E) (t t' : Option (List ℕ)) (h h' : Option (List FileRow)) (f f' : ℕ) (same : h' ≡ h) (low : f ≤ f') (there : List Choice → Stage) where
+  module _ {E : Type 0} (r : Result Outcome E) (t t' : Option (List ℕ)) (k k' : ℕ) (h h' : Option (List FileRow)) (f f' : ℕ) (same : h' ≡ h) (low : f ≤ f') (there : List Choice → Stage) where
     abbrev pub Answered : Outcome → Type 0
-    Answered o = (samples : Option (List ℕ)) (looks : ℕ) → IsEdited path (edit.Retype number text) o from there (sinks t samples looks h f) (sinks t' samples looks h' f')
+    Answered o = (samples : Option (List ℕ)) → IsEdited path (edit.Retype number text) o from there (sinks t samples k h f) (sinks t' samples k' h' f')
 
     abbrev pub Torn : Type 0
-    Torn = (samples : Option (List ℕ)) (looks : ℕ) → Stops (edit_taken wanted) from (sinks t samples looks h f) (sinks t' samples looks h' f')
+    Torn = (samples : Option (List ℕ)) → Stops (edit_taken wanted) from (sinks t samples k h f) (sinks t' samples k' h' f')
 
     -- whoever took it
     module _ (to : List Choice → Stage) (said : List ℕ) (outcome : Outcome)
-        (came : (u : Option (List ℕ)) (k : ℕ) → (c : Came wanted (from []) to said outcome) × Took (sinks t u k h f) (sinks t u k h' f') (files_put c.choice) (taken_at wanted (from []) c.choice ∷ [])) where
+        (came : (u : Option (List ℕ)) → (c : Came wanted (from []) to said outcome) × Took (sinks t u k h f) (sinks t u k' h' f') (files_put c.choice) (taken_at wanted (from []) c.choice ∷ [])) where
       so : there ≡ to → (o : Outcome) → t' ≡ grown t said → o ≡ outcome → Answered o
-      so leads o is answer samples looks =
-          let x = came samples looks in
-          subst (λ (z : List Choice → Stage). IsEdited path (edit.Retype number text) o from z (sinks t samples looks h f) (sinks t' samples looks h' f')) (sym leads)
-          (subst (λ (z : Outcome). IsEdited path (edit.Retype number text) z from to (sinks t samples looks h f) (sinks t' samples looks h' f')) (sym answer)
-          (came_so wanted (from []) to said outcome x.0 (sinks t samples looks h f) t t' samples looks h' f' x.1 is))
+      so leads o is answer samples =
+          let x = came samples in
+          subst (λ (z : List Choice → Stage). IsEdited path (edit.Retype number text) o from z (sinks t samples k h f) (sinks t' samples k' h' f')) (sym leads)
+          (subst (λ (z : Outcome). IsEdited path (edit.Retype number text) z from to (sinks t samples k h f) (sinks t' samples k' h' f')) (sym answer)
+          (came_so wanted (from []) to said outcome x.0 (sinks t samples k h f) t t' samples k' h' f' x.1 is))
 
       by_all : there ≡ to → OnOk r (t' ≡ grown t said) → IfOk r (λ o. o ≡ outcome) → IfOk r Answered
       by_all leads is answer = both_ok r (λ o a b. so leads o a b) is answer
 
       by_part : OnErr r (TookPart t t' said) → OnErr r Torn
-      by_part part = on_err_weaker r (λ a samples looks. let x = came samples looks in came_part wanted (from []) to said outcome x.0 (sinks t samples looks h f) t t' samples looks h' f' x.1 a) part
+      by_part part = on_err_weaker r (λ a samples. let x = came samples in came_part wanted (from []) to said outcome x.0 (sinks t samples k h f) t t' samples k' h' f' x.1 a) part
 
     -- it became another one
     module _ (more : Names) (learned : List (ℕ × Answer)) (b : RetypedBox) (d : RetypesBox old new counts file path number text time (known files names) (known learned more) b) (onward : Extends names more)
-        (within : AreWithin b.counts) where
+        (within : AreWithin b.counts) (few : k' ≤ k + refit_looks d.node.kind d.became.can.cell.kind) where
       abbrev to : List Choice → Stage
       to = stage_with file new more (base_of learned b.counts) time block_end fired tally
 
-      abbrev IsOther : Option (List ℕ) → ℕ → Type 0
-      IsOther u k = (c : Came wanted (from []) to (put_text more new b.key b.canvas) Done) × Took (sinks t u k h f) (sinks t u k h' f') (files_put c.choice) (taken_at wanted (from []) c.choice ∷ [])
+      abbrev IsOther : Option (List ℕ) → Type 0
+      IsOther u = (c : Came wanted (from []) to (put_text more new b.key b.canvas) Done) × Took (sinks t u k h f) (sinks t u k' h' f') (files_put c.choice) (taken_at wanted (from []) c.choice ∷ [])
 
-      other_by : (u : Option (List ℕ)) (k : ℕ) → IsOther u k
-      other_by u k = (
+      other_by : (u : Option (List ℕ)) → IsOther u
+      other_by u = (
         other_came more learned b d onward within,
-        quiet_took wanted (from []) (stage.Makes (other more learned b d onward within)) t u k h h' f f' refl same (inl (omega (arith, low))),
+        looking_took wanted (from []) (stage.Makes (other more learned b d onward within)) t u k k' h h' f f' refl few same (inl (omega (arith, low))),
       )
 
       pub retyped_answered : there ≡ to → OnOk r (t' ≡ grown t (put_text more new b.key b.canvas)) → IfOk r (λ o. o ≡ Done) → IfOk r Answered
@@ -180,9 +181,9 @@ module _ (path : List ℕ) (number : ℕ) (text : List Atom) (file : List ℕ) (
       retyped_torn part = by_part to (put_text more new b.key b.canvas) Done other_by part
 
     -- it was refused, and names and files are as before
-    module _ (cause : EditRefusal) (rose : cause ≡ refusal.ShelfFault → Rose f f') (d : IsNotRetyped old new counts file path number text (known files names) cause) where
-      abbrev still : (u : Option (List ℕ)) (k : ℕ) → IsStill cause t u k h h' f f' same low rose
-      still u k = still_by cause t u k h h' f f' same low rose d
+    module _ (looks : k' ≡ k) (cause : EditRefusal) (rose : cause ≡ refusal.ShelfFault → Rose f f') (d : IsNotRetyped old new counts file path number text (known files names) cause) where
+      abbrev still : (u : Option (List ℕ)) → IsStill cause t u k k' looks h h' f f' same low rose
+      still u = still_by cause t u k k' looks h h' f f' same low rose d
 
       pub still_answered : (names' : Names) (files' : List (ℕ × Answer)) → names' ≡ names → files' ≡ files → there ≡ stage_with file new names' (base_of files' counts) time block_end fired tally
           → OnOk r (t' ≡ grown t (refusal_text request.Edit (why_of cause))) → IfOk r (λ o. o ≡ edit_outcome (Err cause)) → IfOk r Answered

@@ -21,6 +21,7 @@ use Rattle.pd_grove.specs.Standing.{node_seen, board_seen, Stands, GroveStands}
 use Rattle.pd_grove.specs.Telling.{inner_in}
 use Rattle.pd_grove.specs.TextOrder.{deep, Placed, placed, placed_in_order}
 use Rattle.pd_grove.proofs.PlaceLemmas.{seen_keys}
+use Rattle.pd_grove.proofs.Standings.{seen_depth}
 use Rattle.pd_bind.specs.Naming.{owned_by}
 use Rattle.pd_bind.specs.Owning.{owners_in}
 use Rattle.pd_web.specs.declared.web.Web.{Web}
@@ -34,10 +35,10 @@ use Rattle.pd_regrowth_law.proofs.StepLemmas.{extends_on, extends_same}
 use Rattle.pd_putting_law.specs.Puts.{put_at}
 use Rattle.pd_putting_law.specs.Putting.{HasBoxLast}
 use Rattle.pd_putting_law.proofs.PathLemmas.{sub_leads}
+use Rattle.pd_owning.specs.Parts.{ArePart}
 use Rattle.pd_putting_law.proofs.StandLemmas.{grove_put, path_along}
 use Rattle.pd_wiring.specs.Changes.{CanRewire}
 use Rattle.pd_wiring.proofs.AlikeLemmas.{rewires_alike}
-use Rattle.pd_boxes.specs.declared.room.Place.{Place}
 use Rattle.pd_boxes.specs.Put.{node_of, CanPut, HasOwners as OwnersStand}
 use Rattle.pd_boxes.specs.Room.{SameButRoom}
 use Rattle.pd_boxes.proofs.RoomLemmas.{keys_same, owners_same, room_put}
@@ -58,12 +59,10 @@ use Rattle.pd_stage.specs.Times.{IsStageOf}
 use Rattle.pd_stage.specs.Trees.{HasTree, HasOwners}
 use Rattle.pd_stage.proofs.FedLemmas.{told_some}
 use Rattle.pd_stage.proofs.EditLemmas.{Changes, ButWires, but_wires, changed_stands, HasMoreRoom, Alters}
-use Rattle.pd_taking.specs.Taking.{CanRemove}
-use Rattle.pd_taking.proofs.TakenLemmas.{owners_less, root_same, runs_less, tree_less}
 use Rattle.pd_taking_law.specs.Takes.{taken_at}
 use Rattle.pd_taking_law.specs.Taking.{TakesBoxAt}
 use Rattle.pd_taking_law.proofs.StandLemmas.{grove_less}
-use Rattle.pd_deleting.proofs.DeleteLemmas.{can_remove, leads_there}
+use Rattle.pd_deleting.proofs.DeleteLemmas.{found_there, leads_there, box_lives}
 use Rattle.pd_shifting.proofs.MoveLemmas.{is_moving, still_put}
 use Rattle.pd_retyping.specs.Retypes.{counts_but, HasBecome}
 use Rattle.pd_retyping_law.specs.Retypes.{retyped_at}
@@ -75,7 +74,8 @@ use Rattle.pd_shift_law.proofs.CountLemmas.{weight_same}
 use Rattle.pd_shift_law.proofs.OwnerLemmas.{owned_placed, owners_stay}
 use Rattle.pd_shift_law.proofs.StandLemmas.{grove_shifted}
 use Rattle.pd_engine.proofs.CameLemmas.{CameIn, came_in, leads, low as low_here, own_steady}
-use Rattle.pd_engine.proofs.LessLemmas.{all_taken, deep_taken, weight_out, weight_taken}
+use Rattle.pd_engine.proofs.LessLemmas.{all_taken, box_weight, deep_taken, weight_alone, weight_out, weight_taken}
+use Rattle.pd_engine.proofs.PartLemmas.{part_weight}
 use Rattle.pd_engine.proofs.PutLemmas.{deep_put, weight_put, all_both, all_put}
 use Rattle.pd_engine.proofs.RetypedLemmas.{all_retyped, deep_retyped, retyped_own}
 use Rattle.pd_engine.proofs.ShiftLemmas.{all_shifted, deep_shifted}
@@ -382,32 +382,28 @@ module _ (s : Stage) (t : HasTree s) (path : List ℕ) (number : ℕ) (m : Made)
   abbrev canvas : ℕ
   canvas = h.box.canvas
 
-  abbrev spot : Place
-  spot = record { canvas = canvas; number = number }
-
   abbrev roomed : Patch
   roomed = h.deletes.ready
 
   stands_first : StandsAt h.old s
   stands_first = record { net = h.stands.net; states = h.stands.states; puts = h.stands.puts; meet = h.stands.meet }
 
-  could : CanRemove roomed spot key
-  could = can_remove h.old roomed path number canvas key h.deletes.room h.stands.puts h.stands.meet h.deletes.is
-
   runs_on : CanPut h.new
-  runs_on = runs_less roomed h.new s.names spot key h.steps h.steps' h.deletes.removed could
+  runs_on = h.deletes.cleared.can
 
   takes : TakesBoxAt h.old.grove h.new.grove path canvas key number
   takes =
-      let same : roomed.grove ≡ h.old.grove = h.deletes.room.grove in
+      let g : Grove = h.old.grove in
+      let o : Option ℕ = sub_reached g (Some g.root) path in
+      let same : roomed.grove ≡ g = h.deletes.room.grove in
       record {
         forest = h.stands.puts.forest;
-        leads = leads_there h.old.grove number (sub_reached h.old.grove (Some h.old.grove.root) path) canvas key h.deletes.is;
-        is = subst (λ (g : Grove). slice_get (keys_at g canvas) number ≡ Some key) same could.is;
-        node = h.deletes.removed.taken.goes.node;
-        takes = subst (λ (g : Grove). TakesBox (get g.nodes) (get h.new.grove.nodes) (get g.boards) (get h.new.grove.boards) canvas key h.deletes.removed.taken.goes.node
-            (take number (keys_at g canvas)) (drop (number + 1) (keys_at g canvas))) same (tree_less roomed h.new s.names spot key h.steps h.steps' h.deletes.removed);
-        root = root_same roomed h.new s.names spot key h.steps h.steps' h.deletes.removed ∙ ap (λ (g : Grove). g.root) same;
+        leads = leads_there g number o canvas key h.deletes.is;
+        is = found_there g number o canvas key h.deletes.is;
+        node = h.deletes.cleared.node;
+        takes = subst (λ (x : Grove). TakesBox (get x.nodes) (get h.new.grove.nodes) (get x.boards) (get h.new.grove.boards) canvas key h.deletes.cleared.node
+            (take number (keys_at x canvas)) (drop (number + 1) (keys_at x canvas))) same h.deletes.cleared.grove;
+        root = h.deletes.cleared.root ∙ ap (λ (x : Grove). x.root) same;
       }
 
   -- the tree without it
@@ -420,19 +416,26 @@ module _ (s : Stage) (t : HasTree s) (path : List ℕ) (number : ℕ) (m : Made)
   counted_fewer : m.base.counts ≡ h.box.counts
   counted_fewer = ap (λ (x : Base). x.counts) h.base
 
+  abbrev part : List ℕ
+  part = h.deletes.cleared.part
+
   boxes_fewer : m.base.counts.boxes ≡ weight fewer_tree.boxes
   boxes_fewer =
       let g : Grove = h.old.grove in
       let along = path_along g path canvas t.tree h.stands.puts.forest (at_stands s t h.old stands_first) takes.leads in
       let u : Tree = along.0 in
       let C : CanvasStands g canvas u = along.2 in
-      let at : slice_get C.keys number ≡ Some key = ap (λ (ks : List ℕ). slice_get ks number) (sym (seen_keys (get g.boards canvas) _ C.board)) ∙ takes.is in
-      let leaf : inner_in (get g.nodes key) ≡ None = subst (λ (x : Grove). inner_in (get x.nodes key) ≡ None) h.deletes.room.grove could.leaf in
-      let here = weight_out (get g.nodes) (get g.boards) canvas C.depth C.keys u.boxes number key C.stands at leaf in
-      let fewer : weight fewer_tree.boxes + 1 ≡ weight t.tree.boxes = weight_taken path number t.tree u along.1 here in
-      let one : m.base.counts.boxes ≡ s.base.counts.boxes - 1 = ap (λ (n : Counts). n.boxes) (counted_fewer ∙ h.deletes.counts) in
+      let has : keys_at g canvas ≡ C.keys = seen_keys (get g.boards canvas) _ C.board in
+      let at : slice_get C.keys number ≡ Some key = ap (λ (ks : List ℕ). slice_get ks number) (sym has) ∙ takes.is in
+      let is_part : ArePart (get g.nodes) (get g.boards) key part = subst (λ (x : Grove). ArePart (get x.nodes) (get x.boards) key part) h.deletes.room.grove h.deletes.cleared.is_part in
+      let many : length part ≡ box_weight number u.boxes =
+      part_weight (get g.nodes) (get g.boards) g.root h.stands.puts.forest canvas C.depth C.keys u.boxes number key part C.stands (seen_depth (get g.boards canvas) _ C.board) has at
+      (box_lives h.old path number canvas key h.stands.puts h.deletes.is) is_part h.deletes.cleared.once in
+      let fewer : weight fewer_tree.boxes + box_weight number u.boxes ≡ weight t.tree.boxes =
+      weight_taken path number (box_weight number u.boxes) t.tree u along.1 (weight_out number u.boxes) in
+      let one : m.base.counts.boxes ≡ s.base.counts.boxes - length part = ap (λ (n : Counts). n.boxes) (counted_fewer ∙ h.deletes.counts) in
       let was : s.base.counts.boxes ≡ weight t.tree.boxes = t.boxes in
-      omega (arith, fewer, one, was)
+      omega (arith, fewer, one, was, many)
 
   wires_fewer : m.base.counts.wires ≡ wires_told m.net.web
   wires_fewer = ap (λ (n : Counts). n.wires) (counted_fewer ∙ h.deletes.counts) ∙ sym (ap (λ (n : Net). wires_told n.web) h.net)
@@ -459,7 +462,7 @@ module _ (s : Stage) (t : HasTree s) (path : List ℕ) (number : ℕ) (m : Made)
       let low : deep t.tree.boxes ≤ 256 = (let l = t.shallow in omega (arith, l)) in
       let before : OwnersStand h.old s.names s.file = λ class name.
       o class name ∙ sym (owners_alike table s.names s.file h.old.grove t.tree.sheet t.tree.boxes class name (at_stands s t h.old stands_first) low same) in
-      owners_less roomed h.new s.names spot key h.steps h.steps' h.deletes.removed s.file (owners_kept h.old roomed s.names s.file h.deletes.room.names h.deletes.room.grove before)
+      h.deletes.cleared.owners s.file (owners_kept h.old roomed s.names s.file h.deletes.room.names h.deletes.room.grove before)
 
   pub lost_owners : HasOwners s t.patch t.tree → HasOwners (stage_by (with_ahead s ahead) (Makes m)) h.new fewer_tree
   lost_owners o =
@@ -592,18 +595,19 @@ module _ (s : Stage) (t : HasTree s) (path : List ℕ) (number : ℕ) (text : Li
       let C : CanvasStands g h.box.canvas u = along.2 in
       let at : slice_get C.keys number ≡ Some h.box.key = ap (λ (ks : List ℕ). slice_get ks number) (sym (seen_keys (get g.boards h.box.canvas) _ C.board)) ∙ becomes.is in
       let leaf : inner_in (get g.nodes h.box.key) ≡ None = ap inner_in becomes.was ∙ becomes.bare in
-      let here = weight_out (get g.nodes) (get g.boards) h.box.canvas C.depth C.keys u.boxes number h.box.key C.stands at leaf in
-      let some : weight (taken_at path number t.tree).boxes + 1 ≡ weight t.tree.boxes = weight_taken path number t.tree u along.1 here in
+      let alone : box_weight number u.boxes ≡ 1 = weight_alone (get g.nodes) (get g.boards) h.box.canvas C.depth C.keys u.boxes number h.box.key C.stands at leaf in
+      let some : weight (taken_at path number t.tree).boxes + box_weight number u.boxes ≡ weight t.tree.boxes =
+      weight_taken path number (box_weight number u.boxes) t.tree u along.1 (weight_out number u.boxes) in
       let one : m.base.counts.boxes ≡ s.base.counts.boxes - 1 + weight h.retypes.added.boxes = ap (λ (n : Counts). n.boxes) counted_renewed in
       let single : weight h.retypes.added.boxes ≡ 1 = ap weight became.can.single in
       let same : weight renewed_tree.boxes ≡ weight t.tree.boxes = weight_retyped path number new_cell t.tree in
       let was : s.base.counts.boxes ≡ weight t.tree.boxes = t.boxes in
-      omega (arith, some, one, single, same, was)
+      omega (arith, some, alone, one, single, same, was)
 
   wires_renewed : m.base.counts.wires ≡ wires_told m.net.web
   wires_renewed =
       let was : s.base.counts.wires ≡ wires_told room_made.web = room_wires s t h.old stands_before room_made became.room in
-      let same : wires_told h.new.web ≡ wires_told room_made.web = ap wires_told became.refit.web in
+      let same : wires_told h.new.web ≡ wires_told room_made.web = lines_as_many room_made.web h.new.web became.refit.ports.lines in
       let sum : m.base.counts.wires ≡ s.base.counts.wires + wires_inside h.retypes.added.boxes = ap (λ (n : Counts). n.wires) counted_renewed in
       let none : wires_inside h.retypes.added.boxes ≡ 0 = ap wires_inside became.can.single in
       let net : wires_told m.net.web ≡ wires_told h.new.web = ap (λ (n : Net). wires_told n.web) h.net in
