@@ -1,7 +1,7 @@
 -- A box that became another one: the wires hold and fit, and each name has its owners.
 use Rattle.std.proofs.Common.{◌≡◌, ◌≢◌, ℕ, zero, suc, Bool, true, false, cond, List, [], ◌∷◌, slice_get, Option, Some, None, refl, sym, ap, ◌∙◌, subst}
 use Rattle.std.specs.Prelude.{option_map, option_and_then}
-use Rattle.std.proofs.lemmas.Option.{none-some}
+use Rattle.std.proofs.lemmas.Option.{none-some, same_Some}
 use mathlib.Core.Logic.{⊎_elim}
 use Rattle.std.proofs.lemmas.Bool.{cases_eq}
 use Rattle.slab.specs.Slab.{Slab, get}
@@ -9,35 +9,42 @@ use Rattle.pd_atom.specs.declared.Atom.{Atom}
 use Rattle.pd_atom.specs.Names.{Names}
 use Rattle.pd_canvas.specs.Views.{entry_of}
 use Rattle.pd_library.specs.Files.{answer_in}
+use Rattle.pd_tree.specs.Ports.{is_made}
 use Rattle.pd_tree.specs.Trees.{Cell, Trees, Done, Leaf, Holder, Tree}
 use Rattle.pd_grove.specs.declared.nodes.Node.{Node}
 use Rattle.pd_grove.specs.declared.boards.Board.{Board}
 use Rattle.pd_grove.specs.declared.grove.Grove.{Grove}
+use Rattle.pd_grove.specs.declared.ports.Side.{Side}
+use Rattle.pd_grove.specs.declared.ports.Side.TheVariants.{Inlets, Outlets}
 use Rattle.pd_grove.specs.OwnPaths.{sub_in, sub_step_in, sub_reached, sub_in_box, sub_along}
 use Rattle.pd_grove.specs.Places.{CanvasStands, LeadsTo, canvas_in_box, canvas_along}
 use Rattle.pd_grove.specs.TextOrder.{is_sub}
 use Rattle.pd_grove.specs.Telling.{inner_in, keys_in, step_in, reached}
 use Rattle.pd_grove.proofs.SubLemmas.{sub_path_leads}
-use Rattle.pd_web.specs.declared.web.Web.{Web}
+use Rattle.pd_web.specs.declared.jacks.Jack.{Jack}
 use Rattle.pd_web.specs.Canvases.{keys_at}
-use Rattle.pd_web.specs.Changes.{wires_told, Meet}
+use Rattle.pd_web.specs.Changes.{wires_told}
+use Rattle.pd_web.specs.Jacks.{kind_jacks}
+use Rattle.pd_ports.specs.Boxes.{HasPorts}
+use Rattle.pd_seek.specs.Places.{AreInOrder}
 use Rattle.pd_patch.specs.declared.patch.Patch.{Patch}
 use Rattle.pd_gather.specs.Gather.{Known}
 use Rattle.pd_boxes.specs.Put.{HasOwners}
-use Rattle.pd_alike_law.specs.Feeds.{FedOnce}
 use Rattle.pd_inside_law.specs.Inside.{HasWiresOf, HoldsWires}
 use Rattle.pd_reload_law.specs.Reloading.{RunsAs}
 use Rattle.pd_saved_law.specs.Fitting.{WiresFit}
 use Rattle.pd_putting_law.specs.Again.{StandsAgain}
 use Rattle.pd_putting_law.specs.Puts.{change_inside}
+use Rattle.pd_putting_law.proofs.PathLemmas.{paths_once, sub_leads}
 use Rattle.pd_adding.specs.declared.counts.Counts.{Counts}
 use Rattle.pd_put_law.proofs.OwnerLemmas.{own_more, room_own}
-use Rattle.pd_put_law.proofs.RoomLemmas.{room_runs, room_holds, room_fits, room_wires}
+use Rattle.pd_put_law.proofs.RoomLemmas.{same_canvas, lists_fed, lists_meet, told_same, laid_same, room_runs, room_holds, room_fits, room_wires}
 use Rattle.pd_retyping.specs.declared.retyping.RetypedBox.{RetypedBox}
 use Rattle.pd_retyping.specs.Retypes.{RetypesBox}
 use Rattle.pd_retyping_law.specs.Retypes.{boxes_with, retyped_at}
 use Rattle.pd_retyping_law.specs.Retyping.{RetypesBoxAt, cell_in}
 use Rattle.pd_retype_law.proofs.BecomeLemmas.{mid, is_now, box, cell_is, goes_on}
+use Rattle.pd_retype_law.proofs.FitLemmas.{ports_fit, ports_wires}
 
 -- ---- canvases of a tree to which paths lead through abstractions
 
@@ -179,8 +186,28 @@ some_along : (g : Grove) (key : Option ℕ) (o : Option Tree) (c : ℕ) → Lead
 some_along g key None c L e = absurd (none-some c (sym L ∙ e))
 some_along g key (Some u) c L e = (u, refl)
 
+-- the box has other ports, and all wires stay
 module _ (p q : Patch) (path : List ℕ) (canvas key number : ℕ) (n n' : Node) (B : RetypesBoxAt p.grove q.grove path canvas key number n n')
-    (web : q.web ≡ p.web) (numbers : q.numbers ≡ p.numbers) where
+    (jacks : Side → List Jack) (made : Bool) (P : HasPorts p.web q.web key jacks made) (numbers : q.numbers ≡ p.numbers) where
+  -- no canvas inside an abstraction has the box
+  not_inside : (way : List ℕ) (c : ℕ) → reached p.grove (Some p.grove.root) way ≡ Some c → sub_reached p.grove (Some p.grove.root) way ≡ None
+      → (i k : ℕ) → slice_get (keys_at p.grove c) i ≡ Some k → k ≢ key
+  not_inside way c leads off i k at e =
+      let g = p.grove in
+      let here : c ≡ canvas = same_Some c canvas (sym (B.forest.own.home c i key (at ∙ ap (λ x. Some x) e)) ∙ B.forest.own.home canvas number key B.is) in
+      let same : path ≡ way = paths_once g B.forest path way g.root c (sub_leads g g.root c path (B.leads ∙ ap (λ x. Some x) (sym here))) leads in
+      none-some canvas (sym off ∙ ap (sub_reached g (Some g.root)) (sym same) ∙ B.leads)
+
+  wired_on : (way : List ℕ) (c : ℕ) (u : Tree) → reached p.grove (Some p.grove.root) way ≡ Some c → sub_reached p.grove (Some p.grove.root) way ≡ None
+      → HasWiresOf p.web (keys_at p.grove c) u → HasWiresOf q.web (keys_at q.grove c) u
+  wired_on way c u leads off h =
+      let keys = keys_at p.grove c in
+      subst (λ (ks : List ℕ). HasWiresOf q.web ks u) (sym (keys_stay p.grove q.grove path canvas key number n n' B c))
+      (same_canvas p.web q.web keys u (told_same p.web q.web keys (λ i k at.
+      let d = not_inside way c leads off i k at in
+      laid_same p.web q.web k (P.other_ports Inlets k d) (P.other_ports Outlets k d) (P.others_made k d)))
+      (λ k o _. P.fans k o) (λ k i _. P.feeds k i) h)
+
   held_on : (t : Tree) → RunsAs p.grove t → HoldsWires p t → HoldsWires q (retyped_at path number (cell_in n') t)
   held_on t R H =
       let g = p.grove in
@@ -190,25 +217,23 @@ module _ (p q : Patch) (path : List ℕ) (canvas key number : ℕ) (n n' : Node)
       let stands : CanvasStands g g.root t = record { holder = None; depth = 0; keys = G.keys; board = G.root; stands = G.stands } in
       let own = some_along g (sub_reached g (Some g.root) path) (sub_along path t) canvas (sub_path_leads g path g.root t stands) B.leads in
       record {
-        fed = subst FedOnce (sym web) H.fed;
-        meet = subst Meet (sym web) H.meet;
+        fed = lists_fed p.web q.web P.lines P.feeds H.fed;
+        meet = lists_meet p.web q.web P.fans P.feeds H.meet;
         inside = record {
           all = λ way c u l.
+              let leads : reached g (Some g.root) way ≡ Some c = from_root g h path canvas key number n n' B way ∙ l.here.key in
               let off : sub_reached g (Some g.root) way ≡ None = sub_from_root g h path canvas key number n n' B way ∙ l.inside in
               let same = inside_same path way number c' t own.0 own.1
               (none_along g (sub_reached g (Some g.root) way) (sub_along way t) (sub_path_leads g way g.root t stands) off) in
-              subst (λ (w : Web). HasWiresOf w (keys_at h c) u) (sym web)
-              (subst (λ (ks : List ℕ). HasWiresOf p.web ks u) (sym (keys_stay g h path canvas key number n n' B c))
-              (H.inside.all way c u
-              (record { here = record { key = from_root g h path canvas key number n n' B way ∙ l.here.key; canvas = sym same ∙ l.here.canvas }; inside = off })));
+              wired_on way c u leads off (H.inside.all way c u (record { here = record { key = leads; canvas = sym same ∙ l.here.canvas }; inside = off }));
         };
         order = λ way c l.
             let O = H.order way c (sub_from_root g h path canvas key number n n' B way ∙ l) in
-            record { all = λ i k inlet is. rw (web, numbers) (O.all i k inlet (number_stays g h path canvas key number n n' B c i k is)) };
+            record {
+              all = λ i k inlet is.
+                  rw numbers (subst (AreInOrder p.numbers.items) (sym (P.feeds k inlet)) (O.all i k inlet (number_stays g h path canvas key number n n' B c i k is)));
+            };
       }
-
-  fit_on : WiresFit p → WiresFit q
-  fit_on F = record { all = λ c. rw (web, numbers, B.boards) (F.all c) }
 
 module _ (old new : Patch) (n : Counts) (name path : List ℕ) (number : ℕ) (text : List Atom) (now : ℕ) (k after : Known) (b : RetypedBox)
     (X : RetypesBox old new n name path number text now k after b) where
@@ -224,14 +249,16 @@ module _ (old new : Patch) (n : Counts) (name path : List ℕ) (number : ℕ) (t
   pub box_holds : (t : Tree) → RunsAs old.grove t → HoldsWires old t → HoldsWires new (retyped_at path number X.became.can.cell t)
   box_holds t R H =
       subst (λ (c : Cell). HoldsWires new (retyped_at path number c t)) (cell_is old new n name path number text now k after b X)
-      (held_on ready new path b.canvas b.key number X.node new_node there X.became.refit.web X.became.refit.numbers t
-      (room_runs old.grove ready.grove X.became.room.grove t R) (room_holds old ready X.became.room t H))
+      (held_on ready new path b.canvas b.key number X.node new_node there (λ side. kind_jacks side X.became.seed.row.kind) (is_made X.became.seed.row.kind)
+      X.became.refit.ports X.became.refit.numbers t (room_runs old.grove ready.grove X.became.room.grove t R) (room_holds old ready X.became.room t H))
 
   pub box_fits : WiresFit old → WiresFit new
-  box_fits F = fit_on ready new path b.canvas b.key number X.node new_node there X.became.refit.web X.became.refit.numbers (room_fits old ready X.became.room F)
+  box_fits F =
+      ports_fit ready new b.key X.became.seed.row.kind X.became.refit.ports X.became.could.wires X.became.could.meet X.became.could.can.runs
+      X.became.refit.grove.boards X.became.refit.numbers (room_fits old ready X.became.room F)
 
   pub box_wires : wires_told new.web ≡ wires_told old.web
-  box_wires = ap wires_told X.became.refit.web ∙ room_wires old ready X.became.room
+  box_wires = ports_wires ready new b.key X.became.seed.row.kind X.became.refit.ports ∙ room_wires old ready X.became.room
 
   pub box_owners : (t : Tree) → RunsAs old.grove t → StandsAgain (answer_in k.files) name k.names t → HasOwners old k.names name → HasOwners new after.names name
   box_owners t R A h =

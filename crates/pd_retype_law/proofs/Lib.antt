@@ -1,4 +1,5 @@
 pub mod BecomeLemmas
+pub mod FitLemmas
 pub mod InsideLemmas
 pub mod CountLemmas
 pub mod ProperLemmas

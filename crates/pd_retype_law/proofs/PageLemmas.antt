@@ -1,7 +1,7 @@
 -- The document of a patch where room was set aside, and where a box became another one.
 use Rattle.std.proofs.Common.{◌≡◌, ℕ, zero, suc, List, [], ◌∷◌, ◌++◌, length, Option, Some, None, refl, sym, ap, ◌∙◌, subst}
 use Rattle.std.specs.Prelude.{option_map, replicate, map}
-use Rattle.std.specs.List.{flat_map, range_with_len}
+use Rattle.std.specs.List.{range_with_len}
 use Rattle.slab.specs.Slab.{get}
 use Rattle.pd_atom.specs.declared.Atom.{Atom}
 use Rattle.pd_canvas.specs.declared.edits.Edit.TheVariants as edit
@@ -16,10 +16,10 @@ use Rattle.pd_library.specs.declared.answers.Answer.{Answer}
 use Rattle.pd_tree.specs.Trees.{Cell, Tree}
 use Rattle.pd_growth.specs.Steps.{Stock}
 use Rattle.pd_grove.specs.declared.boards.Board.{Board}
+use Rattle.pd_grove.specs.declared.grove.Grove.{Grove}
 use Rattle.pd_grove.specs.declared.nodes.Node.{Node}
 use Rattle.pd_grove.specs.declared.ports.Side.TheVariants.{Outlets}
 use Rattle.pd_grove.specs.Standing.{BoardSeen, board_seen}
-use Rattle.pd_web.specs.declared.jacks.Jack.{Jack}
 use Rattle.pd_web.specs.declared.web.Hop.{Hop}
 use Rattle.pd_web.specs.declared.web.Web.{Web}
 use Rattle.pd_web.specs.Hops.{ports_told, fan_hops}
@@ -40,6 +40,7 @@ use Rattle.pd_retyping.specs.declared.retyping.RetypedBox.{RetypedBox}
 use Rattle.pd_retyping.specs.Retypes.{RetypesBox}
 use Rattle.pd_retyping_law.proofs.EditLemmas.{text_kept, text_document}
 use Rattle.pd_retype_law.proofs.BecomeLemmas.{mid, is_now, cell_is, written_as, without_it, grew_so, runs_ready, again_then, gives_text}
+use Rattle.pd_retype_law.proofs.FitLemmas.{flat_same, saved_stay}
 
 -- ---- the wires of boxes that are saved, where room was set aside
 
@@ -61,10 +62,6 @@ longer_number (x ∷ xs) n (suc k) = longer_number xs n k
 
 number_same : (old new : List ℕ) (k : ℕ) → IsLonger 0 old new → number_in new k ≡ number_in old k
 number_same old new k l = ap (λ (ns : List ℕ). number_in ns k) l.1 ∙ longer_number old l.0 k
-
-flat_same : {X : Type 0} (f g : ℕ → List X) (xs : List ℕ) → ((x : ℕ) → f x ≡ g x) → flat_map f xs ≡ flat_map g xs
-flat_same f g [] h = refl
-flat_same {X} f g (x ∷ xs) h = ap (λ (l : List X). l ++ flat_map f xs) (h x) ∙ ap (λ (l : List X). g x ++ l) (flat_same f g xs h)
 
 each_same : {X Y : Type 0} (f g : X → Y) (xs : List X) → ((x : X) → f x ≡ g x) → map f xs ≡ map g xs
 each_same f g [] h = refl
@@ -91,6 +88,37 @@ on_seen : (web : Web) (numbers : List ℕ) (nodes : ℕ → Option Node) (inside
 on_seen web numbers nodes inside None = refl
 on_seen web numbers nodes inside (Some b) = refl
 
+-- canvases alike, of which each saves the wires that it saved
+module _ (w v : Web) (a b : List ℕ) (saved : (keys : List ℕ) → wires_among v b keys ≡ wires_among w a keys) (g h : Grove) (nodes : (k : ℕ) → get h.nodes k ≡ get g.nodes k)
+    (boards : (c : ℕ) → option_map board_seen (get h.boards c) ≡ option_map board_seen (get g.boards c)) where
+  wired_same : (nodes : ℕ → Option Node) (inside : ℕ → Page) (o : Option BoardSeen) → page_seen v b nodes inside o ≡ page_seen w a nodes inside o
+  wired_same nodes inside None = refl
+  wired_same nodes inside (Some x) =
+      ap (λ (ws : List Wire). record { header = x.sheet.header; kept = x.sheet.kept; boxes = boxed (map (λ k. entry_at inside (nodes k)) x.keys); wires = ws; coords = x.sheet.coords })
+      (saved x.keys)
+
+  canvas_same : (inside inside' : ℕ → Page) → inside' ≡ inside → (c : ℕ) → page_on v b (get h.nodes) inside' (get h.boards c) ≡ page_on w a (get g.nodes) inside (get g.boards c)
+  canvas_same inside inside' same c =
+      let seen = option_map board_seen (get g.boards c) in
+      on_seen v b (get h.nodes) inside' (get h.boards c)
+      ∙ ap (page_seen v b (get h.nodes) inside') (boards c)
+      ∙ ap (λ (f : ℕ → Option Node). page_seen v b f inside' seen) (same_functions (get h.nodes) (get g.nodes) nodes)
+      ∙ ap (λ (f : ℕ → Page). page_seen v b (get g.nodes) f seen) same
+      ∙ wired_same (get g.nodes) inside seen
+      ∙ sym (on_seen w a (get g.nodes) inside (get g.boards c))
+
+  within_same : (n c : ℕ) → page_within v b (get h.nodes) (get h.boards) n c ≡ page_within w a (get g.nodes) (get g.boards) n c
+  within_same zero c = within_none v b (get h.nodes) (get h.boards) c ∙ sym (within_none w a (get g.nodes) (get g.boards) c)
+  within_same (suc n) c =
+      let before = page_within w a (get g.nodes) (get g.boards) n in
+      let now = page_within v b (get h.nodes) (get h.boards) n in
+      within_suc v b (get h.nodes) (get h.boards) n c
+      ∙ canvas_same before now (same_functions now before (λ d. within_same n d)) c
+      ∙ sym (within_suc w a (get g.nodes) (get g.boards) n c)
+
+  document_same : h.root ≡ g.root → present_page h v b ≡ present_page g w a
+  document_same root = within_same 257 h.root ∙ ap (page_within w a (get g.nodes) (get g.boards) 257) root
+
 module _ (p q : Patch) (s : SameButRoom p q) where
   among_same : (keys : List ℕ) → wires_among q.web q.numbers.items keys ≡ wires_among p.web p.numbers.items keys
   among_same keys =
@@ -99,44 +127,14 @@ module _ (p q : Patch) (s : SameButRoom p q) where
       let a = p.numbers.items in
       let b = q.numbers.items in
       let same : (j : ℕ) → number_in b j ≡ number_in a j = λ j. number_same a b j s.numbers in
-      flat_same (box_wires v b) (box_wires w a) keys (λ k.
-      ap (λ (ports : List Jack). flat_map (outlet_wires v b k) (range_with_len 0 (length ports))) (s.web.kept.ports Outlets k)
-      ∙ flat_same (outlet_wires v b k) (outlet_wires w a k) (range_with_len 0 (length (ports_told w Outlets k))) (λ o.
-      ap (map (wire_along b k o)) (s.web.fans k o) ∙ each_same (wire_along b k o) (wire_along a k o) (fan_hops w k o) (λ h. along_same a b k o h same)))
-
-  wired_same : (nodes : ℕ → Option Node) (inside : ℕ → Page) (o : Option BoardSeen)
-      → page_seen q.web q.numbers.items nodes inside o ≡ page_seen p.web p.numbers.items nodes inside o
-  wired_same nodes inside None = refl
-  wired_same nodes inside (Some b) =
-      ap (λ (ws : List Wire). record { header = b.sheet.header; kept = b.sheet.kept; boxes = boxed (map (λ k. entry_at inside (nodes k)) b.keys); wires = ws; coords = b.sheet.coords })
-      (among_same b.keys)
-
-  canvas_same : (inside inside' : ℕ → Page) → inside' ≡ inside → (c : ℕ)
-      → page_on q.web q.numbers.items (get q.grove.nodes) inside' (get q.grove.boards c) ≡ page_on p.web p.numbers.items (get p.grove.nodes) inside (get p.grove.boards c)
-  canvas_same inside inside' same c =
-      let seen = option_map board_seen (get p.grove.boards c) in
-      on_seen q.web q.numbers.items (get q.grove.nodes) inside' (get q.grove.boards c)
-      ∙ ap (page_seen q.web q.numbers.items (get q.grove.nodes) inside') (s.grove.boards c)
-      ∙ ap (λ (f : ℕ → Option Node). page_seen q.web q.numbers.items f inside' seen) (same_functions (get q.grove.nodes) (get p.grove.nodes) s.grove.nodes)
-      ∙ ap (λ (f : ℕ → Page). page_seen q.web q.numbers.items (get p.grove.nodes) f seen) same
-      ∙ wired_same (get p.grove.nodes) inside seen
-      ∙ sym (on_seen p.web p.numbers.items (get p.grove.nodes) inside (get p.grove.boards c))
-
-  within_same : (n c : ℕ) → page_within q.web q.numbers.items (get q.grove.nodes) (get q.grove.boards) n c
-      ≡ page_within p.web p.numbers.items (get p.grove.nodes) (get p.grove.boards) n c
-  within_same zero c =
-      within_none q.web q.numbers.items (get q.grove.nodes) (get q.grove.boards) c ∙ sym (within_none p.web p.numbers.items (get p.grove.nodes) (get p.grove.boards) c)
-  within_same (suc n) c =
-      let before = page_within p.web p.numbers.items (get p.grove.nodes) (get p.grove.boards) n in
-      let now = page_within q.web q.numbers.items (get q.grove.nodes) (get q.grove.boards) n in
-      within_suc q.web q.numbers.items (get q.grove.nodes) (get q.grove.boards) n c
-      ∙ canvas_same before now (same_functions now before (λ d. within_same n d)) c
-      ∙ sym (within_suc p.web p.numbers.items (get p.grove.nodes) (get p.grove.boards) n c)
+      saved_stay w v b s.web.fans keys
+      ∙ flat_same (box_wires w b) (box_wires w a) keys (λ k.
+      flat_same (outlet_wires w b k) (outlet_wires w a k) (range_with_len 0 (length (ports_told w Outlets k))) (λ o.
+      each_same (wire_along b k o) (wire_along a k o) (fan_hops w k o) (λ h. along_same a b k o h same)))
 
   pub room_document : present_document q ≡ present_document p
   room_document =
-      within_same 257 q.grove.root
-      ∙ ap (page_within p.web p.numbers.items (get p.grove.nodes) (get p.grove.boards) 257) s.grove.root
+      document_same p.web q.web p.numbers.items q.numbers.items among_same p.grove q.grove s.grove.nodes s.grove.boards s.grove.root
 
 -- ---- an edit that made a box another one
 
@@ -165,7 +163,10 @@ module _ (old new : Patch) (n : Counts) (name path : List ℕ) (number : ℕ) (t
   last = (grew_so old new n name path number text now k after b X).after
 
   as_ready : present_document new ≡ present_page new.grove ready.web ready.numbers.items
-  as_ready = ap (λ (w : Web). present_page new.grove w new.numbers.items) X.became.refit.web ∙ ap (λ v. present_page new.grove ready.web v.items) X.became.refit.numbers
+  as_ready =
+      ap (λ v. present_page new.grove new.web v.items) X.became.refit.numbers
+      ∙ document_same ready.web new.web ready.numbers.items ready.numbers.items (saved_stay ready.web new.web ready.numbers.items X.became.refit.ports.fans)
+      new.grove new.grove (λ k. refl) (λ c. refl) refl
 
   -- the document has the element that the edit gives there, with what the new box keeps of it
   pub document_kept : present_document new
