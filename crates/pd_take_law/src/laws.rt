@@ -1,6 +1,7 @@
 //! Laws over a running patch of which an edit deleted a box, and its tree.
 
 ghost use Rattle.std.specs.Prelude.{◌≡◌, ◌≤◌, ℕ, List, Option};
+ghost use Rattle.std.specs.List.{AllByRecursion};
 ghost use Rattle.pd_atom.specs.Names.{Names};
 ghost use Rattle.pd_canvas.specs.Edits.{edited};
 ghost use Rattle.pd_canvas.specs.Paths.{edit_at};
