@@ -1,3 +1,6 @@
 pub mod PartLemmas
 pub mod LoosenLemmas
 pub mod RowLemmas
+pub mod ReadyLemmas
+pub mod WireLemmas
+pub mod ClearLemmas
