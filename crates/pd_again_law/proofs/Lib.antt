@@ -1,4 +1,4 @@
-pub mod FileLemmas
+pub mod NumberLemmas
 pub mod HeldLemmas
 pub mod PutLemmas
 pub mod TakeLemmas

@@ -29,4 +29,4 @@ StagesOpenAgain = (holds : Option (List FileRow)) (name : List ℕ) (rate : Rate
     AreSteps most steps (opened name p table base ahead).stage →
     let run = followed_by (opened name p table base ahead) (steps_by own_ways steps) in
     AreLawful run.edits → (q : Patch) → StandsAt q run.stage → IsTable run.stage.names → StandOnce q.web →
-    Reopens grows.files.files name rate run.stage q
+    Reopens grows.files.files name rate run.edits run.stage q
