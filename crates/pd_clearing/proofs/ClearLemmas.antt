@@ -21,6 +21,7 @@ use Rattle.pd_grove.specs.Ports.{port_signal}
 use Rattle.pd_grove.specs.Forest.{holder_in, IsForest}
 use Rattle.pd_grove.specs.Grafts.{TakesBox}
 use Rattle.pd_grove.specs.TextOrder.{keys_of_spots}
+use Rattle.pd_grove.proofs.ForestLemmas.{box_there}
 use Rattle.pd_grove.proofs.UseLemmas.{not_both}
 use Rattle.pd_owning.specs.Bound.{is_among, AreOwnersBut}
 use Rattle.pd_owning.specs.Parts.{ArePart}
@@ -47,7 +48,7 @@ use Rattle.pd_clearing.specs.Losing.{LoosensAll}
 use Rattle.pd_clearing.specs.Clearing.{without_all, CanClear, DropsAll, IsCleared, IsPartOf, KeepsOtherPorts, KeepsOtherWires}
 use Rattle.pd_clearing.specs.Layers.{ClosesAll, DropsOrders}
 use Rattle.pd_clearing.proofs.LoosenLemmas.{fans_left, feeds_left}
-use Rattle.pd_clearing.proofs.PartLemmas.{in_box, not_among}
+use Rattle.pd_clearing.proofs.PartLemmas.{in_box, not_among, part_live}
 use Rattle.pd_clearing.proofs.ReadyLemmas.{apart_left, forest_left, numbers_left, numbers_stay, order_stays, ordered_left, owners_left, small_left, was_live, IsReady}
 use Rattle.pd_clearing.proofs.WireLemmas.{homes_left, inside_left, kept_box, linked_left, orders_left, ports_left}
 
@@ -70,6 +71,14 @@ told_some w k = mapped_some _ (wire_at w.book k)
 
 pub as_many : (w v : Web) → ((k : ℕ) → line_told v k ≡ line_told w k) → wires_told v ≡ wires_told w
 as_many w v same = held_alike w.book.wires v.book.wires (λ k. sym (told_some v k) ∙ ap is_some (same k) ∙ told_some w k)
+
+-- Before they go.
+
+-- each of the boxes that go lives
+pub part_lives : (p : Patch) (place : Place) (key : ℕ) (part : List ℕ) → CanClear p place key → ArePart (get p.grove.nodes) (get p.grove.boards) key part → (k : ℕ) → IsTrue (is_among part k) → IsSome (get p.grove.nodes k)
+part_lives p place key part C A =
+    let B = box_there (get p.grove.nodes key) place.canvas (C.can.forest.own.home place.canvas place.number key C.is) in
+    part_live (get p.grove.nodes) (get p.grove.boards) p.grove.root C.can.forest key part A (subst (λ o. IsSome o) (sym B.is) refl)
 
 -- The wires are gone.
 

@@ -4,3 +4,4 @@ pub mod RowLemmas
 pub mod ReadyLemmas
 pub mod WireLemmas
 pub mod ClearLemmas
+pub mod SpotLemmas

@@ -17,7 +17,6 @@ use Rattle.pd_grove.specs.declared.grove.Grove.{Grove}
 use Rattle.pd_grove.specs.Telling.{inner_in, keys_in}
 use Rattle.pd_grove.specs.Forest.{holder_in, IsForest}
 use Rattle.pd_grove.specs.Grafts.{LiesInBox, TakesBox}
-use Rattle.pd_grove.proofs.ForestLemmas.{box_there}
 use Rattle.pd_grove.proofs.NestLemmas.{board_there}
 use Rattle.pd_grove.proofs.PruneLemmas.{forest_pruned}
 use Rattle.pd_grove.proofs.UseLemmas.{not_both}
@@ -51,7 +50,7 @@ use Rattle.pd_boxes.specs.Rows.{NumbersFrom}
 use Rattle.pd_taking.specs.Taking.{keys_past}
 use Rattle.pd_taking.proofs.LoseLemmas.{none_listed, nothing_there}
 use Rattle.pd_clearing.specs.Layers.{DropsOrders, IsHeldByOne}
-use Rattle.pd_clearing.proofs.PartLemmas.{box_gone, canvas_gone, canvas_outside, held_by_one, held_inside, key_among, part_live}
+use Rattle.pd_clearing.proofs.PartLemmas.{box_gone, canvas_gone, canvas_outside, held_by_one, held_inside, key_among}
 
 -- Lists.
 
@@ -134,12 +133,6 @@ module _ (p : Patch) (place : Place) (key : ℕ) (part : List ℕ) (R : IsReady 
 
   pub within : place.number < length (keys_at p.grove place.canvas)
   within = slice_get_within (keys_at p.grove place.canvas) place.number key R.is
-
-  -- each of these boxes lives
-  pub all_live : (k : ℕ) → IsTrue (is_among part k) → IsSome (get p.grove.nodes k)
-  all_live =
-      let B = box_there (get p.grove.nodes key) place.canvas (R.can.forest.own.home place.canvas place.number key R.is) in
-      part_live (get p.grove.nodes) (get p.grove.boards) p.grove.root R.can.forest key part R.are (subst (λ o. IsSome o) (sym B.is) refl)
 
   -- The tree without the box.
 
