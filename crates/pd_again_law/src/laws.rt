@@ -1,5 +1,5 @@
 //! The law of saves in whole runs.
-ghost use Rattle.pd_again_law.specs.Laws.{SavesOpenAgain, StagesOpenAgain};
+ghost use Rattle.pd_again_law.specs.Laws.{SavesOpenAgain, StagesOpenAgain, BareBoxesLeaveNumbers};
 
 /// In a run in which each edit is lawful, from where a patch opens to its end, whatever wires and boxes come, go and move, and whatever boxes become,
 /// each save puts a text that opens again, under the patch's own `$0` numbers, as the patch that was saved. So it does as a file that is opened does,
@@ -59,3 +59,8 @@ pub fn stages_open_again()
     pd_reload_law::documents_tell_trees();
     pd_doc::written_read();
 }
+
+/// A box without a canvas inside takes no `$0` number away where it goes.
+pub fn bare_boxes_leave_numbers()
+    ensures { BareBoxesLeaveNumbers }
+{}
