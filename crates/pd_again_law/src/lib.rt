@@ -6,7 +6,7 @@
 //! patch is by then: the boxes and subpatches that came with the boxes that were there, each where it was moved to and as what it became, without
 //! those that went and all that lay in them, message boxes with their texts, saved arrays with their values, toggles with theirs, and the wires that
 //! there are. It grows so too as a file that is opened grows, its `$0` numbers from 1001 on, where the patch has just the first of these: as it has
-//! where no edit before took out a box with a number of its own or of one in it (`AllLeaveNumbers`); a box without a canvas has none
+//! where no box went before that has such a number or holds one that has (`AllLeaveNumbers`), and no box without a canvas has one
 //! (`bare_boxes_leave_numbers`). The files are those that were gathered where the patch opened, with those that boxes that came or became others asked
 //! for behind them. Each patch that stands as that tree is as the patch that was saved (`saves_open_again`). Each name has the same owners, in the
 //! same order. A path leads to a canvas in both or in neither, and canvas by canvas, those inside abstractions too, by the numbers of boxes, the ports
