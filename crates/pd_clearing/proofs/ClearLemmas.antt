@@ -1,5 +1,5 @@
 -- A box is gone with all that lay in it, and a patch that runs goes on to be one.
-use Rattle.std.proofs.Common.{◌≡◌, ◌≢◌, ℕ, ◌+◌, ◌<◌, false, is_some, List, ◌++◌, take, drop, length, replicate, Option, Some, None, IsSome, IsTrue, refl, sym, ap, ◌∙◌, subst, arith}
+use Rattle.std.proofs.Common.{◌≡◌, ◌≢◌, ℕ, ◌+◌, ◌<◌, false, is_some, List, ◌++◌, take, drop, replicate, Option, Some, None, IsSome, IsTrue, refl, sym, ap, ◌∙◌, subst, arith}
 use Rattle.std.specs.Prelude.{slice_get, option_map, option_and_then, ◌⊎◌}
 use mathlib.Core.Logic.{⊎_elim}
 use Rattle.std.proofs.lemmas.Bool.{cases_eq}
@@ -215,7 +215,7 @@ module _ (p r q : Patch) (table : Names) (place : Place) (key : ℕ) (spots : Li
       (λ (d : k ≢ key). not_both (get q.grove.boards c) (takes.boards_go c (in_box (get p.grove.nodes) (get p.grove.boards) p.grove.root C.can.forest key part P.are k c at d e)) live)
       (cases_eq k key)
 
-  pub cleared : IsCleared p q table place key steps steps'
+  cleared : IsCleared p q table place key steps steps'
   cleared = record {
     part = part;
     is_part = P.are;
@@ -247,3 +247,8 @@ module _ (p r q : Patch) (table : Names) (place : Place) (key : ℕ) (spots : Li
     meet = still_meet r.web q.web part O.ports L.meet;
     built = λ file rate b. left_built r q table place key part ready O file rate (L.built table file rate b);
   }
+
+  -- they are those that were told
+  pub cleared_part : (told : List Spot) → spots ≡ told → (c : IsCleared p q table place key steps steps') × (c.part ≡ keys_of_spots told)
+  unfolding cleared
+  cleared_part told e = (cleared, ap keys_of_spots e)

@@ -1,6 +1,6 @@
 -- A box without wires goes with all that lies in it: its order before, and the tree, names and numbers without it.
-use Rattle.std.proofs.Common.{◌≡◌, ◌≢◌, ℕ, zero, suc, ◌+◌, ◌<◌, ◌≤◌, false, List, [], ◌∷◌, ◌++◌, append-nil, take, drop, length, Option, Some, None, IsSome, IsTrue, refl, sym, ap, ◌∙◌, subst, arith}
-use Rattle.std.specs.Prelude.{slice_get, option_and_then, ◌⊎◌}
+use Rattle.std.proofs.Common.{◌≡◌, ◌≢◌, ℕ, zero, suc, ◌+◌, ◌<◌, ◌≤◌, List, [], ◌∷◌, ◌++◌, append-nil, take, drop, length, Option, Some, None, IsSome, IsTrue, refl, sym, ap, ◌∙◌, subst, arith}
+use Rattle.std.specs.Prelude.{slice_get}
 use mathlib.Core.Logic.{⊎_elim}
 use Rattle.std.proofs.lemmas.Bool.{cases_eq, cases_lt}
 use Rattle.std.proofs.lemmas.Option.{none-some, same_Some, slice_get_within}
@@ -14,7 +14,7 @@ use Rattle.pd_links.specs.Linked.{feeders_of, followers_of}
 use Rattle.pd_grove.specs.declared.nodes.Node.{Node}
 use Rattle.pd_grove.specs.declared.boards.Board.{Board}
 use Rattle.pd_grove.specs.declared.grove.Grove.{Grove}
-use Rattle.pd_grove.specs.Telling.{inner_in, keys_in}
+use Rattle.pd_grove.specs.Telling.{keys_in}
 use Rattle.pd_grove.specs.Forest.{holder_in, IsForest}
 use Rattle.pd_grove.specs.Grafts.{LiesInBox, TakesBox}
 use Rattle.pd_grove.proofs.NestLemmas.{board_there}
@@ -50,7 +50,7 @@ use Rattle.pd_boxes.specs.Rows.{NumbersFrom}
 use Rattle.pd_taking.specs.Taking.{keys_past}
 use Rattle.pd_taking.proofs.LoseLemmas.{none_listed, nothing_there}
 use Rattle.pd_clearing.specs.Layers.{DropsOrders, IsHeldByOne}
-use Rattle.pd_clearing.proofs.PartLemmas.{box_gone, canvas_gone, canvas_outside, held_by_one, held_inside, key_among}
+use Rattle.pd_clearing.proofs.PartLemmas.{canvas_outside, held_by_one, held_inside, key_among}
 
 -- Lists.
 

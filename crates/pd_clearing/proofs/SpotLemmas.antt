@@ -1,5 +1,5 @@
 -- A box and all boxes that lie in it, told in text order.
-use Rattle.std.proofs.Common.{◌≡◌, ℕ, zero, suc, true, false, List, [], ◌∷◌, ◌++◌, append-nil, nat_eq, IsSome, IsTrue, inl, inr, refl, sym, ap, ◌∙◌, subst, eqb-true, arith}
+use Rattle.std.proofs.Common.{◌≡◌, ℕ, zero, suc, true, List, [], ◌∷◌, ◌++◌, append-nil, nat_eq, IsTrue, inl, inr, refl, sym, subst, eqb-true, arith}
 use Rattle.std.specs.Prelude.{slice_get, Some, ◌⊎◌}
 use Rattle.std.proofs.lemmas.Bool.{or_cases, false≢true}
 use Rattle.slab.specs.Slab.{get}
@@ -9,7 +9,7 @@ use Rattle.pd_grove.specs.declared.spots.Spot.{Spot}
 use Rattle.pd_grove.specs.Forest.{IsForest}
 use Rattle.pd_grove.specs.TextOrder.{keys_of_spots, spots_in_order}
 use Rattle.pd_owning.specs.Bound.{is_among, AreNew}
-use Rattle.pd_owning.specs.Parts.{ArePart, part_spots}
+use Rattle.pd_owning.specs.Parts.{part_spots}
 use Rattle.pd_owning.proofs.PartLemmas.{are_part, part_once, part_stands, spot_live}
 use Rattle.pd_clearing.specs.Clearing.{IsPartOf}
 

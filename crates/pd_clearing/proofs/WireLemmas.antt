@@ -1,6 +1,6 @@
 -- Ports, wires and signal orders, where a box went with all that lay in it.
-use Rattle.std.proofs.Common.{◌≡◌, ◌≢◌, ℕ, zero, suc, Bool, true, false, cond, List, [], ◌∷◌, ◌++◌, map, length, Option, Some, None, IsSome, IsTrue, is_some, refl, sym, ap, ◌∙◌, subst}
-use Rattle.std.specs.Prelude.{slice_get, option_and_then, ◌⊎◌}
+use Rattle.std.proofs.Common.{◌≡◌, ◌≢◌, ℕ, zero, suc, Bool, false, cond, List, [], ◌∷◌, ◌++◌, map, length, Option, Some, None, IsSome, IsTrue, is_some, refl, sym, ap, ◌∙◌, subst}
+use Rattle.std.specs.Prelude.{slice_get, option_and_then}
 use Rattle.std.specs.List.{AllByRecursion}
 use mathlib.Core.Logic.{⊎_elim}
 use Rattle.std.proofs.lemmas.Bool.{both_ways, cases_eq}
@@ -29,7 +29,6 @@ use Rattle.pd_web.specs.Changes.{hop_at}
 use Rattle.pd_web.specs.Homes.{inner_in as box_in}
 use Rattle.pd_web.specs.Hops.{ports_told, jack_told, signal_in, fan_hops, feed_hops, port_told}
 use Rattle.pd_web.specs.Jacks.{spot_jack, canvas_jacks, jacks_by, jacks_in, jacks_at, made_in}
-use Rattle.pd_web.specs.Sockets.{made_at}
 use Rattle.pd_ports.proofs.OnceLemmas.{port_stands}
 use Rattle.pd_patch.specs.declared.patch.Patch.{Patch}
 use Rattle.pd_patch.specs.Built.{HasPorts}

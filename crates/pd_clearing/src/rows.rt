@@ -10,7 +10,6 @@ ghost use Rattle.pd_ports.specs.Boxes.{HasNoWires};
 ghost use Rattle.pd_ports.specs.Known.{KnowsHomes};
 ghost use Rattle.pd_patch.specs.Numbers.{AreApart};
 ghost use Rattle.pd_patch.specs.Telling.{order_in};
-ghost use Rattle.pd_placing.specs.Placing.{StayBut};
 ghost use Rattle.pd_boxes.specs.Rows.{NumbersFrom, PutsUnder};
 ghost use Rattle.pd_clearing.specs.Clearing.{DropsAll, without_all};
 ghost use Rattle.pd_clearing.specs.Layers.{ClosesAll, DropsOrders, DropsUnder};

@@ -1,4 +1,4 @@
-use Rattle.std.proofs.Common.{◌≡◌, ◌+◌, ◌++◌, ℕ, IsTrue, sym, ap, ◌∙◌, subst, refl}
+use Rattle.std.proofs.Common.{◌≡◌, ◌+◌, ℕ, IsTrue, sym, ◌∙◌, subst, refl}
 use Rattle.std.specs.Prelude.{slice_get, Some}
 use Rattle.slab.specs.Slab.{get}
 use Rattle.pd_grove.specs.declared.grove.Grove.{Grove}
@@ -8,7 +8,7 @@ use Rattle.pd_owning.specs.Bound.{is_among}
 use Rattle.pd_boxes.specs.Put.{keys_before}
 use Rattle.pd_taking.specs.Taking.{keys_past}
 use Rattle.pd_clearing.specs.Clearing.{IsPartOf}
-use Rattle.pd_clearing.proofs.ClearLemmas.{as_many, cleared, is_ready, part_lives, GoesOut}
+use Rattle.pd_clearing.proofs.ClearLemmas.{as_many, cleared_part, is_ready, part_lives, GoesOut}
 use Rattle.pd_clearing.proofs.ReadyLemmas.{above, has_order, hold_alone, lawful, loose, once, within, IsReady}
 use Rattle.pd_clearing.proofs.clearing.clear.Goals as goal
 
@@ -212,7 +212,7 @@ returns-clause-cleared g c =
       rate = refl;
       present = refl;
     } in
-    (cleared p r _ c.args.symbols.now c.args.place key spots c.args.steps.now c.loosen_all-left.new.steps c.requires.can P L O, ap keys_of_spots c.as_slice-spots.ensures.value)
+    cleared_part p r _ c.args.symbols.now c.args.place key spots c.args.steps.now c.loosen_all-left.new.steps c.requires.can P L O c.args.part.now.spots.items c.as_slice-spots.ensures.value
 
 pub returns-clause-counted : goal.returns-clause-counted
 returns-clause-counted g c =
