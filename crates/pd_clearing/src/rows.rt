@@ -1,6 +1,6 @@
 //! What a patch keeps by key where some boxes go: ports, clocks, blocks, numbers, and the orders of canvases.
 
-ghost use Rattle.std.specs.Prelude.{◌≡◌, ◌+◌, ◌≤◌, ℕ, None, Some, IsTrue, length, map, slice_get};
+ghost use Rattle.std.specs.Prelude.{◌≡◌, ◌+◌, ◌≤◌, ℕ, None, Some, IsTrue, map, slice_get};
 ghost use Rattle.slab.specs.Slab.{get};
 ghost use Rattle.pd_grove.specs.TextOrder.{keys_of_spots};
 ghost use Rattle.pd_owning.specs.Bound.{is_among};
