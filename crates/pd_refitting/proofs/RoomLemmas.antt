@@ -1,5 +1,5 @@
 -- Room for what a box becomes, and the names of the box that was and of the one that is.
-use Rattle.std.proofs.Common.{◌≡◌, ℕ, ℤ, suc, ◌+◌, ◌≤◌, ◌^◌, Bool, true, false, List, ◌++◌, take, drop, length, Option, Some, None, inl, inr, nat_eq, refl, sym, ap, ◌∙◌, subst, arith}
+use Rattle.std.proofs.Common.{◌≡◌, ℕ, ℤ, suc, ◌+◌, ◌≤◌, ◌^◌, Bool, true, false, List, ◌++◌, take, drop, length, Option, Some, None, IsSome, inl, inr, nat_eq, refl, sym, ap, ◌∙◌, subst, arith}
 use Rattle.std.specs.Prelude.{option_map, option_and_then, position, remove, replicate}
 use Rattle.std.specs.Option.{option_map_or}
 use mathlib.Core.Logic.{⊎_elim}
@@ -29,9 +29,11 @@ use Rattle.pd_owning.specs.Bound.{HasRoom, OthersStay}
 use Rattle.pd_owning.proofs.BoundLemmas.{owned_other, owned_same}
 use Rattle.pd_web.specs.declared.jacks.Jack.{Jack}
 use Rattle.pd_web.specs.declared.web.Web.{Web}
+use Rattle.pd_web.specs.Changes.{HasRoom as HasWebRoom}
 use Rattle.pd_web.specs.Hops.{ports_told}
 use Rattle.pd_web.specs.Jacks.{kind_jacks}
 use Rattle.pd_patch.specs.declared.patch.Patch.{Patch}
+use Rattle.pd_patch.proofs.BlockLemmas.{live_below}
 use Rattle.pd_patch.specs.Values.{Blocks, block_count, first_blocks}
 use Rattle.pd_boxes.specs.Room.{SameButRoom}
 use Rattle.pd_boxes.specs.Rows.{PutsUnder}
@@ -64,6 +66,15 @@ refit_still p q key n s S C = record {
   plain = plain_still p q n.board n.kind S C.plain;
   stays_plain = plain_still p q n.board s.row.kind S C.stays_plain;
 }
+
+-- Room for the ports of each box that lives.
+
+pub room_below : (g : Grove) (w : Web) (end : ℕ) → length g.nodes.slots ≤ end → HasWebRoom w end 0 0 → (k : ℕ) → IsSome (get g.nodes k) → HasWebRoom w (k + 1) 0 0
+room_below g w end far room k live =
+    let low = live_below g.nodes k end end far refl live in
+    let boxes = room.boxes in
+    let homes = room.homes in
+    record { boxes = omega (arith, low, boxes); homes = omega (arith, low, homes); ends = room.ends; wires = room.wires }
 
 -- Room for owners where one was unbound.
 
