@@ -3,7 +3,6 @@ use Rattle.std.proofs.Common.{◌≡◌, ◌≢◌, ℕ, ◌+◌, ◌<◌, ◌�
 use Rattle.std.specs.Prelude.{slice_get, ◌⊎◌}
 use mathlib.Core.Logic.{⊎_elim}
 use Rattle.std.proofs.lemmas.Bool.{cases_eq, true≢false}
-use Rattle.std.proofs.lemmas.Option.{none-some}
 use Rattle.slab.specs.Slab.{Slab, get}
 use Rattle.pd_object.specs.declared.kinds.Kind.{Kind}
 use Rattle.pd_order.specs.Graph.{tally, take_out, IsLawful}
@@ -12,15 +11,13 @@ use Rattle.pd_grove.specs.declared.boards.Board.{Board}
 use Rattle.pd_grove.specs.declared.grove.Grove.{Grove}
 use Rattle.pd_grove.specs.declared.nodes.Node.{Node}
 use Rattle.pd_grove.specs.declared.seeds.Seed.{Seed}
-use Rattle.pd_grove.specs.declared.ports.Side.{Side}
 use Rattle.pd_grove.specs.declared.ports.Side.TheVariants.{Inlets, Outlets}
 use Rattle.pd_grove.specs.Owning.{board_in}
 use Rattle.pd_grove.proofs.NestLemmas.{board_there}
 use Rattle.pd_tree.specs.Ports.{is_made}
-use Rattle.pd_web.specs.declared.web.Hop.{Hop}
 use Rattle.pd_web.specs.declared.web.Web.{Web}
 use Rattle.pd_web.specs.Canvases.{keys_at}
-use Rattle.pd_web.specs.Hops.{jack_told, signal_in, fan_hops, port_told}
+use Rattle.pd_web.specs.Hops.{jack_told, signal_in, port_told}
 use Rattle.pd_web.specs.Jacks.{kind_jacks}
 use Rattle.pd_ports.specs.Boxes.{HasPorts as GetsPorts}
 use Rattle.pd_patch.specs.declared.patch.Patch.{Patch}

@@ -1,23 +1,23 @@
 -- Which wires of a box can stay where it becomes one of another kind.
 use Rattle.std.proofs.Common.{◌≡◌, ◌≢◌, ℕ, zero, suc, ◌+◌, ◌-◌, ◌<◌, ◌≤◌, ◌==◌, Bool, true, false, ◌&&◌, not, nat_lt, cond, List, [], ◌∷◌, ◌++◌, map, length, Option, Some, None, refl, sym, ap, ◌∙◌, subst, inl, inr, eq-eqb, ne_eqb, lt-ltb, le-ltb, arith}
-use Rattle.std.specs.Prelude.{slice_get, ◌⊎◌}
+use Rattle.std.specs.Prelude.{slice_get, option_map, ◌⊎◌}
 use mathlib.Core.Logic.{⊎_elim}
 use Rattle.std.proofs.lemmas.Bool.{cases_eq, cases_lt}
 use Rattle.std.proofs.lemmas.List.{length-append, length-map}
-use Rattle.std.proofs.lemmas.Option.{none-some, same_Some, slice_get_within, slice_get_past}
+use Rattle.std.proofs.lemmas.Option.{none-some, same_Some, slice_get-map, slice_get_within, slice_get_past}
 use Rattle.pd_object.specs.declared.kinds.Kind.{Kind}
 use Rattle.pd_object.specs.Ports.{Ports, ports_of}
-use Rattle.pd_tree.specs.Ports.{sockets_of}
 use Rattle.pd_grove.specs.declared.ports.Side.{Side}
 use Rattle.pd_grove.specs.declared.ports.Side.TheVariants.{Inlets, Outlets}
 use Rattle.pd_web.specs.declared.jacks.Jack.{Jack}
 use Rattle.pd_web.specs.declared.lines.Line.{Line}
+use Rattle.pd_web.specs.declared.sockets.Spot.{Spot}
 use Rattle.pd_web.specs.declared.web.Hop.{Hop}
 use Rattle.pd_web.specs.declared.web.Web.{Web}
-use Rattle.pd_web.specs.Hops.{ports_told, fan_keys, feed_keys, hop_to, hop_from}
-use Rattle.pd_web.specs.Jacks.{plain_jack, marks, on_side, kind_jacks}
+use Rattle.pd_web.specs.Hops.{ports_told, fan_keys, feed_keys, hop_by, hop_to, hop_from}
+use Rattle.pd_web.specs.Wiring.{source_at, sink_at}
+use Rattle.pd_web.specs.Jacks.{plain_jack, marks, kind_jacks}
 use Rattle.pd_web.proofs.JackLemmas.{inlets_marked, outlets_marked}
-use Rattle.pd_seek.proofs.PlaceLemmas.{key_listed, to_kept, from_kept}
 use Rattle.pd_wiring.specs.Changes.{is_signal_line}
 use Rattle.pd_taking.specs.Loosening.{hops_at, line_at}
 use Rattle.pd_taking.proofs.LoosenLemmas.{none_beyond}
@@ -40,18 +40,17 @@ abbrev pub passed : List Hop → Option Hop → ℕ
 passed hops None = length hops
 passed hops (Some h) = place_of hops h.key
 
-place_found : (hops : List Hop) (i : ℕ) (h : Hop) → slice_get hops i ≡ Some h → (g : Hop) × (slice_get hops (place_of hops h.key) ≡ Some g) × (g.key ≡ h.key)
+place_found : (hops : List Hop) (i : ℕ) (h : Hop) → slice_get hops i ≡ Some h → (g : Hop) × ((slice_get hops (place_of hops h.key) ≡ Some g) × (g.key ≡ h.key))
 place_found [] i h e = absurd (none-some h e)
-place_found (x ∷ hops) i h e = ⊎_elim
+place_found (x ∷ hops) zero h e =
+    let same : x.key ≡ h.key = ap (λ (y : Hop). y.key) (same_Some x h e) in
+    (x, (ap (λ b. slice_get (x ∷ hops) (cond b zero (suc (place_of hops h.key)))) (eq-eqb x.key h.key same), same))
+place_found (x ∷ hops) (suc i) h e =
+    let f = place_found hops i h e in
+    ⊎_elim
     (λ (same : x.key ≡ h.key). (x, (ap (λ b. slice_get (x ∷ hops) (cond b zero (suc (place_of hops h.key)))) (eq-eqb x.key h.key same), same)))
-    (λ (d : x.key ≢ h.key).
-    let f = later i e d in
-    (f.0, (ap (λ b. slice_get (x ∷ hops) (cond b zero (suc (place_of hops h.key)))) (ne_eqb x.key h.key d) ∙ f.1.0, f.1.1)))
+    (λ (d : x.key ≢ h.key). (f.0, (ap (λ b. slice_get (x ∷ hops) (cond b zero (suc (place_of hops h.key)))) (ne_eqb x.key h.key d) ∙ f.1.0, f.1.1)))
     (cases_eq x.key h.key)
-  where
-    later : (i : ℕ) → slice_get (x ∷ hops) i ≡ Some h → x.key ≢ h.key → (g : Hop) × (slice_get hops (place_of hops h.key) ≡ Some g) × (g.key ≡ h.key)
-    later zero e d = absurd (d (ap (λ (y : Hop). y.key) (same_Some x h e)))
-    later (suc i) e d = place_found hops i h e
 
 place_is : (hops : List Hop) (i : ℕ) (h : Hop) → AreOnce hops → slice_get hops i ≡ Some h → place_of hops h.key ≡ i
 place_is hops i h once e = let f = place_found hops i h e in once (place_of hops h.key) i f.0 h f.1.0 e f.1.1
@@ -116,13 +115,27 @@ module _ (w : Web) (key : ℕ) (k : Kind) (side : Side) (port : ℕ) where
   pub along_not : (next : Option Hop) (h : Hop) → next ≡ Some h → IsAlong w key k side port next → (StaysWire w key k (line_at side key port h) → ⊥) → TakesWires w key k → ⊥
   along_not next h is A goes T = goes (T side port A.place h (sym A.here ∙ is))
 
+-- a wire has the key under which it is told
+key_kept : (k : ℕ) (o : Option Spot) → (hop_by k o).key ≡ k
+key_kept k None = refl
+key_kept k (Some s) = refl
+
+key_of : (f : ℕ → Hop) → ((k : ℕ) → (f k).key ≡ k) → (o : Option ℕ) (h : Hop) → option_map f o ≡ Some h → o ≡ Some h.key
+key_of f kept None h e = absurd (none-some h e)
+key_of f kept (Some k) h e = ap (λ x. Some x) (sym (kept k) ∙ ap (λ (x : Hop). x.key) (same_Some (f k) h e))
+
+key_listed : (f : ℕ → Hop) → ((k : ℕ) → (f k).key ≡ k) → (keys : List ℕ) (i : ℕ) (h : Hop) → slice_get (map f keys) i ≡ Some h → slice_get keys i ≡ Some h.key
+key_listed f kept keys i h e = key_of f kept (slice_get keys i) h (sym (slice_get-map f keys i) ∙ e)
+
 fan_once : (w : Web) (node outlet : ℕ) → ((i j k : ℕ) → slice_get (fan_keys w node outlet) i ≡ Some k → slice_get (fan_keys w node outlet) j ≡ Some k → i ≡ j) → AreOnce (hops_at w Outlets node outlet)
 fan_once w node outlet once i j g h a b e =
-    once i j g.key (key_listed (hop_to w) (to_kept w) (fan_keys w node outlet) i g a) (key_listed (hop_to w) (to_kept w) (fan_keys w node outlet) j h b ∙ ap (λ x. Some x) (sym e))
+    let kept : (k : ℕ) → (hop_to w k).key ≡ k = (λ k. key_kept k (slice_get w.spots.items (sink_at w.book k))) in
+    once i j g.key (key_listed (hop_to w) kept (fan_keys w node outlet) i g a) (key_listed (hop_to w) kept (fan_keys w node outlet) j h b ∙ ap (λ x. Some x) (sym e))
 
 feed_once : (w : Web) (node inlet : ℕ) → ((i j k : ℕ) → slice_get (feed_keys w node inlet) i ≡ Some k → slice_get (feed_keys w node inlet) j ≡ Some k → i ≡ j) → AreOnce (hops_at w Inlets node inlet)
 feed_once w node inlet once i j g h a b e =
-    once i j g.key (key_listed (hop_from w) (from_kept w) (feed_keys w node inlet) i g a) (key_listed (hop_from w) (from_kept w) (feed_keys w node inlet) j h b ∙ ap (λ x. Some x) (sym e))
+    let kept : (k : ℕ) → (hop_from w k).key ≡ k = (λ k. key_kept k (slice_get w.spots.items (source_at w.book k))) in
+    once i j g.key (key_listed (hop_from w) kept (feed_keys w node inlet) i g a) (key_listed (hop_from w) kept (feed_keys w node inlet) j h b ∙ ap (λ x. Some x) (sym e))
 
 pub once_at : (w : Web) (side : Side) (node port : ℕ) → ((node outlet i j k : ℕ) → slice_get (fan_keys w node outlet) i ≡ Some k → slice_get (fan_keys w node outlet) j ≡ Some k → i ≡ j)
     → ((node inlet i j k : ℕ) → slice_get (feed_keys w node inlet) i ≡ Some k → slice_get (feed_keys w node inlet) j ≡ Some k → i ≡ j) → AreOnce (hops_at w side node port)
@@ -145,8 +158,11 @@ module _ (w : Web) (key : ℕ) (k : Kind) where
   pub both_sides : (a b : Bool) → (a ≡ true → (port : ℕ) → StayAt w key k Outlets port) → (b ≡ true → (port : ℕ) → StayAt w key k Inlets port) → (a && b) ≡ true → TakesWires w key k
   both_sides false b f g t = cc
   both_sides true false f g t = cc
-  both_sides true true f g t Inlets port i h at = g refl port i h at
-  both_sides true true f g t Outlets port i h at = f refl port i h at
+  both_sides true true f g t = λ side. each side (f refl) (g refl)
+    where
+      each : (side : Side) → ((port : ℕ) → StayAt w key k Outlets port) → ((port : ℕ) → StayAt w key k Inlets port) → (port : ℕ) → StayAt w key k side port
+      each Inlets f g = g
+      each Outlets f g = f
 
   pub one_side : (a b : Bool) → (a ≡ false → TakesWires w key k → ⊥) → (b ≡ false → TakesWires w key k → ⊥) → (a && b) ≡ false → TakesWires w key k → ⊥
   one_side false b f g e = f refl

@@ -1,4 +1,4 @@
-use Rattle.std.proofs.Common.{◌≡◌, ℕ, true, [], ◌∷◌, refl, sym, ap, ◌∙◌, subst}
+use Rattle.std.proofs.Common.{true, [], ◌∷◌, refl, sym, ap, ◌∙◌, subst}
 use Rattle.slab.specs.Slab.{get}
 use Rattle.pd_bind.specs.Naming.{owned_by}
 use Rattle.pd_bind.specs.Owning.{owned_at}
