@@ -1,4 +1,4 @@
-use Rattle.std.proofs.Common.{◌≡◌, ◌+◌, ◌∷◌, ◌++◌, [], map, take, get_or, false, ap, ◌∙◌, arith}
+use Rattle.std.proofs.Common.{map, take, get_or, false, ap, ◌∙◌, arith}
 use Rattle.std.proofs.lemmas.List.{take_more}
 use Rattle.slab.specs.Slab.{get}
 use Rattle.pd_grove.specs.declared.spots.Spot.{Spot}
