@@ -1,5 +1,5 @@
 -- The counts of a tree from which a box went with all that lay in it.
-use Rattle.std.proofs.Common.{◌≡◌, ◌≢◌, ◌≤◌, ◌+◌, ℕ, true, false, cond, Bool, not, List, [], ◌∷◌, ◌++◌, length, map, filter, Option, Some, None, IsSome, refl, sym, ap, ◌∙◌, subst, arith}
+use Rattle.std.proofs.Common.{◌≡◌, ◌≤◌, ◌+◌, ℕ, true, false, cond, Bool, List, [], ◌∷◌, ◌++◌, length, map, filter, Option, Some, IsSome, refl, sym, ap, ◌∙◌, subst, arith}
 use Rattle.std.specs.Prelude.{option_map, slice_get}
 use Rattle.std.specs.List.{AllByRecursion}
 use Rattle.std.proofs.lemmas.Option.{slice_get-map}
@@ -9,7 +9,6 @@ use Rattle.pd_clock.specs.declared.times.Rate.{Rate}
 use Rattle.pd_kind.specs.States.{size_of}
 use Rattle.pd_tree.specs.Trees.{Cell, Trees, Done, Leaf, Holder, Tree, weight}
 use Rattle.pd_grove.specs.declared.nodes.Node.{Node}
-use Rattle.pd_grove.specs.declared.boards.Board.{Board}
 use Rattle.pd_grove.specs.declared.grove.Grove.{Grove}
 use Rattle.pd_grove.specs.declared.spots.Spot.{Spot}
 use Rattle.pd_grove.specs.Forest.{IsForest}

@@ -1,7 +1,6 @@
 -- A tree with a box less: its document counts no more and is proper, and its `$0` numbers are some of those that it had.
 use Rattle.std.proofs.Common.{◌≡◌, ◌≤◌, ◌+◌, ◌++◌, ℕ, zero, suc, max, List, [], ◌∷◌, length, Some, refl, sym, ap, subst, arith}
 use Rattle.std.specs.List.{AllByRecursion}
-use Rattle.slab.specs.Slab.{get}
 use Rattle.pd_atom.specs.Names.{Names}
 use Rattle.pd_canvas.specs.Pages.{Shape, Sub, Head, Frame, Boxes, Box, frame_of, page_of, empty_page, weight}
 use Rattle.pd_canvas.specs.Proper.{HoldsNone, AreBoxes, IsFrame, IsProper, inner_wires, levels, levels_of}
