@@ -80,30 +80,32 @@ module _ (w : Web) (key : ℕ) (k : Kind) (side : Side) (port : ℕ) where
   pub along_first : (next : Option Hop) → next ≡ slice_get (hops_at w side key port) 0 → IsAlong w key k side port next
   along_first next e = record { place = 0; here = e; within = omega arith; before = λ i h l at. absurd (omega (arith, l)) }
 
-  pub along_next : (h : Hop) (next : Option Hop) → IsAlong w key k side port (Some h) → StaysWire w key k (line_at side key port h)
+  pub along_next : (was next : Option Hop) (h : Hop) → was ≡ Some h → IsAlong w key k side port was → StaysWire w key k (line_at side key port h)
       → ((i : ℕ) → slice_get (hops_at w side key port) i ≡ Some h → next ≡ slice_get (hops_at w side key port) (i + 1)) → IsAlong w key k side port next
-  along_next h next A stays after =
-      let l = slice_get_within (hops_at w side key port) A.place h (sym A.here) in
+  along_next was next h is A stays after =
+      let at = sym A.here ∙ is in
+      let l = slice_get_within (hops_at w side key port) A.place h at in
       record {
         place = A.place + 1;
-        here = after A.place (sym A.here);
+        here = after A.place at;
         within = omega (arith, l);
-        before = λ i g m at. ⊎_elim
-            (λ (f : i < A.place). A.before i g f at)
+        before = λ i g m bt. ⊎_elim
+            (λ (f : i < A.place). A.before i g f bt)
             (λ (f : A.place ≤ i).
             let e : i ≡ A.place = omega (arith, f, m) in
-            let same : h ≡ g = same_Some h g (A.here ∙ ap (slice_get (hops_at w side key port)) (sym e) ∙ at) in
+            let same : h ≡ g = same_Some h g (sym at ∙ ap (slice_get (hops_at w side key port)) (sym e) ∙ bt) in
             subst (λ (x : Hop). StaysWire w key k (line_at side key port x)) same stays) (cases_lt i A.place);
       }
 
-  pub along_smaller : (h : Hop) (next : Option Hop) → AreOnce (hops_at w side key port) → IsAlong w key k side port (Some h)
+  pub along_smaller : (was next : Option Hop) (h : Hop) → was ≡ Some h → AreOnce (hops_at w side key port) → IsAlong w key k side port was
       → ((i : ℕ) → slice_get (hops_at w side key port) i ≡ Some h → next ≡ slice_get (hops_at w side key port) (i + 1))
-      → length (hops_at w side key port) - passed (hops_at w side key port) next < length (hops_at w side key port) - passed (hops_at w side key port) (Some h)
-  along_smaller h next once A after =
+      → length (hops_at w side key port) - passed (hops_at w side key port) next < length (hops_at w side key port) - passed (hops_at w side key port) was
+  along_smaller was next h is once A after =
       let hops = hops_at w side key port in
-      let l = slice_get_within hops A.place h (sym A.here) in
-      let a = passed_is hops (Some h) A.place once A.here A.within in
-      let b = passed_is hops next (A.place + 1) once (after A.place (sym A.here)) (omega (arith, l)) in
+      let at = sym A.here ∙ is in
+      let l = slice_get_within hops A.place h at in
+      let a = passed_is hops was A.place once A.here A.within in
+      let b = passed_is hops next (A.place + 1) once (after A.place at) (omega (arith, l)) in
       omega (arith, l, a, b)
 
   pub along_all : (next : Option Hop) → next ≡ None → IsAlong w key k side port next → StayAt w key k side port
@@ -145,10 +147,10 @@ once_at w Outlets node port fans feeds = fan_once w node port (fans node port)
 -- All ports of a box.
 
 module _ (w : Web) (key : ℕ) (k : Kind) where
-  pub side_more : (side : Side) (n m : ℕ) → m ≡ n + 1 → ((port : ℕ) → port < n → StayAt w key k side port) → StayAt w key k side n → (port : ℕ) → port < m → StayAt w key k side port
-  side_more side n m e before here port l = ⊎_elim
+  pub side_more : (side : Side) (n : ℕ) → ((port : ℕ) → port < n → StayAt w key k side port) → StayAt w key k side n → (port : ℕ) → port < suc n → StayAt w key k side port
+  side_more side n before here port l = ⊎_elim
       (λ (f : port < n). before port f)
-      (λ (f : n ≤ port). let same : n ≡ port = omega (arith, l, f, e) in subst (λ x. StayAt w key k side x) same here) (cases_lt port n)
+      (λ (f : n ≤ port). let same : n ≡ port = omega (arith, l, f) in subst (λ x. StayAt w key k side x) same here) (cases_lt port n)
 
   pub side_all : (side : Side) (n : ℕ) → length (ports_told w side key) ≤ n → ((port : ℕ) → port < n → StayAt w key k side port) → (port : ℕ) → StayAt w key k side port
   side_all side n l before port i h at = ⊎_elim

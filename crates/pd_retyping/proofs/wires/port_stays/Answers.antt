@@ -1,5 +1,5 @@
 use Rattle.std.proofs.Common.{subst}
-use Rattle.pd_retyping.proofs.StayLemmas.{along_all, along_first, along_next, along_not, along_smaller, once_at, IsAlong}
+use Rattle.pd_retyping.proofs.StayLemmas.{along_all, along_first, along_next, along_not, along_smaller, once_at}
 use Rattle.pd_refitting.specs.Refits.{StaysWire}
 use Rattle.pd_retyping.proofs.wires.port_stays.Goals as goal
 
@@ -10,16 +10,14 @@ pub loop-next-preserved : goal.loop-next-preserved
 loop-next-preserved c =
     let w = c.args.web.now in
     let k = c.args.kind.now in
-    let A = subst (λ o. IsAlong w c.args.key k c.args.side c.args.port o) c.in-Some.is c.loop-next.invariant in
     let stays = subst (λ l. StaysWire w c.args.key k l) c.line_at.ensures (c.stays.ensures.yes c.if-not-stays.false) in
-    along_next w c.args.key k c.args.side c.args.port c.in-Some.hop c.next_at-next.result A stays (c.next_at-next.ensures c.args.key c.args.port)
+    along_next w c.args.key k c.args.side c.args.port c.loop-next.next c.next_at-next.result c.in-Some.hop c.in-Some.is c.loop-next.invariant stays (c.next_at-next.ensures c.args.key c.args.port)
 
 pub loop-next-smaller : goal.loop-next-smaller
 loop-next-smaller c =
     let w = c.args.web.now in
     let k = c.args.kind.now in
-    let A = subst (λ o. IsAlong w c.args.key k c.args.side c.args.port o) c.in-Some.is c.loop-next.invariant in
-    along_smaller w c.args.key k c.args.side c.args.port c.in-Some.hop c.next_at-next.result (once_at w c.args.side c.args.key c.args.port c.laws.ensures.once c.laws.ensures.once_fed) A
+    along_smaller w c.args.key k c.args.side c.args.port c.loop-next.next c.next_at-next.result c.in-Some.hop c.in-Some.is (once_at w c.args.side c.args.key c.args.port c.laws.ensures.once c.laws.ensures.once_fed) c.loop-next.invariant
     (c.next_at-next.ensures c.args.key c.args.port)
 
 pub returns-then-not-stays-clause-no : goal.returns-then-not-stays-clause-no
