@@ -22,9 +22,9 @@ use Rattle.pd_patch.specs.Orders.{HasOrder}
 use Rattle.pd_grove.specs.declared.seeds.Seed.{Seed}
 use Rattle.pd_grove.specs.Standing.{BoardSeen, board_seen}
 use Rattle.pd_grove.specs.States.{AreSmall, IsFresh}
-use Rattle.pd_web.specs.Changes.{wires_told, Meet}
-use Rattle.pd_web.proofs.CountLemmas.{same_are_as_many}
-use Rattle.pd_taking.proofs.TakenLemmas.{as_many}
+use Rattle.pd_wire.specs.Book.{wire_at}
+use Rattle.pd_web.specs.Changes.{line_told, wires_told, Meet}
+use Rattle.pd_web.proofs.CountLemmas.{held_alike, same_are_as_many}
 use Rattle.pd_patch.specs.declared.patch.Patch.{Patch}
 use Rattle.pd_patch.specs.Telling.{order_in}
 use Rattle.pd_patch.specs.Values.{blocks_told}
@@ -164,6 +164,17 @@ same_patch p = record {
   rate = refl;
   present = refl;
 }
+
+mapped_some : {X Y : Type 0} (f : X → Y) (o : Option X) → is_some (option_map f o) ≡ is_some o
+mapped_some f None = refl
+mapped_some f (Some x) = refl
+
+told_some : (w : Web) (k : ℕ) → is_some (line_told w k) ≡ is_some (wire_at w.book k)
+told_some w k = mapped_some _ (wire_at w.book k)
+
+-- where the lines are the same, there are as many wires
+as_many : (w v : Web) → ((k : ℕ) → line_told v k ≡ line_told w k) → wires_told v ≡ wires_told w
+as_many w v same = held_alike w.book.wires v.book.wires (λ k. sym (told_some v k) ∙ ap is_some (same k) ∙ told_some w k)
 
 zero_seen : (o o' : Option Board) → option_map board_seen o' ≡ option_map board_seen o → zero_in o' ≡ zero_in o
 zero_seen None None e = refl

@@ -157,19 +157,9 @@ module _ (w : Web) (key : ℕ) (k : Kind) where
       (λ (f : port < n). before port f i h at)
       (λ (f : n ≤ port). absurd (none-some h (ap (λ (hops : List Hop). slice_get hops i) (sym (none_beyond w side key port (omega (arith, l, f)))) ∙ at))) (cases_lt port n)
 
-  pub both_sides : (a b : Bool) → (a ≡ true → (port : ℕ) → StayAt w key k Outlets port) → (b ≡ true → (port : ℕ) → StayAt w key k Inlets port) → (a && b) ≡ true → TakesWires w key k
-  both_sides false b f g t = cc
-  both_sides true false f g t = cc
-  both_sides true true f g t = λ side. each side (f refl) (g refl)
-    where
-      each : (side : Side) → ((port : ℕ) → StayAt w key k Outlets port) → ((port : ℕ) → StayAt w key k Inlets port) → (port : ℕ) → StayAt w key k side port
-      each Inlets f g = g
-      each Outlets f g = f
-
-  pub one_side : (a b : Bool) → (a ≡ false → TakesWires w key k → ⊥) → (b ≡ false → TakesWires w key k → ⊥) → (a && b) ≡ false → TakesWires w key k → ⊥
-  one_side false b f g e = f refl
-  one_side true false f g e = g refl
-  one_side true true f g e = cc
+  pub both_sides : ((port : ℕ) → StayAt w key k Outlets port) → ((port : ℕ) → StayAt w key k Inlets port) → TakesWires w key k
+  both_sides f g Inlets = g
+  both_sides f g Outlets = f
 
   -- A wire.
 

@@ -3,8 +3,8 @@ use Rattle.pd_retyping.proofs.BecomeLemmas.{rows_small, rows_one, seed_leaf, see
 use Rattle.slab.specs.Slab.{get}
 use Rattle.pd_retyping.proofs.becoming.become_grown.Goals as goal
 
-pub can_become-requires-clause-rows_small : goal.can_become-requires-clause-rows_small
-can_become-requires-clause-rows_small g c = rows_small c.requires.grown.added.known.names c.args.grown.rows.items c.requires.grown.is.suit
+pub can_become-requires : goal.can_become-requires
+can_become-requires g c = record { rows_small = rows_small c.requires.grown.added.known.names c.args.grown.rows.items c.requires.grown.is.suit }
 
 pub seed_of-requires-clause-small : goal.seed_of-requires-clause-small
 seed_of-requires-clause-small g c = rows_small c.requires.grown.added.known.names c.args.grown.rows.items c.requires.grown.is.suit
