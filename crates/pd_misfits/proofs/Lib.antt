@@ -7,3 +7,5 @@ pub mod GatherLemmas
 pub mod WireLemmas
 pub mod ShedLemmas
 pub mod FitLemmas
+pub mod SameLemmas
+pub mod CanvasLemmas
