@@ -2,7 +2,7 @@
 # Measures boxes that go from a patch: bench/deletes.sh
 #
 # The patch has voices of `osc~` into `*~`, all led to one `dac~`, and 1,000 further boxes: an `f` each, an `osc~` each with a wire to the `dac~`, or
-# 100 subpatches or abstractions of ten boxes each, an `osc~` and `*~` among them, with a wire to the `dac~`. They stand at the front of the patch, in
+# 400 subpatches or abstractions of ten boxes each, an `osc~` and `*~` among them, with a wire to the `dac~`. They stand at the front of the patch, in
 # its middle or at its end. They are deleted one after the other, all at the start of the run, those at the front and in the middle always by the same
 # number. Printed are microseconds an edit of the whole run, the reading of its record with it, less those of a run without edits, the least of nine
 # runs each, by the number of boxes that stay. Build the program first, by ./play, or name another one in PDPLAY.
@@ -45,9 +45,10 @@ patch() {
 
 printf '%-8s %-7s %7s %12s\n' box where boxes each
 for text in f 'osc~ 110' 'pd ten' ten; do
-  case $text in *ten) edits=100 ;; *) edits=1000 ;; esac
+  edits=1000 sizes='50 500 1500 5500'
+  case $text in *ten) edits=400 sizes='50 500 1500' ;; esac
   for where in front middle end; do
-    for voices in 50 500 1500 5500; do
+    for voices in $sizes; do
       last=0
       case $where in
         front) first=0 ;;
