@@ -1,2 +1,8 @@
 //! A grown box comes into a canvas of a running patch, with all that lies in it.
 #![tactic(auto)]
+
+mod needs;
+mod room;
+
+pub use needs::{Need, PortCount};
+pub use room::{BoxRoom, PartRoom};
