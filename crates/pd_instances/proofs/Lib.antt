@@ -1,2 +1,6 @@
 pub mod NeedLemmas
 pub mod LayLemmas
+pub mod WireLemmas
+pub mod OpenLemmas
+pub mod NumberLemmas
+pub mod OrderLemmas

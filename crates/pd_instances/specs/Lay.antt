@@ -1,8 +1,8 @@
 -- The wires of canvases that come, laid one behind the other.
-use Rattle.std.specs.Prelude.{◌≡◌, ◌<◌, ◌≤◌, ◌+◌, ◌*◌, ◌^◌, ℕ, List, [], ◌++◌, length, slice_get, Some}
+use Rattle.std.specs.Prelude.{◌≡◌, ◌≢◌, ◌<◌, ◌≤◌, ◌+◌, ◌*◌, ◌^◌, ℕ, List, [], ◌++◌, length, slice_get, Some}
 use Rattle.pd_canvas.specs.declared.wires.Wire.{Wire}
 use Rattle.pd_links.specs.declared.links.Links.{Links}
-use Rattle.pd_links.specs.Linked.{feeders_of, followers_of, spare_into, spare_from}
+use Rattle.pd_links.specs.Linked.{feeders_of, followers_of, spare_into, spare_from, HasOneMore}
 use Rattle.pd_web.specs.declared.lines.Line.{Line}
 use Rattle.pd_web.specs.declared.web.Web.{Web}
 use Rattle.pd_web.specs.Changes.{line_told, wires_told, HasRoom, KeepsPorts, Meet}
@@ -29,3 +29,18 @@ pub record TakesWires (l : Links) (keys : List ℕ) (ws : List Wire) : Type 0 wh
   pub into : (n k : ℕ) → slice_get keys n ≡ Some k → count_to ws n ≤ spare_into l k
   pub few_from : (n k : ℕ) → slice_get keys n ≡ Some k → length (followers_of l k) + length ws + 1 < 2 ^ 32
   pub few_into : (n k : ℕ) → slice_get keys n ≡ Some k → length (feeders_of l k) + length ws + 1 < 2 ^ 32
+
+-- one link more, in room that was set aside
+pub record LinksOne (l l' : Links) (source sink : ℕ) : Type 0 where
+  pub more : HasOneMore l l' source sink
+  pub from : spare_from l' source + 1 ≡ spare_from l source
+  pub into : spare_into l' sink + 1 ≡ spare_into l sink
+  pub others_from : (k : ℕ) → k ≢ source → spare_from l' k ≡ spare_from l k
+  pub others_into : (k : ℕ) → k ≢ sink → spare_into l' k ≡ spare_into l k
+
+-- the box of a key has as many links as it had, and room for as many more
+pub record KeepsRow (l l' : Links) (k : ℕ) : Type 0 where
+  pub followers : length (followers_of l' k) ≡ length (followers_of l k)
+  pub feeders : length (feeders_of l' k) ≡ length (feeders_of l k)
+  pub from : spare_from l' k ≡ spare_from l k
+  pub into : spare_into l' k ≡ spare_into l k

@@ -1,3 +1,4 @@
 pub mod Needs
 pub mod Lay
+pub mod Layers
 pub mod Part

@@ -5,6 +5,7 @@ use Rattle.slab.specs.Slab.{get}
 use Rattle.pd_atom.specs.Names.{Names}
 use Rattle.pd_clock.specs.declared.times.Rate.{Rate}
 use Rattle.pd_order.specs.Graph.{total, ends}
+use Rattle.pd_links.specs.declared.links.Links.{Links}
 use Rattle.pd_tree.specs.Trees.{Trees, stands_of}
 use Rattle.pd_grove.specs.declared.grove.Grove.{Grove}
 use Rattle.pd_grove.specs.declared.ports.Side.{Side}
@@ -32,8 +33,7 @@ use Rattle.pd_patch.specs.Numbers.{AreUnder, IsOut}
 use Rattle.pd_patch.specs.Orders.{HasOrder}
 use Rattle.pd_patch.specs.Telling.{order_in}
 use Rattle.pd_patch.specs.Values.{blocks_told, first_blocks}
-use Rattle.pd_wiring.specs.Changes.{graph_in}
-use Rattle.pd_wiring.specs.Graphs.{signal_boxes}
+use Rattle.pd_wiring.specs.Graphs.{canvas_graph, signal_boxes}
 use Rattle.pd_boxes.specs.declared.room.Place.{Place}
 use Rattle.pd_boxes.specs.Put.{CanPut, HasOwners, keys_before, keys_behind}
 use Rattle.pd_boxes.specs.Room.{SameButRoom}
@@ -52,16 +52,16 @@ lines_of g part = flat_map (lines_inside g) part
 
 -- the most looks that it takes to make the order of a canvas from nothing: four for each of its signal boxes and each end of a signal wire
 -- there, and eight
-abbrev pub fold_looks : Patch → ℕ → ℕ
-fold_looks q c = 4 * (length (signal_boxes q.grove c) + total (ends (graph_in q c)) (signal_boxes q.grove c)) + 8
+abbrev pub fold_looks : Grove → Links → ℕ → ℕ
+fold_looks g l c = 4 * (length (signal_boxes g c) + total (ends (canvas_graph g l c)) (signal_boxes g c)) + 8
 
-abbrev pub looks_held : Patch → Option ℕ → ℕ
-looks_held q None = 0
-looks_held q (Some c) = fold_looks q c
+abbrev pub looks_held : Grove → Links → Option ℕ → ℕ
+looks_held g l None = 0
+looks_held g l (Some c) = fold_looks g l c
 
 -- those for the canvases that these boxes hold
-abbrev pub looks_of : Patch → List ℕ → ℕ
-looks_of q part = total (λ k. looks_held q (inner_in (get q.grove.nodes k))) part
+abbrev pub looks_of : Grove → Links → List ℕ → ℕ
+looks_of g l part = total (λ k. looks_held g l (inner_in (get g.nodes k))) part
 
 -- These boxes came, under keys that were of no box, and no others did: the box of the key with all that lies in it, each once.
 pub record ComesAs (p q : Patch) (key : ℕ) (part : List ℕ) : Type 0 where
@@ -128,7 +128,7 @@ pub record IsPartPut (p q : Patch) (table : Names) (place : Place) (s : Seed) (s
   pub clock_room : (k : ℕ) → IsTrue (is_among part k) → k < q.timers.end
   pub low : (k : ℕ) → IsTrue (is_among part k) → k < root_owner
   pub orders : HasPartOrders p q place
-  pub looks : steps' ≤ steps + looks_of q part + 8
+  pub looks : steps' ≤ steps + looks_of q.grove q.links part + 8
   pub rate : q.rate ≡ p.rate
   pub present : q.present ≡ p.present
   pub can : CanPut q

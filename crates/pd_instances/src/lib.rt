@@ -1,6 +1,7 @@
 //! A grown box comes into a canvas of a running patch, with all that lies in it.
 #![tactic(auto)]
 
+mod laying;
 mod needs;
 mod room;
 

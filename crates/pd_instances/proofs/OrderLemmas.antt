@@ -1,0 +1,55 @@
+-- Canvases that have come get their orders, one after the other.
+use Rattle.std.proofs.Common.{◌≡◌, ◌≢◌, ℕ, ◌+◌, ◌≤◌, List, [], ◌∷◌, ◌++◌, drop, length, Option, Some, None, IsTrue, refl, sym, ap, ◌∙◌, subst, inl, inr, arith}
+use Rattle.std.specs.Prelude.{◌⊎◌}
+use mathlib.Core.Logic.{⊎_elim}
+use Rattle.std.proofs.lemmas.Bool.{cases_eq}
+use Rattle.std.proofs.lemmas.Option.{none-some, same_Some}
+use Rattle.slab.specs.Slab.{get}
+use Rattle.pd_order.specs.Graph.{total}
+use Rattle.pd_order.specs.Listing.{Listing}
+use Rattle.pd_links.specs.declared.links.Links.{Links}
+use Rattle.pd_grove.specs.declared.grove.Grove.{Grove}
+use Rattle.pd_grove.specs.Telling.{inner_in}
+use Rattle.pd_owning.specs.Bound.{is_among}
+use Rattle.pd_patch.specs.Telling.{order_in}
+use Rattle.pd_placing.specs.Placing.{StayBut}
+use Rattle.pd_wiring.specs.Graphs.{canvas_graph, signal_boxes, IsOrderIn}
+use Rattle.pd_instances.specs.Layers.{OrdersAll}
+use Rattle.pd_instances.specs.Part.{looks_held, looks_of}
+use Rattle.pd_instances.proofs.OpenLemmas.{among_here, among_left, last_or}
+
+pub orders_none : (g : Grove) (l : Links) (old : List (Option Listing)) → OrdersAll g l old old []
+orders_none g l old = record { is = λ k c t e. absurd t; others = λ c out. refl }
+
+module _ (g : Grove) (l : Links) (old mid new : List (Option Listing)) (ks : List ℕ) (k : ℕ) (A : OrdersAll g l old mid ks) where
+  abbrev Ordered : List (Option Listing) → ℕ → Type 0
+  Ordered orders c = IsOrderIn (canvas_graph g l c) (signal_boxes g c) (order_in orders c)
+
+  -- a canvas more has its order
+  pub orders_more : (c : ℕ) → inner_in (get g.nodes k) ≡ Some c → IsOrderIn (canvas_graph g l c) (signal_boxes g c) (order_in new c) → StayBut mid new c → OrdersAll g l old new (ks ++ k ∷ [])
+  orders_more c holds here stay = record {
+    is = λ x d t e. ⊎_elim
+        (λ (s : x ≡ k).
+        let same : d ≡ c = same_Some d c (sym e ∙ ap (λ y. inner_in (get g.nodes y)) s ∙ holds) in
+        subst (λ y. Ordered new y) (sym same) here)
+        (λ (s : IsTrue (is_among ks x)). ⊎_elim
+        (λ (q : d ≡ c). subst (λ y. Ordered new y) (sym q) here)
+        (λ (f : d ≢ c). subst (λ o. IsOrderIn (canvas_graph g l d) (signal_boxes g d) o) (sym (stay d f)) (A.is x d s e)) (cases_eq d c)) (last_or ks k x t);
+    others = λ d out.
+        stay d (λ q. out k (among_here ks k) (holds ∙ ap (λ y. Some y) (sym q))) ∙ A.others d (λ x s. out x (among_left ks k x s));
+  }
+
+  -- a box that holds none changes nothing
+  pub orders_same : inner_in (get g.nodes k) ≡ None → OrdersAll g l old mid (ks ++ k ∷ [])
+  orders_same none = record {
+    is = λ x d t e. ⊎_elim
+        (λ (s : x ≡ k). absurd (none-some d (sym none ∙ ap (λ y. inner_in (get g.nodes y)) (sym s) ∙ e)))
+        (λ (s : IsTrue (is_among ks x)). A.is x d s e) (last_or ks k x t);
+    others = λ d out. A.others d (λ x s. out x (among_left ks k x s));
+  }
+
+-- Looks.
+
+pub looks_last : (g : Grove) (l : Links) (ks : List ℕ) (k : ℕ) → looks_of g l (ks ++ k ∷ []) ≡ looks_of g l ks + looks_held g l (inner_in (get g.nodes k))
+looks_last g l [] k = omega arith
+looks_last g l (x ∷ ks) k = let h = looks_last g l ks k in omega (arith, h)
