@@ -4,3 +4,4 @@ pub mod WireLemmas
 pub mod OpenLemmas
 pub mod NumberLemmas
 pub mod OrderLemmas
+pub mod LoopLemmas

@@ -69,6 +69,15 @@ module _ (g : Grove) (O : AreOwn (get g.nodes) (get g.boards)) where
       others = λ x out. A.others x (λ y d s e. out y d (among_left ks k y s) e);
     }
 
+  -- a box more
+  pub numbers_next : (old mid new ks : List ℕ) (k : ℕ) → NumbersAll g old mid ks → ((c : ℕ) → inner_in (get g.nodes k) ≡ Some c → NumbersFrom mid new (keys_at g c) 0)
+      → (inner_in (get g.nodes k) ≡ None → new ≡ mid) → NumbersAll g old new (ks ++ k ∷ [])
+  numbers_next old mid new ks k A some none = by (inner_in (get g.nodes k)) refl
+    where
+      by : (o : Option ℕ) → inner_in (get g.nodes k) ≡ o → NumbersAll g old new (ks ++ k ∷ [])
+      by None e = subst (λ ns. NumbersAll g old ns (ks ++ k ∷ [])) (sym (none e)) (numbers_same old mid new ks k A e)
+      by (Some c) e = numbers_more old mid new ks k A c e (some c e)
+
 -- a list by key reaches as far, where what is under a key was there before or is there now
 get_within : (xs ys : List ℕ) (x : ℕ) → slice_get ys x ≡ slice_get xs x → x < length xs → x < length ys
 get_within xs ys x e l = by (there xs x l)

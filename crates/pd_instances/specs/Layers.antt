@@ -21,7 +21,7 @@ use Rattle.pd_patch.specs.Values.{Blocks}
 use Rattle.pd_wiring.specs.Graphs.{canvas_graph, signal_boxes, IsOrderIn}
 use Rattle.pd_instances.specs.declared.room.BoxRoom.{BoxRoom}
 use Rattle.pd_instances.specs.declared.needs.Need.{Need}
-use Rattle.pd_instances.specs.Needs.{need_at, IsRoomFor}
+use Rattle.pd_instances.specs.Needs.{need_at, Inside, IsOrderRoom, IsRoomFor}
 
 -- These boxes have their ports, and of each box that is one of them it is known which. Every other port, every wire and every list of wires stays.
 pub record OpensAll (g : Grove) (w w' : Web) (keys : List ℕ) : Type 0 where
@@ -54,3 +54,9 @@ pub record NumbersAll (g : Grove) (old new keys : List ℕ) : Type 0 where
 pub record OrdersAll (g : Grove) (l : Links) (old new : List (Option Listing)) (keys : List ℕ) : Type 0 where
   pub is : (k c : ℕ) → IsTrue (is_among keys k) → inner_in (get g.nodes k) ≡ Some c → IsOrderIn (canvas_graph g l c) (signal_boxes g c) (order_in new c)
   pub others : (c : ℕ) → ((k : ℕ) → IsTrue (is_among keys k) → inner_in (get g.nodes k) ≢ Some c) → order_in new c ≡ order_in old c
+
+-- the first of these orders has room for such a canvas, where there is one
+abbrev pub AreNextOrders : List Inside → List Listing → Type 0
+AreNextOrders [] orders = Unit {0}
+AreNextOrders (i ∷ is) [] = ⊥
+AreNextOrders (i ∷ is) (o ∷ orders) = IsOrderRoom i o

@@ -3,6 +3,9 @@
 
 mod laying;
 mod needs;
+mod numbering;
+mod opening;
+mod ordering;
 mod room;
 
 pub use needs::{Need, PortCount};
