@@ -5,3 +5,4 @@ pub mod OpenLemmas
 pub mod NumberLemmas
 pub mod OrderLemmas
 pub mod LoopLemmas
+pub mod PartLemmas

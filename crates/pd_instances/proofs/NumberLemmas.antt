@@ -2,7 +2,7 @@
 use Rattle.std.proofs.Common.{◌≡◌, ◌≢◌, ℕ, zero, suc, ◌+◌, ◌<◌, ◌≤◌, ◌^◌, List, [], ◌∷◌, ◌++◌, drop, length, Option, Some, None, IsSome, IsTrue, refl, sym, ap, ◌∙◌, subst, inl, inr, arith}
 use Rattle.std.specs.Prelude.{slice_get, ◌⊎◌}
 use mathlib.Core.Logic.{⊎_elim}
-use Rattle.std.proofs.lemmas.Bool.{cases_eq, cases_lt}
+use Rattle.std.proofs.lemmas.Bool.{cases_eq, false≢true}
 use Rattle.std.proofs.lemmas.Option.{none-some, same_Some, slice_get_within}
 use Rattle.slab.specs.Slab.{get}
 use Rattle.pd_grove.specs.declared.nodes.Node.{Node}
@@ -18,7 +18,7 @@ use Rattle.pd_instances.specs.Layers.{NumbersAll}
 use Rattle.pd_instances.proofs.OpenLemmas.{among_here, among_left, last_or}
 
 pub numbers_none : (g : Grove) (old : List ℕ) → NumbersAll g old old []
-numbers_none g old = record { under = λ k c t e. absurd t; others = λ x out. refl }
+numbers_none g old = record { under = λ k c t e. absurd (false≢true t); others = λ x out. refl }
 
 -- a key stands in a list or not
 pub there_or_out : (keys : List ℕ) (x : ℕ) → IsThere keys x ⊎ IsOut keys x

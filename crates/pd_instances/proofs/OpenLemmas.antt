@@ -1,5 +1,5 @@
 -- Boxes that have come get their ports and blocks, one after the other.
-use Rattle.std.proofs.Common.{◌≡◌, ◌≢◌, ℕ, Bool, true, false, ◌||◌, List, [], ◌∷◌, ◌++◌, append-nil, replicate, drop, nat_eq, Some, IsTrue, inl, inr, refl, sym, ap, ◌∙◌, subst, eqb-true, eq-eqb}
+use Rattle.std.proofs.Common.{◌≡◌, ◌≢◌, ℕ, Bool, true, false, ◌||◌, List, [], ◌∷◌, ◌++◌, append-nil, replicate, drop, nat_eq, Some, None, IsTrue, inl, inr, refl, sym, ap, ◌∙◌, subst, eqb-true, eq-eqb}
 use Rattle.std.specs.Prelude.{slice_get, ◌⊎◌}
 use mathlib.Core.Logic.{⊎_elim}
 use Rattle.std.proofs.lemmas.Bool.{cases_eq, false≢true, or_cases}
@@ -7,6 +7,7 @@ use Rattle.slab.specs.Slab.{get}
 use Rattle.pd_kind.specs.States.{silent_block}
 use Rattle.pd_grove.specs.declared.grove.Grove.{Grove}
 use Rattle.pd_grove.specs.declared.ports.Side.{Side}
+use Rattle.pd_grove.specs.Owning.{AreOwn}
 use Rattle.pd_owning.specs.Bound.{is_among, AreNew}
 use Rattle.pd_web.specs.declared.web.Web.{Web}
 use Rattle.pd_web.specs.Hops.{port_told, ports_told}
@@ -14,6 +15,7 @@ use Rattle.pd_web.specs.Homes.{IsPortOf}
 use Rattle.pd_web.specs.Jacks.{jacks_at, made_in}
 use Rattle.pd_web.specs.Sockets.{made_at}
 use Rattle.pd_ports.specs.Boxes.{HasPorts, KnowsPorts}
+use Rattle.pd_ports.proofs.KnownLemmas.{opened_known}
 use Rattle.pd_patch.specs.Values.{Blocks}
 use Rattle.pd_boxes.specs.Rows.{PutsUnder}
 use Rattle.pd_instances.specs.declared.room.BoxRoom.{BoxRoom}
@@ -24,11 +26,10 @@ use Rattle.pd_instances.specs.Layers.{IsNextRoom, OpensAll, PutsBlocks}
 -- Keys among others.
 
 pub true_of : (b : Bool) → b ≡ true → IsTrue b
-true_of b e = subst (λ x. IsTrue x) (sym e) tt
+true_of b e = e
 
 pub is_true : (b : Bool) → IsTrue b → b ≡ true
-is_true true t = refl
-is_true false t = absurd t
+is_true b t = t
 
 or_none : (b : Bool) → (b || false) ≡ b
 or_none true = refl
@@ -73,7 +74,8 @@ out_parts ks k x f =
 -- Ports.
 
 module _ (g : Grove) (w v u : Web) (ks : List ℕ) (k : ℕ) (A : OpensAll g w v ks) (P : HasPorts v u k (λ side. jacks_at side g k) (made_in (get g.nodes k))) (H : KnowsPorts g v u k)
-    (new : is_among ks k ≡ false) (alone : (j a b i m : ℕ) → IsPortOf g j a i → IsPortOf g j b m → a ≡ b) where
+    (new : is_among ks k ≡ false) (own : AreOwn (get g.nodes) (get g.boards)) (alone : (j a b i m : ℕ) → IsPortOf g j a i → IsPortOf g j b m → a ≡ b)
+    (bare : (side : Side) → ports_told v side k ≡ []) (apart : (j i : ℕ) → IsPortOf g j k i → port_told v j ≡ None) where
   not_it : (x : ℕ) → IsTrue (is_among ks x) → x ≢ k
   not_it x t e = false≢true (sym new ∙ ap (is_among ks) (sym e) ∙ is_true (is_among ks x) t)
 
@@ -97,19 +99,21 @@ module _ (g : Grove) (w v u : Web) (ks : List ℕ) (k : ℕ) (A : OpensAll g w v
         (F.0, H.others j (λ m S. not_it x s (alone j x k i m R S)) ∙ F.1, F.2)) (last_or ks k x t);
     others = λ j none.
         H.others j (λ i R. none k i (among_here ks k) R) ∙ A.others j (λ x i s R. none x i (among_left ks k x s) R);
+    known = λ h. opened_known g v u k (made_in (get g.nodes k)) own P H bare apart (A.known h);
   }
 
 pub open_none : (g : Grove) (w : Web) → OpensAll g w w []
 open_none g w = record {
-  ports = λ side k t. absurd t;
-  made = λ k t. absurd t;
+  ports = λ side k t. absurd (false≢true t);
+  made = λ k t. absurd (false≢true t);
   other_ports = λ side k f. refl;
   others_made = λ k f. refl;
   lines = λ k. refl;
   fans = λ k o. refl;
   feeds = λ k i. refl;
-  found = λ j k i t R. absurd t;
+  found = λ j k i t R. absurd (false≢true t);
   others = λ j none. refl;
+  known = λ h. h;
 }
 
 -- Blocks.
@@ -124,7 +128,7 @@ blocks_more g old mid new ks k A fresh P = record {
 }
 
 pub blocks_none : (g : Grove) (old : Blocks) → PutsBlocks g old old []
-blocks_none g old = record { is = λ k t. absurd t; others = λ k f. refl }
+blocks_none g old = record { is = λ k t. absurd (false≢true t); others = λ k f. refl }
 
 -- Rooms.
 
@@ -138,7 +142,7 @@ rooms_left n ns (r ∷ rooms) A = A.1
 
 -- Keys that stand once.
 
-among_middle : (xs : List ℕ) (k : ℕ) (behind : List ℕ) → is_among (xs ++ k ∷ behind) k ≡ true
+pub among_middle : (xs : List ℕ) (k : ℕ) (behind : List ℕ) → is_among (xs ++ k ∷ behind) k ≡ true
 among_middle [] k behind = ap (λ b. b || is_among behind k) (eq-eqb k k refl)
 among_middle (x ∷ xs) k behind = ap (λ b. nat_eq k x || b) (among_middle xs k behind) ∙ or_right (nat_eq k x)
 

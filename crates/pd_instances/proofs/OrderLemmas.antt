@@ -3,7 +3,7 @@ use Rattle.std.proofs.Common.{◌≡◌, ◌≢◌, ℕ, ◌+◌, ◌≤◌, Lis
 use Rattle.std.specs.Prelude.{◌⊎◌}
 use mathlib.Core.Logic.{⊎_elim}
 use Rattle.std.specs.List.{AllZip}
-use Rattle.std.proofs.lemmas.Bool.{cases_eq}
+use Rattle.std.proofs.lemmas.Bool.{cases_eq, false≢true}
 use Rattle.std.proofs.lemmas.Option.{none-some, same_Some}
 use Rattle.slab.specs.Slab.{get}
 use Rattle.pd_order.specs.Graph.{total}
@@ -26,7 +26,7 @@ drop_zero [] = refl
 drop_zero (x ∷ xs) = refl
 
 pub orders_none : (g : Grove) (l : Links) (old : List (Option Listing)) → OrdersAll g l old old []
-orders_none g l old = record { is = λ k c t e. absurd t; others = λ c out. refl }
+orders_none g l old = record { is = λ k c t e. absurd (false≢true t); others = λ c out. refl }
 
 module _ (g : Grove) (l : Links) (old mid new : List (Option Listing)) (ks : List ℕ) (k : ℕ) (A : OrdersAll g l old mid ks) where
   abbrev Ordered : List (Option Listing) → ℕ → Type 0

@@ -15,6 +15,7 @@ use Rattle.pd_web.specs.Homes.{IsPortOf}
 use Rattle.pd_web.specs.Hops.{fan_hops, feed_hops, port_told, ports_told}
 use Rattle.pd_web.specs.Jacks.{jacks_at, made_in}
 use Rattle.pd_web.specs.Sockets.{made_at}
+use Rattle.pd_ports.specs.Known.{KnowsHomes}
 use Rattle.pd_patch.specs.Numbers.{AreUnder, IsOut}
 use Rattle.pd_patch.specs.Telling.{order_in}
 use Rattle.pd_patch.specs.Values.{Blocks}
@@ -34,6 +35,7 @@ pub record OpensAll (g : Grove) (w w' : Web) (keys : List ℕ) : Type 0 where
   pub feeds : (k inlet : ℕ) → feed_hops w' k inlet ≡ feed_hops w k inlet
   pub found : (j k i : ℕ) → IsTrue (is_among keys k) → IsPortOf g j k i → (m : ℕ) × (port_told w' j ≡ Some (k, m)) × IsPortOf g j k m
   pub others : (j : ℕ) → ((k i : ℕ) → IsTrue (is_among keys k) → IsPortOf g j k i → ⊥) → port_told w' j ≡ port_told w j
+  pub known : KnowsHomes w → KnowsHomes w'
 
 -- these boxes have silent blocks, as many as they need, and the blocks of other keys stay
 pub record PutsBlocks (g : Grove) (old new : Blocks) (keys : List ℕ) : Type 0 where

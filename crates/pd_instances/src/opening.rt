@@ -5,6 +5,7 @@ ghost use Rattle.std.specs.List.{AllByRecursion};
 ghost use Rattle.slab.specs.Slab.{get, ContainsKey};
 ghost use Rattle.pd_kind.specs.States.{silent_block};
 ghost use Rattle.pd_grove.specs.declared.ports.Side.{Side};
+ghost use Rattle.pd_grove.specs.Owning.{AreOwn};
 ghost use Rattle.pd_grove.specs.TextOrder.{keys_of_spots};
 ghost use Rattle.pd_owning.specs.Bound.{is_among, AreNew};
 ghost use Rattle.pd_web.specs.Changes.{HasRoom, KeepsRoom};
@@ -36,6 +37,7 @@ pub(crate) fn open_all(
     requires near { (k : ℕ) → IsSome (get grove.now.nodes k) → HasRoom web.old (k + 1) 0 0 }
     requires reach { (k : ℕ) → IsSome (get grove.now.nodes k) → k < length values.old.items }
     requires once { AreNew (keys_of_spots spots.now) [] }
+    requires own { AreOwn (get grove.now.nodes) (get grove.now.boards) }
     requires alone { (j a b i m : ℕ) → IsPortOf grove.now j a i → IsPortOf grove.now j b m → a ≡ b }
     requires rooms { AreRoomsFor (map (need_at grove.now) (keys_of_spots spots.now)) rooms.old.items }
     requires bare { (side : Side) (k : ℕ) → IsTrue (is_among (keys_of_spots spots.now) k) → ports_told web.old side k ≡ [] }
