@@ -6,3 +6,5 @@ pub mod NumberLemmas
 pub mod OrderLemmas
 pub mod LoopLemmas
 pub mod PartLemmas
+pub mod ChainLemmas
+pub mod FansLemmas

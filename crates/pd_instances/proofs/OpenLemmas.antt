@@ -1,5 +1,5 @@
 -- Boxes that have come get their ports and blocks, one after the other.
-use Rattle.std.proofs.Common.{◌≡◌, ◌≢◌, ℕ, Bool, true, false, ◌||◌, List, [], ◌∷◌, ◌++◌, append-nil, replicate, drop, nat_eq, Some, None, IsTrue, inl, inr, refl, sym, ap, ◌∙◌, subst, eqb-true, eq-eqb}
+use Rattle.std.proofs.Common.{◌≡◌, ◌≢◌, ℕ, Bool, true, false, ◌||◌, List, [], ◌∷◌, ◌++◌, append-nil, replicate, drop, nat_eq, Some, IsTrue, inl, inr, refl, sym, ap, ◌∙◌, subst, eqb-true, eq-eqb}
 use Rattle.std.specs.Prelude.{slice_get, ◌⊎◌}
 use mathlib.Core.Logic.{⊎_elim}
 use Rattle.std.proofs.lemmas.Bool.{cases_eq, false≢true, or_cases}
@@ -7,7 +7,6 @@ use Rattle.slab.specs.Slab.{get}
 use Rattle.pd_kind.specs.States.{silent_block}
 use Rattle.pd_grove.specs.declared.grove.Grove.{Grove}
 use Rattle.pd_grove.specs.declared.ports.Side.{Side}
-use Rattle.pd_grove.specs.Owning.{AreOwn}
 use Rattle.pd_owning.specs.Bound.{is_among, AreNew}
 use Rattle.pd_web.specs.declared.web.Web.{Web}
 use Rattle.pd_web.specs.Hops.{port_told, ports_told}
@@ -15,7 +14,7 @@ use Rattle.pd_web.specs.Homes.{IsPortOf}
 use Rattle.pd_web.specs.Jacks.{jacks_at, made_in}
 use Rattle.pd_web.specs.Sockets.{made_at}
 use Rattle.pd_ports.specs.Boxes.{HasPorts, KnowsPorts}
-use Rattle.pd_ports.proofs.KnownLemmas.{opened_known}
+use Rattle.pd_ports.specs.Known.{KnowsHomes}
 use Rattle.pd_patch.specs.Values.{Blocks}
 use Rattle.pd_boxes.specs.Rows.{PutsUnder}
 use Rattle.pd_instances.specs.declared.room.BoxRoom.{BoxRoom}
@@ -74,8 +73,7 @@ out_parts ks k x f =
 -- Ports.
 
 module _ (g : Grove) (w v u : Web) (ks : List ℕ) (k : ℕ) (A : OpensAll g w v ks) (P : HasPorts v u k (λ side. jacks_at side g k) (made_in (get g.nodes k))) (H : KnowsPorts g v u k)
-    (new : is_among ks k ≡ false) (own : AreOwn (get g.nodes) (get g.boards)) (alone : (j a b i m : ℕ) → IsPortOf g j a i → IsPortOf g j b m → a ≡ b)
-    (bare : (side : Side) → ports_told v side k ≡ []) (apart : (j i : ℕ) → IsPortOf g j k i → port_told v j ≡ None) where
+    (new : is_among ks k ≡ false) (alone : (j a b i m : ℕ) → IsPortOf g j a i → IsPortOf g j b m → a ≡ b) (still : KnowsHomes v → KnowsHomes u) where
   not_it : (x : ℕ) → IsTrue (is_among ks x) → x ≢ k
   not_it x t e = false≢true (sym new ∙ ap (is_among ks) (sym e) ∙ is_true (is_among ks x) t)
 
@@ -99,7 +97,7 @@ module _ (g : Grove) (w v u : Web) (ks : List ℕ) (k : ℕ) (A : OpensAll g w v
         (F.0, H.others j (λ m S. not_it x s (alone j x k i m R S)) ∙ F.1, F.2)) (last_or ks k x t);
     others = λ j none.
         H.others j (λ i R. none k i (among_here ks k) R) ∙ A.others j (λ x i s R. none x i (among_left ks k x s) R);
-    known = λ h. opened_known g v u k (made_in (get g.nodes k)) own P H bare apart (A.known h);
+    known = λ h. still (A.known h);
   }
 
 pub open_none : (g : Grove) (w : Web) → OpensAll g w w []

@@ -63,7 +63,7 @@ module _ (g h : Grove) (c key : ℕ) (before behind : List ℕ) (F : IsForest (g
   pub forest : IsForest (get h.nodes) (get h.boards) h.root
   forest = subst (λ (r : ℕ). IsForest (get h.nodes) (get h.boards) r) (sym root) (forest_part (get g.nodes) (get h.nodes) (get g.boards) (get h.boards) g.root c key before behind M F)
 
-  here : (n : Node) × (get h.nodes key ≡ Some n)
+  pub here : (n : Node) × (get h.nodes key ≡ Some n)
   here = let B = box_there (get h.nodes key) c M.lies in (B.node, B.is)
 
   pub key_live : IsSome (get h.nodes key)

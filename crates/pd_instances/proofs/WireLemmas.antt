@@ -49,18 +49,18 @@ boxes_same g w l c W made = ap (λ f. map f (keys_at g c)) (same_functions (laid
 -- A wire that fits.
 
 -- both boxes of a wire that fits are there
-record AreThere (a b : Option Seen) : Type 0 where
-  from : Seen
-  to : Seen
-  source : a ≡ Some from
-  sink : b ≡ Some to
+pub record AreThere (a b : Option Seen) : Type 0 where
+  pub from : Seen
+  pub to : Seen
+  pub source : a ≡ Some from
+  pub sink : b ≡ Some to
 
-both_there : (a b : Option Seen) (v : Wire) → fits_between a b v ≡ true → AreThere a b
+pub both_there : (a b : Option Seen) (v : Wire) → fits_between a b v ≡ true → AreThere a b
 both_there None b v t = absurd (false≢true t)
 both_there (Some s) None v t = absurd (false≢true t)
 both_there (Some s) (Some d) v t = record { from = s; to = d; source = refl; sink = refl }
 
-key_there : {X : Type 0} (f : ℕ → X) (keys : List ℕ) (n : ℕ) (x : X) → slice_get (map f keys) n ≡ Some x → slice_get keys n ≡ Some (slice_index_or keys n 0)
+pub key_there : {X : Type 0} (f : ℕ → X) (keys : List ℕ) (n : ℕ) (x : X) → slice_get (map f keys) n ≡ Some x → slice_get keys n ≡ Some (slice_index_or keys n 0)
 key_there f [] n x h = absurd (none-some x h)
 key_there f (k ∷ keys) zero x h = refl
 key_there f (k ∷ keys) (suc n) x h = key_there f keys n x h

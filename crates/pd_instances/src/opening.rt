@@ -20,7 +20,7 @@ ghost use Rattle.pd_instances.specs.Layers.{IsNextRoom, OpensAll, PutsBlocks};
 use crate::room::BoxRoom;
 use pd_boxes::{Blocks, put_blocks};
 use pd_grove::{Grove, Spot};
-use pd_ports::open_box;
+use pd_ports::{open_box, port_boxes_stay_known};
 use pd_web::Web;
 use std::collections::VecDeque;
 
@@ -46,6 +46,7 @@ pub(crate) fn open_all(
     ensures blocks { PutsBlocks grove.now (map (λ b. b.items) values.old.items) (map (λ b. b.items) values.new.items) (keys_of_spots spots.now) }
     ensures room { KeepsRoom web.old web.new }
 {
+    port_boxes_stay_known();
     for spot in spots {
         open_next(web, values, grove, spot.node, rooms);
     }

@@ -2,7 +2,7 @@ use Rattle.std.proofs.Common.{◌≡◌, ◌+◌, ℕ, List, map, take, drop, le
 use Rattle.std.proofs.lemmas.List.{take_all, length-map}
 use Rattle.slab.specs.Slab.{get}
 use Rattle.pd_grove.specs.TextOrder.{keys_of_spots}
-use Rattle.pd_web.specs.Changes.{KeepsRoom}
+use Rattle.pd_web.specs.Jacks.{made_in}
 use Rattle.pd_instances.specs.Needs.{need_at, AreRoomsFor}
 use Rattle.pd_instances.specs.Layers.{IsNextRoom, OpensAll, PutsBlocks}
 use Rattle.pd_instances.proofs.OpenLemmas.{open_none, open_more, blocks_none, blocks_more, next_room, rooms_left}
@@ -74,9 +74,10 @@ loop-spot-preserved c =
     let E = c.open_next.ensures in
     record {
       opens = subst (λ xs. OpensAll g c.args.web.now c.open_next.new.web xs) (sym (keys_more spots i low))
-          (open_more g c.args.web.now c.loop-spot.web c.open_next.new.web ks k inv.opens E.ports E.homes new c.requires.own c.requires.alone
+          (open_more g c.args.web.now c.loop-spot.web c.open_next.new.web ks k inv.opens E.ports E.homes new c.requires.alone
+          (c.port_boxes_stay_known.ensures.opened g c.loop-spot.web c.open_next.new.web k (made_in (get g.nodes k)) c.requires.own E.ports E.homes
           (still_bare g c.args.web.now c.loop-spot.web ks k inv.opens new (λ side. c.requires.bare side k (it_among spots i low)))
-          (still_apart g c.args.web.now c.loop-spot.web ks k inv.opens new c.requires.alone (λ j n R. c.requires.apart j k n (it_among spots i low) R)));
+          (still_apart g c.args.web.now c.loop-spot.web ks k inv.opens new c.requires.alone (λ j n R. c.requires.apart j k n (it_among spots i low) R))));
       blocks = subst (λ xs. PutsBlocks g (map (λ b. b.items) c.args.values.now.items) (map (λ b. b.items) c.open_next.new.values.items) xs) (sym (keys_more spots i low))
           (blocks_more g (map (λ b. b.items) c.args.values.now.items) (map (λ b. b.items) c.loop-spot.values.items) (map (λ b. b.items) c.open_next.new.values.items) ks k inv.blocks new E.blocks);
       room = λ a p n r. E.room a p n (inv.room a p n r);
