@@ -63,21 +63,33 @@ module _ (w v : Web) (K : KeepsPorts w v) where
     below_kept zero = refl
     below_kept (suc n) = ap (λ ws. ws ++ wires_from v k n) (below_kept n) ∙ ap (λ ws. wires_below w k n ++ ws) (from_kept n)
 
-    wires_kept : box_wires v k ≡ box_wires w k
+    pub wires_kept : box_wires v k ≡ box_wires w k
     wires_kept = ap (λ (js : List Jack). wires_below v k (length js)) (K.ports Outlets k) ∙ below_kept (length (ports_told w Outlets k))
 
-  among_kept : (g : Grove) (ks : List ℕ) → ((i k : ℕ) → slice_get ks i ≡ Some k → (o : ℕ) → fan_hops v k o ≡ fan_hops w k o) → signal_wires_among v (signal_among g ks) ≡ signal_wires_among w (signal_among g ks)
-  among_kept g [] same = refl
-  among_kept g (k ∷ ks) same = by (is_signal_node (get g.nodes k)) (among_kept g ks (λ i x at. same (suc i) x at))
-    where
-      by : (b : Bool) → signal_wires_among v (signal_among g ks) ≡ signal_wires_among w (signal_among g ks)
-          → flat_map (box_wires v) (cond b (k ∷ signal_among g ks) (signal_among g ks)) ≡ flat_map (box_wires w) (cond b (k ∷ signal_among g ks) (signal_among g ks))
-      by true h = ap (λ ws. ws ++ signal_wires_among v (signal_among g ks)) (wires_kept k (same zero k refl)) ∙ ap (λ ws. box_wires w k ++ ws) h
-      by false h = h
+-- Where the boxes of a canvas have the signal wires that they had, and as many of them are signal boxes, it has the order that it had.
 
-  -- a canvas whose boxes have the wires that they had has the order that it had
-  pub order_kept : (g : Grove) (b : Option Board) (o : Option Listing) → ((i k : ℕ) → slice_get (keys_in b) i ≡ Some k → (n : ℕ) → fan_hops v k n ≡ fan_hops w k n) → HasOrder g w b o → HasOrder g v b o
-  order_kept g None o same h = h
-  order_kept g (Some b) None same h = h
-  order_kept g (Some b) (Some o) same h =
-      subst (λ (ws : List SignalWire). IsOrder (graph_of b.nodes.items ws) (signal_among g b.nodes.items) o.chain o.stuck) (sym (among_kept g b.nodes.items same)) h
+module _ (g h : Grove) (w v : Web) where
+  signals_kept : (ks : List ℕ) → ((i k : ℕ) → slice_get ks i ≡ Some k → is_signal_node (get h.nodes k) ≡ is_signal_node (get g.nodes k)) → signal_among h ks ≡ signal_among g ks
+  signals_kept [] same = refl
+  signals_kept (k ∷ ks) same =
+      ap (λ b. cond b (k ∷ signal_among h ks) (signal_among h ks)) (same zero k refl)
+      ∙ ap (λ (ys : List ℕ). cond (is_signal_node (get g.nodes k)) (k ∷ ys) ys) (signals_kept ks (λ i x at. same (suc i) x at))
+
+  among_kept : (ks : List ℕ) → ((i k : ℕ) → slice_get ks i ≡ Some k → box_wires v k ≡ box_wires w k) → signal_wires_among v (signal_among g ks) ≡ signal_wires_among w (signal_among g ks)
+  among_kept [] same = refl
+  among_kept (k ∷ ks) same = by (is_signal_node (get g.nodes k)) (same zero k refl) (among_kept ks (λ i x at. same (suc i) x at))
+    where
+      by : (b : Bool) → box_wires v k ≡ box_wires w k → signal_wires_among v (signal_among g ks) ≡ signal_wires_among w (signal_among g ks)
+          → flat_map (box_wires v) (cond b (k ∷ signal_among g ks) (signal_among g ks)) ≡ flat_map (box_wires w) (cond b (k ∷ signal_among g ks) (signal_among g ks))
+      by true e r = ap (λ ws. ws ++ signal_wires_among v (signal_among g ks)) e ∙ ap (λ ws. box_wires w k ++ ws) r
+      by false e r = r
+
+  pub order_kept : (b : Option Board) (o : Option Listing) → ((i k : ℕ) → slice_get (keys_in b) i ≡ Some k → is_signal_node (get h.nodes k) ≡ is_signal_node (get g.nodes k))
+      → ((i k : ℕ) → slice_get (keys_in b) i ≡ Some k → box_wires v k ≡ box_wires w k) → HasOrder g w b o → HasOrder h v b o
+  order_kept None o signal wires x = x
+  order_kept (Some b) None signal wires x = x
+  order_kept (Some b) (Some o) signal wires x =
+      let ks = b.nodes.items in
+      let same : signal_among h ks ≡ signal_among g ks = signals_kept ks signal in
+      subst (λ (ss : List ℕ). IsOrder (graph_of ks (signal_wires_among v ss)) ss o.chain o.stuck) (sym same)
+      (subst (λ (ws : List SignalWire). IsOrder (graph_of ks ws) (signal_among g ks) o.chain o.stuck) (sym (among_kept ks wires)) x)

@@ -8,3 +8,4 @@ pub mod LoopLemmas
 pub mod PartLemmas
 pub mod ChainLemmas
 pub mod FansLemmas
+pub mod SoundLemmas
