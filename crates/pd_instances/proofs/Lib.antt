@@ -9,3 +9,5 @@ pub mod PartLemmas
 pub mod ChainLemmas
 pub mod FansLemmas
 pub mod SoundLemmas
+pub mod AssembleLemmas
+pub mod RunLemmas

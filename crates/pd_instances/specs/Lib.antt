@@ -2,3 +2,4 @@ pub mod Needs
 pub mod Lay
 pub mod Layers
 pub mod Part
+pub mod Coming

@@ -128,7 +128,7 @@ pub record IsPartPut (p q : Patch) (table : Names) (place : Place) (s : Seed) (s
   pub clock_room : (k : ℕ) → IsTrue (is_among part k) → k < q.timers.end
   pub low : (k : ℕ) → IsTrue (is_among part k) → k < root_owner
   pub orders : HasPartOrders p q place
-  pub looks : steps' ≤ steps + looks_of q.grove q.links part + 8
+  pub looks : steps' ≤ steps + 8 + looks_of q.grove q.links part
   pub rate : q.rate ≡ p.rate
   pub present : q.present ≡ p.present
   pub can : CanPut q
