@@ -114,13 +114,13 @@ module _ (p : Patch) (h : Grove) (place : Place) (key : ℕ) (C : CanPut p) (roo
           (x, by_test (is_among part x) (λ t. t) (λ f. absurd (none-some x (sym (ap holder_in new) ∙ C.forest.inside x d (sym (ap inner_in (stay x f)) ∙ holds)))), holds)
 
   -- a box of a canvas that was there is none of a canvas that came
-  old_out : (c k : ℕ) → IsSome (get p.grove.boards c) → board_in (get h.nodes k) ≡ Some c → (x d : ℕ) → IsTrue (is_among part x) → inner_in (get h.nodes x) ≡ Some d → IsOut (keys_at h d) k
+  pub old_out : (c k : ℕ) → IsSome (get p.grove.boards c) → board_in (get h.nodes k) ≡ Some c → (x d : ℕ) → IsTrue (is_among part x) → inner_in (get h.nodes x) ≡ Some d → IsOut (keys_at h d) k
   old_out c k some lies x d t e i at =
       let same : d ≡ c = same_Some d c (sym (F.own.home d i k at) ∙ lies) in
       not_both (get p.grove.boards c) (ap (get p.grove.boards) (sym same) ∙ held_new x d t e) some
 
   -- nor is one that is none of these boxes
-  other_out : (k : ℕ) → is_among part k ≡ false → (x d : ℕ) → IsTrue (is_among part x) → inner_in (get h.nodes x) ≡ Some d → IsOut (keys_at h d) k
+  pub other_out : (k : ℕ) → is_among part k ≡ false → (x d : ℕ) → IsTrue (is_among part x) → inner_in (get h.nodes x) ≡ Some d → IsOut (keys_at h d) k
   other_out k f x d t e i at =
       false≢true (sym f ∙ came_inside p.grove h place.canvas key (keys_before p place) (keys_behind p place) C.forest root M part A k d (held_new x d t e) (F.own.home d i k at))
 

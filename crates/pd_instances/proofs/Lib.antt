@@ -11,3 +11,4 @@ pub mod FansLemmas
 pub mod SoundLemmas
 pub mod AssembleLemmas
 pub mod RunLemmas
+pub mod TellLemmas

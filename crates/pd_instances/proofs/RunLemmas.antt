@@ -1,8 +1,9 @@
 -- A patch into which a box came with all that lies in it goes on to run.
-use Rattle.std.proofs.Common.{◌≡◌, ◌≢◌, ℕ, ℤ, zero, suc, ◌+◌, ◌<◌, ◌≤◌, ◌^◌, false, true, pos, List, [], ◌∷◌, ◌++◌, append-nil, length, take, drop, replicate, length-replicate, Option, Some, None, IsSome, IsTrue, refl, sym, ap, ◌∙◌, subst, inl, inr, arith}
+use Rattle.std.proofs.Common.{◌≡◌, ◌≢◌, ℕ, ℤ, zero, suc, ◌+◌, ◌<◌, ◌≤◌, ◌^◌, false, true, pos, List, [], ◌∷◌, ◌++◌, append-nil, length, take, drop, replicate, Option, Some, None, IsSome, IsTrue, refl, sym, ap, ◌∙◌, subst, inl, inr, arith}
 use Rattle.std.specs.Prelude.{slice_get, option_map, option_and_then, ◌⊎◌}
 use mathlib.Core.Logic.{⊎_elim}
 use Rattle.std.proofs.lemmas.Bool.{cases_eq, false≢true}
+use Rattle.std.proofs.lemmas.List.{length-replicate}
 use Rattle.std.proofs.lemmas.Option.{none-some, same_Some}
 use Rattle.slab.specs.Slab.{get}
 use Rattle.pd_atom.specs.Names.{Names}
@@ -85,7 +86,7 @@ seed_small (x ∷ seeds) (suc i) s A at = seed_small seeds i s A.1 at
 
 made_small : (s : Seed) (o : Option Node) (n : Node) → IsMadeOf s o → o ≡ Some n → IsSmallKind s.row.kind → IsSmallKind n.kind
 made_small s None n m e small = absurd m
-made_small s (Some x) n m e small = subst (λ (y : Node). IsSmallKind y.kind) (same_Some x n e) (subst (λ (k : Kind). IsSmallKind k) (sym m.2.0) small)
+made_small s (Some x) n m e small = subst (λ (y : Node). IsSmallKind y.kind) (same_Some x n e) (subst (λ (k : Kind). IsSmallKind k) (sym m.2) small)
 
 silent_count : length silent_block ≡ 64
 unfolding silent_block

@@ -3,3 +3,4 @@ pub mod Lay
 pub mod Layers
 pub mod Part
 pub mod Coming
+pub mod Room

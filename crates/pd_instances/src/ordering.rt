@@ -1,11 +1,12 @@
 //! The signal orders of canvases that have come.
 
-ghost use Rattle.std.specs.Prelude.{◌≡◌, ◌<◌, ◌≤◌, ◌+◌, ◌++◌, ◌∷◌, [], ℕ, Some, None, drop, length, vec_capacity, vec_len};
+ghost use Rattle.std.specs.Prelude.{◌≡◌, ◌<◌, ◌≤◌, ◌+◌, ◌++◌, ◌∷◌, [], ℕ, Some, None, drop, length, vec_capacity, vec_len, IsTrue};
 ghost use Rattle.std.specs.List.{AllZip, flat_map};
 ghost use Rattle.slab.specs.Slab.{get};
 ghost use Rattle.pd_order.specs.Graph.{IsLawful};
 ghost use Rattle.pd_grove.specs.Telling.{inner_in};
 ghost use Rattle.pd_grove.specs.TextOrder.{keys_of_spots};
+ghost use Rattle.pd_owning.specs.Bound.{is_among};
 ghost use Rattle.pd_web.specs.Canvases.{keys_at};
 ghost use Rattle.pd_patch.specs.Orders.{signal_among};
 ghost use Rattle.pd_patch.specs.Telling.{order_in};
@@ -35,9 +36,9 @@ pub(crate) fn order_all<L: Ledger>(
     steps: &mut Steps<L>,
 )
     requires lawful { (c : ℕ) → IsLawful (canvas_graph grove.now links.now c) (signal_boxes grove.now c) }
-    requires slots { (k c : ℕ) → inner_in (get grove.now.nodes k) ≡ Some c → c < length orders.old.items }
+    requires slots { (k c : ℕ) → IsTrue (is_among (keys_of_spots spots.now) k) → inner_in (get grove.now.nodes k) ≡ Some c → c < length orders.old.items }
     requires rooms { AllZip IsOrderRoom (flat_map (inside_at grove.now) (keys_of_spots spots.now)) rooms.old.items }
-    requires lists { (k c : ℕ) → inner_in (get grove.now.nodes k) ≡ Some c → length (keys_at grove.now c) ≤ vec_capacity signal.old }
+    requires lists { (k c : ℕ) → IsTrue (is_among (keys_of_spots spots.now) k) → inner_in (get grove.now.nodes k) ≡ Some c → length (keys_at grove.now c) ≤ vec_capacity signal.old }
     ensures orders { OrdersAll grove.now links.now orders.old.items orders.new.items (keys_of_spots spots.now) }
     ensures slots { length orders.new.items ≡ length orders.old.items }
     ensures looks { steps.new ≤ steps.old + looks_of grove.now links.now (keys_of_spots spots.now) }

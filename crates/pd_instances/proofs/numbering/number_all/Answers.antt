@@ -2,12 +2,15 @@ use Rattle.std.proofs.Common.{take, sym, subst}
 use Rattle.std.proofs.lemmas.List.{take_all}
 use Rattle.pd_grove.specs.TextOrder.{keys_of_spots}
 use Rattle.pd_instances.specs.Layers.{NumbersAll}
-use Rattle.pd_instances.proofs.LoopLemmas.{it, keys_more}
+use Rattle.pd_instances.proofs.LoopLemmas.{it, it_among, keys_more}
 use Rattle.pd_instances.proofs.NumberLemmas.{numbers_none, numbers_next}
 use Rattle.pd_instances.proofs.numbering.number_all.Goals as goal
 
 pub number_inside-requires-clause-reach : goal.number_inside-requires-clause-reach
 number_inside-requires-clause-reach c = λ k live. c.loop-spot.invariant.reach k (c.requires.reach k live)
+
+pub number_inside-requires-clause-few : goal.number_inside-requires-clause-few
+number_inside-requires-clause-few c = λ k e. c.requires.few (it c.args.spots.now c.loop-spot.spot-index c.loop-spot-test.true) k (it_among c.args.spots.now c.loop-spot.spot-index c.loop-spot-test.true) e
 
 pub loop-spot-init : goal.loop-spot-init
 loop-spot-init c = record { numbers = numbers_none c.args.grove.now c.args.numbers.now.items; reach = λ k l. l }

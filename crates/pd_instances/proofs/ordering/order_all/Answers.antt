@@ -8,7 +8,7 @@ use Rattle.pd_patch.specs.Telling.{order_in}
 use Rattle.pd_instances.specs.Needs.{inside_at, IsOrderRoom}
 use Rattle.pd_instances.specs.Layers.{OrdersAll}
 use Rattle.pd_instances.specs.Part.{looks_of, looks_held}
-use Rattle.pd_instances.proofs.LoopLemmas.{it, keys_more, keys_left}
+use Rattle.pd_instances.proofs.LoopLemmas.{it, it_among, keys_more, keys_left}
 use Rattle.pd_instances.proofs.OrderLemmas.{orders_none, orders_next, next_order, orders_left, looks_last, one_inside}
 use Rattle.pd_instances.proofs.ordering.order_all.Goals as goal
 
@@ -22,10 +22,10 @@ order_inside-requires-clause-room g c =
     (subst (λ ks. AllZip IsOrderRoom (flat_map (inside_at h) ks) c.loop-spot.rooms.items) (keys_left spots i low) c.loop-spot.invariant.rooms) (one_inside h (it spots i low))
 
 pub order_inside-requires-clause-slots : goal.order_inside-requires-clause-slots
-order_inside-requires-clause-slots g c = λ k e. let s = c.requires.slots (it c.args.spots.now c.loop-spot.spot-index c.loop-spot-test.true) k e in let n = c.loop-spot.invariant.slots in omega (arith, s, n)
+order_inside-requires-clause-slots g c = λ k e. let s = c.requires.slots (it c.args.spots.now c.loop-spot.spot-index c.loop-spot-test.true) k (it_among c.args.spots.now c.loop-spot.spot-index c.loop-spot-test.true) e in let n = c.loop-spot.invariant.slots in omega (arith, s, n)
 
 pub order_inside-requires-clause-list : goal.order_inside-requires-clause-list
-order_inside-requires-clause-list g c = λ k e. let s = c.requires.lists (it c.args.spots.now c.loop-spot.spot-index c.loop-spot-test.true) k e in let n = c.loop-spot.invariant.list in omega (arith, s, n)
+order_inside-requires-clause-list g c = λ k e. let s = c.requires.lists (it c.args.spots.now c.loop-spot.spot-index c.loop-spot-test.true) k (it_among c.args.spots.now c.loop-spot.spot-index c.loop-spot-test.true) e in let n = c.loop-spot.invariant.list in omega (arith, s, n)
 
 pub loop-spot-init : goal.loop-spot-init
 loop-spot-init g c = record { orders = orders_none c.args.grove.now c.args.links.now c.args.orders.now.items; slots = refl; rooms = c.requires.rooms; list = refl; looks = omega arith }

@@ -1,0 +1,178 @@
+//! Room for boxes that come, one for each box or canvas of a list in text order.
+
+ghost use Rattle.std.specs.Prelude.{◌≡◌, ◌<◌, ◌≤◌, ◌+◌, ◌^◌, [], map, length, IfOk};
+ghost use Rattle.std.specs.List.{AllZip};
+ghost use Rattle.pd_tree.specs.Trees.{stands_in};
+ghost use Rattle.pd_web.specs.Changes.{IsSame, KeepsRoom};
+ghost use Rattle.pd_instances.specs.Needs.{insides_of, wires_all, AreLinkRooms, AreRoomsFor, IsOrderRoom, IsRoomFor};
+
+use crate::needs::Need;
+use crate::room::BoxRoom;
+use pd_boxes::silent_blocks;
+use pd_canvas::Wire;
+use pd_links::LinkRoom;
+use pd_order::Order;
+use pd_ports::reserve_ports;
+use pd_tree::Row;
+use pd_web::Web;
+use std::alloc::{AllocError, Global};
+use std::collections::VecDeque;
+
+/// An order has fewer boxes than this, and a canvas that comes has fewer wires.
+const MOST: usize = 4_294_967_290;
+
+/// Room for boxes that need this.
+///
+/// # Errors
+///
+/// `AllocError` where memory ran out.
+pub(crate) fn box_rooms(
+    alloc: Global,
+    web: &mut Web,
+    needs: &VecDeque<Need>,
+) -> Result<VecDeque<BoxRoom>, AllocError>
+    ensures same { IsSame web.old web.new }
+    ensures kept { KeepsRoom web.old web.new }
+    ensures rooms { IfOk result (λ rooms. AreRoomsFor needs.now.items rooms.items) }
+{
+    let mut rooms = VecDeque::new(alloc);
+    for i in 0..needs.len() {
+        let room = box_room(alloc, web, needs[i])?;
+        rooms.push_back(room)?;
+    }
+    Ok(rooms)
+}
+
+/// Room for a box that needs this.
+fn box_room(alloc: Global, web: &mut Web, need: Need) -> Result<BoxRoom, AllocError>
+    ensures same { IsSame web.old web.new }
+    ensures kept { KeepsRoom web.old web.new }
+    ensures room { IfOk result (IsRoomFor need) }
+{
+    let blocks = silent_blocks(alloc, need.blocks)?;
+    let ports = reserve_ports(web, alloc, 0, need.inlets, need.outlets)?;
+    Ok(BoxRoom { ports, blocks })
+}
+
+/// For each canvas that one of these boxes holds, room for the signal wires of its boxes.
+///
+/// # Errors
+///
+/// `AllocError` where memory ran out, or where a canvas has more wires than can be counted.
+pub(crate) fn link_rooms(
+    alloc: Global,
+    rows: &[Row],
+) -> Result<VecDeque<Vec<LinkRoom>>, AllocError>
+    ensures { IfOk result (λ rooms. AllZip AreLinkRooms (insides_of (stands_in rows.now)) (map (λ v. v.items) rooms.items)) }
+{
+    let mut rooms = VecDeque::new(alloc);
+    for row in rows {
+        if let Some(sheet) = &row.sheet {
+            let inside = rooms_inside(alloc, sheet.wires.as_slice(), row.boxes)?;
+            rooms.push_back(inside)?;
+        }
+    }
+    Ok(rooms)
+}
+
+/// For each box of a canvas room for its signal wires, as many as there are wires at it.
+fn rooms_inside(
+    alloc: Global,
+    wires: &[Wire],
+    boxes: u32,
+) -> Result<Vec<LinkRoom>, AllocError> {
+    if wires.len() > MOST {
+        return Err(AllocError);
+    }
+    let mut rooms = Vec::with_capacity(alloc, boxes as usize)?;
+    for _ in 0..boxes {
+        rooms.push(LinkRoom {
+            into: Vec::new(alloc),
+            from: Vec::new(alloc),
+        })?;
+    }
+    count_wires(&mut rooms, wires)?;
+    empty_rooms(&mut rooms);
+    Ok(rooms)
+}
+
+/// Fills rooms with as many numbers as there are wires at their boxes.
+fn count_wires(rooms: &mut Vec<LinkRoom>, wires: &[Wire]) -> Result<(), AllocError> {
+    for wire in wires {
+        count_wire(rooms, wire)?;
+    }
+    Ok(())
+}
+
+fn count_wire(rooms: &mut Vec<LinkRoom>, wire: &Wire) -> Result<(), AllocError> {
+    if (wire.source as usize) < rooms.len() {
+        rooms[wire.source as usize].from.push(0)?;
+    }
+    if (wire.sink as usize) < rooms.len() {
+        rooms[wire.sink as usize].into.push(0)?;
+    }
+    Ok(())
+}
+
+/// Empties rooms, which keep what memory they have.
+fn empty_rooms(rooms: &mut Vec<LinkRoom>) {
+    for i in 0..rooms.len() {
+        rooms[i].from.clear();
+        rooms[i].into.clear();
+    }
+}
+
+/// For each canvas that one of these boxes holds, an order with room for its boxes.
+///
+/// # Errors
+///
+/// `AllocError` where memory ran out, or where a canvas has more boxes than can be counted.
+pub(crate) fn order_rooms(alloc: Global, rows: &[Row]) -> Result<VecDeque<Order>, AllocError>
+    ensures { IfOk result (λ orders. AllZip IsOrderRoom (insides_of (stands_in rows.now)) orders.items) }
+{
+    let mut orders = VecDeque::new(alloc);
+    for row in rows {
+        if row.sheet.is_some() {
+            orders.push_back(order_room(alloc, row.boxes)?)?;
+        }
+    }
+    Ok(orders)
+}
+
+/// An order with room for so many boxes.
+fn order_room(alloc: Global, boxes: u32) -> Result<Order, AllocError> {
+    if boxes as usize > MOST {
+        return Err(AllocError);
+    }
+    let mut order = Order::new(alloc)?;
+    order.reserve_more(boxes)?;
+    Ok(order)
+}
+
+/// How many wires the canvases have that these boxes hold, whether they fit or not.
+///
+/// # Errors
+///
+/// `AllocError` where there are more than can be counted.
+pub(crate) fn wire_count(rows: &[Row]) -> Result<u32, AllocError>
+    ensures { IfOk result (λ count. count ≡ wires_all (insides_of (stands_in rows.now))) }
+{
+    let mut count: u32 = 0;
+    for row in rows {
+        count = add_wires(count, row)?;
+    }
+    Ok(count)
+}
+
+fn add_wires(count: u32, row: &Row) -> Result<u32, AllocError> {
+    let Some(sheet) = &row.sheet else {
+        return Ok(count);
+    };
+    let Ok(more) = u32::try_from(sheet.wires.as_slice().len()) else {
+        return Err(AllocError);
+    };
+    match count.checked_add(more) {
+        Some(all) => Ok(all),
+        None => Err(AllocError),
+    }
+}
