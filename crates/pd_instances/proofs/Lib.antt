@@ -12,3 +12,6 @@ pub mod SoundLemmas
 pub mod AssembleLemmas
 pub mod RunLemmas
 pub mod TellLemmas
+pub mod StepLemmas
+pub mod RowLemmas
+pub mod InsideLemmas

@@ -1,5 +1,5 @@
 -- Loops over boxes: those that are done, the next one, and those that are left.
-use Rattle.std.proofs.Common.{◌≡◌, ℕ, ℤ, zero, suc, ◌+◌, ◌<◌, ◌≤◌, false, List, [], ◌∷◌, ◌++◌, length, take, drop, get_or, Some, None, IsTrue, take-append-drop, refl, sym, ap, ◌∙◌, subst, arith}
+use Rattle.std.proofs.Common.{◌≡◌, ◌≢◌, ◌||◌, nat_eq, append-nil, ℕ, ℤ, zero, suc, ◌+◌, ◌<◌, ◌≤◌, false, List, [], ◌∷◌, ◌++◌, length, take, drop, get_or, Some, None, IsTrue, take-append-drop, refl, sym, ap, ◌∙◌, subst, arith}
 use Rattle.std.specs.Prelude.{slice_get}
 use Rattle.std.specs.List.{AllByRecursion}
 use Rattle.std.proofs.lemmas.Bool.{false≢true}
@@ -15,10 +15,14 @@ use Rattle.pd_web.specs.Homes.{IsPortOf}
 use Rattle.pd_web.specs.Hops.{ports_told, port_told}
 use Rattle.pd_patch.specs.Values.{Blocks}
 use Rattle.pd_instances.specs.Layers.{OpensAll, PutsBlocks}
-use Rattle.pd_instances.proofs.OpenLemmas.{among_middle, new_last, true_of, is_true}
+use Rattle.pd_instances.proofs.OpenLemmas.{among_middle, new_last, or_right, true_of, is_true}
 
-pub none : Spot
+abbrev pub none : Spot
 none = record { node = 0; is_top = false }
+
+new_rest : (front : List ℕ) (k : ℕ) (rest : List ℕ) → AreNew (front ++ k ∷ rest) [] → is_among rest k ≡ false
+new_rest [] k rest N = ap (λ ks. is_among ks k) (sym (append-nil rest)) ∙ N.0
+new_rest (x ∷ front) k rest N = new_rest front k rest N.1
 
 module _ (spots : List Spot) (i : ℕ) (l : i < length spots) where
   abbrev pub it : ℕ
@@ -30,7 +34,7 @@ module _ (spots : List Spot) (i : ℕ) (l : i < length spots) where
   pub keys_left : keys_of_spots (drop i spots) ≡ it ∷ keys_of_spots (drop (i + 1) spots)
   keys_left = ap keys_of_spots (drop_more spots i none l)
 
-  keys_split : keys_of_spots spots ≡ keys_of_spots (take i spots) ++ it ∷ keys_of_spots (drop (i + 1) spots)
+  pub keys_split : keys_of_spots spots ≡ keys_of_spots (take i spots) ++ it ∷ keys_of_spots (drop (i + 1) spots)
   keys_split =
       ap keys_of_spots (sym (take-append-drop i spots)) ∙ map-append (λ (p : Spot). p.node) (take i spots) (drop i spots)
       ∙ ap (λ ks. keys_of_spots (take i spots) ++ ks) keys_left
@@ -40,6 +44,20 @@ module _ (spots : List Spot) (i : ℕ) (l : i < length spots) where
 
   pub it_new : AreNew (keys_of_spots spots) [] → is_among (keys_of_spots (take i spots)) it ≡ false
   it_new N = new_last (keys_of_spots (take i spots)) it (keys_of_spots (drop (i + 1) spots)) (subst (λ ks. AreNew ks []) keys_split N)
+
+  -- those that are left
+  pub it_first : IsTrue (is_among (keys_of_spots (drop i spots)) it)
+  it_first = true_of (is_among (keys_of_spots (drop i spots)) it) (ap (λ ks. is_among ks it) keys_left ∙ among_middle [] it (keys_of_spots (drop (i + 1) spots)))
+
+  pub it_left : (x : ℕ) → IsTrue (is_among (keys_of_spots (drop (i + 1) spots)) x) → IsTrue (is_among (keys_of_spots (drop i spots)) x)
+  it_left x t =
+      true_of (is_among (keys_of_spots (drop i spots)) x)
+      (ap (λ ks. is_among ks x) keys_left ∙ ap (λ b. nat_eq x it || b) (is_true (is_among (keys_of_spots (drop (i + 1) spots)) x) t) ∙ or_right (nat_eq x it))
+
+  pub it_later : AreNew (keys_of_spots spots) [] → (x : ℕ) → IsTrue (is_among (keys_of_spots (drop (i + 1) spots)) x) → x ≢ it
+  it_later N x t q =
+      false≢true (sym (new_rest (keys_of_spots (take i spots)) it (keys_of_spots (drop (i + 1) spots)) (subst (λ ks. AreNew ks []) keys_split N))
+      ∙ ap (is_among (keys_of_spots (drop (i + 1) spots))) (sym q) ∙ is_true (is_among (keys_of_spots (drop (i + 1) spots)) x) t)
 
 -- what holds of each key
 pub all_at : (P : ℕ → Type 0) (spots : List Spot) (i : ℕ) → i < length spots → AllByRecursion P (keys_of_spots spots) → P (get_or spots i none).node

@@ -96,3 +96,8 @@ numbers_reach g old new c x N l = by (there_or_out (keys_at g c) x)
     by : IsThere (keys_at g c) x ⊎ IsOut (keys_at g c) x → x < length new
     by (inl t) = slice_get_within new x t.0 (N.under t.0 x (omega arith) t.1)
     by (inr o) = get_within old new x (N.others x o) l
+
+-- a box of a canvas lives
+pub box_lives : (o : Option Node) (c : ℕ) → board_in o ≡ Some c → IsSome o
+box_lives None c h = absurd (none-some c h)
+box_lives (Some n) c h = refl

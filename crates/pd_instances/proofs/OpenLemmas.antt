@@ -50,7 +50,7 @@ last_or ks k x t = by (or_cases (is_among ks x) (nat_eq x k) (sym (among_last ks
     by (inl e) = inr (true_of (is_among ks x) e)
     by (inr e) = inl (eqb-true x k e)
 
-or_right : (b : Bool) → (b || true) ≡ true
+pub or_right : (b : Bool) → (b || true) ≡ true
 or_right true = refl
 or_right false = refl
 

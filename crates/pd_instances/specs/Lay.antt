@@ -1,14 +1,15 @@
 -- The wires of canvases that come, laid one behind the other.
-use Rattle.std.specs.Prelude.{◌≡◌, ◌≢◌, ◌<◌, ◌≤◌, ◌+◌, ◌*◌, ◌^◌, ℕ, List, [], ◌++◌, length, slice_get, Some}
+use Rattle.std.specs.Prelude.{◌≡◌, ◌≢◌, ◌<◌, ◌≤◌, ◌+◌, ◌-◌, ◌*◌, ◌^◌, ℕ, List, [], ◌∷◌, ◌++◌, length, slice_get, Some, vec_len, vec_capacity}
 use Rattle.pd_canvas.specs.declared.wires.Wire.{Wire}
 use Rattle.pd_links.specs.declared.links.Links.{Links}
-use Rattle.pd_links.specs.Linked.{feeders_of, followers_of, spare_into, spare_from, HasOneMore}
+use Rattle.pd_links.specs.declared.opening.LinkRoom.{LinkRoom}
+use Rattle.pd_links.specs.Linked.{feeders_of, followers_of, spare_into, spare_from, HasOneMore, KeepsLinks}
 use Rattle.pd_web.specs.declared.lines.Line.{Line}
 use Rattle.pd_web.specs.declared.web.Web.{Web}
 use Rattle.pd_web.specs.Changes.{line_told, wires_told, HasRoom, KeepsPorts, Meet}
 use Rattle.pd_web.specs.Hops.{fan_hops, feed_hops, places_of}
 use Rattle.pd_web.specs.Lines.{fed_from, feeding}
-use Rattle.pd_instances.specs.Needs.{count_from, count_to}
+use Rattle.pd_instances.specs.Needs.{count_from, count_to, AreLinkRooms, Inside}
 
 -- Wires came along these lines, in their order: each last in the fan-out of its outlet and last among the feeds of its inlet. Every other list stays, and
 -- every wire under its key, and every port.
@@ -44,3 +45,30 @@ pub record KeepsRow (l l' : Links) (k : ℕ) : Type 0 where
   pub feeders : length (feeders_of l' k) ≡ length (feeders_of l k)
   pub from : spare_from l' k ≡ spare_from l k
   pub into : spare_into l' k ≡ spare_into l k
+
+-- no signal wire leads to the box of a key, nor from it
+pub record HasNoLinks (l : Links) (k : ℕ) : Type 0 where
+  pub feeders : feeders_of l k ≡ []
+  pub followers : followers_of l k ≡ []
+
+-- room of no links yet
+pub record IsEmptyRoom (room : LinkRoom) : Type 0 where
+  pub no_from : room.from.items ≡ []
+  pub no_into : room.into.items ≡ []
+
+-- the box of a key has this room for links
+pub record HasSpare (l : Links) (k : ℕ) (room : LinkRoom) : Type 0 where
+  pub into : spare_into l k ≡ vec_capacity room.into - vec_len room.into
+  pub from : spare_from l k ≡ vec_capacity room.from - vec_len room.from
+
+-- the boxes of these keys, each under one number, got these rooms, and the rooms of all others stay
+pub record OpensRows (l l' : Links) (keys : List ℕ) (rooms : List LinkRoom) : Type 0 where
+  pub keeps : KeepsLinks l l'
+  pub opens : (n k : ℕ) (room : LinkRoom) → slice_get keys n ≡ Some k → slice_get rooms n ≡ Some room → HasSpare l' k room
+  pub others : (k : ℕ) → ((n : ℕ) → slice_get keys n ≢ Some k) → KeepsRow l l' k
+
+-- the first of these lists of rooms is for such a canvas, where there is one
+abbrev pub AreNextRows : List Inside → List (List LinkRoom) → Type 0
+AreNextRows [] rows = Unit {0}
+AreNextRows (i ∷ is) [] = ⊥
+AreNextRows (i ∷ is) (rooms ∷ rows) = AreLinkRooms i rooms

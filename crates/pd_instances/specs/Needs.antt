@@ -1,5 +1,5 @@
 -- What the boxes of a list in text order need where they come into a running patch, before they have keys.
-use Rattle.std.specs.Prelude.{◌≡◌, ℕ, ◌+◌, ◌-◌, ◌≤◌, ◌==◌, Bool, true, false, ◌||◌, cond, List, [], ◌∷◌, ◌++◌, map, length, take, drop, replicate, filter, slice_get, Option, Some, None, vec_len, vec_capacity}
+use Rattle.std.specs.Prelude.{◌≡◌, ℕ, ◌+◌, ◌-◌, ◌<◌, ◌≤◌, ◌^◌, ◌==◌, Bool, true, false, ◌||◌, cond, List, [], ◌∷◌, ◌++◌, map, length, take, drop, replicate, filter, slice_get, Option, Some, None, vec_len, vec_capacity}
 use Rattle.std.specs.List.{AllZip}
 use Rattle.slab.specs.Slab.{get}
 use Rattle.pd_object.specs.declared.kinds.Kind.{Kind}
@@ -105,6 +105,9 @@ pub record Inside : Type 0 where
   pub wires : List Wire
   pub boxes : ℕ
 
+abbrev pub inside_with : List Wire → ℕ → Inside
+inside_with ws n = record { wires = ws; boxes = n }
+
 abbrev pub inside_of : Option Sheet → ℕ → List Inside
 inside_of None n = []
 inside_of (Some s) n = record { wires = s.wires; boxes = n } ∷ []
@@ -147,6 +150,7 @@ pub record IsLinkRoom (from to : ℕ) (room : LinkRoom) : Type 0 where
 -- room for the wires of each box of a canvas
 pub record AreLinkRooms (inside : Inside) (rooms : List LinkRoom) : Type 0 where
   pub all : length rooms ≡ inside.boxes
+  pub few : length inside.wires + 1 < 2 ^ 32
   pub each : (n : ℕ) (room : LinkRoom) → slice_get rooms n ≡ Some room → IsLinkRoom (count_from inside.wires n) (count_to inside.wires n) room
 
 -- an order of no boxes, with room for those of a canvas

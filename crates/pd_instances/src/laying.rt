@@ -32,8 +32,17 @@ pub(crate) fn lay_canvas(web: &mut Web, links: &mut Links, grove: &Grove, canvas
     ensures wired { AreWired grove.now web.new links.new }
     ensures others { (k : ℕ) → IsOut (keys_at grove.now canvas) k → KeepsRow links.old links.new k }
 {
-    if let Some(board) = grove.board(canvas) {
-        lay_all(web, links, grove, canvas, board.sheet.wires.as_slice());
+    let wires = wires_of(grove, canvas);
+    lay_all(web, links, grove, canvas, wires);
+}
+
+/// The wires of the sheet of a canvas.
+fn wires_of(grove: &Grove, canvas: u32) -> &[Wire]
+    ensures { result.now ≡ wires_in (get grove.now.boards canvas) }
+{
+    match grove.board(canvas) {
+        Some(board) => board.sheet.wires.as_slice(),
+        None => &[],
     }
 }
 
@@ -63,10 +72,11 @@ fn lay_one(web: &mut Web, links: &mut Links, grove: &Grove, canvas: u32, wire: &
     ensures takes { (ws : List Wire) → TakesWires links.old (keys_at grove.now canvas) (wire.now ∷ ws) → TakesWires links.new (keys_at grove.now canvas) ws }
     ensures others { (k : ℕ) → IsOut (keys_at grove.now canvas) k → KeepsRow links.old links.new k }
 {
-    if web.fits(grove, canvas, wire) {
-        let line = line_between(grove, canvas, wire);
-        lay_line(web, links, line);
+    if !web.fits(grove, canvas, wire) {
+        return;
     }
+    let line = line_between(grove, canvas, wire);
+    lay_line(web, links, line);
 }
 
 /// The line by keys of a wire of a canvas that fits.
@@ -102,9 +112,10 @@ fn lay_line(web: &mut Web, links: &mut Links, line: Line)
 {
     let signal = is_signal_line(web, line);
     web.join(line, None);
-    if signal {
-        links.add(line.source, line.sink);
+    if !signal {
+        return;
     }
+    links.add(line.source, line.sink);
 }
 
 /// Whether a line leads from an outlet that carries signals to an inlet that does.

@@ -2,7 +2,7 @@
 
 ghost use Rattle.std.specs.Prelude.{◌≡◌, ◌<◌, ◌≤◌, ◌+◌, ◌++◌, ◌∷◌, [], ℕ, Some, None, drop, length, vec_capacity, vec_len, IsTrue};
 ghost use Rattle.std.specs.List.{AllZip, flat_map};
-ghost use Rattle.slab.specs.Slab.{get};
+ghost use Rattle.slab.specs.Slab.{get, ContainsKey};
 ghost use Rattle.pd_order.specs.Graph.{IsLawful};
 ghost use Rattle.pd_grove.specs.Telling.{inner_in};
 ghost use Rattle.pd_grove.specs.TextOrder.{keys_of_spots};
@@ -36,6 +36,7 @@ pub(crate) fn order_all<L: Ledger>(
     steps: &mut Steps<L>,
 )
     requires lawful { (c : ℕ) → IsLawful (canvas_graph grove.now links.now c) (signal_boxes grove.now c) }
+    requires boards { (k c : ℕ) → IsTrue (is_among (keys_of_spots spots.now) k) → inner_in (get grove.now.nodes k) ≡ Some c → ContainsKey grove.now.boards c }
     requires slots { (k c : ℕ) → IsTrue (is_among (keys_of_spots spots.now) k) → inner_in (get grove.now.nodes k) ≡ Some c → c < length orders.old.items }
     requires rooms { AllZip IsOrderRoom (flat_map (inside_at grove.now) (keys_of_spots spots.now)) rooms.old.items }
     requires lists { (k c : ℕ) → IsTrue (is_among (keys_of_spots spots.now) k) → inner_in (get grove.now.nodes k) ≡ Some c → length (keys_at grove.now c) ≤ vec_capacity signal.old }
@@ -59,6 +60,7 @@ fn order_inside<L: Ledger>(
     steps: &mut Steps<L>,
 )
     requires lawful { (c : ℕ) → IsLawful (canvas_graph grove.now links.now c) (signal_boxes grove.now c) }
+    requires board { (c : ℕ) → inner_in (get grove.now.nodes key) ≡ Some c → ContainsKey grove.now.boards c }
     requires slots { (c : ℕ) → inner_in (get grove.now.nodes key) ≡ Some c → c < length orders.old.items }
     requires room { AreNextOrders (inside_at grove.now key) rooms.old.items }
     requires list { (c : ℕ) → inner_in (get grove.now.nodes key) ≡ Some c → length (keys_at grove.now c) ≤ vec_capacity signal.old }

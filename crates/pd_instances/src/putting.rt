@@ -8,7 +8,7 @@ ghost use Rattle.pd_boxes.specs.Put.{CanPut, IsNoPort};
 ghost use Rattle.pd_instances.specs.Part.{IsPartPut};
 ghost use Rattle.pd_instances.specs.Room.{TakesPart};
 
-use crate::linking::lay_part;
+use crate::linking::{lay_part, open_links};
 use crate::numbering::number_all;
 use crate::opening::open_all;
 use crate::ordering::order_all;
@@ -77,13 +77,8 @@ pub fn put_part<L: Ledger>(
         key,
         steps,
     );
-    lay_part(
-        &mut patch.web,
-        &mut patch.links,
-        &patch.grove,
-        spots,
-        &mut links,
-    );
+    open_links(&mut patch.links, &patch.grove, spots, &mut links);
+    lay_part(&mut patch.web, &mut patch.links, &patch.grove, spots);
     order_all(
         &mut patch.orders,
         &patch.grove,

@@ -54,7 +54,7 @@ pub(crate) fn push_box(
 }
 
 /// The keys of the boxes of the canvas that a box holds.
-fn keys_inside_box(grove: &Grove, inner: Option<u32>) -> &[u32]
+pub(crate) fn keys_inside_box(grove: &Grove, inner: Option<u32>) -> &[u32]
     ensures { result.now ≡ keys_inside (get grove.now.boards) inner }
 {
     let Some(canvas) = inner else {
