@@ -15,3 +15,6 @@ pub mod TellLemmas
 pub mod StepLemmas
 pub mod RowLemmas
 pub mod InsideLemmas
+pub mod ReadyLemmas
+pub mod LooseLemmas
+pub mod NameLemmas

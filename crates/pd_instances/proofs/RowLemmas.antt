@@ -21,7 +21,8 @@ use Rattle.pd_web.specs.Lines.{wires_in}
 use Rattle.pd_ports.specs.Known.{HoldAlone}
 use Rattle.pd_patch.specs.Listing.{IsThere}
 use Rattle.pd_patch.specs.Numbers.{AreApart, IsOut}
-use Rattle.pd_instances.specs.Lay.{AreNextRows, HasNoLinks, HasSpare, IsEmptyRoom, KeepsRow, OpensRows, TakesWires}
+use Rattle.pd_placing.specs.Placing.{IsLoose}
+use Rattle.pd_instances.specs.Lay.{AreNextRows, HasSpare, IsEmptyRoom, KeepsRow, OpensRows, TakesWires}
 use Rattle.pd_instances.specs.Needs.{AreLinkRooms, Inside, inside_at, inside_held, inside_seen, IsLinkRoom}
 use Rattle.pd_instances.proofs.OpenLemmas.{is_true, last_or}
 use Rattle.pd_instances.proofs.NumberLemmas.{apart_canvas}
@@ -35,8 +36,8 @@ links_same l = record { feeders = λ x. refl; followers = λ x. refl; reach = λ
 pub links_still : (l l' l'' : Links) → KeepsLinks l l' → KeepsLinks l' l'' → KeepsLinks l l''
 links_still l l' l'' a b = record { feeders = λ x. b.feeders x ∙ a.feeders x; followers = λ x. b.followers x ∙ a.followers x; reach = λ end r. b.reach end (a.reach end r) }
 
-pub none_still : (l l' : Links) (k : ℕ) → KeepsLinks l l' → HasNoLinks l k → HasNoLinks l' k
-none_still l l' k K H = record { feeders = K.feeders k ∙ H.feeders; followers = K.followers k ∙ H.followers }
+pub none_still : (l l' : Links) (k : ℕ) → KeepsLinks l l' → IsLoose l k → IsLoose l' k
+none_still l l' k K H = record { unfed = K.feeders k ∙ H.unfed; unfollowed = K.followers k ∙ H.unfollowed }
 
 pub kept_row : (l l' : Links) (k : ℕ) → KeepsLinks l l' → spare_from l' k ≡ spare_from l k → spare_into l' k ≡ spare_into l k → KeepsRow l l' k
 kept_row l l' k K from into = record { followers = ap length (K.followers k); feeders = ap length (K.feeders k); from = from; into = into }
@@ -50,7 +51,7 @@ room_of (r ∷ rooms) (suc n) (suc m) l e = room_of rooms n m (omega (arith, l))
 room_of (r ∷ rooms) (suc n) zero l e = absurd (omega (arith, l))
 
 pub takes_opened : (l l' : Links) (keys : List ℕ) (ws : List Wire) (rooms : List LinkRoom) → AreLinkRooms (record { wires = ws; boxes = length keys }) rooms → OpensRows l l' keys rooms
-    → ((n k : ℕ) → slice_get keys n ≡ Some k → HasNoLinks l k) → TakesWires l' keys ws
+    → ((n k : ℕ) → slice_get keys n ≡ Some k → IsLoose l k) → TakesWires l' keys ws
 takes_opened l l' keys ws rooms A O bare = record {
   from = λ n k at.
       let r = room_of rooms n (length keys) (slice_get_within keys n k at) (sym A.all) in
@@ -61,10 +62,10 @@ takes_opened l l' keys ws rooms A O bare = record {
       let a = (A.each n r.0 r.1).into_fits in
       let e = (O.opens n k r.0 at r.1).into in omega (arith, a, e);
   few_from = λ n k at.
-      let e : length (followers_of l' k) ≡ 0 = ap length (O.keeps.followers k ∙ (bare n k at).followers) in
+      let e : length (followers_of l' k) ≡ 0 = ap length (O.keeps.followers k ∙ (bare n k at).unfollowed) in
       let f = A.few in omega (arith, e, f);
   few_into = λ n k at.
-      let e : length (feeders_of l' k) ≡ 0 = ap length (O.keeps.feeders k ∙ (bare n k at).feeders) in
+      let e : length (feeders_of l' k) ≡ 0 = ap length (O.keeps.feeders k ∙ (bare n k at).unfed) in
       let f = A.few in omega (arith, e, f);
 }
 
@@ -205,11 +206,11 @@ taken_among all ks k x e t = subst (λ xs. IsTrue (is_among xs x)) e t
 no_cons : {X : Type 0} (x : X) (xs : List X) → [] ≡ x ∷ xs → ⊥
 no_cons x xs e = let l : 0 ≡ suc (length xs) = ap length e in absurd (omega (arith, l))
 
-first_of : {X : Type 0} (d : X) → List X → X
+abbrev first_of : {X : Type 0} (d : X) → List X → X
 first_of d [] = d
 first_of d (x ∷ xs) = x
 
-after_first : {X : Type 0} → List X → List X
+abbrev after_first : {X : Type 0} → List X → List X
 after_first [] = []
 after_first (x ∷ xs) = xs
 

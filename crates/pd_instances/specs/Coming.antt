@@ -3,7 +3,7 @@ use Rattle.std.specs.Prelude.{◌≡◌, ◌<◌, ◌≤◌, ◌+◌, ℕ, List,
 use Rattle.slab.specs.Slab.{get}
 use Rattle.pd_atom.specs.Names.{Names}
 use Rattle.pd_order.specs.Listing.{Listing}
-use Rattle.pd_tree.specs.Trees.{Trees, stands_of}
+use Rattle.pd_tree.specs.Trees.{Trees, stands_of, width}
 use Rattle.pd_grove.specs.declared.nodes.Node.{Node}
 use Rattle.pd_grove.specs.declared.seeds.Seed.{Seed}
 use Rattle.pd_grove.specs.Grafts.{HasPartMore}
@@ -30,7 +30,7 @@ use Rattle.pd_instances.specs.Part.{lines_of, looks_of}
 -- inside got their orders.
 pub record PartLayers (p q : Patch) (table : Names) (place : Place) (s : Seed) (seeds : List Seed) (key : ℕ) (part : List ℕ) (steps steps' : ℕ) : Type 0 where
   pub grove : HasPartMore (get p.grove.nodes) (get q.grove.nodes) (get p.grove.boards) (get q.grove.boards) place.canvas key (keys_before p place) (keys_behind p place)
-  pub stands : (t : Trees) → one (seed_stand s) (stands_ready seeds) ≡ stands_of t →
+  pub stands : (t : Trees) → one (seed_stand s) (stands_ready seeds) ≡ stands_of t → width t ≡ 1 →
       Stands (get q.grove.nodes) (get q.grove.boards) place.canvas (depth_of (get p.grove.boards place.canvas)) (key ∷ []) t
   pub uses : Uses (get p.grove.nodes) (get q.grove.nodes) (s ∷ seeds) []
   pub kind : (n : Node) → get q.grove.nodes key ≡ Some n → n.kind ≡ s.row.kind

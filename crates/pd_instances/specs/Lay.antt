@@ -46,11 +46,6 @@ pub record KeepsRow (l l' : Links) (k : ℕ) : Type 0 where
   pub from : spare_from l' k ≡ spare_from l k
   pub into : spare_into l' k ≡ spare_into l k
 
--- no signal wire leads to the box of a key, nor from it
-pub record HasNoLinks (l : Links) (k : ℕ) : Type 0 where
-  pub feeders : feeders_of l k ≡ []
-  pub followers : followers_of l k ≡ []
-
 -- room of no links yet
 pub record IsEmptyRoom (room : LinkRoom) : Type 0 where
   pub no_from : room.from.items ≡ []

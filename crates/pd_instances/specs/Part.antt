@@ -6,7 +6,7 @@ use Rattle.pd_atom.specs.Names.{Names}
 use Rattle.pd_clock.specs.declared.times.Rate.{Rate}
 use Rattle.pd_order.specs.Graph.{total, ends}
 use Rattle.pd_links.specs.declared.links.Links.{Links}
-use Rattle.pd_tree.specs.Trees.{Trees, stands_of}
+use Rattle.pd_tree.specs.Trees.{Trees, stands_of, width}
 use Rattle.pd_grove.specs.declared.grove.Grove.{Grove}
 use Rattle.pd_grove.specs.declared.ports.Side.{Side}
 use Rattle.pd_grove.specs.declared.seeds.Seed.{Seed}
@@ -114,7 +114,7 @@ pub record IsPartPut (p q : Patch) (table : Names) (place : Place) (s : Seed) (s
   pub part : List ℕ
   pub comes : ComesAs p q key part
   pub grove : HasPartMore (get p.grove.nodes) (get q.grove.nodes) (get p.grove.boards) (get q.grove.boards) place.canvas key (keys_before p place) (keys_behind p place)
-  pub stands : (t : Trees) → one (seed_stand s) (stands_ready seeds) ≡ stands_of t →
+  pub stands : (t : Trees) → one (seed_stand s) (stands_ready seeds) ≡ stands_of t → width t ≡ 1 →
       Stands (get q.grove.nodes) (get q.grove.boards) place.canvas (depth_of (get p.grove.boards place.canvas)) (key ∷ []) t
   pub uses : Uses (get p.grove.nodes) (get q.grove.nodes) (s ∷ seeds) []
   pub root : q.grove.root ≡ p.grove.root

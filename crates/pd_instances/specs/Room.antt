@@ -59,6 +59,7 @@ pub record TakesPart (p : Patch) (room : PartRoom) (table : Names) : Type 0 wher
   pub part : IsOnePart p room.place (stands_for room)
   pub small : SeedsSmall (room.seed ∷ seeds_in room.inside)
   pub roomy : AreRoomy (seeds_in room.inside)
+  pub countable : length (seeds_in room.inside) + 300 < 2 ^ 32
   pub seed : IsRoomy room.seed
   pub end : ℕ
   pub keys : ReachesAll p end

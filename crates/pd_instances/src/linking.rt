@@ -18,8 +18,9 @@ ghost use Rattle.pd_web.specs.Sockets.{made_at};
 ghost use Rattle.pd_ports.specs.Known.{HoldAlone};
 ghost use Rattle.pd_patch.specs.Listing.{IsThere};
 ghost use Rattle.pd_patch.specs.Numbers.{AreApart, IsOut};
+ghost use Rattle.pd_placing.specs.Placing.{IsLoose};
 ghost use Rattle.pd_wiring.specs.Graphs.{AreWired};
-ghost use Rattle.pd_instances.specs.Lay.{AreNextRows, HasNoLinks, IsEmptyRoom, HasSpare, KeepsRow, LaysLines, OpensRows, TakesWires};
+ghost use Rattle.pd_instances.specs.Lay.{AreNextRows, IsEmptyRoom, HasSpare, KeepsRow, LaysLines, OpensRows, TakesWires};
 ghost use Rattle.pd_instances.specs.Needs.{inside_at, inside_with, wires_all, AreLinkRooms};
 ghost use Rattle.pd_instances.specs.Part.{lines_inside, lines_of};
 
@@ -43,7 +44,7 @@ pub(crate) fn open_links(
     requires boards { (x c : ℕ) → IsTrue (is_among (keys_of_spots spots.now) x) → inner_in (get grove.now.nodes x) ≡ Some c → ContainsKey grove.now.boards c }
     requires rooms { AllZip AreLinkRooms (flat_map (inside_at grove.now) (keys_of_spots spots.now)) (map (λ v. v.items) rooms.old.items) }
     requires reach { (k : ℕ) → IsSome (get grove.now.nodes k) → ReachesKeys links.old (k + 1) }
-    requires bare { (x c k : ℕ) → IsTrue (is_among (keys_of_spots spots.now) x) → inner_in (get grove.now.nodes x) ≡ Some c → IsThere (keys_at grove.now c) k → HasNoLinks links.old k }
+    requires bare { (x c k : ℕ) → IsTrue (is_among (keys_of_spots spots.now) x) → inner_in (get grove.now.nodes x) ≡ Some c → IsThere (keys_at grove.now c) k → IsLoose links.old k }
     ensures keeps { KeepsLinks links.old links.new }
     ensures takes { (x c : ℕ) → IsTrue (is_among (keys_of_spots spots.now) x) → inner_in (get grove.now.nodes x) ≡ Some c → TakesWires links.new (keys_at grove.now c) (wires_in (get grove.now.boards c)) }
 {
@@ -63,7 +64,7 @@ fn open_inside(
     requires board { (c : ℕ) → inner_in (get grove.now.nodes key) ≡ Some c → ContainsKey grove.now.boards c }
     requires room { AreNextRows (inside_at grove.now key) (map (λ v. v.items) rooms.old.items) }
     requires reach { (k : ℕ) → IsSome (get grove.now.nodes k) → ReachesKeys links.old (k + 1) }
-    requires bare { (c k : ℕ) → inner_in (get grove.now.nodes key) ≡ Some c → IsThere (keys_at grove.now c) k → HasNoLinks links.old k }
+    requires bare { (c k : ℕ) → inner_in (get grove.now.nodes key) ≡ Some c → IsThere (keys_at grove.now c) k → IsLoose links.old k }
     ensures keeps { KeepsLinks links.old links.new }
     ensures takes { (c : ℕ) → inner_in (get grove.now.nodes key) ≡ Some c → TakesWires links.new (keys_at grove.now c) (wires_in (get grove.now.boards c)) }
     ensures others { (c k : ℕ) → inner_in (get grove.now.nodes key) ≡ Some c → IsOut (keys_at grove.now c) k → KeepsRow links.old links.new k }
@@ -81,7 +82,7 @@ fn open_next(links: &mut Links, keys: &[u32], rooms: &mut VecDeque<Vec<LinkRoom>
     requires apart { AreApart keys.now }
     requires room { (ws : List Wire) × AreNextRows (inside_with ws (length keys.now) ∷ []) (map (λ v. v.items) rooms.old.items) }
     requires reach { (n k : ℕ) → slice_get keys.now n ≡ Some k → ReachesKeys links.old (k + 1) }
-    requires bare { (n k : ℕ) → slice_get keys.now n ≡ Some k → HasNoLinks links.old k }
+    requires bare { (n k : ℕ) → slice_get keys.now n ≡ Some k → IsLoose links.old k }
     ensures keeps { KeepsLinks links.old links.new }
     ensures takes { (ws : List Wire) → AreNextRows (inside_with ws (length keys.now) ∷ []) (map (λ v. v.items) rooms.old.items) → TakesWires links.new keys.now ws }
     ensures others { (k : ℕ) → IsOut keys.now k → KeepsRow links.old links.new k }
@@ -99,7 +100,7 @@ fn open_rows(links: &mut Links, keys: &[u32], rooms: &mut Vec<LinkRoom>)
     requires all { length rooms.old.items ≡ length keys.now }
     requires empty { (n : ℕ) (room : LinkRoom) → slice_get rooms.old.items n ≡ Some room → IsEmptyRoom room }
     requires reach { (n k : ℕ) → slice_get keys.now n ≡ Some k → ReachesKeys links.old (k + 1) }
-    requires bare { (n k : ℕ) → slice_get keys.now n ≡ Some k → HasNoLinks links.old k }
+    requires bare { (n k : ℕ) → slice_get keys.now n ≡ Some k → IsLoose links.old k }
     ensures { OpensRows links.old links.new keys.now rooms.old.items }
 {
     let mut i = keys.len();
@@ -112,7 +113,7 @@ fn open_rows(links: &mut Links, keys: &[u32], rooms: &mut Vec<LinkRoom>)
 /// Gives a box without links its room, the last of some rooms.
 fn open_row(links: &mut Links, key: u32, rooms: &mut Vec<LinkRoom>)
     requires reach { ReachesKeys links.old (key + 1) }
-    requires bare { HasNoLinks links.old key }
+    requires bare { IsLoose links.old key }
     requires last { (rest : List LinkRoom) × (room : LinkRoom) × (rooms.old.items ≡ rest ++ room ∷ []) × IsEmptyRoom room }
     ensures keeps { KeepsLinks links.old links.new }
     ensures opens { (rest : List LinkRoom) (room : LinkRoom) → rooms.old.items ≡ rest ++ room ∷ [] → HasSpare links.new key room }

@@ -1,7 +1,12 @@
 //! A box comes in, layer by layer, with all that lies in it.
 
-ghost use Rattle.std.specs.Prelude.{◌≡◌, ◌≤◌, length};
-ghost use Rattle.slab.specs.Slab.{ContainsKey};
+ghost use Rattle.std.specs.Prelude.{◌≡◌, ◌<◌, ◌≤◌, [], ℕ, Bool, length, slice_get, vec_capacity, vec_len, Some};
+ghost use Rattle.slab.specs.Slab.{get, ContainsKey};
+ghost use Rattle.pd_grove.specs.Forest.{IsForest};
+ghost use Rattle.pd_grove.specs.Owning.{board_in};
+ghost use Rattle.pd_grove.specs.Standing.{depth_of};
+ghost use Rattle.pd_grove.specs.TextOrder.{spot, spots_in_order};
+ghost use Rattle.pd_owning.specs.Parts.{part_spots};
 ghost use Rattle.pd_grove.specs.Planting.{seeds_in};
 ghost use Rattle.pd_web.specs.Canvases.{keys_at};
 ghost use Rattle.pd_boxes.specs.Put.{CanPut, IsNoPort};
@@ -57,6 +62,7 @@ pub fn put_part<L: Ledger>(
     let key = patch
         .grove
         .put_box(place.canvas, place.number, seed, &mut inside);
+    keys_are_low(&patch.grove);
     tell_part(&patch.grove, key, place.canvas, &mut spots);
     let spots = spots.as_slice();
     open_all(
@@ -91,17 +97,35 @@ pub fn put_part<L: Ledger>(
     key
 }
 
-/// Adds a box of a canvas and all boxes that lie in it, in text order, to a list that has room.
-fn tell_part(grove: &Grove, key: u32, canvas: u32, spots: &mut Vec<Spot>) {
-    let spot = spot_at(grove, key);
-    let levels = MOST_LEVELS.saturating_sub(depth_of(grove, canvas));
-    push_box(grove, key, spot.is_top, levels, spots);
+/// Adds a box of a canvas and all boxes that lie in it, in text order, to an empty list that has room.
+fn tell_part(grove: &Grove, key: u32, canvas: u32, spots: &mut Vec<Spot>)
+    requires forest { IsForest (get grove.now.nodes) (get grove.now.boards) grove.now.root }
+    requires lies { board_in (get grove.now.nodes key) ≡ Some canvas }
+    requires none { spots.old.items ≡ [] }
+    requires empty { vec_len spots.old ≡ 0 }
+    requires room { (top : Bool) → length (part_spots (get grove.now.nodes) (get grove.now.boards) (spot top key)) ≤ vec_capacity spots.old }
+    ensures { (top : Bool) × (spots.new.items ≡ part_spots (get grove.now.nodes) (get grove.now.boards) (spot top key)) × (i : ℕ) × (slice_get (spots_in_order grove.now) i ≡ Some (spot top key)) }
+{
+    let at = spot_at(grove, key);
+    let levels = MOST_LEVELS.saturating_sub(depth_at(grove, canvas));
+    push_box(grove, key, at.is_top, levels, spots);
 }
 
 /// In how many canvases a canvas lies.
-fn depth_of(grove: &Grove, canvas: u32) -> u32 {
+fn depth_at(grove: &Grove, canvas: u32) -> u32
+    ensures { result ≡ depth_of (get grove.now.boards canvas) }
+{
     match grove.board(canvas) {
         Some(board) => board.depth,
         None => 0,
     }
+}
+
+/// The keys of boxes and canvases are below the room that there is for them. It does nothing.
+fn keys_are_low(grove: &Grove)
+    ensures boxes { (k : ℕ) → ContainsKey grove.now.nodes k → k < grove.now.nodes.capacity }
+    ensures canvases { (c : ℕ) → ContainsKey grove.now.boards c → c < grove.now.boards.capacity }
+{
+    let _boxes = grove.nodes_end();
+    let _canvases = grove.boards_end();
 }

@@ -22,6 +22,9 @@ use pd_placing::{reserve_orders, reserve_place};
 use pd_tree::Row;
 use std::alloc::{AllocError, Global};
 
+/// No more boxes than this come at once.
+const MOST_ROWS: usize = 4_294_966_000;
+
 /// A canvas can have so many boxes.
 const MOST_BOXES: usize = 4_294_967_295;
 
@@ -51,6 +54,9 @@ pub fn reserve_part(
     ensures room { IfOk result (λ room. TakesPart patch.new room symbols.old) }
 {
     let count = rows.len();
+    if count > MOST_ROWS {
+        return Err(AllocError);
+    }
     let needs = needs_of(alloc, rows.as_slice())?;
     let boxes = box_rooms(alloc, &mut patch.web, &needs)?;
     let links = link_rooms(alloc, rows.as_slice())?;
