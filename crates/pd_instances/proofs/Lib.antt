@@ -18,3 +18,4 @@ pub mod InsideLemmas
 pub mod ReadyLemmas
 pub mod LooseLemmas
 pub mod NameLemmas
+pub mod SpotLemmas

@@ -97,6 +97,18 @@ numbers_reach g old new c x N l = by (there_or_out (keys_at g c) x)
     by (inl t) = slice_get_within new x t.0 (N.under t.0 x (omega arith) t.1)
     by (inr o) = get_within old new x (N.others x o) l
 
+dropped : (keys : List ℕ) (n i x : ℕ) → slice_get (drop n keys) i ≡ Some x → (j : ℕ) × (n ≤ j) × (slice_get keys j ≡ Some x)
+dropped keys zero i x at = (i, omega arith, at)
+dropped [] (suc n) i x at = absurd (none-some x at)
+dropped (k ∷ keys) (suc n) i x at = let R = dropped keys n i x at in (suc R.0, let l = R.1 in omega (arith, l), R.2)
+
+pub numbers_still : (old new keys : List ℕ) (n x : ℕ) → NumbersFrom old new keys n → x < length old → x < length new
+numbers_still old new keys n x N l = by (there_or_out (drop n keys) x)
+  where
+    by : IsThere (drop n keys) x ⊎ IsOut (drop n keys) x → x < length new
+    by (inl t) = let d = dropped keys n t.0 x t.1 in slice_get_within new x d.0 (N.under d.0 x d.1 d.2)
+    by (inr o) = get_within old new x (N.others x o) l
+
 -- a box of a canvas lives
 pub box_lives : (o : Option Node) (c : ℕ) → board_in o ≡ Some c → IsSome o
 box_lives None c h = absurd (none-some c h)

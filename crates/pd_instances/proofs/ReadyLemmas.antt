@@ -1,14 +1,17 @@
 -- A box came into the tree with all that lies in it: what the layers ask of the grove that it left.
-use Rattle.std.proofs.Common.{◌≡◌, ◌≢◌, ℕ, zero, suc, ◌+◌, ◌*◌, ◌<◌, ◌≤◌, ◌^◌, ◌||◌, nat_eq, Bool, true, false, List, [], ◌∷◌, ◌++◌, append-nil, map, length, Option, Some, None, IsSome, IsTrue, refl, sym, ap, ◌∙◌, subst, inl, inr, arith}
-use Rattle.std.specs.Prelude.{is_some, slice_get, slice_index_or, ◌⊎◌}
+use Rattle.std.proofs.Common.{◌≡◌, ◌≢◌, ℕ, zero, suc, ◌+◌, ◌*◌, ◌<◌, ◌≤◌, ◌^◌, ◌||◌, nat_eq, Bool, true, false, List, [], ◌∷◌, ◌++◌, append-nil, map, length, Option, Some, None, IsSome, IsTrue, refl, sym, ap, ◌∙◌, subst, inl, inr, eqb-true, arith}
+use Rattle.std.specs.Prelude.{is_some, slice_get, vec_capacity, vec_len, slice_index_or, ◌⊎◌}
 use Rattle.std.specs.List.{AllByRecursion, AllZip, flat_map}
 use mathlib.Core.Logic.{⊎_elim}
-use Rattle.std.proofs.lemmas.Bool.{cases_eq, false≢true}
+use Rattle.std.proofs.lemmas.Bool.{cases_eq, false≢true, or_cases}
 use Rattle.std.proofs.lemmas.Option.{none-some, same_Some}
 use Rattle.slab.specs.Slab.{Slab, get}
 use Rattle.pd_atom.specs.Names.{Names}
 use Rattle.pd_object.specs.declared.kinds.Kind.{Kind}
 use Rattle.pd_object.specs.Ports.{IsSmallKind}
+use Rattle.pd_name.specs.declared.Class.{Class}
+use Rattle.pd_order.specs.Listing.{Listing}
+use Rattle.pd_links.specs.Linked.{ReachesKeys}
 use Rattle.pd_order.proofs.Basics.{by_test}
 use Rattle.pd_tree.specs.Trees.{Trees, Stand, stands_of, width}
 use Rattle.pd_grove.specs.declared.nodes.Node.{Node}
@@ -28,31 +31,40 @@ use Rattle.pd_grove.specs.Standing.{Stands, depth_of}
 use Rattle.pd_grove.specs.States.{SeedsSmall}
 use Rattle.pd_grove.specs.Telling.{inner_in, keys_in}
 use Rattle.pd_grove.specs.TextOrder.{deep, keys_of_spots, spot, spots_in_order}
-use Rattle.pd_bind.specs.Owning.{root_owner}
-use Rattle.pd_owning.specs.Bound.{is_among, AreNew}
+use Rattle.pd_bind.specs.Owning.{boxes_owning, root_owner}
+use Rattle.pd_owning.specs.Bound.{is_among, AreNew, HasRoom}
 use Rattle.pd_owning.specs.Parts.{ArePart, part_spots}
 use Rattle.pd_web.specs.declared.web.Web.{Web}
 use Rattle.pd_web.specs.Canvases.{keys_at}
 use Rattle.pd_web.specs.Changes.{HasRoom as HasWebRoom}
 use Rattle.pd_web.specs.Homes.{IsPortOf}
 use Rattle.pd_web.specs.Hops.{port_told, ports_told}
-use Rattle.pd_web.specs.Jacks.{KindsSmall}
+use Rattle.pd_web.specs.Jacks.{KindsSmall, made_in}
+use Rattle.pd_web.specs.Sockets.{made_at}
+use Rattle.pd_web.specs.Lines.{wires_in}
 use Rattle.pd_ports.specs.Known.{HoldAlone}
 use Rattle.pd_ports.proofs.OnceLemmas.{port_stands}
 use Rattle.pd_patch.specs.declared.patch.Patch.{Patch}
+use Rattle.pd_patch.specs.Listing.{IsThere}
 use Rattle.pd_patch.specs.Numbers.{AreApart}
+use Rattle.pd_placing.specs.Placing.{IsLoose, LacksBox}
+use Rattle.pd_wiring.specs.Graphs.{AreWired}
 use Rattle.pd_boxes.specs.declared.room.Place.{Place}
 use Rattle.pd_boxes.specs.Put.{CanPut, IsNoPort, keys_before, keys_behind}
 use Rattle.pd_clearing.specs.Clearing.{IsPartOf}
 use Rattle.pd_clearing.proofs.SpotLemmas.{is_part}
 use Rattle.pd_instances.specs.declared.room.PartRoom.{PartRoom}
 use Rattle.pd_instances.specs.Needs.{inside_at, insides_of, need_at, needs_of, wires_all, AreLinkRooms, AreRoomsFor, Inside, IsOrderRoom}
-use Rattle.pd_instances.specs.Room.{stands_for, TakesPart}
+use Rattle.pd_instances.specs.Layers.{OpensAll}
+use Rattle.pd_instances.specs.Room.{stands_for, IsEmptyFor, TakesPart}
 use Rattle.pd_instances.proofs.OpenLemmas.{among_middle, or_right, true_of}
 use Rattle.pd_instances.proofs.PartLemmas.{forest, hold_alone, live, one_home, port_inside, stays, vacant}
-use Rattle.pd_instances.proofs.AssembleLemmas.{none_had}
+use Rattle.pd_instances.proofs.AssembleLemmas.{made, none_had, wired}
 use Rattle.pd_instances.proofs.NumberLemmas.{box_lives}
-use Rattle.pd_instances.proofs.TellLemmas.{first_kind, part_insides, part_length, part_needs}
+use Rattle.pd_instances.proofs.TellLemmas.{first_kind, part_insides, part_length, part_needs, part_stands}
+use Rattle.pd_instances.proofs.RowLemmas.{inside_is}
+use Rattle.pd_instances.proofs.NameLemmas.{owner_room}
+use Rattle.pd_instances.proofs.LooseLemmas as loose
 
 -- Keys that live are below the end of their slab.
 
@@ -90,6 +102,66 @@ all_of P (k ∷ ks) h = (h k (here k ks), all_of P ks (λ x t. h x (later k ks x
 
     later : (x : ℕ) (xs : List ℕ) (y : ℕ) → IsTrue (is_among xs y) → IsTrue (is_among (x ∷ xs) y)
     later x xs y t = ap (λ b. nat_eq y x || b) t ∙ or_right (nat_eq y x)
+
+-- what holds of all that a list gives holds of what one key gives
+all_front : {X : Type 0} (P : X → Type 0) (xs ys : List X) → AllByRecursion P (xs ++ ys) → AllByRecursion P xs × AllByRecursion P ys
+all_front P [] ys A = (tt, A)
+all_front P (x ∷ xs) ys A = let R = all_front P xs ys A.1 in ((A.0, R.0), R.1)
+
+all_flat : {X : Type 0} (P : X → Type 0) (f : ℕ → List X) (ks : List ℕ) (k : ℕ) → AllByRecursion P (flat_map f ks) → IsTrue (is_among ks k) → AllByRecursion P (f k)
+all_flat P f [] k A t = absurd (false≢true t)
+all_flat P f (x ∷ ks) k A t = by (or_cases (nat_eq k x) (is_among ks k) t) (λ r. all_flat P f ks k (all_front P (f x) (flat_map f ks) A).1 r)
+  where
+    by : (nat_eq k x ≡ true) ⊎ (is_among ks k ≡ true) → (is_among ks k ≡ true → AllByRecursion P (f k)) → AllByRecursion P (f k)
+    by (inl e) h = subst (λ y. AllByRecursion P (f y)) (sym (eqb-true k x e)) (all_front P (f x) (flat_map f ks) A).0
+    by (inr e) h = h e
+
+zipped_few : (is : List Inside) (orders : List Listing) → AllZip IsOrderRoom is orders → AllByRecursion (λ (i : Inside). i.boxes < 4294967295) is
+zipped_few [] orders A = tt
+zipped_few (i ∷ is) [] A = absurd A
+zipped_few (i ∷ is) (o ∷ orders) A = (let f = A.0.takes.few in omega (arith, f), zipped_few is orders A.1)
+
+-- all that the layers ask, where these spots are the boxes that came
+pub record IsReady (p : Patch) (room : PartRoom) (table : Names) (g : Grove) (key : ℕ) (spots : List Spot) : Type 0 where
+  pub more : HasPartMore (get p.grove.nodes) (get g.nodes) (get p.grove.boards) (get g.boards) room.place.canvas key (keys_before p room.place) (keys_behind p room.place)
+  pub stands : (t : Trees) → one (seed_stand room.seed) (stands_ready (seeds_in room.inside)) ≡ stands_of t → width t ≡ 1
+      → Stands (get g.nodes) (get g.boards) room.place.canvas (depth_of (get p.grove.boards room.place.canvas)) (key ∷ []) t
+  pub uses : Uses (get p.grove.nodes) (get g.nodes) (room.seed ∷ seeds_in room.inside) []
+  pub kind : (n : Node) → get g.nodes key ≡ Some n → n.kind ≡ room.seed.row.kind
+  pub forest : IsForest (get g.nodes) (get g.boards) g.root
+  pub alone : HoldAlone g
+  pub homes_alone : (j a b i m : ℕ) → IsPortOf g j a i → IsPortOf g j b m → a ≡ b
+  pub root_free : get g.nodes root_owner ≡ None
+  pub low : (k : ℕ) → IsTrue (is_among (keys_of_spots spots) k) → k < root_owner
+  pub clock_room : (k : ℕ) → IsTrue (is_among (keys_of_spots spots) k) → k < p.timers.end
+  pub near : (k : ℕ) → IsSome (get g.nodes k) → HasWebRoom p.web (k + 1) 0 0
+  pub values_reach : (k : ℕ) → IsSome (get g.nodes k) → k < length p.values.items
+  pub numbers_reach : (k : ℕ) → IsSome (get g.nodes k) → k < length p.numbers.items
+  pub outer_reach : (i k : ℕ) → slice_get (keys_at g room.place.canvas) i ≡ Some k → k < length p.numbers.items
+  pub links_reach : (k : ℕ) → IsSome (get g.nodes k) → ReachesKeys p.links (k + 1)
+  pub outer_once : AreApart (keys_at g room.place.canvas)
+  pub outer_few : length (keys_at g room.place.canvas) < 2 ^ 32
+  pub list : IsPartOf g key spots
+  pub all_live : AllByRecursion (λ k. IsSome (get g.nodes k)) (keys_of_spots spots)
+  pub small : KindsSmall g
+  pub rooms : AreRoomsFor (map (need_at g) (keys_of_spots spots)) room.boxes.items
+  pub order_rooms : AllZip IsOrderRoom (flat_map (inside_at g) (keys_of_spots spots)) room.orders.items
+  pub link_rooms : AllZip AreLinkRooms (flat_map (inside_at g) (keys_of_spots spots)) (map (λ v. v.items) room.links.items)
+  pub web_room : (w : Web) (end : ℕ) → HasWebRoom w end (2 * wires_all (insides_of (stands_for room))) (wires_all (insides_of (stands_for room)))
+      → HasWebRoom w 0 (2 * wires_all (flat_map (inside_at g) (keys_of_spots spots))) (wires_all (flat_map (inside_at g) (keys_of_spots spots)))
+  pub bare : (side : Side) (k : ℕ) → IsTrue (is_among (keys_of_spots spots) k) → ports_told p.web side k ≡ []
+  pub apart : (j k i : ℕ) → IsTrue (is_among (keys_of_spots spots) k) → IsPortOf g j k i → port_told p.web j ≡ None
+  pub boards : (k c : ℕ) → IsTrue (is_among (keys_of_spots spots) k) → inner_in (get g.nodes k) ≡ Some c → IsSome (get g.boards c)
+  pub slots : (k c : ℕ) → IsTrue (is_among (keys_of_spots spots) k) → inner_in (get g.nodes k) ≡ Some c → c < length p.orders.items
+  pub lists : (k c : ℕ) → IsTrue (is_among (keys_of_spots spots) k) → inner_in (get g.nodes k) ≡ Some c → length (keys_at g c) ≤ vec_capacity room.signal
+  pub few : (k c : ℕ) → IsTrue (is_among (keys_of_spots spots) k) → inner_in (get g.nodes k) ≡ Some c → length (keys_at g c) < 2 ^ 32
+  pub owners : (class : Class) (name : ℕ) → length (boxes_owning table (get g.nodes) class name spots) ≢ 0 → HasRoom p.names (Some (class, name)) (length (boxes_owning table (get g.nodes) class name spots))
+  pub loose : IsLoose p.links key
+  pub loose_inside : (x c k : ℕ) → IsTrue (is_among (keys_of_spots spots) x) → inner_in (get g.nodes x) ≡ Some c → IsThere (keys_at g c) k → IsLoose p.links k
+  pub stands_there : IsThere (keys_at g room.place.canvas) key
+  pub lacks : LacksBox g p.links p.orders.items room.place.canvas key
+  pub wired : (o : Web) → OpensAll g p.web o (keys_of_spots spots) → AreWired g o p.links
+  pub made : (o : Web) → OpensAll g p.web o (keys_of_spots spots) → (k : ℕ) → made_at o.sockets.items k ≡ made_in (get g.nodes k)
 
 module _ (p : Patch) (room : PartRoom) (table : Names) (C : CanPut p) (plain : IsNoPort p room.place room.seed.row.kind) (T : TakesPart p room table) (g : Grove) (key : ℕ) (left : Seeds)
     (part : (t : Trees) (more : List Stand) → one (seed_stand room.seed) (stands_ready (seeds_in room.inside)) ≡ stands_of t ++ more → width t ≡ 1 → depth_of (get p.grove.boards room.place.canvas) + deep t < 257
@@ -135,7 +207,7 @@ module _ (p : Patch) (room : PartRoom) (table : Names) (C : CanPut p) (plain : I
   pub homes_alone : (j a b i m : ℕ) → IsPortOf g j a i → IsPortOf g j b m → a ≡ b
   homes_alone = one_home g F
 
-  N : (holder_in (get p.grove.boards room.place.canvas) ≡ None) ⊎ ((n : Node) → get g.nodes key ≡ Some n → (side : Side) → port_signal side n.kind ≡ None)
+  pub N : (holder_in (get p.grove.boards room.place.canvas) ≡ None) ⊎ ((n : Node) → get g.nodes key ≡ Some n → (side : Side) → port_signal side n.kind ≡ None)
   N = ⊎_elim
       (λ (e : holder_in (get p.grove.boards room.place.canvas) ≡ None). inl e)
       (λ (f : (side : Side) → port_signal side room.seed.row.kind ≡ None). inr (λ n is side. ap (port_signal side) (kind n is) ∙ f side)) plain
@@ -186,6 +258,14 @@ module _ (p : Patch) (room : PartRoom) (table : Names) (C : CanPut p) (plain : I
       let l = longer (keys_before p room.place) (keys_behind p room.place) key in
       let f = T.few in omega (arith, e, d, l, f)
 
+  pub spots_fit : (top : Bool) → IsEmptyFor (length (part_spots (get g.nodes) (get g.boards) (spot top key))) room.spots.items (vec_len room.spots) (vec_capacity room.spots)
+  spots_fit top =
+      subst (λ n. IsEmptyFor n room.spots.items (vec_len room.spots) (vec_capacity room.spots))
+      (sym (part_length g room.place.canvas key tree stood more.lies lower top (stands_for room) T.part.is_tree)) T.spots
+
+  pub links_reach : (k : ℕ) → IsSome (get g.nodes k) → ReachesKeys p.links (k + 1)
+  links_reach k some = let l = live_low k some in let R = T.keys.links in record { into = (let x = R.into in omega (arith, l, x)); from = (let x = R.from in omega (arith, l, x)) }
+
   -- The list of the boxes that came.
 
   module _ (top : Bool) (spots : List Spot) (told : spots ≡ part_spots (get g.nodes) (get g.boards) (spot top key)) (at : (i : ℕ) × (slice_get (spots_in_order g) i ≡ Some (spot top key))) where
@@ -225,9 +305,9 @@ module _ (p : Patch) (room : PartRoom) (table : Names) (C : CanPut p) (plain : I
     pub link_rooms : AllZip AreLinkRooms (flat_map (inside_at g) keys) (map (λ v. v.items) room.links.items)
     link_rooms = subst (λ is. AllZip AreLinkRooms is (map (λ v. v.items) room.links.items)) (sym insides) T.links
 
-    pub web_room : (w : Web) → HasWebRoom w T.end (2 * wires_all (insides_of (stands_for room))) (wires_all (insides_of (stands_for room)))
+    pub web_room : (w : Web) (end : ℕ) → HasWebRoom w end (2 * wires_all (insides_of (stands_for room))) (wires_all (insides_of (stands_for room)))
         → HasWebRoom w 0 (2 * wires_all (flat_map (inside_at g) keys)) (wires_all (flat_map (inside_at g) keys))
-    web_room w r =
+    web_room w end r =
         let e = ap wires_all insides in
         record { boxes = omega arith; homes = omega arith; ends = (let x = r.ends in omega (arith, x, e)); wires = (let x = r.wires in omega (arith, x, e)) }
 
@@ -256,3 +336,67 @@ module _ (p : Patch) (room : PartRoom) (table : Names) (C : CanPut p) (plain : I
 
     pub slots : (k c : ℕ) → IsTrue (is_among keys k) → inner_in (get g.nodes k) ≡ Some c → c < length p.orders.items
     slots k c t e = orders_reach c (boards k c t e)
+
+    -- Rooms of canvases, one by one.
+
+    inside_one : (k c : ℕ) → IsTrue (is_among keys k) → inner_in (get g.nodes k) ≡ Some c → inside_at g k ≡ record { wires = wires_in (get g.boards c); boxes = length (keys_at g c) } ∷ []
+    inside_one k c t e = inside_is g k c e (boards k c t e)
+
+    pub lists : (k c : ℕ) → IsTrue (is_among keys k) → inner_in (get g.nodes k) ≡ Some c → length (keys_at g c) ≤ vec_capacity room.signal
+    lists k c t e =
+        (subst (λ is. AllByRecursion (λ (i : Inside). i.boxes ≤ vec_capacity room.signal) is) (inside_one k c t e)
+        (all_flat (λ (i : Inside). i.boxes ≤ vec_capacity room.signal) (inside_at g) keys k (subst (λ is. AllByRecursion (λ (i : Inside). i.boxes ≤ vec_capacity room.signal) is) (sym insides) T.signal) t)).0
+
+    pub few : (k c : ℕ) → IsTrue (is_among keys k) → inner_in (get g.nodes k) ≡ Some c → length (keys_at g c) < 2 ^ 32
+    few k c t e =
+        let l = (subst (λ is. AllByRecursion (λ (i : Inside). i.boxes < 4294967295) is) (inside_one k c t e)
+        (all_flat (λ (i : Inside). i.boxes < 4294967295) (inside_at g) keys k (zipped_few (flat_map (inside_at g) keys) room.orders.items order_rooms) t)).0 in
+        omega (arith, l)
+
+    pub owners : (class : Class) (name : ℕ) → length (boxes_owning table (get g.nodes) class name spots) ≢ 0 → HasRoom p.names (Some (class, name)) (length (boxes_owning table (get g.nodes) class name spots))
+    owners class name =
+        owner_room table class name (get g.nodes) (get g.boards) room.place.canvas (depth_of (get g.boards room.place.canvas)) top (key ∷ []) tree stood (stands_for room) spots p.names T.part.is_tree
+        (told ∙ part_stands g room.place.canvas key tree stood more.lies lower top) (T.owners class name)
+
+    -- All of it.
+
+    pub ready : IsReady p room table g key spots
+    ready = record {
+      more = more;
+      stands = stands_whole;
+      uses = uses_all;
+      kind = kind;
+      forest = F;
+      alone = alone;
+      homes_alone = homes_alone;
+      root_free = root_free;
+      low = λ k t. below_root k (came k t);
+      clock_room = λ k t. clocks_reach k (came k t);
+      near = near;
+      values_reach = values_reach;
+      numbers_reach = numbers_reach;
+      outer_reach = outer_reach;
+      links_reach = links_reach;
+      outer_once = outer_once;
+      outer_few = outer_few;
+      list = list;
+      all_live = all_live;
+      small = small;
+      rooms = rooms;
+      order_rooms = order_rooms;
+      link_rooms = link_rooms;
+      web_room = web_room;
+      bare = bare;
+      apart = apart;
+      boards = boards;
+      slots = slots;
+      lists = lists;
+      few = few;
+      owners = owners;
+      loose = loose.loose p g room.place key C root more keys list.are list.once N key ((list.are key).1 (zero, refl));
+      loose_inside = loose.loose_inside p g room.place key C root more keys list.are list.once N;
+      stands_there = loose.stands_there p g room.place key C root more keys list.are list.once N;
+      lacks = loose.lacks p g room.place key C root more keys list.are list.once N;
+      wired = wired p g room.place key C root more keys list.are list.once N;
+      made = made p g room.place key C root more keys list.are list.once N;
+    }

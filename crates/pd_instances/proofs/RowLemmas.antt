@@ -11,17 +11,20 @@ use Rattle.pd_canvas.specs.declared.wires.Wire.{Wire}
 use Rattle.pd_links.specs.declared.links.Links.{Links}
 use Rattle.pd_links.specs.declared.opening.LinkRoom.{LinkRoom}
 use Rattle.pd_links.specs.Linked.{feeders_of, followers_of, spare_from, spare_into, KeepsLinks}
+use Rattle.pd_order.specs.Graph.{tally}
 use Rattle.pd_grove.specs.declared.boards.Board.{Board}
 use Rattle.pd_grove.specs.declared.grove.Grove.{Grove}
 use Rattle.pd_grove.specs.Owning.{AreOwn}
 use Rattle.pd_grove.specs.Telling.{inner_in, keys_in}
 use Rattle.pd_owning.specs.Bound.{is_among}
+use Rattle.pd_web.specs.declared.web.Web.{Web}
 use Rattle.pd_web.specs.Canvases.{keys_at}
 use Rattle.pd_web.specs.Lines.{wires_in}
 use Rattle.pd_ports.specs.Known.{HoldAlone}
 use Rattle.pd_patch.specs.Listing.{IsThere}
 use Rattle.pd_patch.specs.Numbers.{AreApart, IsOut}
 use Rattle.pd_placing.specs.Placing.{IsLoose}
+use Rattle.pd_wiring.specs.Graphs.{AreWired}
 use Rattle.pd_instances.specs.Lay.{AreNextRows, HasSpare, IsEmptyRoom, KeepsRow, OpensRows, TakesWires}
 use Rattle.pd_instances.specs.Needs.{AreLinkRooms, Inside, inside_at, inside_held, inside_seen, IsLinkRoom}
 use Rattle.pd_instances.proofs.OpenLemmas.{is_true, last_or}
@@ -35,6 +38,14 @@ links_same l = record { feeders = λ x. refl; followers = λ x. refl; reach = λ
 
 pub links_still : (l l' l'' : Links) → KeepsLinks l l' → KeepsLinks l' l'' → KeepsLinks l l''
 links_still l l' l'' a b = record { feeders = λ x. b.feeders x ∙ a.feeders x; followers = λ x. b.followers x ∙ a.followers x; reach = λ end r. b.reach end (a.reach end r) }
+
+pub wired_kept : (g : Grove) (w : Web) (l l' : Links) → AreWired g w l → KeepsLinks l l' → AreWired g w l'
+wired_kept g w l l' W K = record {
+  own = W.own;
+  ports = W.ports;
+  inside = W.inside;
+  linked = record { followers = λ k j. ap (tally j) (K.followers k) ∙ W.linked.followers k j; feeders = λ k j. ap (tally k) (K.feeders j) ∙ W.linked.feeders k j };
+}
 
 pub none_still : (l l' : Links) (k : ℕ) → KeepsLinks l l' → IsLoose l k → IsLoose l' k
 none_still l l' k K H = record { unfed = K.feeders k ∙ H.unfed; unfollowed = K.followers k ∙ H.unfollowed }

@@ -137,3 +137,13 @@ first_kind nodes boards c d key (Leaf x rest) s ss n e S is =
     seen_kind (nodes key) n _ is S.0 ∙ ap (λ (y : Stand). y.cell.kind) (sym (first s ss _ (stands_of rest) e))
 first_kind nodes boards c d key (Holder x sheet inner rest) s ss n e S is =
     seen_kind (nodes key) n _ is S.2 ∙ ap (λ (y : Stand). y.cell.kind) (sym (first s ss _ (stands_of inner ++ stands_of rest) e))
+
+-- Telling.
+
+pub told_part : (g : Grove) (c key : ℕ) (top : Bool) (levels : ℕ) → board_in (get g.nodes key) ≡ Some c → levels ≡ 256 - depth_of (get g.boards c)
+    → box_spots (get g.boards) (spots_among (get g.nodes) (get g.boards) levels) top key (get g.nodes key) ≡ part_spots (get g.nodes) (get g.boards) (spot top key)
+told_part g c key top levels lies e =
+    ap (λ n. box_spots (get g.boards) (spots_among (get g.nodes) (get g.boards) n) top key (get g.nodes key)) (e ∙ ap (λ d. 256 - d) (sym (level_is (get g.nodes) (get g.boards) key c lies)))
+
+pub spot_same : (p : Spot) (key : ℕ) → p.node ≡ key → p ≡ spot p.is_top key
+spot_same p key e = ap (spot p.is_top) e

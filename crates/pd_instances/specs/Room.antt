@@ -1,5 +1,5 @@
 -- Room for a box that comes with all that lies in it.
-use Rattle.std.specs.Prelude.{◌≡◌, ◌≢◌, ◌<◌, ◌≤◌, ◌+◌, ◌*◌, ◌^◌, ℕ, true, List, [], ◌∷◌, map, filter, length, Some, vec_len, vec_capacity}
+use Rattle.std.specs.Prelude.{◌≡◌, ◌≢◌, ◌<◌, ◌≤◌, ◌+◌, ◌*◌, ◌^◌, ℕ, true, List, [], ◌∷◌, map, filter, cond, length, Option, Some, vec_len, vec_capacity}
 use Rattle.std.specs.List.{AllByRecursion, AllZip}
 use Rattle.slab.specs.Slab.{get}
 use Rattle.pd_atom.specs.Names.{Names}
@@ -11,7 +11,7 @@ use Rattle.pd_grove.specs.Room.{HasPlace}
 use Rattle.pd_grove.specs.Standing.{depth_of}
 use Rattle.pd_grove.specs.States.{SeedsSmall}
 use Rattle.pd_grove.specs.TextOrder.{deep}
-use Rattle.pd_bind.specs.Naming.{owned_by}
+use Rattle.pd_bind.specs.Naming.{owned_by, Owned}
 use Rattle.pd_bind.specs.Owning.{is_owned}
 use Rattle.pd_owning.specs.Bound.{HasRoom as HasOwnerRoom}
 use Rattle.pd_web.specs.Canvases.{keys_at}
@@ -37,6 +37,9 @@ pub record IsOnePart (p : Patch) (place : Place) (ss : List Stand) : Type 0 wher
 -- how many of these boxes own a name, where all of them are in the patch's own document
 abbrev pub owning_among : Names → Class → ℕ → List Stand → ℕ
 owning_among table class name ss = length (filter (λ (s : Stand). is_owned class name (owned_by table true s.cell)) ss)
+
+abbrev pub owning_one : Class → ℕ → Option Owned → ℕ
+owning_one class name o = cond (is_owned class name o) 1 0
 
 -- every key that a box can have, and that of a canvas, is below these ends, and lists by key reach them
 pub record ReachesAll (p : Patch) (end : ℕ) : Type 0 where

@@ -126,6 +126,6 @@ fn keys_are_low(grove: &Grove)
     ensures boxes { (k : ℕ) → ContainsKey grove.now.nodes k → k < grove.now.nodes.capacity }
     ensures canvases { (c : ℕ) → ContainsKey grove.now.boards c → c < grove.now.boards.capacity }
 {
-    let _boxes = grove.nodes_end();
-    let _canvases = grove.boards_end();
+    let boxes = grove.nodes_end();
+    let canvases = grove.boards_end();
 }

@@ -1,13 +1,15 @@
 //! Room for a box that comes with all that lies in it, set aside in every layer.
 
-ghost use Rattle.std.specs.Prelude.{◌≡◌, ◌∷◌, IsSome, IfOk};
+ghost use Rattle.std.specs.Prelude.{◌≡◌, ◌∷◌, ◌+◌, ◌*◌, ◌<◌, ◌^◌, ℕ, length, IsSome, IfOk, OnOk};
 ghost use Rattle.slab.specs.Slab.{ContainsKey};
 ghost use Rattle.pd_tree.specs.Trees.{stands_in};
 ghost use Rattle.pd_grove.specs.Planting.{seeds_in};
 ghost use Rattle.pd_grove.specs.States.{AreFresh, AreSmall};
+ghost use Rattle.pd_web.specs.Canvases.{keys_at};
+ghost use Rattle.pd_web.specs.Changes.{HasRoom};
 ghost use Rattle.pd_patch.specs.Telling.{order_in};
 ghost use Rattle.pd_boxes.specs.Room.{SameButRoom};
-ghost use Rattle.pd_instances.specs.Room.{stands_for, IsOnePart, TakesPart};
+ghost use Rattle.pd_instances.specs.Room.{stands_for, IsOnePart, ReachesAll, TakesPart};
 
 use crate::names::reserve_names;
 use crate::needs::needs_of;
@@ -86,7 +88,10 @@ pub fn reserve_part(
 }
 
 /// Makes all lists by key reach the keys that boxes and canvases can have, and sets room aside for so many wires.
-fn reach_keys(alloc: Global, patch: &mut Patch, wires: u32) -> Result<(), AllocError> {
+fn reach_keys(alloc: Global, patch: &mut Patch, wires: u32) -> Result<(), AllocError>
+    ensures same { SameButRoom patch.old patch.new }
+    ensures reach { OnOk result ((end : ℕ) × ReachesAll patch.new end × HasRoom patch.new.web end (2 * wires) wires) }
+{
     let Ok(end) = u32::try_from(patch.grove.nodes_end()) else {
         return Err(AllocError);
     };
@@ -101,7 +106,9 @@ fn reach_keys(alloc: Global, patch: &mut Patch, wires: u32) -> Result<(), AllocE
 }
 
 /// Sees that a canvas has fewer boxes than can be counted.
-fn take_one_more(grove: &Grove, canvas: u32) -> Result<(), AllocError> {
+fn take_one_more(grove: &Grove, canvas: u32) -> Result<(), AllocError>
+    ensures { OnOk result (length (keys_at grove.now canvas) + 1 < 2 ^ 32) }
+{
     match grove.board(canvas) {
         Some(board) if board.nodes.len() >= MOST_BOXES => Err(AllocError),
         _ => Ok(()),

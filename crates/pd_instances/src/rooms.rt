@@ -1,10 +1,11 @@
 //! Room for boxes that come, one for each box or canvas of a list in text order.
 
-ghost use Rattle.std.specs.Prelude.{◌≡◌, ◌<◌, ◌≤◌, ◌+◌, ◌^◌, [], map, length, IfOk};
+ghost use Rattle.std.specs.Prelude.{◌≡◌, ◌≢◌, ◌<◌, ◌≤◌, ◌+◌, ◌^◌, [], ℕ, map, length, replicate, slice_get, Some, IfOk, OnOk};
 ghost use Rattle.std.specs.List.{AllZip};
 ghost use Rattle.pd_tree.specs.Trees.{stands_in};
 ghost use Rattle.pd_web.specs.Changes.{IsSame, KeepsRoom};
-ghost use Rattle.pd_instances.specs.Needs.{insides_of, wires_all, AreLinkRooms, AreRoomsFor, IsOrderRoom, IsRoomFor};
+ghost use Rattle.pd_placing.specs.Room.{TakesMore};
+ghost use Rattle.pd_instances.specs.Needs.{inside_of, inside_with, insides_of, wires_all, AreLinkRooms, AreRoomsFor, IsLinkRoom, IsOrderRoom, IsRoomFor};
 
 use crate::needs::Need;
 use crate::room::BoxRoom;
@@ -80,46 +81,61 @@ fn rooms_inside(
     alloc: Global,
     wires: &[Wire],
     boxes: u32,
-) -> Result<Vec<LinkRoom>, AllocError> {
+) -> Result<Vec<LinkRoom>, AllocError>
+    ensures { IfOk result (λ rooms. AreLinkRooms (inside_with wires.now boxes) rooms.items) }
+{
     if wires.len() > MOST {
         return Err(AllocError);
     }
-    let mut rooms = Vec::with_capacity(alloc, boxes as usize)?;
-    for _ in 0..boxes {
-        rooms.push(LinkRoom {
-            into: Vec::new(alloc),
-            from: Vec::new(alloc),
-        })?;
+    let mut from = zeros(alloc, boxes)?;
+    let mut into = zeros(alloc, boxes)?;
+    for wire in wires {
+        count_at(&mut from, wire.source)?;
+        count_at(&mut into, wire.sink)?;
     }
-    count_wires(&mut rooms, wires)?;
-    empty_rooms(&mut rooms);
+    let mut rooms = Vec::with_capacity(alloc, boxes as usize)?;
+    for i in 0..from.len() {
+        let room = link_room(alloc, from[i], into[i])?;
+        rooms.push(room)?;
+    }
     Ok(rooms)
 }
 
-/// Fills rooms with as many numbers as there are wires at their boxes.
-fn count_wires(rooms: &mut Vec<LinkRoom>, wires: &[Wire]) -> Result<(), AllocError> {
-    for wire in wires {
-        count_wire(rooms, wire)?;
+/// So many zeros.
+fn zeros(alloc: Global, count: u32) -> Result<Vec<u32>, AllocError>
+    ensures { IfOk result (λ zeros. zeros.items ≡ replicate count 0) }
+{
+    let mut zeros = Vec::with_capacity(alloc, count as usize)?;
+    for _ in 0..count {
+        zeros.push(0)?;
     }
+    Ok(zeros)
+}
+
+/// Counts one more at a number, where it is one of the list.
+fn count_at(counts: &mut Vec<u32>, number: u32) -> Result<(), AllocError>
+    ensures others { (i : ℕ) → i ≢ number → slice_get counts.new.items i ≡ slice_get counts.old.items i }
+    ensures here { (n : ℕ) → slice_get counts.old.items number ≡ Some n → OnOk result (slice_get counts.new.items number ≡ Some (n + 1)) }
+    ensures all { length counts.new.items ≡ length counts.old.items }
+{
+    let i = number as usize;
+    if i >= counts.len() {
+        return Ok(());
+    }
+    let Some(more) = counts[i].checked_add(1) else {
+        return Err(AllocError);
+    };
+    counts[i] = more;
     Ok(())
 }
 
-fn count_wire(rooms: &mut Vec<LinkRoom>, wire: &Wire) -> Result<(), AllocError> {
-    if (wire.source as usize) < rooms.len() {
-        rooms[wire.source as usize].from.push(0)?;
-    }
-    if (wire.sink as usize) < rooms.len() {
-        rooms[wire.sink as usize].into.push(0)?;
-    }
-    Ok(())
-}
-
-/// Empties rooms, which keep what memory they have.
-fn empty_rooms(rooms: &mut Vec<LinkRoom>) {
-    for i in 0..rooms.len() {
-        rooms[i].from.clear();
-        rooms[i].into.clear();
-    }
+/// Room for so many signal wires from a box, and to it.
+fn link_room(alloc: Global, from: u32, into: u32) -> Result<LinkRoom, AllocError>
+    ensures { IfOk result (IsLinkRoom from into) }
+{
+    let into = Vec::with_capacity(alloc, into as usize)?;
+    let from = Vec::with_capacity(alloc, from as usize)?;
+    Ok(LinkRoom { into, from })
 }
 
 /// For each canvas that one of these boxes holds, an order with room for its boxes.
@@ -140,7 +156,9 @@ pub(crate) fn order_rooms(alloc: Global, rows: &[Row]) -> Result<VecDeque<Order>
 }
 
 /// An order with room for so many boxes.
-fn order_room(alloc: Global, boxes: u32) -> Result<Order, AllocError> {
+fn order_room(alloc: Global, boxes: u32) -> Result<Order, AllocError>
+    ensures { IfOk result (λ order. (order.chain ≡ []) × (order.stuck ≡ []) × (order.spots ≡ []) × TakesMore order boxes) }
+{
     if boxes as usize > MOST {
         return Err(AllocError);
     }
@@ -164,7 +182,9 @@ pub(crate) fn wire_count(rows: &[Row]) -> Result<u32, AllocError>
     Ok(count)
 }
 
-fn add_wires(count: u32, row: &Row) -> Result<u32, AllocError> {
+fn add_wires(count: u32, row: &Row) -> Result<u32, AllocError>
+    ensures { IfOk result (λ all. all ≡ count + wires_all (inside_of row.now.sheet row.now.boxes)) }
+{
     let Some(sheet) = &row.sheet else {
         return Ok(count);
     };
