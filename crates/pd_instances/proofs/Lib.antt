@@ -19,3 +19,5 @@ pub mod ReadyLemmas
 pub mod LooseLemmas
 pub mod NameLemmas
 pub mod SpotLemmas
+pub mod SumLemmas
+pub mod OwningLemmas

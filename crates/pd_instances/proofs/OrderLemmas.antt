@@ -1,5 +1,5 @@
 -- Canvases that have come get their orders, one after the other.
-use Rattle.std.proofs.Common.{◌≡◌, ◌≢◌, ℕ, ◌+◌, ◌≤◌, List, [], ◌∷◌, ◌++◌, drop, length, Option, Some, None, IsTrue, refl, sym, ap, ◌∙◌, subst, inl, inr, arith}
+use Rattle.std.proofs.Common.{◌≡◌, ◌≢◌, ℕ, suc, ◌+◌, ◌≤◌, Bool, true, false, cond, filter, List, [], ◌∷◌, ◌++◌, drop, length, Option, Some, None, IsTrue, refl, sym, ap, ◌∙◌, subst, inl, inr, arith}
 use Rattle.std.specs.Prelude.{◌⊎◌}
 use mathlib.Core.Logic.{⊎_elim}
 use Rattle.std.specs.List.{AllZip}
@@ -15,6 +15,7 @@ use Rattle.pd_grove.specs.Telling.{inner_in}
 use Rattle.pd_owning.specs.Bound.{is_among}
 use Rattle.pd_patch.specs.Telling.{order_in}
 use Rattle.pd_placing.specs.Placing.{StayBut}
+use Rattle.pd_placing.specs.Room.{HasPlaces, TakesMore}
 use Rattle.pd_wiring.specs.Graphs.{canvas_graph, signal_boxes, IsOrderIn}
 use Rattle.pd_instances.specs.Needs.{Inside, inside_at, inside_held, inside_seen, IsOrderRoom}
 use Rattle.pd_instances.specs.Layers.{AreNextOrders, OrdersAll}
@@ -67,6 +68,10 @@ orders_next g l old mid new ks k A order others none = by (inner_in (get g.nodes
         record { is = λ x c t h. subst (λ o. IsOrderIn (canvas_graph g l c) (signal_boxes g c) o) (sym (none e c)) (S.is x c t h); others = λ c out. none e c ∙ S.others c out }
     by (Some c) e = orders_more g l old mid new ks k A c e (order c e) (others c e)
 
+bound : (b : Bool) (k : ℕ) (ks js : List ℕ) → length js ≤ length ks → length (cond b (k ∷ js) js) ≤ suc (length ks)
+bound true k ks js l = omega (arith, l)
+bound false k ks js l = omega (arith, l)
+
 -- Rooms.
 
 pub next_order : (is js : List Inside) (orders : List Listing) → AllZip IsOrderRoom (is ++ js) orders → length is ≤ 1 → AreNextOrders is orders
@@ -89,6 +94,13 @@ pub orders_left : (is js : List Inside) (orders : List Listing) → AllZip IsOrd
 orders_left [] js orders A = subst (λ os. AllZip IsOrderRoom js os) (sym (drop_zero orders)) A
 orders_left (i ∷ is) js [] A = absurd A
 orders_left (i ∷ is) js (o ∷ orders) A = orders_left is js orders A.1
+
+pub kept_few : (p : ℕ → Bool) (ks : List ℕ) → length (filter p ks) ≤ length ks
+kept_few p [] = omega arith
+kept_few p (k ∷ ks) = bound (p k) k ks (filter p ks) (kept_few p ks)
+
+pub places_fit : (o : Option Listing) (x : Listing) (n m : ℕ) → o ≡ Some x → TakesMore x n → m ≤ n → HasPlaces o m
+places_fit o x n m e T l = subst (λ y. HasPlaces y m) (sym e) (record { room = (let r = T.room in omega (arith, r, l)); few = (let f = T.few in omega (arith, f, l)) })
 
 -- Looks.
 

@@ -100,6 +100,10 @@ next_rows [] js rows A l = tt
 next_rows (i ∷ is) js [] A l = absurd A
 next_rows (i ∷ is) js (r ∷ rows) A l = A.0
 
+-- the first list of rooms
+pub front_room : {X : Type 0} (f : X → List LinkRoom) (i : Inside) (x : X) (rest all : List X) → all ≡ x ∷ rest → AreNextRows (i ∷ []) (map f all) → AreLinkRooms i (f x)
+front_room f i x rest all e A = subst (λ xs. AreNextRows (i ∷ []) (map f xs)) e A
+
 pub rows_left : (is js : List Inside) (rows : List (List LinkRoom)) → AllZip AreLinkRooms (is ++ js) rows → AllZip AreLinkRooms js (drop (length is) rows)
 rows_left [] js rows A = subst (λ rs. AllZip AreLinkRooms js rs) (sym (drop_zero rows)) A
 rows_left (i ∷ is) js [] A = absurd A

@@ -65,6 +65,11 @@ key_there f [] n x h = absurd (none-some x h)
 key_there f (k ∷ keys) zero x h = refl
 key_there f (k ∷ keys) (suc n) x h = key_there f keys n x h
 
+pub past_key : (keys : List ℕ) (n : ℕ) → slice_get keys n ≡ None → 0 ≡ slice_index_or keys n 0
+past_key [] n e = refl
+past_key (k ∷ keys) zero e = absurd (none-some k (sym e))
+past_key (k ∷ keys) (suc n) e = past_key keys n e
+
 module _ (all : Web) (keys : List ℕ) (v : Wire) (t : fits (boxes_told all keys) v ≡ true) where
   pub source_key : slice_get keys v.source ≡ Some (line_of keys v).source
   source_key =

@@ -1,6 +1,6 @@
 //! The wires of canvases that have come, for which the links get room.
 
-ghost use Rattle.std.specs.Prelude.{◌≡◌, ◌<◌, ◌≤◌, ◌+◌, ◌*◌, ◌++◌, ◌∷◌, [], ℕ, List, map, drop, length, Some, None, slice_get, IsSome, IsTrue};
+ghost use Rattle.std.specs.Prelude.{◌≡◌, ◌≢◌, ◌<◌, ◌≤◌, ◌+◌, ◌*◌, ◌++◌, ◌∷◌, [], ℕ, List, map, drop, length, Some, None, slice_get, IsSome, IsTrue};
 ghost use Rattle.std.specs.List.{AllZip, flat_map};
 ghost use Rattle.slab.specs.Slab.{get, ContainsKey};
 ghost use Rattle.pd_canvas.specs.declared.wires.Wire.{Wire};

@@ -1,11 +1,11 @@
 //! Room for boxes that come, one for each box or canvas of a list in text order.
 
-ghost use Rattle.std.specs.Prelude.{◌≡◌, ◌≢◌, ◌<◌, ◌≤◌, ◌+◌, ◌^◌, [], ℕ, map, length, replicate, slice_get, Some, IfOk, OnOk};
+ghost use Rattle.std.specs.Prelude.{◌≡◌, ◌≢◌, ◌<◌, ◌≤◌, ◌+◌, ◌^◌, ◌++◌, [], ℕ, List, map, length, replicate, slice_get, Some, IfOk, OnOk};
 ghost use Rattle.std.specs.List.{AllZip};
 ghost use Rattle.pd_tree.specs.Trees.{stands_in};
 ghost use Rattle.pd_web.specs.Changes.{IsSame, KeepsRoom};
 ghost use Rattle.pd_placing.specs.Room.{TakesMore};
-ghost use Rattle.pd_instances.specs.Needs.{inside_of, inside_with, insides_of, wires_all, AreLinkRooms, AreRoomsFor, IsLinkRoom, IsOrderRoom, IsRoomFor};
+ghost use Rattle.pd_instances.specs.Needs.{inside_of, inside_with, insides_of, wires_all, AreLinkRooms, AreRoomsFor, Inside, IsLinkRoom, IsOrderRoom, IsRoomFor};
 
 use crate::needs::Need;
 use crate::room::BoxRoom;
@@ -68,12 +68,26 @@ pub(crate) fn link_rooms(
 {
     let mut rooms = VecDeque::new(alloc);
     for row in rows {
-        if let Some(sheet) = &row.sheet {
-            let inside = rooms_inside(alloc, sheet.wires.as_slice(), row.boxes)?;
-            rooms.push_back(inside)?;
-        }
+        add_link_rooms(alloc, row, &mut rooms)?;
     }
     Ok(rooms)
+}
+
+/// Adds the room for the signal wires of the boxes of the canvas that a box holds, where it holds one.
+fn add_link_rooms(
+    alloc: Global,
+    row: &Row,
+    rooms: &mut VecDeque<Vec<LinkRoom>>,
+) -> Result<(), AllocError>
+    ensures { OnOk result ((insides : List Inside) → AllZip AreLinkRooms insides (map (λ v. v.items) rooms.old.items) →
+        AllZip AreLinkRooms (insides ++ inside_of row.now.sheet row.now.boxes) (map (λ v. v.items) rooms.new.items)) }
+{
+    let Some(sheet) = &row.sheet else {
+        return Ok(());
+    };
+    let inside = rooms_inside(alloc, sheet.wires.as_slice(), row.boxes)?;
+    rooms.push_back(inside)?;
+    Ok(())
 }
 
 /// For each box of a canvas room for its signal wires, as many as there are wires at it.
@@ -148,11 +162,26 @@ pub(crate) fn order_rooms(alloc: Global, rows: &[Row]) -> Result<VecDeque<Order>
 {
     let mut orders = VecDeque::new(alloc);
     for row in rows {
-        if row.sheet.is_some() {
-            orders.push_back(order_room(alloc, row.boxes)?)?;
-        }
+        add_order_room(alloc, row, &mut orders)?;
     }
     Ok(orders)
+}
+
+/// Adds an order with room for the boxes of the canvas that a box holds, where it holds one.
+fn add_order_room(
+    alloc: Global,
+    row: &Row,
+    orders: &mut VecDeque<Order>,
+) -> Result<(), AllocError>
+    ensures { OnOk result ((insides : List Inside) → AllZip IsOrderRoom insides orders.old.items →
+        AllZip IsOrderRoom (insides ++ inside_of row.now.sheet row.now.boxes) orders.new.items) }
+{
+    if row.sheet.is_none() {
+        return Ok(());
+    }
+    let order = order_room(alloc, row.boxes)?;
+    orders.push_back(order)?;
+    Ok(())
 }
 
 /// An order with room for so many boxes.

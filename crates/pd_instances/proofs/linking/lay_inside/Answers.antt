@@ -14,11 +14,11 @@ lay_canvas-requires-clause-room c =
 pub lay_canvas-requires-clause-takes : goal.lay_canvas-requires-clause-takes
 lay_canvas-requires-clause-takes c = c.requires.takes c.in-Some.canvas (sym c.canvas_in.ensures ∙ c.in-Some.is)
 
-pub returns-in-None-clause-lays : goal.returns-in-None-clause-lays
-returns-in-None-clause-lays c = none_inside c.args.grove.now c.args.web.now c.args.key (sym c.canvas_in.ensures ∙ c.in-None.is)
+pub returns-in_default-clause-lays : goal.returns-in_default-clause-lays
+returns-in_default-clause-lays c = none_inside c.args.grove.now c.args.web.now c.args.key (sym c.canvas_in.ensures ∙ c.in_default.is)
 
-pub returns-in-None-clause-others : goal.returns-in-None-clause-others
-returns-in-None-clause-others c = λ d k e out. absurd (none-some d (sym (sym c.canvas_in.ensures ∙ c.in-None.is) ∙ e))
+pub returns-in_default-clause-others : goal.returns-in_default-clause-others
+returns-in_default-clause-others c = λ d k e out. absurd (none-some d (sym (sym c.canvas_in.ensures ∙ c.in_default.is) ∙ e))
 
 pub returns-clause-lays : goal.returns-clause-lays
 returns-clause-lays c = some_inside c.args.grove.now c.args.web.now c.lay_canvas.new.web c.args.key c.in-Some.canvas (sym c.canvas_in.ensures ∙ c.in-Some.is) c.lay_canvas.ensures.lays

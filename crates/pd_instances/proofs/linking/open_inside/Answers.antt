@@ -35,17 +35,17 @@ open_next-requires-clause-bare c = λ n k at.
     let d = c.in-Some.canvas in
     c.requires.bare d k (sym c.canvas_in.ensures ∙ c.in-Some.is) (n, subst (λ (ks : List ℕ). slice_get ks n ≡ Some k) c.keys_inside_box.ensures at)
 
-pub returns-in-None-clause-keeps : goal.returns-in-None-clause-keeps
-returns-in-None-clause-keeps c = links_same c.args.links.now
+pub returns-in_default-clause-keeps : goal.returns-in_default-clause-keeps
+returns-in_default-clause-keeps c = links_same c.args.links.now
 
-pub returns-in-None-clause-takes : goal.returns-in-None-clause-takes
-returns-in-None-clause-takes c = λ d e. absurd (none-some d (sym (sym c.canvas_in.ensures ∙ c.in-None.is) ∙ e))
+pub returns-in_default-clause-takes : goal.returns-in_default-clause-takes
+returns-in_default-clause-takes c = λ d e. absurd (none-some d (sym (sym c.canvas_in.ensures ∙ c.in_default.is) ∙ e))
 
-pub returns-in-None-clause-others : goal.returns-in-None-clause-others
-returns-in-None-clause-others c = λ d k e out. absurd (none-some d (sym (sym c.canvas_in.ensures ∙ c.in-None.is) ∙ e))
+pub returns-in_default-clause-others : goal.returns-in_default-clause-others
+returns-in_default-clause-others c = λ d k e out. absurd (none-some d (sym (sym c.canvas_in.ensures ∙ c.in_default.is) ∙ e))
 
-pub returns-in-None-clause-rest : goal.returns-in-None-clause-rest
-returns-in-None-clause-rest c = ap (λ o. drop (length (inside_held c.args.grove.now o)) c.args.rooms.now.items) (sym (sym c.canvas_in.ensures ∙ c.in-None.is))
+pub returns-in_default-clause-rest : goal.returns-in_default-clause-rest
+returns-in_default-clause-rest c = ap (λ o. drop (length (inside_held c.args.grove.now o)) c.args.rooms.now.items) (sym (sym c.canvas_in.ensures ∙ c.in_default.is))
 
 pub returns-clause-takes : goal.returns-clause-takes
 returns-clause-takes c = λ d e.

@@ -21,6 +21,9 @@ order_inside-requires-clause-room g c =
     next_order (inside_at h (it spots i low)) (flat_map (inside_at h) (keys_of_spots (drop (i + 1) spots))) c.loop-spot.rooms.items
     (subst (λ ks. AllZip IsOrderRoom (flat_map (inside_at h) ks) c.loop-spot.rooms.items) (keys_left spots i low) c.loop-spot.invariant.rooms) (one_inside h (it spots i low))
 
+pub order_inside-requires-clause-board : goal.order_inside-requires-clause-board
+order_inside-requires-clause-board g c = λ k e. c.requires.boards (it c.args.spots.now c.loop-spot.spot-index c.loop-spot-test.true) k (it_among c.args.spots.now c.loop-spot.spot-index c.loop-spot-test.true) e
+
 pub order_inside-requires-clause-slots : goal.order_inside-requires-clause-slots
 order_inside-requires-clause-slots g c = λ k e. let s = c.requires.slots (it c.args.spots.now c.loop-spot.spot-index c.loop-spot-test.true) k (it_among c.args.spots.now c.loop-spot.spot-index c.loop-spot-test.true) e in let n = c.loop-spot.invariant.slots in omega (arith, s, n)
 
