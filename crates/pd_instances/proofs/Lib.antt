@@ -21,3 +21,4 @@ pub mod NameLemmas
 pub mod SpotLemmas
 pub mod SumLemmas
 pub mod OwningLemmas
+pub mod ListLemmas

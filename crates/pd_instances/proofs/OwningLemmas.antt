@@ -51,3 +51,10 @@ room_next old new counted owned class name was now stay others had e many here s
   where
     plus_zero : (n : ℕ) → n + 0 ≡ n
     plus_zero n = omega arith
+
+pub owned_next : (table table' : Names) (class : Class) (name : ℕ) (all : List Row) (n : ℕ) (row : Row) (owned : Option Owned) → n < length all → row ≡ get_or all n row → table' ≡ table
+    → owned ≡ owned_by table' true (stand_of row).cell
+    → owning_among table class name (stands_in (take (n + 1) all)) ≡ owning_among table class name (stands_in (take n all)) + owning_one class name owned
+owned_next table table' class name all n row owned low is same value =
+    owning_next table class name all n row low (sym is)
+    ∙ ap (λ o. owning_among table class name (stands_in (take n all)) + owning_one class name o) (sym (value ∙ ap (λ (t : Names). owned_by t true (stand_of row).cell) same))

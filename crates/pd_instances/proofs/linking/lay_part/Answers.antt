@@ -1,4 +1,4 @@
-use Rattle.std.proofs.Common.{ℕ, take, drop, sym, ap, ◌∙◌, subst}
+use Rattle.std.proofs.Common.{◌+◌, ℕ, [], take, drop, refl, sym, ◌∙◌, subst}
 use Rattle.std.proofs.lemmas.List.{take_all}
 use Rattle.pd_grove.specs.TextOrder.{keys_of_spots}
 use Rattle.pd_instances.specs.Lay.{LaysLines}
@@ -40,7 +40,7 @@ loop-spot-preserved c =
           (laid_next g c.args.web.now c.loop-spot.web c.lay_inside.new.web (keys_of_spots (take i spots)) k inv.lays E.lays);
       wired = E.wired;
       takes = λ x d t e.
-          taken_other g inv.wired.own c.requires.alone c.loop-spot.links c.lay_inside.new.links k E.others E.none x d
+          taken_other g inv.wired.own c.requires.alone c.loop-spot.links c.lay_inside.new.links [] k refl E.others E.none x d
           (it_later spots i low c.requires.once x t) e (inv.takes x d (it_left spots i low x t) e);
     }
 
