@@ -62,7 +62,7 @@ pub room_inside : (g : Grove) (u v : Web) (ks : List ℕ) (k : ℕ) (rest all : 
 room_inside g u v ks k rest all split L r =
     let m = of_few g ks in
     let e : wires_all (flat_map (inside_at g) all) ≡ wires_all (flat_map (inside_at g) ks ++ (inside_at g k ++ flat_map (inside_at g) rest)) =
-        ap (λ xs. wires_all (flat_map (inside_at g) xs)) split ∙ ap wires_all (flat_map-append (inside_at g) ks (k ∷ rest)) in
+    ap (λ xs. wires_all (flat_map (inside_at g) xs)) split ∙ ap wires_all (flat_map-append (inside_at g) ks (k ∷ rest)) in
     let a = wires_append (flat_map (inside_at g) ks) (inside_at g k ++ flat_map (inside_at g) rest) in
     let b = wires_append (inside_at g k) (flat_map (inside_at g) rest) in
     L.room 0 (2 * wires_all (inside_at g k)) (wires_all (inside_at g k))

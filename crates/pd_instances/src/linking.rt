@@ -54,12 +54,7 @@ pub(crate) fn open_links(
 }
 
 /// Gives the boxes of the canvas that a box holds their room in the links, from the first of some rooms.
-fn open_inside(
-    links: &mut Links,
-    grove: &Grove,
-    key: u32,
-    rooms: &mut VecDeque<Vec<LinkRoom>>,
-)
+fn open_inside(links: &mut Links, grove: &Grove, key: u32, rooms: &mut VecDeque<Vec<LinkRoom>>)
     requires own { AreOwn (get grove.now.nodes) (get grove.now.boards) }
     requires board { (c : ℕ) → inner_in (get grove.now.nodes key) ≡ Some c → ContainsKey grove.now.boards c }
     requires room { AreNextRows (inside_at grove.now key) (map (λ v. v.items) rooms.old.items) }

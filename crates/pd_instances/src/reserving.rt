@@ -13,8 +13,8 @@ ghost use Rattle.pd_instances.specs.Room.{stands_for, IsOnePart, ReachesAll, Tak
 
 use crate::names::reserve_names;
 use crate::needs::needs_of;
-use crate::rooms::{box_rooms, link_rooms, order_rooms, wire_count};
 use crate::room::PartRoom;
+use crate::rooms::{box_rooms, link_rooms, order_rooms, wire_count};
 use pd_atom::Symbols;
 use pd_boxes::{Place, reach_numbers, reach_values};
 use pd_clock::Time;
@@ -96,7 +96,9 @@ fn reach_keys(alloc: Global, patch: &mut Patch, wires: u32) -> Result<(), AllocE
         return Err(AllocError);
     };
     let wires = wires as usize;
-    patch.web.reserve(alloc, end as usize, wires + wires, wires)?;
+    patch
+        .web
+        .reserve(alloc, end as usize, wires + wires, wires)?;
     patch.links.reach(end)?;
     reach_numbers(&mut patch.numbers, end)?;
     reach_values(alloc, &mut patch.values, end)?;

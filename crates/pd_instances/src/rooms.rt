@@ -60,10 +60,7 @@ fn box_room(alloc: Global, web: &mut Web, need: Need) -> Result<BoxRoom, AllocEr
 /// # Errors
 ///
 /// `AllocError` where memory ran out, or where a canvas has more wires than can be counted.
-pub(crate) fn link_rooms(
-    alloc: Global,
-    rows: &[Row],
-) -> Result<VecDeque<Vec<LinkRoom>>, AllocError>
+pub(crate) fn link_rooms(alloc: Global, rows: &[Row]) -> Result<VecDeque<Vec<LinkRoom>>, AllocError>
     ensures { IfOk result (λ rooms. AllZip AreLinkRooms (insides_of (stands_in rows.now)) (map (λ v. v.items) rooms.items)) }
 {
     let mut rooms = VecDeque::new(alloc);
@@ -91,11 +88,7 @@ fn add_link_rooms(
 }
 
 /// For each box of a canvas room for its signal wires, as many as there are wires at it.
-fn rooms_inside(
-    alloc: Global,
-    wires: &[Wire],
-    boxes: u32,
-) -> Result<Vec<LinkRoom>, AllocError>
+fn rooms_inside(alloc: Global, wires: &[Wire], boxes: u32) -> Result<Vec<LinkRoom>, AllocError>
     ensures { IfOk result (λ rooms. AreLinkRooms (inside_with wires.now boxes) rooms.items) }
 {
     if wires.len() > MOST {
@@ -168,11 +161,7 @@ pub(crate) fn order_rooms(alloc: Global, rows: &[Row]) -> Result<VecDeque<Order>
 }
 
 /// Adds an order with room for the boxes of the canvas that a box holds, where it holds one.
-fn add_order_room(
-    alloc: Global,
-    row: &Row,
-    orders: &mut VecDeque<Order>,
-) -> Result<(), AllocError>
+fn add_order_room(alloc: Global, row: &Row, orders: &mut VecDeque<Order>) -> Result<(), AllocError>
     ensures { OnOk result ((insides : List Inside) → AllZip IsOrderRoom insides orders.old.items →
         AllZip IsOrderRoom (insides ++ inside_of row.now.sheet row.now.boxes) orders.new.items) }
 {

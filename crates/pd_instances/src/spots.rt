@@ -10,13 +10,7 @@ use pd_grove::{Grove, Spot};
 
 /// Adds the boxes of a canvas, each before those inside it. No memory is taken.
 #[cycle(telling)]
-fn push_boxes(
-    grove: &Grove,
-    keys: &[u32],
-    is_top: bool,
-    canvases: u32,
-    spots: &mut Vec<Spot>,
-)
+fn push_boxes(grove: &Grove, keys: &[u32], is_top: bool, canvases: u32, spots: &mut Vec<Spot>)
     requires room { vec_len spots.old + length (spots_among (get grove.now.nodes) (get grove.now.boards) canvases is_top keys.now) ≤ vec_capacity spots.old }
     ensures told { spots.new.items ≡ spots.old.items ++ spots_among (get grove.now.nodes) (get grove.now.boards) canvases is_top keys.now }
     ensures len { vec_len spots.new ≡ vec_len spots.old + length (spots_among (get grove.now.nodes) (get grove.now.boards) canvases is_top keys.now) }
@@ -32,13 +26,7 @@ fn push_boxes(
 
 /// Adds a live box, and then those inside it, where so many canvases may lie in one another there. No memory is taken.
 #[cycle(telling)]
-pub(crate) fn push_box(
-    grove: &Grove,
-    key: u32,
-    is_top: bool,
-    canvases: u32,
-    spots: &mut Vec<Spot>,
-)
+pub(crate) fn push_box(grove: &Grove, key: u32, is_top: bool, canvases: u32, spots: &mut Vec<Spot>)
     requires room { vec_len spots.old + length (box_spots (get grove.now.boards) (spots_among (get grove.now.nodes) (get grove.now.boards) canvases) is_top key (get grove.now.nodes key)) ≤ vec_capacity spots.old }
     ensures told { spots.new.items ≡ spots.old.items ++ box_spots (get grove.now.boards) (spots_among (get grove.now.nodes) (get grove.now.boards) canvases) is_top key (get grove.now.nodes key) }
     ensures len { vec_len spots.new ≡ vec_len spots.old + length (box_spots (get grove.now.boards) (spots_among (get grove.now.nodes) (get grove.now.boards) canvases) is_top key (get grove.now.nodes key)) }

@@ -20,10 +20,11 @@ open_next-requires-clause-room c =
     let g = c.args.grove.now in
     let d = c.in-Some.canvas in
     let e = sym c.canvas_in.ensures ∙ c.in-Some.is in
-    let rows : List (List LinkRoom) = map (λ v. v.items) c.args.rooms.now.items in
-    (wires_in (get g.boards d),
-    subst (λ (ks : List ℕ). AreNextRows (inside_with (wires_in (get g.boards d)) (length ks) ∷ []) rows) (sym c.keys_inside_box.ensures)
-    (subst (λ (is : List Inside). AreNextRows is rows) (inside_is g c.args.key d e (c.requires.board d e)) c.requires.room))
+    let rows : List (List LinkRoom) = map (λ v. v.items) c.args.rooms.now.items in (
+      wires_in (get g.boards d),
+      subst (λ (ks : List ℕ). AreNextRows (inside_with (wires_in (get g.boards d)) (length ks) ∷ []) rows) (sym c.keys_inside_box.ensures)
+          (subst (λ (is : List Inside). AreNextRows is rows) (inside_is g c.args.key d e (c.requires.board d e)) c.requires.room),
+    )
 
 pub open_next-requires-clause-reach : goal.open_next-requires-clause-reach
 open_next-requires-clause-reach c = λ n k at.

@@ -22,9 +22,10 @@ pub returns : goal.returns
 returns c =
     let g = c.args.grove.now in
     let top = c.spot_at-at.result.is_top in
-    let at = c.spot_at-at.ensures.stands in
-    (top,
-    c.push_box.ensures.told ∙ ap (λ (ps : List Spot). ps ++ box_spots (get g.boards) (spots_among (get g.nodes) (get g.boards) c.saturating_sub-levels.result) top c.args.key (get g.nodes c.args.key)) c.requires.none
-    ∙ told_part g c.args.canvas c.args.key top c.saturating_sub-levels.result c.requires.lies (c.saturating_sub-levels.ensures ∙ ap (λ n. 256 - n) c.depth_at.ensures),
-    at.0,
-    at.1 ∙ ap (λ p. Some p) (spot_same c.spot_at-at.result c.args.key c.spot_at-at.ensures.node))
+    let at = c.spot_at-at.ensures.stands in (
+      top,
+      c.push_box.ensures.told ∙ ap (λ (ps : List Spot). ps ++ box_spots (get g.boards) (spots_among (get g.nodes) (get g.boards) c.saturating_sub-levels.result) top c.args.key (get g.nodes c.args.key)) c.requires.none
+          ∙ told_part g c.args.canvas c.args.key top c.saturating_sub-levels.result c.requires.lies (c.saturating_sub-levels.ensures ∙ ap (λ n. 256 - n) c.depth_at.ensures),
+      at.0,
+      at.1 ∙ ap (λ p. Some p) (spot_same c.spot_at-at.result c.args.key c.spot_at-at.ensures.node),
+    )
