@@ -2,6 +2,7 @@
 use Rattle.std.proofs.Common.{◌≡◌, ℕ, ◌+◌, Bool, true, false, ◌||◌, List, [], ◌∷◌, ◌++◌, take, drop, refl, sym, ap, ◌∙◌, arith}
 use Rattle.std.proofs.Math.Seq.{take-add}
 use Rattle.std.proofs.lemmas.List.{drop-drop}
+use Rattle.pd_instances.specs.declared.needs.Need.{Need}
 use Rattle.pd_instances.specs.declared.needs.PortCount.{PortCount}
 use Rattle.pd_instances.specs.Needs.{no_port, plus, sum_of}
 
@@ -37,3 +38,6 @@ sum_next all now i sum more s r e =
 
 pub rest_next : (all now new : List PortCount) (i : ℕ) → now ≡ drop i all → new ≡ drop 1 now → new ≡ drop (i + 1) all
 rest_next all now new i r e = e ∙ ap (λ ys. drop 1 ys) r ∙ drop-drop 1 i all
+
+pub same_need : (a b : Need) → a.inlets ≡ b.inlets → a.outlets ≡ b.outlets → a.blocks ≡ b.blocks → a ≡ b
+same_need a b p q r = λ i. record { inlets = p i; outlets = q i; blocks = r i }

@@ -7,7 +7,7 @@ ghost use Rattle.pd_tree.specs.Trees.{stand_of, stands_in};
 ghost use Rattle.pd_grove.specs.States.{AreSmall};
 ghost use Rattle.pd_instances.specs.Needs.{port_of as port_of_kind, plus as plus_so, sum_of, leaf_need, holder_need as holder_need_so, stacked, stacked_on, need_on, needs_of as needs_of_stands};
 
-use pd_kind::{Glue, Kind, Side, Signal, ports};
+use pd_kind::{Glue, Kind, PortList, Side, Signal, ports};
 use pd_tree::Row;
 use std::alloc::{AllocError, Global};
 use std::collections::VecDeque;
@@ -126,12 +126,21 @@ fn need_of_kind(kind: &Kind) -> Need
     ensures { result ≡ leaf_need kind.now }
 {
     let list = ports(kind);
-    let outlets = list.outlets();
-    let blocks = if list.outlet_signal(0) { outlets } else { 0 };
     Need {
         inlets: list.inlets(),
-        outlets,
-        blocks,
+        outlets: list.outlets(),
+        blocks: block_count_of(&list),
+    }
+}
+
+/// How many blocks a box with these ports has: one for each outlet, where the first carries signals.
+fn block_count_of(list: &PortList) -> u32
+    ensures { result ≡ (if nat_lt 0 list.now.signal_outlets then list.now.outlets else 0) }
+{
+    if list.outlet_signal(0) {
+        list.outlets()
+    } else {
+        0
     }
 }
 

@@ -10,7 +10,7 @@ loop-row-preserved c =
     let rows = c.args.rows.now in
     let i = c.loop-row.row-index in
     let row = c.row-item.result in
-    c.in_ok-add_wires.ensures ∙ ap (λ n. n + wires_all (inside_of row.sheet row.boxes)) c.loop-row.invariant
+    c.in_ok-count.ensures ∙ ap (λ n. n + wires_all (inside_of row.sheet row.boxes)) c.loop-row.invariant
     ∙ sym (wires_append (insides_of (stands_in (take i rows))) (inside_of row.sheet row.boxes)) ∙ ap wires_all (sym (insides_next rows i row c.loop-row-test.true c.row-item.is))
 
 pub returns : goal.returns
