@@ -1,6 +1,6 @@
 -- Rooms that are set aside one behind the other.
-use Rattle.std.proofs.Common.{◌≡◌, ℕ, zero, suc, ◌+◌, ◌<◌, false, map, Option, Some, None, List, [], ◌∷◌, ◌++◌, append-nil, append_assoc, refl, length, length-append, take, get_or, sym, ap, ◌∙◌, subst, arith}
-use Rattle.std.specs.Prelude.{is_none, slice_get, slice_index_or}
+use Rattle.std.proofs.Common.{◌≡◌, ℕ, zero, suc, ◌+◌, ◌<◌, true, map, Option, Some, None, List, [], ◌∷◌, ◌++◌, append-nil, append_assoc, refl, length, length-append, take, get_or, sym, ap, ◌∙◌, subst, arith}
+use Rattle.std.specs.Prelude.{is_some, slice_get, slice_index_or}
 use Rattle.std.specs.List.{AllZip}
 use Rattle.std.proofs.lemmas.Bool.{false≢true}
 use Rattle.std.proofs.lemmas.Option.{none-some, same_Some}
@@ -45,10 +45,10 @@ wires_append [] js = omega arith
 wires_append (i ∷ is) js = let h = wires_append is js in omega (arith, h)
 
 -- a canvas more, where a box holds one
-pub order_added : (o : Option Sheet) (n : ℕ) (insides : List Inside) (orders new : List Listing) (x : Listing) → is_none o ≡ false → new ≡ orders ++ x ∷ []
+pub order_added : (o : Option Sheet) (n : ℕ) (insides : List Inside) (orders new : List Listing) (x : Listing) → is_some o ≡ true → new ≡ orders ++ x ∷ []
     → (x.chain ≡ []) × (x.stuck ≡ []) × (x.spots ≡ []) × TakesMore x n → AllZip IsOrderRoom insides orders → AllZip IsOrderRoom (insides ++ inside_of o n) new
-order_added None n insides orders new x none e R A = absurd (false≢true (sym none))
-order_added (Some s) n insides orders new x none e R A = subst (λ os. AllZip IsOrderRoom (insides ++ inside_with s.wires n ∷ []) os) (sym e)
+order_added None n insides orders new x some e R A = absurd (false≢true some)
+order_added (Some s) n insides orders new x some e R A = subst (λ os. AllZip IsOrderRoom (insides ++ inside_with s.wires n ∷ []) os) (sym e)
     (zip_last IsOrderRoom insides orders (inside_with s.wires n) x A (record { chain = R.0; stuck = R.1; spots = R.2; takes = R.3 }))
 
 pub rooms_added : {X : Type 0} (f : X → List LinkRoom) (o : Option Sheet) (s : Sheet) (n : ℕ) (ws : List Wire) (insides : List Inside) (xs ys : List X) (x : X) → o ≡ Some s → ws ≡ s.wires → ys ≡ xs ++ x ∷ []

@@ -1,6 +1,6 @@
 //! What grown boxes need, told before they have keys.
 
-ghost use Rattle.std.specs.Prelude.{◌≡◌, ◌+◌, ◌∷◌, ◌≤◌, Some, None, cond, nat_lt, length, map, drop, take, replicate, [], OnOk, IfOk};
+ghost use Rattle.std.specs.Prelude.{if◌then◌else◌, ◌≡◌, ◌+◌, ◌∷◌, ◌≤◌, Some, None, cond, nat_lt, length, map, drop, take, replicate, [], OnOk, IfOk};
 ghost use Rattle.pd_object.specs.Ports.{IsSmallKind};
 ghost use Rattle.pd_tree.specs.Ports.{inlet_signal, outlet_signal};
 ghost use Rattle.pd_tree.specs.Trees.{stand_of, stands_in};
