@@ -8,7 +8,9 @@ use Rattle.std.proofs.lemmas.List.{take_more, map-append}
 use Rattle.pd_canvas.specs.declared.wires.Wire.{Wire}
 use Rattle.pd_links.specs.declared.opening.LinkRoom.{LinkRoom}
 use Rattle.pd_order.specs.Listing.{Listing}
-use Rattle.pd_placing.specs.Room.{TakesMore}
+use Rattle.pd_patch.specs.Telling.{order_in}
+use Rattle.pd_placing.specs.Room.{TakesMore, IsSameButRoom as IsSameOrder}
+use Rattle.pd_boxes.proofs.ReserveLemmas.{same_order}
 use Rattle.pd_tree.specs.declared.rows.Row.{Row}
 use Rattle.pd_tree.specs.declared.rows.Sheet.{Sheet}
 use Rattle.pd_tree.specs.Trees.{Stand, stand_of, stands_in}
@@ -77,3 +79,6 @@ number_is (y ∷ xs) (suc i) r x at e = number_is xs i r x at e
 
 pub one_longer : {X : Type 0} (xs ys : List X) (x : X) (i : ℕ) → ys ≡ xs ++ x ∷ [] → length xs ≡ i → length ys ≡ i + 1
 one_longer xs ys x i e n = let l = ap length e ∙ length-append xs (x ∷ []) in omega (arith, l, n)
+
+pub orders_kept : (old new : List (Option Listing)) → ((c : ℕ) → order_in new c ≡ order_in old c) → (c : ℕ) → IsSameOrder (order_in old c) (order_in new c)
+orders_kept old new same c = subst (λ o. IsSameOrder (order_in old c) o) (sym (same c)) (same_order (order_in old c))
