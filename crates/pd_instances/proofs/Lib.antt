@@ -22,3 +22,4 @@ pub mod SpotLemmas
 pub mod SumLemmas
 pub mod OwningLemmas
 pub mod ListLemmas
+pub mod ReserveLemmas

@@ -90,6 +90,8 @@ pub fn reserve_part(
 /// Makes all lists by key reach the keys that boxes and canvases can have, and sets room aside for so many wires.
 fn reach_keys(alloc: Global, patch: &mut Patch, wires: u32) -> Result<(), AllocError>
     ensures same { SameButRoom patch.old patch.new }
+    ensures grove { patch.new.grove ≡ patch.old.grove }
+    ensures names { patch.new.names ≡ patch.old.names }
     ensures reach { OnOk result ((end : ℕ) × ReachesAll patch.new end × HasRoom patch.new.web end (2 * wires) wires) }
 {
     let Ok(end) = u32::try_from(patch.grove.nodes_end()) else {
