@@ -1,0 +1,3 @@
+pub mod Raising
+pub mod Ports
+pub mod Room

@@ -1,0 +1,51 @@
+//! The box around gets the port that came, and the wires at its ports follow their port boxes.
+
+ghost use Rattle.std.specs.Prelude.{◌≡◌, ◌+◌, ◌<◌, ℕ, IsSome, map, length};
+ghost use Rattle.slab.specs.Slab.{get};
+ghost use Rattle.pd_grove.specs.declared.ports.Side.TheVariants.{Inlets, Outlets};
+ghost use Rattle.pd_grove.specs.Owning.{AreOwn};
+ghost use Rattle.pd_grove.specs.Telling.{inner_in};
+ghost use Rattle.pd_web.specs.declared.jacks.Jack.{Jack};
+ghost use Rattle.pd_web.specs.Jacks.{jacks_at};
+ghost use Rattle.pd_web.specs.Changes.{HasRoom, Meet};
+ghost use Rattle.pd_ports.specs.Room.{HasLists};
+ghost use Rattle.pd_ports.specs.Moves.{FollowsPorts};
+ghost use Rattle.pd_ports.specs.Known.{AreBareWithout, AreFreeFor, KnowsHomes};
+ghost use Rattle.pd_boxes.specs.Rows.{PutsUnder};
+ghost use Rattle.pd_following.specs.Raising.{IsOneMore, Raises};
+
+use pd_boxes::{Blocks, put_blocks};
+use pd_grove::{Grove, Side};
+use pd_ports::{PortRoom, follow_ports};
+use pd_web::Web;
+
+/// Gives a side of the box that holds a canvas the ports that this canvas has now.
+pub(crate) fn follow_port(web: &mut Web, grove: &Grove, holder: u32, side: Side, room: PortRoom)
+    requires holds { IsSome (inner_in (get grove.now.nodes holder)) }
+    requires own { AreOwn (get grove.now.nodes) (get grove.now.boards) }
+    requires near { (k : ℕ) → IsSome (get grove.now.nodes k) → HasRoom web.old (k + 1) 0 0 }
+    requires lists { HasLists room (length (jacks_at Inlets grove.now holder)) (length (jacks_at Outlets grove.now holder)) }
+    requires known { KnowsHomes web.old }
+    requires free { AreFreeFor web.old holder side (jacks_at side grove.now holder) }
+    requires gone { AreBareWithout web.old holder side (jacks_at side grove.now holder) }
+    requires meet { Meet web.old }
+    ensures follows { FollowsPorts web.old web.new holder side (jacks_at side grove.now holder) }
+    ensures raises { (at : ℕ) (jack : Jack) → IsOneMore web.old grove.now holder side at jack → Raises web.old web.new holder side at jack }
+    ensures known { KnowsHomes web.new }
+    ensures meet { Meet web.new }
+{
+    web.laws();
+    follow_ports(web, grove, holder, side, room);
+}
+
+/// Gives the box around its blocks, where an outlet came.
+pub(crate) fn follow_blocks(values: &mut Vec<Blocks>, side: Side, holder: u32, blocks: Blocks)
+    requires { holder < length values.old.items }
+    ensures inlets { side ≡ Inlets → values.new ≡ values.old }
+    ensures outlets { side ≡ Outlets → PutsUnder (map (λ b. b.items) values.old.items) (map (λ b. b.items) values.new.items) holder blocks.items }
+{
+    match side {
+        Side::Inlets => {}
+        Side::Outlets => put_blocks(values, holder, blocks),
+    }
+}

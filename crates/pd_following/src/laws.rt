@@ -1,0 +1,26 @@
+//! Laws over a running patch into which a port box came.
+
+ghost use Rattle.std.specs.Prelude.{ℕ, List};
+ghost use Rattle.pd_atom.specs.Names.{Names};
+ghost use Rattle.pd_clock.specs.declared.times.Rate.{Rate};
+ghost use Rattle.pd_grove.specs.declared.seeds.Seed.{Seed};
+ghost use Rattle.pd_grove.specs.declared.ports.Side.{Side};
+ghost use Rattle.pd_patch.specs.declared.patch.Patch.{Patch};
+ghost use Rattle.pd_patch.specs.Built.{IsBuilt};
+ghost use Rattle.pd_boxes.specs.declared.room.Place.{Place};
+ghost use Rattle.pd_boxes.specs.Put.{CanPut};
+ghost use Rattle.pd_boxes.specs.Room.{SameButRoom};
+ghost use Rattle.pd_following.specs.Ports.{CanPutPort, IsPortPut};
+
+/// A patch into which a port box came is ready for more boxes, and a patch that runs goes on to be one.
+pub fn patches_run_on_with_ports()
+    ensures can { (p q : Patch) (table : Names) (place : Place) (s : Seed) (key holder : ℕ) (side : Side) → CanPutPort p place s holder side →
+        IsPortPut p q table place s key holder side → CanPut q }
+    ensures built { (p q : Patch) (table : Names) (place : Place) (s : Seed) (key holder : ℕ) (side : Side) → CanPutPort p place s holder side →
+        IsPortPut p q table place s key holder side → (file : List ℕ) (rate : Rate) → IsBuilt p table file rate → IsBuilt q table file rate }
+{}
+
+/// Where room was set aside, port boxes can come as they could.
+pub fn port_room_changes_nothing()
+    ensures { (p q : Patch) (place : Place) (s : Seed) (holder : ℕ) (side : Side) → SameButRoom p q → CanPutPort p place s holder side → CanPutPort q place s holder side }
+{}

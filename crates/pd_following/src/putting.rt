@@ -1,0 +1,91 @@
+//! A port box comes in, layer by layer, and the box around gets its port.
+
+ghost use Rattle.std.specs.Prelude.{◌≡◌, ◌≤◌, ◌+◌, ℕ, IsSome, length};
+ghost use Rattle.slab.specs.Slab.{get, ContainsKey};
+ghost use Rattle.pd_web.specs.Canvases.{keys_at};
+ghost use Rattle.pd_web.specs.Changes.{HasRoom};
+ghost use Rattle.pd_boxes.specs.Room.{TakesBox};
+ghost use Rattle.pd_boxes.specs.Put.{CanPut, ComesIn, IsLeaf};
+ghost use Rattle.pd_following.specs.Ports.{CanPutPort, IsPortPut};
+ghost use Rattle.pd_following.specs.Room.{TakesPort};
+
+use crate::following::{follow_blocks, follow_port};
+use crate::room::PortBoxRoom;
+use pd_atom::Symbols;
+use pd_boxes::{Room, number_boxes, put_blocks};
+use pd_order::Steps;
+use pd_owning::{bind_box, spot_at};
+use pd_patch::Patch;
+use pd_placing::place_box;
+use pd_ports::open_box;
+use std::sync::ledger::Ledger;
+
+/// Puts a port box, for which room was set aside, into a live canvas in a box at its number, and gives its key. The boxes from that number
+/// on move back by one, and so do the ports of the box around from the new one's place on, with their wires. Looks at signal wires are
+/// counted in `steps`.
+pub fn put_port<L: Ledger>(
+    patch: &mut Patch,
+    room: PortBoxRoom,
+    symbols: &mut Symbols,
+    steps: &mut Steps<L>,
+) -> u32
+    requires can { CanPutPort patch.old room.own.place room.own.seed room.holder room.side }
+    requires here { ContainsKey patch.old.grove.boards room.own.place.canvas }
+    requires number { room.own.place.number ≤ length (keys_at patch.old.grove room.own.place.canvas) }
+    requires room { TakesPort patch.old room symbols.old }
+    ensures put { IsPortPut patch.old patch.new symbols.old room.own.place room.own.seed result room.holder room.side }
+    ensures table { symbols.new ≡ symbols.old }
+    ensures looks { steps.new ≤ steps.old + 8 }
+    ensures last_looks { room.own.place.number ≡ length (keys_at patch.old.grove room.own.place.canvas) → steps.new ≡ steps.old }
+{
+    let PortBoxRoom {
+        own,
+        holder,
+        side,
+        around,
+        blocks,
+    } = room;
+    let canvas = own.place.canvas;
+    let key = put_apart(patch, own, symbols);
+    follow_port(&mut patch.web, &patch.grove, holder, side, around);
+    follow_blocks(&mut patch.values, side, holder, blocks);
+    place_box(
+        &mut patch.orders,
+        &patch.grove,
+        &patch.links,
+        canvas,
+        key,
+        steps,
+    );
+    key
+}
+
+/// Puts a box into a live canvas in all layers but the orders, and gives its key.
+fn put_apart(patch: &mut Patch, room: Room, symbols: &mut Symbols) -> u32
+    requires can { CanPut patch.old }
+    requires here { ContainsKey patch.old.grove.boards room.place.canvas }
+    requires number { room.place.number ≤ length (keys_at patch.old.grove room.place.canvas) }
+    requires leaf { IsLeaf room.seed }
+    requires room { TakesBox patch.old room symbols.old }
+    ensures comes { ComesIn patch.old patch.new symbols.old room.place room.seed result }
+    ensures orders { patch.new.orders ≡ patch.old.orders }
+    ensures near { (k : ℕ) → IsSome (get patch.new.grove.nodes k) → HasRoom patch.new.web (k + 1) 0 0 }
+    ensures table { symbols.new ≡ symbols.old }
+{
+    let Room {
+        place,
+        seed,
+        ports,
+        blocks,
+        mut inside,
+    } = room;
+    let key = patch
+        .grove
+        .put_box(place.canvas, place.number, seed, &mut inside);
+    open_box(&mut patch.web, &patch.grove, key, ports);
+    let spot = spot_at(&patch.grove, key);
+    bind_box(&mut patch.names, &patch.grove, spot, symbols);
+    number_boxes(&mut patch.numbers, &patch.grove, place);
+    put_blocks(&mut patch.values, key, blocks);
+    key
+}
