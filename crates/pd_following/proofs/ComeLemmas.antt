@@ -20,8 +20,7 @@ use Rattle.pd_ports.specs.declared.room.PortRoom.{PortRoom}
 use Rattle.pd_ports.specs.Known.{AreBareWithout, AreFreeFor, HoldAlone, KnowsHomes}
 use Rattle.pd_ports.specs.Moves.{Goes}
 use Rattle.pd_ports.specs.Room.{HasLists}
-use Rattle.pd_ports.proofs.KnownLemmas.{had_known}
-use Rattle.pd_ports.proofs.LiveLemmas.{port_lives}
+use Rattle.pd_ports.proofs.OnceLemmas.{port_stands}
 use Rattle.pd_patch.specs.declared.patch.Patch.{Patch}
 use Rattle.pd_boxes.specs.declared.room.Place.{Place}
 use Rattle.pd_boxes.specs.Put.{node_of, keys_before, keys_behind, ComesIn}
@@ -39,10 +38,6 @@ same_side Inlets Inlets = inl refl
 same_side Inlets Outlets = inr (λ e. cc)
 same_side Outlets Inlets = inr (λ e. cc)
 same_side Outlets Outlets = inl refl
-
-some_not_none : {X : Type 0} (o : Option X) → o ≡ None → IsSome o → ⊥
-some_not_none None e h = true≢false (sym h)
-some_not_none (Some x) e h = none-some x (sym e)
 
 -- room for so many ports is room for fewer
 pub fewer_lists : (room : PortRoom) (inlets outlets n m : ℕ) → n ≤ inlets → m ≤ outlets → HasLists room inlets outlets → HasLists room n m
@@ -69,7 +64,12 @@ fewer_lists room inlets outlets n m a b h =
       few_outlets = omega (arith, b, few_outlets);
     }
 
-module _ (p r : Patch) (table : Names) (place : Place) (s : Seed) (key holder : ℕ) (side : Side) (P : CanPutPort p place s holder side) (C : ComesIn p r table place s key) where
+-- no two boxes of a patch hold one canvas
+pub hold_alone : (p : Patch) (place : Place) (s : Seed) (holder : ℕ) (side : Side) → CanPutPort p place s holder side → HoldAlone p.grove
+hold_alone p place s holder side P k l c a b = same_Some k l (sym (P.can.forest.inside k c a) ∙ P.can.forest.inside l c b)
+
+module _ (p r : Patch) (table : Names) (place : Place) (s : Seed) (key holder : ℕ) (side : Side) (P : CanPutPort p place s holder side) (C : ComesIn p r table place s key)
+    (known : KnowsHomes p.web) where
   -- the boxes of the patch that is ready lie in one canvas each
   pub ready_own : AreOwn (get r.grove.nodes) (get r.grove.boards)
   ready_own = (still_forest p r table place s key C P.can.forest P.can.runs).own
@@ -95,7 +95,9 @@ module _ (p r : Patch) (table : Names) (place : Place) (s : Seed) (key holder : 
 
   -- the key was no port's
   no_port : (k i : ℕ) → IsPortOf p.grove key k i → ⊥
-  no_port k i is = some_not_none (get p.grove.nodes key) C.grove.vacant (port_lives p.grove key k i is)
+  no_port k i is =
+      let S = port_stands p.grove is.side k i key is.told in
+      none-some S.canvas (sym (ap board_in C.grove.vacant) ∙ P.can.runs.own.home S.canvas S.place key S.at)
 
   unknown : port_told r.web key ≡ None
   unknown = C.homes key ∙ by (port_told p.web key) refl
@@ -103,12 +105,6 @@ module _ (p r : Patch) (table : Names) (place : Place) (s : Seed) (key holder : 
       by : (o : Option (ℕ × ℕ)) → port_told p.web key ≡ o → port_told p.web key ≡ None
       by None e = e
       by (Some x) e = absurd (no_port x.0 x.1 (P.can.runs.ports.homes key x.0 x.1 e))
-
-  alone : HoldAlone p.grove
-  alone k l c a b = same_Some k l (sym (P.can.forest.inside k c a) ∙ P.can.forest.inside l c b)
-
-  known_before : KnowsHomes p.web
-  known_before = had_known p.grove p.web P.can.runs.ports.ports P.can.runs.own alone P.can.runs.ports.homes P.can.runs.ports.homes_found
 
   own_none : (t : Side) (j i : ℕ) → inner_in (jack_told r.web t key i) ≡ Some j → ⊥
   own_none t j i h = none-some j (sym (kind_none t s.row.kind i) ∙ sym (ap (λ (js : List Jack). inner_in (slice_get js i)) (C.ports.ports t)) ∙ h)
@@ -127,9 +123,9 @@ module _ (p r : Patch) (table : Names) (place : Place) (s : Seed) (key holder : 
 
   pub ready_known : KnowsHomes r.web
   ready_known = record {
-    told = λ k j i h. let t = known_before.told k j i (sym (C.homes j) ∙ h) in (t.0, told_still k j i t.0 t.1);
-    found = λ t j k i h. C.homes j ∙ known_before.found t j k i (old_told t k j i h);
-    apart = λ j k i m a b. known_before.apart j k i m (old_told Inlets k j i a) (old_told Outlets k j m b);
+    told = λ k j i h. let t = known.told k j i (sym (C.homes j) ∙ h) in (t.0, told_still k j i t.0 t.1);
+    found = λ t j k i h. C.homes j ∙ known.found t j k i (old_told t k j i h);
+    apart = λ j k i m a b. known.apart j k i m (old_told Inlets k j i a) (old_told Outlets k j m b);
   }
 
   -- the canvas gives the box around one port more

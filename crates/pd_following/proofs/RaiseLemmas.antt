@@ -80,7 +80,7 @@ keys_past w s n i l =
     ap (λ (o : Option Port). under s w.book (option_and_then (λ (x : Port). x.end) o)) (slice_get_past (ports_at w.sockets.items s n) i (omega (arith, l, m)))
     ∙ none_under s w.book
 
-differ_test : (a b : ℕ) → a ≢ b → (a == b) ≡ false
+pub differ_test : (a b : ℕ) → a ≢ b → (a == b) ≡ false
 differ_test a b d = step (a == b) refl
   where
     step : (t : Bool) → (a == b) ≡ t → (a == b) ≡ false

@@ -12,13 +12,17 @@ ghost use Rattle.pd_boxes.specs.Put.{CanPut};
 ghost use Rattle.pd_boxes.specs.Room.{SameButRoom};
 ghost use Rattle.pd_following.specs.Ports.{CanPutPort, IsPortPut};
 
+use pd_ports::port_boxes_are_known;
+
 /// A patch into which a port box came is ready for more boxes, and a patch that runs goes on to be one.
 pub fn patches_run_on_with_ports()
     ensures can { (p q : Patch) (table : Names) (place : Place) (s : Seed) (key holder : ℕ) (side : Side) → CanPutPort p place s holder side →
         IsPortPut p q table place s key holder side → CanPut q }
     ensures built { (p q : Patch) (table : Names) (place : Place) (s : Seed) (key holder : ℕ) (side : Side) → CanPutPort p place s holder side →
         IsPortPut p q table place s key holder side → (file : List ℕ) (rate : Rate) → IsBuilt p table file rate → IsBuilt q table file rate }
-{}
+{
+    port_boxes_are_known();
+}
 
 /// Where room was set aside, port boxes can come as they could.
 pub fn port_room_changes_nothing()

@@ -17,7 +17,7 @@ use pd_order::Steps;
 use pd_owning::{bind_box, spot_at};
 use pd_patch::Patch;
 use pd_placing::place_box;
-use pd_ports::open_box;
+use pd_ports::{open_box, port_boxes_are_known, wires_still_meet};
 use std::sync::ledger::Ledger;
 
 /// Puts a port box, for which room was set aside, into a live canvas in a box at its number, and gives its key. The boxes from that number
@@ -38,6 +38,8 @@ pub fn put_port<L: Ledger>(
     ensures looks { steps.new ≤ steps.old + 8 }
     ensures last_looks { room.own.place.number ≡ length (keys_at patch.old.grove room.own.place.canvas) → steps.new ≡ steps.old }
 {
+    port_boxes_are_known();
+    wires_still_meet();
     let PortBoxRoom {
         own,
         holder,
