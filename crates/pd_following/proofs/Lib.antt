@@ -6,3 +6,4 @@ pub mod ComeLemmas
 pub mod WireLemmas
 pub mod RunLemmas
 pub mod PutLemmas
+pub mod ReserveLemmas
