@@ -1,0 +1,14 @@
+use Rattle.pd_following.proofs.ComeLemmas.{hold_alone}
+use Rattle.pd_following_law.proofs.DocumentLemmas.{wires_document, port_document}
+use Rattle.pd_following_law.proofs.laws.documents_follow_ports.Goals as goal
+
+pub returns-clause-wires : goal.returns-clause-wires
+returns-clause-wires c = λ p q table place s key holder side path n t P I G low A.
+    wires_document p q table place s key holder side P I
+    (c.port_boxes_are_known.ensures.known p.grove p.web P.can.runs.own (hold_alone p place s holder side P) P.can.runs.ports.ports P.can.runs.ports.homes P.can.runs.ports.homes_found) path n t G low A
+
+pub returns-clause-appended : goal.returns-clause-appended
+returns-clause-appended c = λ p q table place s key holder side path inner n e t P I last G low A leads saved.
+    port_document p q table place s key holder side P I
+    (c.port_boxes_are_known.ensures.known p.grove p.web P.can.runs.own (hold_alone p place s holder side P) P.can.runs.ports.ports P.can.runs.ports.homes P.can.runs.ports.homes_found)
+    last path inner n e t G low A leads saved
