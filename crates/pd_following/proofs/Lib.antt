@@ -7,3 +7,4 @@ pub mod WireLemmas
 pub mod RunLemmas
 pub mod PutLemmas
 pub mod ReserveLemmas
+pub mod FeedLemmas

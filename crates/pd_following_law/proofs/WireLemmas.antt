@@ -56,6 +56,9 @@ flat_more g' g at h none (suc n) a l m = elim (cases_eq a at) [
       ∙ ap (λ ys. g a ++ ys) (flat_more g' g at h none n (a + 1) (omega (arith, l, d)) (omega (arith, m)))
 ]
 
+from_none : (at n : ℕ) → at ≤ n → at ≤ 0 + n
+from_none at n l = omega (arith, l)
+
 -- ---- one canvas
 
 module _ (w w' : Web) (numbers keys : List ℕ) (holder n at : ℕ) (jack : Jack) (num : AreNumbered numbers keys) (stay : StayAmong w keys) (there : slice_get keys n ≡ Some holder) where
@@ -106,7 +109,7 @@ module _ (w w' : Web) (numbers keys : List ℕ) (holder n at : ℕ) (jack : Jack
           ap (λ m. flat_map (outlet_wires w' numbers holder) (range_with_len 0 m)) (ap length X.ports ∙ insert_length (ports_told w Outlets holder) at jack)
           ∙ flat_more (outlet_wires w' numbers holder) (λ o. map (raised_wire Outlets n at) (outlet_wires w numbers holder o)) at
           (λ o. ap (map (wire_along numbers holder (up at o))) (X.own o) ∙ own_outlet o (fan_hops w holder o))
-          (ap (map (wire_along numbers holder at)) X.came) (length (ports_told w Outlets holder)) 0 (omega arith) X.within
+          (ap (map (wire_along numbers holder at)) X.came) (length (ports_told w Outlets holder)) 0 (omega arith) (from_none at (length (ports_told w Outlets holder)) X.within)
           ∙ flat_turned (λ o. map (raised_wire Outlets n at) (outlet_wires w numbers holder o)) (outlet_wires w numbers holder) (raised_wire Outlets n at)
           (range_with_len 0 (length (ports_told w Outlets holder))) (λ i o e. refl)
 
