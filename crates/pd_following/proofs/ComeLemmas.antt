@@ -147,18 +147,23 @@ module _ (p r : Patch) (table : Names) (place : Place) (s : Seed) (key holder : 
         let is : key ≡ j = same_Some key j (sym (ap inner_in (insert_here (ports_told r.web side holder) ready_more.place (port_jack side s.row.kind key) ready_one_more.within))
         ∙ sym (ap (λ (js : List Jack). inner_in (slice_get js ready_more.place)) ready_one_more.ports) ∙ ap (λ x. inner_in (slice_get (jacks_at side r.grove holder) x)) (sym e) ∙ h) in
         inl (ap (port_told r.web) (sym is) ∙ unknown)
-    | inr i ↦ inr (i.0,
-        sym (ap inner_in (insert_up (ports_told r.web side holder) ready_more.place i.0 (port_jack side s.row.kind key) ready_one_more.within))
-        ∙ sym (ap (λ (js : List Jack). inner_in (slice_get js (up ready_more.place i.0))) ready_one_more.ports) ∙ ap (λ x. inner_in (slice_get (jacks_at side r.grove holder) x)) (sym i.1) ∙ h)
+    | inr i ↦ inr (
+      i.0,
+      sym (ap inner_in (insert_up (ports_told r.web side holder) ready_more.place i.0 (port_jack side s.row.kind key) ready_one_more.within))
+          ∙ sym (ap (λ (js : List Jack). inner_in (slice_get js (up ready_more.place i.0))) ready_one_more.ports) ∙ ap (λ x. inner_in (slice_get (jacks_at side r.grove holder) x)) (sym i.1) ∙ h,
+    )
   ]
 
   pub ready_bare : AreBareWithout r.web holder side (jacks_at side r.grove holder)
   ready_bare i never = elim (cases_lt i (length (ports_told r.web side holder))) [
     | inl l ↦
         let b = box_of_port (inner_in (jack_told r.web side holder i)) (ready_one_more.boxes i l) in
-        absurd (never (up ready_more.place i) (b.0, b.1,
-        ap (λ (js : List Jack). inner_in (slice_get js (up ready_more.place i))) ready_one_more.ports
-        ∙ ap inner_in (insert_up (ports_told r.web side holder) ready_more.place i (port_jack side s.row.kind key) ready_one_more.within) ∙ b.1))
+        absurd (never (up ready_more.place i) (
+          b.0,
+          b.1,
+          ap (λ (js : List Jack). inner_in (slice_get js (up ready_more.place i))) ready_one_more.ports
+              ∙ ap inner_in (insert_up (ports_told r.web side holder) ready_more.place i (port_jack side s.row.kind key) ready_one_more.within) ∙ b.1,
+        ))
     | inr l ↦ keys_past r.web side holder i l
   ]
     where

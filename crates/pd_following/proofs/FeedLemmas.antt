@@ -36,20 +36,23 @@ module _ (w w' : Web) (key at : ℕ) (jack : Jack) (labels : List ℕ) where
   raised_later : (g h : Hop) → ((label_at labels g.node ≡ label_at labels key → g.node ≡ key)) → ((label_at labels h.node ≡ label_at labels key → h.node ≡ key)) → IsNoLater labels g h
       → IsNoLater labels (raised key at g) (raised key at h)
   raised_later g h own also (inl less) = inl less
-  raised_later g h own also (inr same) = inr (same.0, elim (cases_eq g.node key) [
-    | inl e ↦
-        let f : h.node ≡ key = also (sym same.0 ∙ ap (label_at labels) e) in
-        let a = ap (λ (b : Bool). cond b (up at g.port) g.port) (eq-eqb g.node key e) in
-        let b = ap (λ (b : Bool). cond b (up at h.port) h.port) (eq-eqb h.node key f) in
-        let u = up_order at g.port h.port same.1 in
-        omega (arith, a, b, u)
-    | inr d ↦
-        let f : h.node ≢ key = (λ e. d (own (same.0 ∙ ap (label_at labels) e))) in
-        let a = ap (λ (b : Bool). cond b (up at g.port) g.port) (differ_test g.node key d) in
-        let b = ap (λ (b : Bool). cond b (up at h.port) h.port) (differ_test h.node key f) in
-        let l = same.1 in
-        omega (arith, a, b, l)
-  ])
+  raised_later g h own also (inr same) = inr (
+    same.0,
+    elim (cases_eq g.node key) [
+      | inl e ↦
+          let f : h.node ≡ key = also (sym same.0 ∙ ap (label_at labels) e) in
+          let a = ap (λ (b : Bool). cond b (up at g.port) g.port) (eq-eqb g.node key e) in
+          let b = ap (λ (b : Bool). cond b (up at h.port) h.port) (eq-eqb h.node key f) in
+          let u = up_order at g.port h.port same.1 in
+          omega (arith, a, b, u)
+      | inr d ↦
+          let f : h.node ≢ key = (λ e. d (own (same.0 ∙ ap (label_at labels) e))) in
+          let a = ap (λ (b : Bool). cond b (up at g.port) g.port) (differ_test g.node key d) in
+          let b = ap (λ (b : Bool). cond b (up at h.port) h.port) (differ_test h.node key f) in
+          let l = same.1 in
+          omega (arith, a, b, l)
+    ],
+  )
 
   outlets_ordered : Raises w w' key Outlets at jack → HasOwnLabel labels w key → AreAllInOrder labels w → AreAllInOrder labels w'
   outlets_ordered X own order n i = subst (AreInOrder labels) (sym (X.across n i)) (λ p q g' h' l a b.

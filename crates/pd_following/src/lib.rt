@@ -8,7 +8,7 @@
 //! block, every clock, and the orders of the other canvases stay.
 //!
 //! Laws: a patch that runs goes on to be one, ready for more boxes (`patches_run_on_with_ports`), also where room was set aside
-//! (`port_room_changes_nothing`).
+//! (`port_room_changes_nothing`); feeds that were in order are (`feeds_stay_in_order`).
 //!
 //! Free: want of memory in `reserve_port`, and the key.
 //!
@@ -21,7 +21,7 @@ mod putting;
 mod reserving;
 mod room;
 
-pub use laws::{patches_run_on_with_ports, port_room_changes_nothing};
+pub use laws::{feeds_stay_in_order, patches_run_on_with_ports, port_room_changes_nothing};
 pub use putting::put_port;
 pub use reserving::reserve_port;
 pub use room::PortBoxRoom;

@@ -2,6 +2,7 @@ use Rattle.std.proofs.Common.{◌+◌, List, ◌∷◌, length, replicate, sym, 
 use Rattle.slab.specs.Slab.{get}
 use Rattle.pd_kind.specs.States.{silent_block}
 use Rattle.pd_grove.specs.declared.ports.Side.{Side}
+use Rattle.pd_grove.specs.declared.seeds.Seed.{Seed}
 use Rattle.pd_grove.specs.declared.ports.Side.TheVariants.{Inlets, Outlets}
 use Rattle.pd_grove.specs.Ports.{port_signal}
 use Rattle.pd_web.specs.declared.jacks.Jack.{Jack}
@@ -56,5 +57,6 @@ returns-clause-room c =
           (c.in_ok-outlets.ensures ∙ ap (λ n. n + 1) (c.outlets_at.ensures ∙ ap length (sym (S.web.kept.ports Outlets holder))))
           c.in_ok-around.ensures.lists;
       blocks = c.in_ok-blocks.ensures ∙ ap (λ n. replicate n silent_block) (c.blocks_then-count.ensures
-          ∙ ap (λ (js : List Jack). block_count (plain_jack (carries Outlets c.args.seed.row.kind) ∷ js)) (sym (S.web.kept.ports Outlets holder)));
+          ∙ ap (λ (js : List Jack). block_count (plain_jack (carries Outlets c.args.seed.row.kind) ∷ js)) (sym (S.web.kept.ports Outlets holder))
+          ∙ ap (λ (s : Seed). block_count (plain_jack (carries Outlets s.row.kind) ∷ ports_told q.web Outlets holder)) (sym c.in_ok-own.ensures.comes.seed));
     }
