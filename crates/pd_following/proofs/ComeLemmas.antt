@@ -1,12 +1,10 @@
 -- A port box that came in: what the box around asks to get its port.
-use Rattle.std.proofs.Common.{◌≡◌, ◌≢◌, ◌⊎◌, ℕ, suc, ◌+◌, ◌<◌, ◌≤◌, ◌^◌, List, [], length, slice_get, Option, Some, None, IsSome, is_some, inl, inr, true≢false, refl, sym, ap, ◌∙◌, subst, arith}
+use Rattle.std.proofs.Common.{◌≡◌, ◌≢◌, ◌⊎◌, ℕ, suc, ◌+◌, ◌<◌, ◌≤◌, List, [], length, slice_get, Option, Some, None, IsSome, inl, inr, true≢false, refl, sym, ap, ◌∙◌, subst, arith}
 use Rattle.std.specs.List.{insert}
 use Rattle.std.proofs.lemmas.Bool.{cases_eq, cases_lt}
-use Rattle.std.proofs.lemmas.Option.{none-some, same_Some, slice_get_past}
+use Rattle.std.proofs.lemmas.Option.{none-some, same_Some}
 use Rattle.slab.specs.Slab.{get}
 use Rattle.pd_atom.specs.Names.{Names}
-use Rattle.pd_grove.specs.declared.nodes.Node.{Node}
-use Rattle.pd_grove.specs.declared.grove.Grove.{Grove}
 use Rattle.pd_grove.specs.declared.seeds.Seed.{Seed}
 use Rattle.pd_grove.specs.declared.ports.Side.{Side}
 use Rattle.pd_grove.specs.declared.ports.Side.TheVariants.{Inlets, Outlets}
@@ -15,10 +13,9 @@ use Rattle.pd_grove.specs.Telling.{inner_in as canvas_in}
 use Rattle.pd_web.specs.declared.jacks.Jack.{Jack}
 use Rattle.pd_web.specs.Homes.{inner_in, IsPortOf}
 use Rattle.pd_web.specs.Hops.{ports_told, jack_told, port_told}
-use Rattle.pd_web.specs.Jacks.{kind_jacks, jacks_at}
+use Rattle.pd_web.specs.Jacks.{jacks_at}
 use Rattle.pd_ports.specs.declared.room.PortRoom.{PortRoom}
 use Rattle.pd_ports.specs.Known.{AreBareWithout, AreFreeFor, HoldAlone, KnowsHomes}
-use Rattle.pd_ports.specs.Moves.{Goes}
 use Rattle.pd_ports.specs.Room.{HasLists}
 use Rattle.pd_ports.proofs.OnceLemmas.{port_stands}
 use Rattle.pd_patch.specs.declared.patch.Patch.{Patch}

@@ -1,5 +1,5 @@
 -- The ports of boxes where a port box came into a canvas that a box holds.
-use Rattle.std.proofs.Common.{◌≡◌, ◌≢◌, ℕ, zero, suc, ◌<◌, ◌≤◌, Bool, List, [], ◌∷◌, ◌++◌, map, length, slice_get, Option, Some, None, IsSome, inl, inr, refl, sym, ap, ◌∙◌, subst, arith}
+use Rattle.std.proofs.Common.{◌≡◌, ◌≢◌, ℕ, zero, suc, ◌<◌, Bool, List, [], ◌∷◌, ◌++◌, map, length, slice_get, Option, Some, None, IsSome, inl, inr, refl, sym, ap, ◌∙◌, subst, arith}
 use Rattle.std.specs.List.{insert}
 use Rattle.std.proofs.lemmas.Bool.{cases_eq}
 use Rattle.std.proofs.lemmas.List.{length-map}
@@ -22,7 +22,7 @@ use Rattle.pd_web.specs.Homes.{inner_in as box_in}
 use Rattle.pd_web.specs.Jacks.{plain_jack, spot_jack, on_side, kind_jacks, canvas_jacks, jacks_by, jacks_in, jacks_at}
 use Rattle.pd_following.specs.Ports.{port_jack}
 use Rattle.pd_following.proofs.ListLemmas.{map_insert}
-use Rattle.pd_following.proofs.SpotLemmas.{HasMore, IsSpot, among_more, among_same, spots_same, no_spot, port_spot, one_side}
+use Rattle.pd_following.proofs.SpotLemmas.{HasMore, among_more, among_same, spots_same, no_spot, port_spot, one_side}
 
 -- the ports of a box that holds a canvas
 pub ports_held : (g : Grove) (side : Side) (key c : ℕ) → inner_in (get g.nodes key) ≡ Some c → jacks_at side g key ≡ canvas_jacks side g c

@@ -1,7 +1,6 @@
 -- A side of a box that follows its canvas, where that has one port more.
-use Rattle.std.proofs.Common.{◌≡◌, ◌≢◌, ◌⊎◌, ℕ, zero, suc, ◌<◌, ◌≤◌, ◌==◌, Bool, true, false, cond, List, [], ◌∷◌, map, length, slice_get, Option, Some, None, IsSome, inl, inr, eqb-true, eq-eqb, true≢false, refl, sym, ap, ◌∙◌, subst, arith}
+use Rattle.std.proofs.Common.{◌≡◌, ◌≢◌, ℕ, zero, suc, ◌<◌, ◌≤◌, ◌==◌, Bool, true, false, cond, List, [], ◌∷◌, map, length, slice_get, Option, Some, None, IsSome, inl, inr, eqb-true, eq-eqb, true≢false, refl, sym, ap, ◌∙◌, subst, arith}
 use Rattle.std.specs.Prelude.{option_map, option_and_then}
-use Rattle.std.specs.List.{insert}
 use Rattle.std.proofs.lemmas.Bool.{cases_eq, cases_lt}
 use Rattle.std.proofs.lemmas.List.{length-map}
 use Rattle.std.proofs.lemmas.Option.{none-some, same_Some, slice_get-map, slice_get_past, slice_get_within}
@@ -15,7 +14,7 @@ use Rattle.pd_web.specs.declared.sockets.Port.{Port}
 use Rattle.pd_web.specs.declared.sockets.Spot.{Spot}
 use Rattle.pd_web.specs.declared.web.Hop.{Hop}
 use Rattle.pd_web.specs.declared.web.Web.{Web}
-use Rattle.pd_web.specs.Changes.{line_by, line_told, hop_at, IsListed, Meet}
+use Rattle.pd_web.specs.Changes.{line_by, line_told, hop_at, Meet}
 use Rattle.pd_web.specs.Homes.{inner_in}
 use Rattle.pd_web.specs.Hops.{ports_told, jack_told, fan_keys, feed_keys, fan_hops, feed_hops, hop_by, hop_from, hop_to}
 use Rattle.pd_web.specs.Jacks.{jacks_at}

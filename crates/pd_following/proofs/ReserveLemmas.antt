@@ -1,11 +1,10 @@
 -- What stays where room is set aside for a port box, and that the box around takes no more.
-use Rattle.std.proofs.Common.{◌≡◌, ℕ, zero, suc, ◌+◌, ◌<◌, ◌≤◌, Bool, true, false, ◌||◌, List, [], ◌∷◌, length, slice_get, Option, Some, None, IsSome, refl, sym, ap, ◌∙◌, subst, arith}
-use Rattle.std.specs.Prelude.{option_map, option_and_then}
+use Rattle.std.proofs.Common.{◌≡◌, ℕ, zero, suc, ◌<◌, ◌≤◌, Bool, true, false, ◌||◌, List, [], ◌∷◌, length, slice_get, Option, Some, None, refl, sym, ap, ◌∙◌, arith}
+use Rattle.std.specs.Prelude.{option_map}
 use Rattle.std.specs.List.{list_any}
 use Rattle.std.proofs.lemmas.Option.{none-some, same_Some}
 use Rattle.slab.specs.Slab.{get}
 use Rattle.pd_grove.specs.declared.boards.Board.{Board}
-use Rattle.pd_grove.specs.declared.grove.Grove.{Grove}
 use Rattle.pd_grove.specs.declared.seeds.Seed.{Seed}
 use Rattle.pd_grove.specs.declared.ports.Side.{Side}
 use Rattle.pd_grove.specs.Forest.{holder_in}
@@ -13,8 +12,8 @@ use Rattle.pd_grove.specs.Standing.{BoardSeen, board_seen}
 use Rattle.pd_web.specs.declared.jacks.Jack.{Jack}
 use Rattle.pd_web.specs.declared.web.Hop.{Hop}
 use Rattle.pd_web.specs.declared.web.Web.{Web}
-use Rattle.pd_web.specs.Changes.{hop_at, IsListed, IsSame, Meet}
-use Rattle.pd_web.specs.Hops.{fan_hops, feed_hops, signal_in}
+use Rattle.pd_web.specs.Changes.{IsSame, Meet}
+use Rattle.pd_web.specs.Hops.{signal_in}
 use Rattle.pd_patch.specs.declared.patch.Patch.{Patch}
 use Rattle.pd_patch.specs.Telling.{order_in}
 use Rattle.pd_patch.specs.Values.{blocks_told}
@@ -22,7 +21,7 @@ use Rattle.pd_boxes.specs.declared.room.Place.{Place}
 use Rattle.pd_boxes.specs.Room.{SameButRoom}
 use Rattle.pd_boxes.proofs.ReserveLemmas.{same_grove, same_order, longer_self}
 use Rattle.pd_boxes.proofs.RoomLemmas.{room_put}
-use Rattle.pd_following.specs.Ports.{CanPutPort, IsPortAt}
+use Rattle.pd_following.specs.Ports.{CanPutPort}
 
 -- the web alone has other room
 pub room_web : (p : Patch) (w : Web) → IsSame p.web w → SameButRoom p (record p { web = w })

@@ -1,5 +1,5 @@
 -- What a patch has as long as it runs, where a port box came into it.
-use Rattle.std.proofs.Common.{◌≡◌, ◌≢◌, ℕ, ℤ, zero, suc, pos, ◌<◌, ◌^◌, List, [], ◌∷◌, length, Option, Some, None, IsSome, is_some, inl, inr, refl, sym, ap, ◌∙◌, subst, arith}
+use Rattle.std.proofs.Common.{◌≡◌, ◌≢◌, ℕ, ℤ, zero, suc, pos, ◌<◌, ◌^◌, List, ◌∷◌, length, Option, Some, None, IsSome, is_some, inl, inr, refl, sym, ap, ◌∙◌, subst, arith}
 use Rattle.std.specs.Prelude.{slice_get, option_map, option_and_then, replicate}
 use mathlib.Core.Logic.{⊎_elim}
 use Rattle.std.proofs.lemmas.Bool.{cases_eq}
@@ -38,7 +38,7 @@ use Rattle.pd_patch.specs.Linked.{HasLinks, StayInside}
 use Rattle.pd_patch.specs.Numbers.{AreUnder}
 use Rattle.pd_patch.specs.Orders.{HasOrder}
 use Rattle.pd_patch.specs.Telling.{order_in}
-use Rattle.pd_patch.specs.Values.{block_at, block_count, blocks_told, first_blocks}
+use Rattle.pd_patch.specs.Values.{block_at, block_count, blocks_told}
 use Rattle.pd_wiring.specs.Changes.{CanRewire}
 use Rattle.pd_wiring.specs.Graphs.{AreWired}
 use Rattle.pd_boxes.specs.declared.room.Place.{Place}
@@ -48,7 +48,7 @@ use Rattle.pd_boxes.proofs.PortLemmas.{jacks_new, made_new}
 use Rattle.pd_boxes.proofs.WireLemmas.{inside_still, other_order}
 use Rattle.pd_following.specs.Raising.{Raises}
 use Rattle.pd_following.specs.Ports.{CanPutPort, IsPortPut, BlocksFollow, port_jack}
-use Rattle.pd_following.proofs.ComeLemmas.{same_side, ready_holds, ready_old, ready_same}
+use Rattle.pd_following.proofs.ComeLemmas.{same_side, ready_holds, ready_same}
 use Rattle.pd_following.proofs.WireLemmas.{wires_raised, inside_raised, links_stay, order_stays}
 
 known_had : (g : Grove) (w : Web) → ((side : Side) (k : ℕ) → ports_told w side k ≡ jacks_at side g k) → KnowsHomes w → (j k i : ℕ) → port_told w j ≡ Some (k, i) → IsPortOf g j k i

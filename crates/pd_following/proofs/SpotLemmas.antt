@@ -1,5 +1,5 @@
 -- The ports of a canvas that gets one port box more: one port more stands among them.
-use Rattle.std.proofs.Common.{◌≡◌, ◌≢◌, ℕ, ℤ, zero, suc, ◌≤◌, Bool, true, false, cond, int_lt, List, [], ◌∷◌, ◌++◌, map, length, slice_get, Option, Some, None, IsSome, true≢false, refl, sym, ap, ◌∙◌, subst, arith}
+use Rattle.std.proofs.Common.{◌≡◌, ◌≢◌, ℕ, ℤ, zero, suc, ◌≤◌, Bool, true, false, cond, int_lt, List, [], ◌∷◌, ◌++◌, length, slice_get, Option, Some, None, IsSome, true≢false, refl, sym, ap, ◌∙◌, subst, arith}
 use Rattle.std.specs.Prelude.{option_and_then, unwrap_or}
 use Rattle.std.specs.List.{insert}
 use Rattle.std.proofs.lemmas.Int.{ints}
@@ -16,7 +16,7 @@ use Rattle.pd_grove.specs.declared.ports.PortSpot.{PortSpot}
 use Rattle.pd_grove.specs.Ports.{port_signal, spot_by, node_spot, spot_at, spot_placed, with_spot, ports_among}
 use Rattle.pd_web.specs.declared.jacks.Jack.{Jack}
 use Rattle.pd_web.specs.Jacks.{spot_jack}
-use Rattle.pd_following.specs.Ports.{carries, port_jack}
+use Rattle.pd_following.specs.Ports.{port_jack}
 
 -- the first of these ports stands as far to the right as this one, or farther
 abbrev IsFirst : PortSpot → List PortSpot → Type 0

@@ -1,8 +1,7 @@
 -- Room for a port box that comes.
-use Rattle.std.specs.Prelude.{◌≡◌, ◌+◌, ℕ, ◌∷◌, length, replicate}
+use Rattle.std.specs.Prelude.{◌≡◌, ◌+◌, ◌∷◌, length, replicate}
 use Rattle.pd_atom.specs.Names.{Names}
 use Rattle.pd_kind.specs.States.{silent_block}
-use Rattle.pd_grove.specs.declared.ports.Side.{Side}
 use Rattle.pd_grove.specs.declared.ports.Side.TheVariants.{Inlets, Outlets}
 use Rattle.pd_grove.specs.declared.seeds.Seed.{Seed}
 use Rattle.pd_web.specs.Hops.{ports_told}

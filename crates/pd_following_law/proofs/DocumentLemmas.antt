@@ -1,5 +1,5 @@
 -- The document of a patch into which a port box came.
-use Rattle.std.proofs.Common.{◌≡◌, ◌≢◌, ℕ, zero, suc, ◌≤◌, List, [], ◌∷◌, ◌++◌, take, drop, map, length, slice_get, Option, Some, None, IsSome, refl, sym, ap, ◌∙◌, subst, arith}
+use Rattle.std.proofs.Common.{◌≡◌, ◌≢◌, ℕ, zero, suc, ◌≤◌, List, [], ◌∷◌, take, drop, map, length, slice_get, Option, Some, None, IsSome, refl, sym, ap, ◌∙◌, subst, arith}
 use Rattle.std.specs.List.{AllByRecursion}
 use Rattle.std.proofs.lemmas.List.{take_all, drop_all}
 use Rattle.std.proofs.lemmas.Option.{none-some, same_Some}
@@ -13,7 +13,6 @@ use Rattle.pd_grove.specs.declared.boards.Board.{Board}
 use Rattle.pd_grove.specs.declared.grove.Grove.{Grove}
 use Rattle.pd_grove.specs.declared.seeds.Seed.{Seed}
 use Rattle.pd_grove.specs.declared.ports.Side.{Side}
-use Rattle.pd_grove.specs.declared.ports.Side.TheVariants.{Outlets}
 use Rattle.pd_grove.specs.Grafts.{HasPartMore}
 use Rattle.pd_grove.specs.OwnPaths.{sub_reached}
 use Rattle.pd_grove.specs.Standing.{GroveStands}
@@ -36,7 +35,7 @@ use Rattle.pd_boxes.proofs.WireLemmas.{inside_still, no_fans}
 use Rattle.pd_reload_law.specs.Wires.{AreNumbered, IsAmong, StayAmong, RewiresAt}
 use Rattle.pd_reload_law.proofs.EditLemmas.{document_edited}
 use Rattle.pd_saved_law.proofs.EditLemmas.{stays_among, sub_leads}
-use Rattle.pd_putting_law.specs.Putting.{HasBoxLast, IsSavedAs, KeepsWires}
+use Rattle.pd_putting_law.specs.Putting.{IsSavedAs, KeepsWires}
 use Rattle.pd_putting_law.proofs.PageLemmas.{document_put}
 use Rattle.pd_following.specs.Ports.{CanPutPort, IsPortPut, port_jack}
 use Rattle.pd_following.proofs.ComeLemmas.{ready_own}
