@@ -35,7 +35,7 @@ use Rattle.pd_boxes.proofs.WireLemmas.{inside_still, no_fans}
 use Rattle.pd_reload_law.specs.Wires.{AreNumbered, IsAmong, StayAmong, RewiresAt}
 use Rattle.pd_reload_law.proofs.EditLemmas.{document_edited}
 use Rattle.pd_saved_law.proofs.EditLemmas.{stays_among, sub_leads}
-use Rattle.pd_putting_law.specs.Putting.{IsSavedAs, KeepsWires}
+use Rattle.pd_putting_law.specs.Putting.{HasBoxLast, IsSavedAs, KeepsWires}
 use Rattle.pd_putting_law.proofs.PageLemmas.{document_put}
 use Rattle.pd_following.specs.Ports.{CanPutPort, IsPortPut, port_jack}
 use Rattle.pd_following.proofs.ComeLemmas.{ready_own}
@@ -128,11 +128,17 @@ module _ (p q : Patch) (table : Names) (place : Place) (s : Seed) (key holder : 
       renumbered = numbered_ready;
     }
 
-    pub box_document : (inner : List ℕ) (e : Entry) → sub_reached p.grove (Some p.grove.root) inner ≡ Some place.canvas → IsSavedAs (get q.grove.boards) (get q.grove.nodes key) e
+    comes_last : (inner : List ℕ) → sub_reached p.grove (Some p.grove.root) inner ≡ Some place.canvas → HasBoxLast p.grove I.ready.grove inner place.canvas key
+    comes_last inner leads = record { forest = P.can.forest; leads = leads; part = part; root = I.comes.root }
+
+    pub port_last : (inner : List ℕ) → sub_reached p.grove (Some p.grove.root) inner ≡ Some place.canvas → HasBoxLast p.grove q.grove inner place.canvas key
+    port_last inner leads = subst (λ (g : Grove). HasBoxLast p.grove g inner place.canvas key) (sym I.rest.grove) (comes_last inner leads)
+
+    box_document : (inner : List ℕ) (e : Entry) → sub_reached p.grove (Some p.grove.root) inner ≡ Some place.canvas → IsSavedAs (get q.grove.boards) (get q.grove.nodes key) e
         → present_page I.ready.grove I.ready.web I.ready.numbers.items ≡ edit_at inner (appended e) (present_page p.grove p.web p.numbers.items)
     box_document inner e leads saved =
         document_put p.grove I.ready.grove p.web I.ready.web p.numbers.items I.ready.numbers.items inner place.canvas key e
-        (record { forest = P.can.forest; leads = leads; part = part; root = I.comes.root }) keeps
+        (comes_last inner leads) keeps
         (subst (λ (g : Grove). IsSavedAs (get g.boards) (get g.nodes key) e) I.rest.grove saved)
 
     pub port_document : (path inner : List ℕ) (n : ℕ) (e : Entry) (t : Tree) → GroveStands q.grove t.sheet t.boxes → deep t.boxes ≤ 256 → StandsAt q.grove path n holder

@@ -1,5 +1,5 @@
 use Rattle.pd_following.proofs.ComeLemmas.{hold_alone}
-use Rattle.pd_following_law.proofs.DocumentLemmas.{wires_document, port_document}
+use Rattle.pd_following_law.proofs.DocumentLemmas.{wires_document, port_document, port_last}
 use Rattle.pd_following_law.proofs.laws.documents_follow_ports.Goals as goal
 
 pub returns-clause-wires : goal.returns-clause-wires
@@ -12,3 +12,8 @@ returns-clause-appended c = λ p q table place s key holder side path inner n e 
     port_document p q table place s key holder side P I
     (c.port_boxes_are_known.ensures.known p.grove p.web P.can.runs.own (hold_alone p place s holder side P) P.can.runs.ports.ports P.can.runs.ports.homes P.can.runs.ports.homes_found)
     last path inner n e t G low A leads saved
+
+pub returns-clause-last : goal.returns-clause-last
+returns-clause-last c = λ p q table place s key holder side inner P I last leads.
+    port_last p q table place s key holder side P I
+    (c.port_boxes_are_known.ensures.known p.grove p.web P.can.runs.own (hold_alone p place s holder side P) P.can.runs.ports.ports P.can.runs.ports.homes P.can.runs.ports.homes_found) last inner leads
