@@ -1,10 +1,10 @@
 #!/usr/bin/env bash
 # Measures boxes that get another text in a patch: bench/retypes.sh [EDITS]
 #
-# The patch has voices of `osc~` into `*~`, all led to one `dac~`. EDITS times (4,000) an edit gives the `*~` of a voice in the middle another factor, or
-# makes its `osc~` a `phasor~` and back again, all at the start of the run. Printed are microseconds an edit of the whole run, the reading of its record
-# with it, less those of a run without edits, the least of nine runs each, by the number of boxes of the patch. Build the program first, by ./play, or
-# name another one in PDPLAY.
+# The patch has voices of `osc~` into `*~`, all led to one `dac~`. EDITS times (4,000) an edit gives the `*~` of a voice in the middle another factor,
+# makes its `osc~` a `phasor~` and back again, or a `print` without wires behind all voices an `osc~` and a `print` again, all at the start of the run.
+# Printed are microseconds an edit of the whole run, the reading of its record with it, less those of a run without edits, the least of nine runs each,
+# by the number of boxes of the patch. Build the program first, by ./play, or name another one in PDPLAY.
 set -u
 top=$(cd "$(dirname "$0")/.." && pwd) || exit 2
 # shellcheck source=bench/program.sh
@@ -18,17 +18,18 @@ cd "$folder" || exit 2
 
 run() { "$program" main.pd; }
 
-# The patch of so many voices.
+# The patch of so many voices, and a box without wires behind them.
 patch() {
   awk -v voices="$1" 'BEGIN {
     print "#N canvas 0 50 450 300 12; #X obj 0 0 dac~;"
     for (n = 0; n < voices; n++) print "#X obj 0 0 osc~ 220; #X obj 0 0 *~ 0.001;"
+    print "#X obj 0 0 print;"
     for (n = 1; n <= 2 * voices; n += 2) print "#X connect " n " 0 " (n + 1) " 0; #X connect " (n + 1) " 0 0 0;"
   }'
 }
 
 printf '%-16s %7s %12s\n' retype boxes each
-for form in '*~' 'osc~ phasor~'; do
+for form in '*~' 'osc~ phasor~' 'print osc~'; do
   for voices in 50 500 1500 5500; do
     patch "$voices" >main.pd
     : >script
@@ -37,12 +38,13 @@ for form in '*~' 'osc~ phasor~'; do
     for ((i = 0; i < edits; i++)); do
       case $form in
         '*~') echo "0 edit . / retype $((oscillator + 1)) *~ 0.00$((1 + i % 9));" ;;
-        *) ((i % 2)) && echo "0 edit . / retype $oscillator osc~ 220;" || echo "0 edit . / retype $oscillator phasor~ 220;" ;;
+        osc~*) ((i % 2)) && echo "0 edit . / retype $oscillator osc~ 220;" || echo "0 edit . / retype $oscillator phasor~ 220;" ;;
+        *) ((i % 2)) && echo "0 edit . / retype $((2 * voices + 1)) print;" || echo "0 edit . / retype $((2 * voices + 1)) osc~ 220;" ;;
       esac
     done >script
     said=$("$program" main.pd <script | head -n 1)
     [ -z "$said" ] || { echo "bench: $form, $voices voices: $said" >&2; exit 1; }
-    awk -v f="$form" -v c="$((2 * voices + 1))" -v n="$edits" -v t="$(least 9 run)" -v i="$idle" 'BEGIN {
+    awk -v f="$form" -v c="$((2 * voices + 2))" -v n="$edits" -v t="$(least 9 run)" -v i="$idle" 'BEGIN {
       printf "%-16s %7d %9.2f us\n", f, c, (t - i) * 1e6 / n
     }'
   done

@@ -75,13 +75,13 @@ use Rattle.pd_proper_law.proofs.OwnLemmas.{written_settled}
 use Rattle.pd_proper_law.proofs.SavableLemmas.{contents_save}
 use Rattle.pd_stage.specs.Choices.{Base, Wanted, Edits, Asks, Saves, Undoes, Redoes, Choice, Refuses, Lacks, Makes}
 use Rattle.pd_stage.specs.Lawful.{StandsAt}
-use Rattle.pd_stage.specs.Stages.{Stage, Taken}
+use Rattle.pd_stage.specs.Stages.{Stage, Taken, Passage}
 use Rattle.pd_engine.specs.Opening.{Grows, first_stage, growth_of}
 use Rattle.pd_steady.specs.Steady.{IsSteady}
-use Rattle.pd_again_law.specs.Again.{IsSamePatch, grown_alike, GrowsAgain, Reopens, SavedOpensAgain, AreAgain}
-use Rattle.pd_again_law.proofs.FileLemmas.{as_opened}
+use Rattle.pd_again_law.specs.Again.{IsSamePatch, grown_alike, GrowsAgain, LeavesNumbers, AllLeaveNumbers, Reopens, SavedOpensAgain, AreAgainBehind, AreAgain}
+use Rattle.pd_again_law.proofs.NumberLemmas.{HasFirstNumbers, as_opened}
 use Rattle.pd_again_law.proofs.StandLemmas.{six_more, HasCounted, StaysProper, runs_at}
-use Rattle.pd_again_law.proofs.FoundLemmas.{IsGood, AreFound}
+use Rattle.pd_again_law.proofs.FoundLemmas.{IsGood, AreFound, EndsWell, good_if}
 use Rattle.pd_again_law.proofs.HeldLemmas.{IsHeld, Settled, bare_kind, told, held_in}
 
 -- ---- small kinds
@@ -139,6 +139,11 @@ module _ (holds : Option (List FileRow)) (name : List ℕ) (rate : Rate) (d : Pa
       (subst (λ (n : Names). StandsAgain (answer_in grows.files.files) name n t) (sym grows.tree.given.table)
       (grown_stands (answer_in grows.files.files) name d (beginning before 1001) grows.tree.given.after t grew))
 
+  numbers : HasFirstNumbers t
+  numbers =
+      let after : Stock = grows.tree.given.after in
+      (after.zeros, (patch_takes (answer_in grows.files.files) name d (beginning before 1001) after t grows.tree.given.step).zeros)
+
   gathered : GoesOn grows.files.files base.files
   gathered = record { more = []; is = grows.first.files_are ∙ sym (append-nil grows.files.files) }
 
@@ -169,9 +174,9 @@ module _ (holds : Option (List FileRow)) (name : List ℕ) (rate : Rate) (d : Pa
     contents = grown_contents table (IsWritten p.grove) p rate 0 grows.fresh.states settled;
   }
 
-  pub first_good : (most : ℕ) (ahead : List Choice) → IsSteady most (first_stage name p table base ahead)
-      → IsGood grows.files.files rate name most (first_stage name p table base ahead)
-  first_good most ahead steady = record {
+  pub first_good : (clean : Type 0) (most : ℕ) (ahead : List Choice) → IsSteady most (first_stage name p table base ahead)
+      → IsGood grows.files.files rate name clean most (first_stage name p table base ahead)
+  first_good clean most ahead steady = record {
     steady = steady;
     stands = record {
       file = refl;
@@ -181,6 +186,7 @@ module _ (holds : Option (List FileRow)) (name : List ℕ) (rate : Rate) (d : Pa
       low = no_deeper (deep t.boxes) grows.tree.shallow;
       again = again;
       proper = proper;
+      numbers = λ k. numbers;
       files = gathered;
       counted = counted_first;
       held = held_in name table (states_of p) t p (net_of p) refl held;
@@ -208,8 +214,8 @@ grown_as q names2 names rate s now zeros room t e =
       t.given.table ∙ ap (λ (x : Stock). x.names) after,
     )
 
-module _ (tells : Tells) (reads : ReadsBack) (library : List (ℕ × Answer)) (rate : Rate) (name : List ℕ) (most : ℕ) (s : Stage) (good : IsGood library rate name most s) (p : Patch) (at : StandsAt p s) (table : IsTable s.names)
-    (once : StandOnce p.web) where
+module _ (tells : Tells) (reads : ReadsBack) (library : List (ℕ × Answer)) (rate : Rate) (name : List ℕ) (earlier : List Taken) (most : ℕ) (s : Stage) (good : IsGood library rate name (AllLeaveNumbers earlier) most s) (p : Patch)
+    (at : StandsAt p s) (table : IsTable s.names) (once : StandOnce p.web) where
   abbrev tree : Tree
   tree = good.stands.tree
 
@@ -224,7 +230,7 @@ module _ (tells : Tells) (reads : ReadsBack) (library : List (ℕ × Answer)) (r
   there = subst (λ (f : List ℕ). IsHeld f s.names s.states tree p) good.stands.file (good.stands.held p (told s.net p at.net))
 
   runs : RunsAs p.grove tree
-  runs = runs_at library rate name most s p good.stands good.steady at
+  runs = runs_at library rate name (AllLeaveNumbers earlier) most s p good.stands good.steady at
 
   all_made : AreMade tree.boxes
   all_made = stands_made (answer_in files) name s.names tree stood
@@ -315,7 +321,7 @@ module _ (tells : Tells) (reads : ReadsBack) (library : List (ℕ × Answer)) (r
   opened_so numbers_left first =
       ap (grown (answer_in files) name (present_document p)) (as_opened s.names tree numbers_left few_boxes first) ∙ grown_so numbers_left room_left
 
-  pub reopens : Reopens library name rate s p
+  pub reopens : Reopens library name rate earlier s p
   reopens = record {
     tree = tree;
     files = good.stands.files;
@@ -328,20 +334,41 @@ module _ (tells : Tells) (reads : ReadsBack) (library : List (ℕ × Answer)) (r
       opened = λ numbers_left first. grows_again (growth_of name (present_document p) (known files s.names)) numbers_left room_left (opened_so numbers_left first);
       alike = λ more room. grows_again (grown_alike files name (present_document p) s.names tree more room) more room (grown_so more room);
     };
+    numbers = good.stands.numbers;
   }
 
 -- ---- edits that found such stages
 
-one_again : Tells → ReadsBack → (library : List (ℕ × Answer)) (rate : Rate) (name : List ℕ) (most : ℕ) (wanted : Wanted) (taken : Taken) (c : Choice) → IsGood library rate name most taken.found → SavedOpensAgain library name rate wanted taken c
-one_again tells reads library rate name most (Edits place path e) taken c good = tt
-one_again tells reads library rate name most (Asks path e) taken c good = tt
-one_again tells reads library rate name most (Saves (Some place)) taken c good = tt
-one_again tells reads library rate name most (Saves None) taken (Refuses why) good = tt
-one_again tells reads library rate name most (Saves None) taken (Lacks net) good = tt
-one_again tells reads library rate name most (Saves None) taken (Makes m) good = λ saved. reopens tells reads library rate name most taken.found good saved.patch saved.stands saved.table saved.once
-one_again tells reads library rate name most Undoes taken c good = tt
-one_again tells reads library rate name most Redoes taken c good = tt
+one_again : Tells → ReadsBack → (library : List (ℕ × Answer)) (rate : Rate) (name : List ℕ) (earlier : List Taken) (most : ℕ) (wanted : Wanted) (taken : Taken) (c : Choice)
+    → IsGood library rate name (AllLeaveNumbers earlier) most taken.found → SavedOpensAgain library name rate earlier wanted taken c
+one_again tells reads library rate name earlier most (Edits place path e) taken c good = tt
+one_again tells reads library rate name earlier most (Asks path e) taken c good = tt
+one_again tells reads library rate name earlier most (Saves (Some place)) taken c good = tt
+one_again tells reads library rate name earlier most (Saves None) taken (Refuses why) good = tt
+one_again tells reads library rate name earlier most (Saves None) taken (Lacks net) good = tt
+one_again tells reads library rate name earlier most (Saves None) taken (Makes m) good = λ saved.
+    reopens tells reads library rate name earlier most taken.found good saved.patch saved.stands saved.table saved.once
+one_again tells reads library rate name earlier most Undoes taken c good = tt
+one_again tells reads library rate name earlier most Redoes taken c good = tt
 
-pub all_again : Tells → ReadsBack → (library : List (ℕ × Answer)) (rate : Rate) (name : List ℕ) (most : ℕ) (edits : List Taken) → AreFound library rate name most edits → AreAgain library name rate edits
-all_again tells reads library rate name most [] h = tt
-all_again tells reads library rate name most (x ∷ edits) h = (one_again tells reads library rate name most x.wanted x x.choice h.0, all_again tells reads library rate name most edits h.1)
+all_again : Tells → ReadsBack → (library : List (ℕ × Answer)) (rate : Rate) (name : List ℕ) (earlier : List Taken) (clean : Type 0) → (AllLeaveNumbers earlier → clean) → (most : ℕ) (edits : List Taken)
+    → AreFound library rate name clean most edits → AreAgainBehind library name rate earlier edits
+all_again tells reads library rate name earlier clean f most [] h = tt
+all_again tells reads library rate name earlier clean f most (x ∷ edits) h = (
+  one_again tells reads library rate name earlier most x.wanted x x.choice (good_if library rate name clean (AllLeaveNumbers earlier) f most x.found h.0),
+  all_again tells reads library rate name (x ∷ earlier) (clean × LeavesNumbers x.wanted x.found x.choice) (λ k. (f k.1, k.0)) most edits h.1,
+)
+
+-- ---- runs
+
+-- each save of a run
+pub saves_again : Tells → ReadsBack → (library : List (ℕ × Answer)) (rate : Rate) (name : List ℕ) (most : ℕ) (edits : List Taken) → AreFound library rate name (Unit {0}) most edits
+    → AreAgain library name rate edits
+saves_again tells reads library rate name most edits h = all_again tells reads library rate name [] (Unit {0}) (λ k. k) most edits h
+
+-- a patch that stands where a part of a run ends
+pub stage_again : Tells → ReadsBack → (library : List (ℕ × Answer)) (rate : Rate) (name : List ℕ) (most : ℕ) (q : Passage) → EndsWell library rate name (Unit {0}) most q → (p : Patch)
+    → StandsAt p q.stage → IsTable q.stage.names → StandOnce p.web → Reopens library name rate q.edits q.stage p
+stage_again tells reads library rate name most q h p at table once =
+    reopens tells reads library rate name q.edits most q.stage (good_if library rate name (Unit {0} × AllLeaveNumbers q.edits) (AllLeaveNumbers q.edits) (λ k. (tt, k)) most q.stage h.stage)
+    p at table once

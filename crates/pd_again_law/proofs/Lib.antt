@@ -1,4 +1,5 @@
-pub mod FileLemmas
+pub mod NumberLemmas
+pub mod BareLemmas
 pub mod HeldLemmas
 pub mod PutLemmas
 pub mod TakeLemmas

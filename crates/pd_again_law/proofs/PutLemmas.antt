@@ -1,11 +1,12 @@
 -- What the laws of pd_put_law say of a box that an edit put.
-use Rattle.std.proofs.Common.{◌≡◌, ◌≤◌, ℕ, List, ◌∙◌}
+use Rattle.std.proofs.Common.{◌≡◌, ◌≤◌, ℕ, List, [], ◌++◌, ap, ◌∙◌}
 use mathlib.Core.Logic.{⊎_elim}
 use Rattle.pd_atom.specs.Names.{Names, Extends, IsTable}
 use Rattle.pd_canvas.specs.declared.edits.Edit.{Edit}
+use Rattle.pd_canvas.specs.Pages.{Shape}
 use Rattle.pd_canvas.specs.Proper.{IsProper}
 use Rattle.pd_library.specs.Files.{answer_in}
-use Rattle.pd_tree.specs.Trees.{Tree, weight, document_in}
+use Rattle.pd_tree.specs.Trees.{Trees, Tree, weight, own_zeros, zeros_in, document_in}
 use Rattle.pd_gather.specs.Gather.{Known}
 use Rattle.pd_patch.specs.declared.patch.Patch.{Patch}
 use Rattle.pd_patch.specs.Sounds.{sound_of}
@@ -52,6 +53,13 @@ pub record PutLaws : Type 0 where
   pub contents : (old new : Patch) (n : Counts) (name path : List ℕ) (now : ℕ) (e : Edit) (k after : Known) (b : NewBox) (t : Tree)
       → AddsBox old new n name path now e k after b → CanPut old → RunsAs old.grove t → StandsAgain (answer_in k.files) name k.names t
       → Settled old k.names (states_of old) → Settled new after.names (states_of new)
+
+-- what came has no `$0`: it is a box without a canvas, or a subpatch without boxes
+pub no_numbers : (old new : Patch) (now : ℕ) (a : Added) (key : ℕ) → HasCome old new now a key → zeros_in a.boxes ≡ []
+no_numbers old new now a key come = ⊎_elim
+    (λ (x : IsBoxPut old new now a key). ap (λ (t : Trees). zeros_in t) x.plain.single)
+    (λ (x : IsSubPut old new now a key).
+    ap (λ (t : Trees). zeros_in t) x.sub.single ∙ ap (λ (f : Shape). own_zeros f x.sub.sheet ++ []) x.sub.form) come
 
 -- the patch runs on at its rate
 pub same_rate : (old new : Patch) (now : ℕ) (a : Added) (key : ℕ) → HasCome old new now a key → new.rate ≡ old.rate

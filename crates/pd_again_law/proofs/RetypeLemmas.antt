@@ -4,7 +4,7 @@ use Rattle.pd_atom.specs.declared.Atom.{Atom}
 use Rattle.pd_atom.specs.Names.{Names, Extends, IsTable}
 use Rattle.pd_canvas.specs.Proper.{IsProper}
 use Rattle.pd_library.specs.Files.{answer_in}
-use Rattle.pd_tree.specs.Trees.{Tree, weight, document_in}
+use Rattle.pd_tree.specs.Trees.{Tree, weight, zeros_of, document_in}
 use Rattle.pd_gather.specs.Gather.{Known}
 use Rattle.pd_patch.specs.declared.patch.Patch.{Patch}
 use Rattle.pd_patch.specs.Sounds.{sound_of}
@@ -29,6 +29,9 @@ pub record RetypeLaws : Type 0 where
   pub again : (old new : Patch) (n : Counts) (name path : List ℕ) (number : ℕ) (text : List Atom) (now : ℕ) (k after : Known) (b : RetypedBox) (t : Tree)
       → (r : RetypesBox old new n name path number text now k after b) → CanPut old → RunsAs old.grove t → StandsAgain (answer_in k.files) name k.names t
       → StandsAgain (answer_in after.files) name after.names (retyped_at path number r.became.can.cell t)
+  pub zeros : (old new : Patch) (n : Counts) (name path : List ℕ) (number : ℕ) (text : List Atom) (now : ℕ) (k after : Known) (b : RetypedBox) (t : Tree)
+      → (r : RetypesBox old new n name path number text now k after b) → CanPut old → RunsAs old.grove t
+      → zeros_of (retyped_at path number r.became.can.cell t) ≡ zeros_of t
   pub holds : (old new : Patch) (n : Counts) (name path : List ℕ) (number : ℕ) (text : List Atom) (now : ℕ) (k after : Known) (b : RetypedBox) (t : Tree)
       → (r : RetypesBox old new n name path number text now k after b) → CanPut old → RunsAs old.grove t → HoldsWires old t
       → HoldsWires new (retyped_at path number r.became.can.cell t)

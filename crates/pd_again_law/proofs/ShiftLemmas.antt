@@ -4,7 +4,7 @@ use Rattle.pd_atom.specs.Names.{Names}
 use Rattle.pd_canvas.specs.Proper.{IsProper}
 use Rattle.pd_clock.specs.declared.times.Rate.{Rate}
 use Rattle.pd_library.specs.declared.answers.Answer.{Answer}
-use Rattle.pd_tree.specs.Trees.{Tree, weight, document_in}
+use Rattle.pd_tree.specs.Trees.{Tree, weight, zeros_of, document_in}
 use Rattle.pd_patch.specs.declared.patch.Patch.{Patch}
 use Rattle.pd_patch.specs.Sounds.{sound_of}
 use Rattle.pd_hearing.specs.Worlds.{states_of}
@@ -22,6 +22,7 @@ pub record ShiftLaws : Type 0 where
       → RunsAs old.grove t → RunsAs new.grove (shifted_at path number x y t)
   pub boxes : (path : List ℕ) (number : ℕ) (x y : ℤ) (t : Tree) → weight (shifted_at path number x y t).boxes ≡ weight t.boxes
   pub sound : (rate : Rate) (path : List ℕ) (number : ℕ) (x y : ℤ) (t : Tree) → sound_of rate (shifted_at path number x y t).boxes ≡ sound_of rate t.boxes
+  pub zeros : (path : List ℕ) (number : ℕ) (x y : ℤ) (t : Tree) → zeros_of (shifted_at path number x y t) ≡ zeros_of t
   pub fit : (old new : Patch) (path : List ℕ) (number : ℕ) (x y : ℤ) (key : ℕ) → MovesBox old new path number x y key → WiresFit old → WiresFit new
   pub owners : (old new : Patch) (path : List ℕ) (number : ℕ) (x y : ℤ) (key : ℕ) (table : Names) (file : List ℕ) → MovesBox old new path number x y key
       → HasOwners old table file → HasOwners new table file

@@ -43,7 +43,8 @@ use Rattle.pd_stage.specs.Events.{with_net, stage_by}
 use Rattle.pd_steady.specs.Steady.{IsSteady}
 use Rattle.pd_steady.proofs.FairLemmas.{IsRefusal, IsFair}
 use Rattle.pd_steady.proofs.TimeLemmas.{within}
-use Rattle.pd_again_law.proofs.FileLemmas.{goes_behind}
+use Rattle.pd_again_law.specs.Again.{TakesNoNumber, LeavesNumbers}
+use Rattle.pd_again_law.proofs.NumberLemmas.{HasFirstNumbers, still_first, put_first, goes_behind}
 use Rattle.pd_again_law.proofs.HeldLemmas.{Settled, IsHeld, bare_kind, NetHeld, told, held_in, held_edit, held_room}
 use Rattle.pd_again_law.proofs.PutLemmas.{PutLaws}
 use Rattle.pd_again_law.proofs.PutLemmas as put
@@ -77,7 +78,8 @@ pub record EditLaws : Type 0 where
   pub shifts : ShiftLaws
   pub retypes : RetypeLaws
 
-module _ (library : List (ℕ × Answer)) (rate : Rate) (name : List ℕ) where
+-- `clean` is what leaves the `$0` numbers of the tree the first ones
+module _ (library : List (ℕ × Answer)) (rate : Rate) (name : List ℕ) (clean : Type 0) where
   -- A tree stands in each patch of which the stage tells, and grows again from its own document. What was known of files where the patch opened is known
   -- still, and as many boxes and values are counted as it has.
   pub record IsStanding (s : Stage) : Type 0 where
@@ -88,6 +90,7 @@ module _ (library : List (ℕ × Answer)) (rate : Rate) (name : List ℕ) where
     pub low : deep tree.boxes ≤ 256
     pub again : StandsAgain (answer_in s.base.files) s.file s.names tree
     pub proper : StaysProper s.names tree
+    pub numbers : clean → HasFirstNumbers tree
     pub files : GoesOn library s.base.files
     pub counted : HasCounted rate s.base tree
     pub held : NetHeld s.file s.names s.states tree s.net
@@ -101,6 +104,7 @@ module _ (library : List (ℕ × Answer)) (rate : Rate) (name : List ℕ) where
     low = h.low;
     again = h.again;
     proper = h.proper;
+    numbers = h.numbers;
     files = h.files;
     counted = h.counted;
     held = h.held;
@@ -138,6 +142,7 @@ module _ (library : List (ℕ × Answer)) (rate : Rate) (name : List ℕ) where
         low = h.low;
         again = subst (λ (ns : Names). StandsAgain (answer_in m.base.files) s.file ns h.tree) (sym x.names) rest.0;
         proper = subst (λ (ns : Names). StaysProper ns h.tree) (sym x.names) h.proper;
+        numbers = h.numbers;
         files = subst (GoesOn library) (sym (ap (λ (b : Base). b.files) x.base)) h.files;
         counted = rest.1;
         held = subst (λ (ns : Names). NetHeld s.file ns m.states h.tree m.net) (sym x.names)
@@ -153,7 +158,7 @@ module _ (library : List (ℕ × Answer)) (rate : Rate) (name : List ℕ) where
       let held : IsHeld s.file s.names s.states h.tree x.new =
       held_room s.file s.names s.states h.tree h.low x.old x.new x.same (held_at s x.old h x.stands) in
       let rest = rewired_stands s net s.base x.old x.new h x.stands x.net_is x.same.rate refl refl refl held in
-      record { file = h.file; rates = rest.3; six = h.six; tree = h.tree; low = h.low; again = rest.0; proper = h.proper; files = h.files; counted = rest.1; held = rest.2 }
+      record { file = h.file; rates = rest.3; six = h.six; tree = h.tree; low = h.low; again = rest.0; proper = h.proper; numbers = h.numbers; files = h.files; counted = rest.1; held = rest.2 }
 
   -- a patch that stands at a steady stage
   keeps_at : (most : ℕ) (s : Stage) (p : Patch) → IsSteady most s → StandsAt p s → KeepsOfKind (kinds_of p) (states_of p)
@@ -232,6 +237,7 @@ module _ (library : List (ℕ × Answer)) (rate : Rate) (name : List ℕ) where
           let later : Extends x.after.names more = subst (λ (ns : Names). Extends ns more) x.names on_more in
           puts.proper x.old x.new s.base.counts s.file path s.time e before x.after x.box h.tree more x.adds can runs h.again later table few
           (h.proper more (onward s.names x.after.names more on later) table);
+      numbers = λ k. put_first x.adds.added.boxes (put.no_numbers x.old x.new s.time x.adds.added x.box.key x.adds.put) path h.tree (h.numbers k);
       files = subst (λ (b : Base). GoesOn library b.files) (sym x.base) files;
       counted = subst (λ (b : Base). HasCounted rate b now) (sym x.base) counted;
       held = held_in s.file m.names m.states now x.new m.net x.net
@@ -258,6 +264,7 @@ module _ (library : List (ℕ × Answer)) (rate : Rate) (name : List ℕ) where
         low = h.low;
         again = h.again;
         proper = h.proper;
+        numbers = h.numbers;
         files = h.files;
         counted = h.counted;
         held = held_in s.file s.names s.states h.tree q net is held;
@@ -268,7 +275,8 @@ module _ (library : List (ℕ × Answer)) (rate : Rate) (name : List ℕ) where
   unput_stands most s path e net x steady h = room_stands most s net x.old x.new x.stands x.short.room x.net_is steady h
 
   -- an edit that took a box out
-  module _ (takes : TakeLaws) (most : ℕ) (s : Stage) (path : List ℕ) (number : ℕ) (m : Made) (x : IsTakenOut s path number m) (steady : IsSteady most s) (h : IsStanding s) where
+  module _ (takes : TakeLaws) (most : ℕ) (s : Stage) (path : List ℕ) (number : ℕ) (m : Made) (x : IsTakenOut s path number m) (leaves : clean → TakesNoNumber s path (edit.Delete number) (Makes m))
+      (steady : IsSteady most s) (h : IsStanding s) where
     abbrev less : Tree
     less = taken_at path number h.tree
 
@@ -315,6 +323,7 @@ module _ (library : List (ℕ × Answer)) (rate : Rate) (name : List ℕ) where
           (subst (λ (ns : Names). StandsAgain (answer_in s.base.files) s.file ns less) (sym x.names) grows_less);
       proper = subst (λ (ns : Names). StaysProper ns less) (sym x.names) (λ more on table.
           takes.proper x.old x.new s.base.counts s.names path number x.steps x.steps' x.box h.tree more x.deletes x.stands.puts ran (h.proper more on table));
+      numbers = λ k. still_first h.tree less (leaves k x h.tree ran) (h.numbers k);
       files = subst (λ (b : Base). GoesOn library b.files) (sym x.base) h.files;
       counted = subst (λ (b : Base). HasCounted rate b less) (sym x.base) fewer_counted;
       held = held_in s.file m.names m.states less x.new m.net x.net
@@ -328,7 +337,7 @@ module _ (library : List (ℕ × Answer)) (rate : Rate) (name : List ℕ) where
       let held : IsHeld s.file s.names s.states h.tree x.new =
       held_room s.file s.names s.states h.tree h.low x.old x.new x.short.room (held_at s x.old h x.stands) in
       let rest = rewired_stands s net s.base x.old x.new h x.stands x.net_is x.short.room.rate refl refl refl held in
-      record { file = h.file; rates = rest.3; six = h.six; tree = h.tree; low = h.low; again = rest.0; proper = h.proper; files = h.files; counted = rest.1; held = rest.2 }
+      record { file = h.file; rates = rest.3; six = h.six; tree = h.tree; low = h.low; again = rest.0; proper = h.proper; numbers = h.numbers; files = h.files; counted = rest.1; held = rest.2 }
 
   -- an edit that moved a box
   module _ (shifts : ShiftLaws) (most : ℕ) (s : Stage) (path : List ℕ) (number : ℕ) (a b : ℤ) (m : Made) (x : IsMovedTo s path number a b m) (steady : IsSteady most s) (h : IsStanding s) where
@@ -374,6 +383,7 @@ module _ (library : List (ℕ × Answer)) (rate : Rate) (name : List ℕ) where
           (subst (λ (ns : Names). StandsAgain (answer_in s.base.files) s.file ns moved) (sym x.names) grows_moved);
       proper = subst (λ (ns : Names). StaysProper ns moved) (sym x.names) (λ more on table.
           shifts.proper x.old x.new path number a b x.key h.tree more x.moves x.stands.puts ran_there (h.proper more on table));
+      numbers = λ k. still_first h.tree moved (shifts.zeros path number a b h.tree) (h.numbers k);
       files = subst (λ (c : Base). GoesOn library c.files) (sym x.base) h.files;
       counted = subst (λ (c : Base). HasCounted rate c moved) (sym x.base) same_counted;
       held = held_in s.file m.names m.states moved x.new m.net x.net
@@ -445,6 +455,8 @@ module _ (library : List (ℕ × Answer)) (rate : Rate) (name : List ℕ) where
         again = subst (λ (c : Base). StandsAgain (answer_in c.files) s.file m.names other) (sym x.base)
             (subst (λ (ns : Names). StandsAgain (answer_in x.after.files) s.file ns other) (sym x.names) grows_other);
         proper = subst (λ (ns : Names). StaysProper ns other) (sym x.names) stays_proper;
+        numbers = λ k. still_first h.tree other
+            (retypes.zeros x.old x.new s.base.counts s.file path number text s.time known_then x.after x.box h.tree x.retypes x.stands.puts one_ran) (h.numbers k);
         files = subst (λ (c : Base). GoesOn library c.files) (sym x.base) files_go_on;
         counted = subst (λ (c : Base). HasCounted rate c other) (sym x.base) other_counted;
         held = held_in s.file m.names m.states other x.new m.net x.net
@@ -467,6 +479,7 @@ module _ (library : List (ℕ × Answer)) (rate : Rate) (name : List ℕ) where
     again = subst (λ (b : Base). StandsAgain (answer_in b.files) s.file m.names h.tree) (sym x.base)
         (subst (λ (ns : Names). StandsAgain (answer_in s.base.files) s.file ns h.tree) (sym x.names) h.again);
     proper = subst (λ (ns : Names). StaysProper ns h.tree) (sym x.names) h.proper;
+    numbers = h.numbers;
     files = subst (λ (b : Base). GoesOn library b.files) (sym x.base) h.files;
     counted = subst (λ (b : Base). HasCounted rate b h.tree) (sym x.base) h.counted;
     held = subst (λ (n : Net). NetHeld s.file m.names m.states h.tree n) (sym x.net)
@@ -488,10 +501,11 @@ module _ (library : List (ℕ × Answer)) (rate : Rate) (name : List ℕ) where
     box_stands path e (Lacks net) x = on_ahead (with_net (with_ahead s []) net) (unput_stands most (with_ahead s []) path e net x steady h)
     box_stands path e (Makes m) x = on_ahead (stage_by (with_ahead s []) (Makes m)) (put_stands laws.puts most (with_ahead s []) path e m x steady h)
 
-    gone_stands : (path : List ℕ) (number : ℕ) (c : Choice) → IsTakingLawful (with_ahead s []) path number c → IsStanding (stage_by (with_ahead s ahead) c)
-    gone_stands path number (Refuses why) x = on_ahead (with_ahead s []) h
-    gone_stands path number (Lacks net) x = on_ahead (with_net (with_ahead s []) net) (left_stands (with_ahead s []) path number net x h)
-    gone_stands path number (Makes m) x = on_ahead (stage_by (with_ahead s []) (Makes m)) (take_stands laws.takes most (with_ahead s []) path number m x steady h)
+    gone_stands : (path : List ℕ) (number : ℕ) (c : Choice) → (clean → TakesNoNumber (with_ahead s []) path (edit.Delete number) c) → IsTakingLawful (with_ahead s []) path number c
+        → IsStanding (stage_by (with_ahead s ahead) c)
+    gone_stands path number (Refuses why) leaves x = on_ahead (with_ahead s []) h
+    gone_stands path number (Lacks net) leaves x = on_ahead (with_net (with_ahead s []) net) (left_stands (with_ahead s []) path number net x h)
+    gone_stands path number (Makes m) leaves x = on_ahead (stage_by (with_ahead s []) (Makes m)) (take_stands laws.takes most (with_ahead s []) path number m x leaves steady h)
 
     placed_stands : (path : List ℕ) (number : ℕ) (a b : ℤ) (c : Choice) → IsMovingLawful (with_ahead s []) path number a b c → IsStanding (stage_by (with_ahead s ahead) c)
     placed_stands path number a b (Refuses why) x = on_ahead (with_ahead s []) h
@@ -511,33 +525,50 @@ module _ (library : List (ℕ × Answer)) (rate : Rate) (name : List ℕ) where
     none_stands : (c : Choice) (why : _) → c ≡ Refuses why → IsStanding (stage_by (with_ahead s ahead) c)
     none_stands c why x = subst (λ (y : Choice). IsStanding (stage_by (with_ahead s ahead) y)) (sym x) (on_ahead (with_ahead s []) h)
 
-    edit_stands : (path : List ℕ) (e : Edit) (c : Choice) → IsEditLawful (with_ahead s []) path e c → IsStanding (stage_by (with_ahead s ahead) c)
-    edit_stands path (edit.Connect v) c x = wire_stands path (edit.Connect v) c x
-    edit_stands path (edit.Disconnect v) c x = wire_stands path (edit.Disconnect v) c x
-    edit_stands path (edit.Delete number) c x = gone_stands path number c x
-    edit_stands path (edit.Retype number text) c x = become_stands path number text c x
-    edit_stands path (edit.Move number a b) c x = placed_stands path number a b c x
-    edit_stands path (edit.Obj a b text) c x = box_stands path (edit.Obj a b text) c x
-    edit_stands path (edit.Msg a b text) c x = box_stands path (edit.Msg a b text) c x
-    edit_stands path (edit.Comment a b text) c x = box_stands path (edit.Comment a b text) c x
-    edit_stands path (edit.FloatBox a b text) c x = box_stands path (edit.FloatBox a b text) c x
-    edit_stands path (edit.SymbolBox a b text) c x = box_stands path (edit.SymbolBox a b text) c x
-    edit_stands path (edit.Sub a b text) c x = box_stands path (edit.Sub a b text) c x
+    edit_stands : (path : List ℕ) (e : Edit) (c : Choice) → (clean → TakesNoNumber (with_ahead s []) path e c) → IsEditLawful (with_ahead s []) path e c
+        → IsStanding (stage_by (with_ahead s ahead) c)
+    edit_stands path (edit.Connect v) c leaves x = wire_stands path (edit.Connect v) c x
+    edit_stands path (edit.Disconnect v) c leaves x = wire_stands path (edit.Disconnect v) c x
+    edit_stands path (edit.Delete number) c leaves x = gone_stands path number c leaves x
+    edit_stands path (edit.Retype number text) c leaves x = become_stands path number text c x
+    edit_stands path (edit.Move number a b) c leaves x = placed_stands path number a b c x
+    edit_stands path (edit.Obj a b text) c leaves x = box_stands path (edit.Obj a b text) c x
+    edit_stands path (edit.Msg a b text) c leaves x = box_stands path (edit.Msg a b text) c x
+    edit_stands path (edit.Comment a b text) c leaves x = box_stands path (edit.Comment a b text) c x
+    edit_stands path (edit.FloatBox a b text) c leaves x = box_stands path (edit.FloatBox a b text) c x
+    edit_stands path (edit.SymbolBox a b text) c leaves x = box_stands path (edit.SymbolBox a b text) c x
+    edit_stands path (edit.Sub a b text) c leaves x = box_stands path (edit.Sub a b text) c x
 
-    choice_stands : (wanted : Wanted) (c : Choice) → MayCome wanted (with_ahead s []) c → IsStanding (stage_by (with_ahead s ahead) c)
-    choice_stands (Edits None path e) c x = edit_stands path e c x
-    choice_stands (Edits (Some document) path e) c x = none_stands c _ x
-    choice_stands (Asks path e) c x = edit_stands path e c x
-    choice_stands (Saves None) c x = save_stands c x
-    choice_stands (Saves (Some document)) c x = none_stands c _ x
-    choice_stands Undoes c x = none_stands c _ x
-    choice_stands Redoes c x = none_stands c _ x
+    choice_stands : (wanted : Wanted) (c : Choice) → (clean → LeavesNumbers wanted (with_ahead s []) c) → MayCome wanted (with_ahead s []) c → IsStanding (stage_by (with_ahead s ahead) c)
+    choice_stands (Edits None path e) c leaves x = edit_stands path e c leaves x
+    choice_stands (Edits (Some document) path e) c leaves x = none_stands c _ x
+    choice_stands (Asks path e) c leaves x = edit_stands path e c leaves x
+    choice_stands (Saves None) c leaves x = save_stands c x
+    choice_stands (Saves (Some document)) c leaves x = none_stands c _ x
+    choice_stands Undoes c leaves x = none_stands c _ x
+    choice_stands Redoes c leaves x = none_stands c _ x
 
     refused_stands : (c : Choice) → IsRefusal c → IsStanding (stage_by (with_ahead s ahead) c)
     refused_stands (Refuses why) r = on_ahead (with_ahead s []) h
     refused_stands (Lacks net) r = absurd r
     refused_stands (Makes m) r = absurd r
 
-    pub fair_stands : (wanted : Wanted) (c : Choice) → IsFair (record { found = with_ahead s []; wanted = wanted; choice = c }) → IsStanding (stage_by (with_ahead s ahead) c)
-    fair_stands wanted c (inl l) = choice_stands wanted c l
-    fair_stands wanted c (inr r) = refused_stands c r
+    pub fair_stands : (wanted : Wanted) (c : Choice) → (clean → LeavesNumbers wanted (with_ahead s []) c) → IsFair (record { found = with_ahead s []; wanted = wanted; choice = c }) → IsStanding (stage_by (with_ahead s ahead) c)
+    fair_stands wanted c leaves (inl l) = choice_stands wanted c leaves l
+    fair_stands wanted c leaves (inr r) = refused_stands c r
+
+-- what leaves its numbers the first ones may be more
+pub stands_if : (library : List (ℕ × Answer)) (rate : Rate) (name : List ℕ) (c d : Type 0) → (d → c) → (s : Stage) → IsStanding library rate name c s → IsStanding library rate name d s
+stands_if library rate name c d f s h = record {
+  file = h.file;
+  rates = h.rates;
+  six = h.six;
+  tree = h.tree;
+  low = h.low;
+  again = h.again;
+  proper = h.proper;
+  numbers = λ k. h.numbers (f k);
+  files = h.files;
+  counted = h.counted;
+  held = h.held;
+}

@@ -1,7 +1,9 @@
 -- What the text of a patch that was saved opens as.
-use Rattle.std.specs.Prelude.{◌≡◌, ◌+◌, ◌++◌, ℕ, List, Some, None, Ok, is_some}
+use Rattle.std.specs.Prelude.{◌≡◌, ◌+◌, ◌++◌, ℕ, List, [], ◌∷◌, Some, None, Ok, is_some}
 use Rattle.std.specs.List.{AllByRecursion}
 use Rattle.pd_atom.specs.Names.{Names}
+use Rattle.pd_canvas.specs.declared.edits.Edit.{Edit}
+use Rattle.pd_canvas.specs.declared.edits.Edit.TheVariants as edit
 use Rattle.pd_canvas.specs.Pages.{Page}
 use Rattle.pd_clock.specs.declared.times.Rate.{Rate}
 use Rattle.pd_name.specs.declared.Class.{Class}
@@ -25,9 +27,10 @@ use Rattle.pd_reload_law.specs.Reloading.{RunsAs}
 use Rattle.pd_reload_law.specs.Saving.{tree_now}
 use Rattle.pd_alike_law.specs.Alike.{HaveSameOwners}
 use Rattle.pd_inside_law.specs.Inside.{IsSameCanvas}
-use Rattle.pd_stage.specs.Choices.{Wanted, Saves, Choice, Makes}
+use Rattle.pd_taking_law.specs.Takes.{taken_at}
+use Rattle.pd_stage.specs.Choices.{Wanted, Edits, Asks, Saves, Choice, Makes}
 use Rattle.pd_stage.specs.Stages.{Stage, Taken}
-use Rattle.pd_stage.specs.Lawful.{IsSaved}
+use Rattle.pd_stage.specs.Lawful.{IsTakenOut, IsSaved}
 use Rattle.pd_engine.specs.Opening.{growth_of}
 
 -- The second patch stands as the first one does: as this tree, with no name more, and each name has the same owners, by their places in text order.
@@ -53,7 +56,7 @@ pub record GrowsAgain (grows : Step Tree) (rest : Stock) (name : List ℕ) (rate
 
 -- The patch stands as the tree t. Its text reads back as its document with no name more. From this, with these files and with the `$0` numbers of t,
 -- whatever numbers and room there are besides, the tree grows that the patch is by now. So it does as a file that is opened grows, whose `$0`
--- numbers are those from 1001 on, where t has these: as it has until a box with a `$0` of its own goes.
+-- numbers are those from 1001 on, where t has just the first of these.
 pub record OpensAgain (files : List (ℕ × Answer)) (name : List ℕ) (rate : Rate) (t : Tree) (p : Patch) (names : Names) (text : List ℕ) : Type 0 where
   pub stands : RunsAs p.grove t
   pub page : Page
@@ -64,21 +67,40 @@ pub record OpensAgain (files : List (ℕ × Answer)) (name : List ℕ) (rate : R
       GrowsAgain (growth_of name page (known files names)) (stock names numbers_left room_left) name rate t p names
   pub alike : (more : List ℕ) (room : ℕ) → GrowsAgain (grown_alike files name page names t more room) (stock names more room) name rate t p names
 
+-- where the edit took a box out, no `$0` number went with it
+abbrev pub TakesNoNumber : Stage → List ℕ → Edit → Choice → Type 0
+TakesNoNumber s path (edit.Delete number) (Makes m) = (x : IsTakenOut s path number m) (t : Tree) → RunsAs x.old.grove t → zeros_of (taken_at path number t) ≡ zeros_of t
+TakesNoNumber s path e c = Unit {0}
+
+abbrev pub LeavesNumbers : Wanted → Stage → Choice → Type 0
+LeavesNumbers (Edits None path e) s c = TakesNoNumber s path e c
+LeavesNumbers (Asks path e) s c = TakesNoNumber s path e c
+LeavesNumbers wanted s c = Unit {0}
+
+-- so it is of all these edits
+abbrev pub AllLeaveNumbers : List Taken → Type 0
+AllLeaveNumbers edits = AllByRecursion (λ taken. LeavesNumbers taken.wanted taken.found taken.choice) edits
+
 -- A patch that stands at a stage opens again from its text, with the files that are known there: those that were known where the patch opened, with what
--- boxes that came or became others have asked for behind them.
-pub record Reopens (library : List (ℕ × Answer)) (name : List ℕ) (rate : Rate) (s : Stage) (p : Patch) : Type 0 where
+-- boxes that came or became others have asked for behind them. Where the edits before took no `$0` number away, the numbers of its tree are the first
+-- ones from 1001 on.
+pub record Reopens (library : List (ℕ × Answer)) (name : List ℕ) (rate : Rate) (before : List Taken) (s : Stage) (p : Patch) : Type 0 where
   pub tree : Tree
   pub files : GoesOn library s.base.files
   pub again : OpensAgain s.base.files name rate tree p s.names (text_of s.names (present_document p))
+  pub numbers : AllLeaveNumbers before → (numbers_left : List ℕ) × (zeros_from 1001 ≡ zeros_of tree ++ numbers_left)
 
--- a save that was made put a text that opens again as the patch that was saved
-abbrev pub SavedOpensAgain : List (ℕ × Answer) → List ℕ → Rate → Wanted → Taken → Choice → Type 0
-SavedOpensAgain library name rate (Saves None) taken (Makes m) = (saved : IsSaved taken.found m) → Reopens library name rate taken.found saved.patch
-SavedOpensAgain library name rate wanted taken c = Unit {0}
+-- a save that was made behind these edits put a text that opens again as the patch that was saved
+abbrev pub SavedOpensAgain : List (ℕ × Answer) → List ℕ → Rate → List Taken → Wanted → Taken → Choice → Type 0
+SavedOpensAgain library name rate before (Saves None) taken (Makes m) = (saved : IsSaved taken.found m) → Reopens library name rate before taken.found saved.patch
+SavedOpensAgain library name rate before wanted taken c = Unit {0}
 
-abbrev pub IsAgain : List (ℕ × Answer) → List ℕ → Rate → Taken → Type 0
-IsAgain library name rate taken = SavedOpensAgain library name rate taken.wanted taken taken.choice
+-- so does each save of these edits, behind those with the last of them first
+abbrev pub AreAgainBehind : List (ℕ × Answer) → List ℕ → Rate → List Taken → List Taken → Type 0
+AreAgainBehind library name rate before [] = Unit {0}
+AreAgainBehind library name rate before (taken ∷ edits) =
+    SavedOpensAgain library name rate before taken.wanted taken taken.choice × AreAgainBehind library name rate (taken ∷ before) edits
 
--- so does each save of these edits
+-- so does each save of the edits of a run
 abbrev pub AreAgain : List (ℕ × Answer) → List ℕ → Rate → List Taken → Type 0
-AreAgain library name rate edits = AllByRecursion (IsAgain library name rate) edits
+AreAgain library name rate edits = AreAgainBehind library name rate [] edits

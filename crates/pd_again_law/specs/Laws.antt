@@ -1,19 +1,20 @@
 -- What the laws of saves say.
-use Rattle.std.specs.Prelude.{◌+◌, ◌≤◌, ◌^◌, ℕ, List, Option}
+use Rattle.std.specs.Prelude.{◌≡◌, ◌+◌, ◌≤◌, ◌^◌, ℕ, List, Option, None}
 use Rattle.pd_io.specs.declared.files.FileRow.{FileRow}
 use Rattle.pd_atom.specs.Names.{Names, IsTable}
+use Rattle.pd_canvas.specs.declared.edits.Edit.TheVariants as edit
 use Rattle.pd_canvas.specs.Pages.{Page}
 use Rattle.pd_clock.specs.declared.times.Rate.{Rate}
 use Rattle.pd_patch.specs.declared.patch.Patch.{Patch}
 use Rattle.pd_reload_law.specs.Wires.{StandOnce}
-use Rattle.pd_stage.specs.Choices.{Base, Choice}
-use Rattle.pd_stage.specs.Lawful.{StandsAt, AreLawful}
-use Rattle.pd_stage.specs.Stages.{followed_by}
+use Rattle.pd_stage.specs.Choices.{Base, Made, Choice, Makes}
+use Rattle.pd_stage.specs.Lawful.{StandsAt, IsTakenOut, AreLawful}
+use Rattle.pd_stage.specs.Stages.{Stage, followed_by}
 use Rattle.pd_stage.specs.Times.{block_units}
 use Rattle.pd_engine.specs.Opening.{Grows, opened}
 use Rattle.pd_steady.specs.Runs.{own_ways}
 use Rattle.pd_steady.specs.Steps.{Step, AreSteps, steps_by, run_by}
-use Rattle.pd_again_law.specs.Again.{Reopens, AreAgain}
+use Rattle.pd_again_law.specs.Again.{TakesNoNumber, Reopens, AreAgain}
 
 -- each save of a run from where a patch opens to its end, in which each edit is lawful, opens again as the patch that was saved
 abbrev pub SavesOpenAgain : Type 0
@@ -29,4 +30,9 @@ StagesOpenAgain = (holds : Option (List FileRow)) (name : List ℕ) (rate : Rate
     AreSteps most steps (opened name p table base ahead).stage →
     let run = followed_by (opened name p table base ahead) (steps_by own_ways steps) in
     AreLawful run.edits → (q : Patch) → StandsAt q run.stage → IsTable run.stage.names → StandOnce q.web →
-    Reopens grows.files.files name rate run.stage q
+    Reopens grows.files.files name rate run.edits run.stage q
+
+-- an edit that took a box out that holds no canvas took no `$0` number away
+abbrev pub BareBoxesLeaveNumbers : Type 0
+BareBoxesLeaveNumbers = (s : Stage) (path : List ℕ) (number : ℕ) (m : Made) → ((x : IsTakenOut s path number m) → x.deletes.cleared.node.inner ≡ None) →
+    TakesNoNumber s path (edit.Delete number) (Makes m)

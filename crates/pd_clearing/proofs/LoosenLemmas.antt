@@ -1,12 +1,10 @@
 -- Wires at some boxes that go, box after box.
-use Rattle.std.proofs.Common.{◌≡◌, ◌≢◌, ℕ, zero, suc, ◌+◌, ◌<◌, ◌==◌, Bool, true, false, cond, not, ◌||◌, List, [], ◌∷◌, ◌++◌, filter, map, length, Some, None, IsSome, IsTrue, nat_eq, inl, inr, refl, sym, ap, ◌∙◌, subst, eqb-true, eq-eqb, length-append, arith}
+use Rattle.std.proofs.Common.{◌≡◌, ◌≢◌, ℕ, zero, suc, ◌+◌, ◌==◌, Bool, true, false, cond, not, ◌||◌, List, [], ◌∷◌, ◌++◌, filter, map, Some, IsSome, IsTrue, nat_eq, inl, inr, refl, sym, ap, ◌∙◌, subst, eqb-true, eq-eqb, length-append, arith}
 use Rattle.std.specs.Prelude.{slice_get, ◌⊎◌}
-use Rattle.std.specs.List.{AllByRecursion}
 use mathlib.Core.Logic.{⊎_elim}
 use Rattle.std.proofs.lemmas.Bool.{cases_eq, or_cases, both_ways, false≢true}
 use Rattle.std.proofs.lemmas.List.{length-map}
 use Rattle.slab.specs.Slab.{get}
-use Rattle.pd_grove.specs.declared.nodes.Node.{Node}
 use Rattle.pd_grove.specs.declared.grove.Grove.{Grove}
 use Rattle.pd_grove.specs.declared.spots.Spot.{Spot}
 use Rattle.pd_grove.specs.Forest.{IsForest}
@@ -17,8 +15,7 @@ use Rattle.pd_owning.specs.Parts.{ArePart}
 use Rattle.pd_owning.proofs.StandLemmas.{live_there}
 use Rattle.pd_web.specs.declared.lines.Line.{Line}
 use Rattle.pd_web.specs.declared.web.Hop.{Hop}
-use Rattle.pd_web.specs.declared.web.Web.{Web}
-use Rattle.pd_web.specs.Changes.{hop_at, wires_told, IsListed, Meet}
+use Rattle.pd_web.specs.Changes.{hop_at, Meet}
 use Rattle.pd_web.specs.Hops.{fan_hops, feed_hops}
 use Rattle.pd_ports.specs.Boxes.{HasNoWires}
 use Rattle.pd_patch.specs.declared.patch.Patch.{Patch}
@@ -30,7 +27,7 @@ use Rattle.pd_wiring.proofs.HeardLemmas.{all_at}
 use Rattle.pd_taking.specs.Loosening.{is_of_other, looks_for, AreGone, Gone, IsAt, Loosens, LosesWires}
 use Rattle.pd_taking.proofs.LoseLemmas.{kept_on, none_listed}
 use Rattle.pd_clearing.specs.Losing.{is_of_none, looks_for_all, AreLost, IsAtOne, LoosensAll, Lost}
-use Rattle.pd_clearing.proofs.PartLemmas.{beside, key_among, not_key}
+use Rattle.pd_clearing.proofs.PartLemmas.{beside, key_among}
 
 -- Lists.
 

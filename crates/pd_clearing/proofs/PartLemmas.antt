@@ -1,6 +1,6 @@
 -- A box with all that lies in it, and the tree without them.
-use Rattle.std.proofs.Common.{◌≡◌, ◌≢◌, ℕ, zero, suc, ◌<◌, true, false, List, ◌∷◌, ◌++◌, Option, Some, None, IsSome, IsTrue, inl, inr, refl, sym, ap, ◌∙◌, subst, arith}
-use Rattle.std.specs.Prelude.{slice_get, option_and_then, ◌⊎◌}
+use Rattle.std.proofs.Common.{◌≡◌, ◌≢◌, ℕ, zero, suc, false, List, ◌∷◌, ◌++◌, Option, Some, None, IsSome, IsTrue, refl, sym, ap, ◌∙◌, subst, arith}
+use Rattle.std.specs.Prelude.{slice_get, option_and_then}
 use mathlib.Core.Logic.{⊎_elim}
 use Rattle.std.proofs.lemmas.Bool.{both_ways, cases_eq}
 use Rattle.std.proofs.lemmas.Option.{none-some, same_Some}
@@ -174,14 +174,7 @@ module _ (nodes : ℕ → Option Node) (boards : ℕ → Option Board) (root : �
           (λ at. absurd (not_both (nodes' l) (box_gone l at) live))
           (λ f. f)
 
-      pub canvas_gone : (d : ℕ) → Holds nodes part d → boards' d ≡ None
-      canvas_gone d H = T.boards_go d (held_inside H.box d H.among H.holds)
-
-      -- a canvas that went was in one of these, and the others that are no more weren't before
-      pub none_or_held : (d : ℕ) → d ≢ c → boards' d ≡ None → (boards d ≡ None → ⊥) → LiesInBox nodes boards key d → Holds nodes part d
-      none_or_held d f none was L = held_by_one d L
-
-      pub canvas_same : (d x : ℕ) → d ≢ c → is_among part x ≡ false → board_in (nodes x) ≡ Some d → boards' d ≡ boards d
+      canvas_same : (d x : ℕ) → d ≢ c → is_among part x ≡ false → board_in (nodes x) ≡ Some d → boards' d ≡ boards d
       canvas_same d x f out lies = T.boards_stay d f (outside x d out lies)
 
       -- the boxes that stay stand in their canvases

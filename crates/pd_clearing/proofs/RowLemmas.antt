@@ -1,5 +1,5 @@
 -- What a patch keeps by key, where boxes go one after the other.
-use Rattle.std.proofs.Common.{◌≡◌, ◌≢◌, ℕ, ℤ, ◌+◌, ◌<◌, ◌≤◌, ◌==◌, Bool, true, false, cond, not, ◌||◌, List, [], ◌∷◌, ◌++◌, filter, map, length, Option, Some, None, IsTrue, nat_eq, inl, inr, refl, sym, ap, ◌∙◌, subst, arith}
+use Rattle.std.proofs.Common.{◌≡◌, ◌≢◌, ℕ, ℤ, ◌+◌, ◌<◌, ◌≤◌, ◌==◌, Bool, true, false, cond, not, ◌||◌, List, [], ◌∷◌, ◌++◌, filter, map, length, Option, Some, None, IsTrue, nat_eq, inl, inr, refl, sym, ap, ◌∙◌, arith}
 use Rattle.std.specs.Prelude.{slice_get, slice_set, option_and_then, ◌⊎◌}
 use mathlib.Core.Logic.{⊎_elim}
 use lib.ListN.{get_or}
@@ -11,7 +11,6 @@ use Rattle.pd_clock.specs.Queue.{Clock, without}
 use Rattle.pd_order.specs.Listing.{Listing}
 use Rattle.pd_order.proofs.Basics.{by_test}
 use Rattle.pd_grove.specs.declared.grove.Grove.{Grove}
-use Rattle.pd_grove.specs.declared.ports.Side.{Side}
 use Rattle.pd_grove.specs.declared.spots.Spot.{Spot}
 use Rattle.pd_grove.specs.Telling.{inner_in}
 use Rattle.pd_grove.specs.TextOrder.{keys_of_spots}
@@ -28,7 +27,7 @@ use Rattle.pd_patch.specs.Values.{Blocks, block_at}
 use Rattle.pd_boxes.specs.Rows.{PutsUnder}
 use Rattle.pd_boxes.proofs.RowLemmas.{row_put}
 use Rattle.pd_clearing.specs.Clearing.{without_all, DropsAll}
-use Rattle.pd_clearing.specs.Layers.{but_of_all, ClosesAll, DropsOrders, DropsUnder, IsHeldByOne}
+use Rattle.pd_clearing.specs.Layers.{but_of_all, ClosesAll, DropsOrders, DropsUnder}
 use Rattle.pd_clearing.proofs.LoosenLemmas.{among_itself, among_next, among_or_next, among_still, none_next}
 
 -- Clocks.

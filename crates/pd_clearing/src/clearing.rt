@@ -17,6 +17,7 @@ use pd_order::Steps;
 use pd_owning::{push_part, spot_at, unbind_boxes};
 use pd_patch::Patch;
 use pd_placing::displace_box;
+use pd_ports::port_boxes_are_known;
 use std::alloc::{AllocError, Global};
 use std::sync::ledger::Ledger;
 
@@ -63,6 +64,7 @@ pub fn clear<L: Ledger>(
     ensures counted { result ≡ wires_told patch.new.web }
     ensures table { symbols.new ≡ symbols.old }
 {
+    port_boxes_are_known();
     let spots = part.spots.as_slice();
     let left = loosen_all(patch, spots, wires, steps);
     displace_box(

@@ -1,6 +1,6 @@
 //! What a patch keeps by key where some boxes go: ports, clocks, blocks, numbers, and the orders of canvases.
 
-ghost use Rattle.std.specs.Prelude.{◌≡◌, ◌+◌, ◌≤◌, ℕ, None, Some, IsTrue, length, map, slice_get};
+ghost use Rattle.std.specs.Prelude.{◌≡◌, ◌+◌, ◌≤◌, ℕ, None, Some, IsTrue, map, slice_get};
 ghost use Rattle.slab.specs.Slab.{get};
 ghost use Rattle.pd_grove.specs.TextOrder.{keys_of_spots};
 ghost use Rattle.pd_owning.specs.Bound.{is_among};
@@ -10,7 +10,6 @@ ghost use Rattle.pd_ports.specs.Boxes.{HasNoWires};
 ghost use Rattle.pd_ports.specs.Known.{KnowsHomes};
 ghost use Rattle.pd_patch.specs.Numbers.{AreApart};
 ghost use Rattle.pd_patch.specs.Telling.{order_in};
-ghost use Rattle.pd_placing.specs.Placing.{StayBut};
 ghost use Rattle.pd_boxes.specs.Rows.{NumbersFrom, PutsUnder};
 ghost use Rattle.pd_clearing.specs.Clearing.{DropsAll, without_all};
 ghost use Rattle.pd_clearing.specs.Layers.{ClosesAll, DropsOrders, DropsUnder};

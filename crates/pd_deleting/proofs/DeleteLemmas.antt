@@ -1,22 +1,26 @@
 -- A patch with room for a box that goes, and which box that is.
-use Rattle.std.proofs.Common.{◌≡◌, ℕ, ◌+◌, ◌-◌, min, Bool, true, false, cond, ◌&&◌, ◌||◌, not, is_some, List, length, slice_get, Option, Some, None, IsSome, inl, inr, refl, sym, ap, ◌∙◌, subst, ◌≢◌, ◌≤◌, arith}
+use Rattle.std.proofs.Common.{◌≡◌, ℕ, ◌+◌, Bool, true, false, cond, ◌&&◌, ◌||◌, not, is_some, List, [], ◌∷◌, ◌++◌, length, map, slice_get, Option, Some, None, IsSome, IsTrue, inl, inr, refl, sym, ap, ◌∙◌, subst, ◌≢◌, ◌≤◌, arith}
 use Rattle.std.specs.Prelude.{◌⊎◌, Result, Ok, Err}
+use Rattle.std.proofs.lemmas.List.{length-map}
 use Rattle.std.proofs.lemmas.Option.{none-some, same_Some}
 use mathlib.Core.Logic.{⊎_elim}
 use Rattle.std.proofs.lemmas.Bool.{cases_eq}
 use Rattle.slab.specs.Slab.{get}
+use Rattle.pd_clock.specs.declared.times.Rate.{Rate}
 use Rattle.pd_object.specs.declared.kinds.Kind.{Kind}
 use Rattle.pd_tree.specs.declared.rows.Sheet.{Sheet}
 use Rattle.pd_atom.specs.Names.{Names}
 use Rattle.pd_grove.specs.declared.boards.Board.{Board}
 use Rattle.pd_grove.specs.declared.grove.Grove.{Grove}
 use Rattle.pd_grove.specs.declared.nodes.Node.{Node}
+use Rattle.pd_grove.specs.declared.spots.Spot.{Spot}
 use Rattle.pd_grove.specs.declared.ports.Side.{Side}
 use Rattle.pd_grove.specs.declared.ports.Side.TheVariants.{Inlets, Outlets}
-use Rattle.pd_grove.specs.Forest.{holder_in}
+use Rattle.pd_grove.specs.Forest.{holder_in, IsForest}
 use Rattle.pd_grove.specs.OwnPaths.{sub_reached}
 use Rattle.pd_grove.specs.Owning.{board_in}
 use Rattle.pd_grove.specs.Ports.{port_signal}
+use Rattle.pd_grove.specs.TextOrder.{cell_under, keys_of_spots}
 use Rattle.pd_web.specs.declared.web.Hop.{Hop}
 use Rattle.pd_web.specs.declared.web.Web.{Web}
 use Rattle.pd_web.specs.Canvases.{keys_at}
@@ -28,14 +32,18 @@ use Rattle.pd_wiring.specs.declared.refusals.EditRefusal.{EditRefusal}
 use Rattle.pd_wiring.specs.declared.refusals.EditRefusal.TheVariants.{NoDocument}
 use Rattle.pd_wiring.specs.Changes.{SameButRoom}
 use Rattle.pd_wiring.proofs.BuiltLemmas.{roomed, same_links}
+use Rattle.pd_owning.specs.Bound.{is_among}
+use Rattle.pd_owning.specs.Parts.{ArePart}
 use Rattle.pd_boxes.specs.Put.{CanPut}
 use Rattle.pd_boxes.proofs.AskingLemmas.{put_rewired}
 use Rattle.pd_adding.specs.declared.counts.Counts.{Counts}
 use Rattle.pd_adding.specs.Coming.{own_zero, zero_in}
+use Rattle.pd_adding.specs.Counted.{sound_seen, sound_among, with_wires}
 use Rattle.pd_adding.specs.Counts.{AreWithin}
 use Rattle.pd_boxes.specs.declared.room.Place.{Place}
 use Rattle.pd_clearing.specs.Clearing.{CanClear, IsCleared}
-use Rattle.pd_deleting.specs.Deletes.{counts_less, going, going_box, going_in, is_plain, is_port_in}
+use Rattle.pd_clearing.proofs.PartLemmas.{part_live}
+use Rattle.pd_deleting.specs.Deletes.{counts_less, going, going_box, going_in, is_plain, is_port_in, values_of}
 
 -- Room.
 
@@ -162,12 +170,17 @@ box_lives p path number canvas key C e =
     (C.forest.own.home canvas number key (found_in p.grove number (sub_reached p.grove (Some p.grove.root) path) canvas key e).is)
 
 -- room for as many boxes as keys
-pub room_for : (g : Grove) (w : Web) (end k : ℕ) → length g.nodes.slots ≤ end → HasRoom w end 0 0 → IsSome (get g.nodes k) → HasRoom w (k + 1) 0 0
+room_for : (g : Grove) (w : Web) (end k : ℕ) → length g.nodes.slots ≤ end → HasRoom w end 0 0 → IsSome (get g.nodes k) → HasRoom w (k + 1) 0 0
 room_for g w end k far R live =
     let l = live_below g.nodes k end end far refl live in
     let boxes = R.boxes in
     let homes = R.homes in
     record { boxes = omega (arith, l, boxes); homes = omega (arith, l, homes); ends = R.ends; wires = R.wires }
+
+-- for each box of a part
+pub part_room : (g : Grove) (w : Web) (end key : ℕ) (part : List ℕ) → IsForest (get g.nodes) (get g.boards) g.root → IsSome (get g.nodes key) → ArePart (get g.nodes) (get g.boards) key part
+    → length g.nodes.slots ≤ end → HasRoom w end 0 0 → (k : ℕ) → IsTrue (is_among part k) → HasRoom w (k + 1) 0 0
+part_room g w end key part F live A far R k at = room_for g w end k far R (part_live (get g.nodes) (get g.boards) g.root F key part A live k at)
 
 -- Counts.
 
@@ -184,9 +197,21 @@ fewer_wires p q ready table place key steps steps' S I =
     let b = same_are_as_many p.web ready.web S.web in
     omega (arith, a, b)
 
--- of counts with limits
-pub taken_off : (n size sum most : ℕ) → size ≡ min sum most → n ≤ most → n - size ≡ n - sum
-taken_off n size sum most e l = omega (arith, e, l)
+-- one box more
+pub values_next : (rate : Rate) (nodes : ℕ → Option Node) (spots : List Spot) (p : Spot)
+    → sound_among rate (map (cell_under nodes) (keys_of_spots (spots ++ p ∷ []))) ≡ sound_among rate (map (cell_under nodes) (keys_of_spots spots)) + sound_seen rate (cell_under nodes p.node)
+values_next rate nodes [] p = omega arith
+values_next rate nodes (s ∷ spots) p = let rest = values_next rate nodes spots p in omega (arith, rest)
+
+-- the counts without a part
+pub counted_so : (rate : Rate) (g : Grove) (n left : Counts) (part : List ℕ) (spots told : List Spot) (wires : ℕ) → left ≡ counts_less n (length told) (values_of rate g (keys_of_spots told)) n.wires
+    → told ≡ spots → part ≡ keys_of_spots spots
+    → record { boxes = left.boxes; wires = wires; sound = left.sound; next_zero = left.next_zero } ≡ counts_less n (length part) (values_of rate g part) wires
+counted_so rate g n left part spots told wires is same are =
+    let keys : keys_of_spots told ≡ part = ap keys_of_spots same ∙ sym are in
+    ap (with_wires wires) is
+    ∙ ap (λ (l : ℕ). counts_less n l (values_of rate g (keys_of_spots told)) wires) (sym (length-map told (λ (p : Spot). p.node)))
+    ∙ ap (λ (ks : List ℕ). counts_less n (length ks) (values_of rate g ks) wires) keys
 
 -- the `$0` of the patch's own document stays
 zero_same : (o o' : Option Board) (b b' : Board) → o ≡ Some b → o' ≡ Some b' → b'.sheet ≡ b.sheet → zero_in o' ≡ zero_in o

@@ -20,7 +20,7 @@ use Rattle.pd_wiring.specs.declared.refusals.EditRefusal.{EditRefusal}
 use Rattle.pd_wiring.specs.declared.refusals.EditRefusal.TheVariants as refusal
 use Rattle.pd_adding.specs.declared.counts.Counts.{Counts}
 use Rattle.pd_adding.specs.Counts.{AreWithin}
-use Rattle.pd_gather.specs.Gather.{known}
+use Rattle.pd_gather.specs.Gather.{Known, known}
 use Rattle.pd_retyping.specs.declared.retyping.RetypedBox.{RetypedBox}
 use Rattle.pd_retyping.specs.Retypes.{RetypesBox, IsNotRetyped}
 use Rattle.pd_refitting.specs.Refits.{refit_looks}
@@ -54,6 +54,13 @@ rest_retypes (edit.Comment x y text) none stays rests other = cc
 rest_retypes (edit.FloatBox x y text) none stays rests other = cc
 rest_retypes (edit.SymbolBox x y text) none stays rests other = cc
 rest_retypes (edit.Sub x y name) none stays rests other = cc
+
+-- there are no more looks than it may take, by whichever name its file has
+pub few_by : (old new : Patch) (n : Counts) (file name path : List ℕ) (number : ℕ) (text : List Atom) (now : ℕ) (before after : Known) (b : RetypedBox) (k k' : ℕ) → file ≡ name
+    → ((r : RetypesBox old new n file path number text now before after b) → k' ≤ k + refit_looks r.node.kind r.became.can.cell.kind)
+    → (r : RetypesBox old new n name path number text now before after b) → k' ≤ k + refit_looks r.node.kind r.became.can.cell.kind
+few_by old new n file name path number text now before after b k k' same few =
+    subst (λ (x : List ℕ). (r : RetypesBox old new n x path number text now before after b) → k' ≤ k + refit_looks r.node.kind r.became.can.cell.kind) same few
 
 module _ (path : List ℕ) (number : ℕ) (text : List Atom) (file : List ℕ) (names : Names) (files : List (ℕ × Answer)) (counts : Counts) (time block_end fired : ℕ) (tally : Tally) (old new : Patch)
     (ready : IsReady old) where

@@ -127,7 +127,7 @@ impl Engine {
             return self.move_own(path, number, x, y, lines);
         }
         let Some(wire) = edit.wire_edit() else {
-            return self.retype_own(path, edit, shelf, lines);
+            return self.retype_own(path, edit, shelf, lines, steps);
         };
         let done = make(
             self.alloc,
@@ -140,7 +140,7 @@ impl Engine {
         self.tell(done, lines)
     }
 
-    /// Deletes the box of a number in the canvas at a path of the patch's own document, or refuses it.
+    /// Deletes the box of a number in the canvas at a path of the patch's own document, with all that lies in it, or refuses it.
     fn delete_own<L: Sink, K: Ledger>(
         &mut self,
         path: &[u32],
@@ -193,16 +193,17 @@ impl Engine {
     }
 
     /// Gives a box in the canvas at a path of the patch's own document another text, or refuses it.
-    fn retype_own<H: Shelf, L: Sink>(
+    fn retype_own<H: Shelf, L: Sink, K: Ledger>(
         &mut self,
         path: &[u32],
         edit: &CommandEdit,
         shelf: &mut H,
         lines: &mut L,
+        steps: &mut Steps<K>,
     ) -> Result<Outcome, SinkFailed>
         requires { IsRetype edit.now }
-        ensures ok { IfOk result (λ outcome. (samples : Option (List ℕ)) (looks : ℕ) → IsEdited path.now edit.now outcome (stage_at self.old) (stage_at self.new) (sinks (L.taken lines.old) samples looks (H.holds shelf.old) (H.faults shelf.old)) (sinks (L.taken lines.new) samples looks (H.holds shelf.new) (H.faults shelf.new))) }
-        ensures err { OnErr result ((samples : Option (List ℕ)) (looks : ℕ) → Stops (edit_taken (Edits None path.now edit.now)) (stage_at self.old) (sinks (L.taken lines.old) samples looks (H.holds shelf.old) (H.faults shelf.old)) (sinks (L.taken lines.new) samples looks (H.holds shelf.new) (H.faults shelf.new))) }
+        ensures ok { IfOk result (λ outcome. (samples : Option (List ℕ)) → IsEdited path.now edit.now outcome (stage_at self.old) (stage_at self.new) (sinks (L.taken lines.old) samples steps.old (H.holds shelf.old) (H.faults shelf.old)) (sinks (L.taken lines.new) samples steps.new (H.holds shelf.new) (H.faults shelf.new))) }
+        ensures err { OnErr result ((samples : Option (List ℕ)) → Stops (edit_taken (Edits None path.now edit.now)) (stage_at self.old) (sinks (L.taken lines.old) samples steps.old (H.holds shelf.old) (H.faults shelf.old)) (sinks (L.taken lines.new) samples steps.new (H.holds shelf.new) (H.faults shelf.new))) }
         ensures cause { HasCause (L.faults lines.old) (L.faults lines.new) result }
         ensures counted { H.faults shelf.old ≤ H.faults shelf.new }
         ensures stays { self.new.stopped ≡ self.old.stopped }
@@ -211,20 +212,21 @@ impl Engine {
         let Ok(Edit::Retype { number, text }) = &copied else {
             return self.tell(Err(EditRefusal::NoMemory), lines);
         };
-        self.retype_copied(path, *number, text, shelf, lines)
+        self.retype_copied(path, *number, text, shelf, lines, steps)
     }
 
     /// Gives the box of a number in the canvas at a path of the patch's own document this text, or refuses it.
-    fn retype_copied<H: Shelf, L: Sink>(
+    fn retype_copied<H: Shelf, L: Sink, K: Ledger>(
         &mut self,
         path: &[u32],
         number: u32,
         text: &Atoms,
         shelf: &mut H,
         lines: &mut L,
+        steps: &mut Steps<K>,
     ) -> Result<Outcome, SinkFailed>
-        ensures ok { IfOk result (λ outcome. (samples : Option (List ℕ)) (looks : ℕ) → IsEdited path.now (edit.Retype number text.now) outcome (stage_at self.old) (stage_at self.new) (sinks (L.taken lines.old) samples looks (H.holds shelf.old) (H.faults shelf.old)) (sinks (L.taken lines.new) samples looks (H.holds shelf.new) (H.faults shelf.new))) }
-        ensures err { OnErr result ((samples : Option (List ℕ)) (looks : ℕ) → Stops (edit_taken (Edits None path.now (edit.Retype number text.now))) (stage_at self.old) (sinks (L.taken lines.old) samples looks (H.holds shelf.old) (H.faults shelf.old)) (sinks (L.taken lines.new) samples looks (H.holds shelf.new) (H.faults shelf.new))) }
+        ensures ok { IfOk result (λ outcome. (samples : Option (List ℕ)) → IsEdited path.now (edit.Retype number text.now) outcome (stage_at self.old) (stage_at self.new) (sinks (L.taken lines.old) samples steps.old (H.holds shelf.old) (H.faults shelf.old)) (sinks (L.taken lines.new) samples steps.new (H.holds shelf.new) (H.faults shelf.new))) }
+        ensures err { OnErr result ((samples : Option (List ℕ)) → Stops (edit_taken (Edits None path.now (edit.Retype number text.now))) (stage_at self.old) (sinks (L.taken lines.old) samples steps.old (H.holds shelf.old) (H.faults shelf.old)) (sinks (L.taken lines.new) samples steps.new (H.holds shelf.new) (H.faults shelf.new))) }
         ensures cause { HasCause (L.faults lines.old) (L.faults lines.new) result }
         ensures counted { H.faults shelf.old ≤ H.faults shelf.new }
         ensures stays { self.new.stopped ≡ self.old.stopped }
@@ -244,6 +246,7 @@ impl Engine {
             &mut self.library,
             shelf,
             &mut self.symbols,
+            steps,
         );
         match done {
             Ok(retyped) => {

@@ -110,9 +110,10 @@ impl Engine {
         read_by(&mut self.symbols, bytes, room)
     }
 
-    /// Carries out a command at the present time, and prints what it has to print. Edits of wires, edits that put or delete a box without a
-    /// canvas inside, that put a subpatch without boxes, or that move a box, where it is no port of a box around, and saves of the patch's own
-    /// document are made, also the edits that its messages ask for; others are refused, and there is nothing to undo or redo.
+    /// Carries out a command at the present time, and prints what it has to print. Edits of wires are made, and so are edits that put a box
+    /// without a canvas inside or a subpatch without boxes, that delete a box with all that lies in it, that move a box, or that make a box
+    /// without a canvas another one that takes its wires, where it is no port of a box around; and saves of the patch's own document. So are
+    /// the edits that its messages ask for. Others are refused, and there is nothing to undo or redo.
     ///
     /// # Errors
     ///

@@ -6,12 +6,13 @@
 //! lawful (pd_stage's `IsLawful`): an edit of wires of the patch's own document is made, or refused as it is
 //! planned to be or for want of memory; one that puts a box grows it, with the files for which it asks, and puts it
 //! last into its canvas where it is one box without a canvas and no port of a box around, or a subpatch without boxes,
-//! and tells why it could not be made; one that deletes a box without a canvas takes it out with its wires and its
-//! clock; one that moves a box gives it another place in its window; one that gives a box another text grows what it
-//! becomes, puts that in its place where both are boxes without a canvas and have the same ports, and tells why it
-//! could not be made; a save puts the document's text under the name of its file; every other edit or save is refused,
-//! and there is nothing to undo or redo. It makes no difference whether a command or a message asks for an edit. Looks
-//! at signal wires are at most those of the edits.
+//! and tells why it could not be made; one that deletes a box that is no port of a box around takes it out with all
+//! that lies in it, and with the wires and the clocks of these boxes; one that moves a box gives it another place in its
+//! window; one that gives a box another text grows what it becomes, puts that in its place where both are boxes without
+//! a canvas, no ports of a box around, and all wires fit the new one and carry what they carried, and tells why it could
+//! not be made; a save puts the document's text under the name of its file; every other edit or save is refused, and
+//! there is nothing to undo or redo. It makes no difference whether a command or a message asks for an edit. Looks at
+//! signal wires are at most those of the edits.
 //!
 //! `command` does what its command says: a `send` is its event, that is pd_walk's deliveries under 1,000,000, and
 //! then each edit that was asked for is taken; `show` prints the order of the canvas that its path leads to; an edit,

@@ -20,7 +20,7 @@ use Rattle.pd_steady.specs.Runs.{opened_by}
 use Rattle.pd_steady.specs.Freely.{free_ways}
 use Rattle.pd_steady.specs.Steady.{IsSteady}
 use Rattle.pd_steady.proofs.FairLemmas.{AreFair, fair_second}
-use Rattle.pd_again_law.specs.Again.{IsAgain, AreAgain}
+use Rattle.pd_again_law.specs.Again.{AreAgain}
 use Rattle.pd_made.specs.Documents.{made_document}
 use Rattle.pd_made.specs.Scripts.{made_script}
 use Rattle.pd_play.specs.Ending.{no_line, last_line}
@@ -37,7 +37,7 @@ use Rattle.pd_faithful.specs.Whole.{PlaysGrown, PlaysFreely, PlaysMadeFreely}
 use Rattle.pd_faithful.proofs.FreeLemmas.{Laws, run_free}
 use Rattle.pd_faithful.proofs.TakenLemmas.{whole_takes, played_fair}
 use Rattle.pd_faithful.proofs.EndLemmas.{end_met}
-use Rattle.pd_faithful.proofs.AgainLemmas.{AgainLaws, played_again, told_all}
+use Rattle.pd_faithful.proofs.AgainLemmas.{AgainLaws, played_again, first_again, told_all}
 
 -- what the laws say of opening
 pub record Opens : Type 0 where
@@ -180,7 +180,7 @@ module _ (opens : Opens) where
     log_again : AreAgain o.grows.files.files name rate log
     log_again =
         let p : Passage = opened name o.patch o.table o.base (choices_of log) in
-        told_all (IsAgain o.grows.files.files name rate) name closing (own h.plays.ending) log status old new own_tells
+        told_all (AreAgain o.grows.files.files name rate) (first_again o.grows.files.files name rate []) name closing (own h.plays.ending) log status old new own_tells
         (played_again opens.laws saves old.held name rate d names o.patch o.table o.base o.grows (choices_of log) h.plays.ending text
         (starts_steady p.stage rate (opens.steady old.held name rate d names o.table o.patch o.base most_units (choices_of log) o.grows opened_lawful)) own_fair)
 

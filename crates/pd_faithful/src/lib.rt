@@ -7,16 +7,17 @@
 //! then come the lines of opening, the run of the script, whatever its bytes are, and the line of the status, with
 //! lines, samples and files that are put in one list in their order. Edits of wires and edits that put a box without a
 //! canvas inside or a subpatch without boxes, which the script or a message asks for, edits of the script that delete a
-//! box with all that lies in it, make a box without a canvas inside another such one that all its wires fit as they did,
-//! or move a box, and saves of the patch's own document are made, but for ports of a box around: what each came to
+//! box with all that lies in it, make a box without a canvas inside another such one that takes all its wires as they
+//! are, or move a box, and saves of the patch's own document are made, but for ports of a box around: what each came to
 //! stands in the run, and it is lawful (pd_stage's `Lawful`). Each save puts a text that opens again as the patch that
 //! was saved, under the `$0` numbers that it had and with the files that were known by then; and as a file that is
-//! opened does, where these numbers are the first ones from 1001 on (pd_again_law's `Again`). All of the list was taken,
-//! and the status is the run's; or a sink failed, the status is `WriteFault`, and what was taken and put is one first
-//! part of it. The folder then holds what it held with the files of that list, one after the other, where it still tells
-//! what it holds, and of the saves and edits no more were refused for a fault of it than it counted. With `Done` nothing
-//! is left of the script, where the source tells that, or the run met an `end`. Where the patch doesn't open, its cause
-//! is told, no script is read, no sample is written, and the folder holds what it held.
+//! opened does, where these numbers are the first ones from 1001 on, as they are until a box that goes takes one of
+//! them away (pd_again_law's `Again`). All of the list was taken, and the status is the run's; or a sink failed, the
+//! status is `WriteFault`, and what was taken and put is one first part of it. The folder then holds what it held with
+//! the files of that list, one after the other, where it still tells what it holds, and of the saves and edits no more
+//! were refused for a fault of it than it counted. With `Done` nothing is left of the script, where the source tells
+//! that, or the run met an `end`. Where the patch doesn't open, its cause is told, no script is read, no sample is
+//! written, and the folder holds what it held.
 //!
 //! Where they ask for a made patch, the document and the script are those of pd_made, and all else is the same; nothing
 //! of the script's source is read (`unread`), and the last line of a run that is done tells what it came to.

@@ -11,7 +11,7 @@
 //!
 //! Edits of wires and edits that put a box without a canvas inside or a subpatch without boxes, which the script or a
 //! message asks for, edits of the script that delete a box with all that lies in it, make a box without a canvas inside
-//! another such one that all its wires fit as they did, or move a box, and saves of the patch's own document are made:
+//! another such one that takes all its wires as they are, or move a box, and saves of the patch's own document are made:
 //! what each came to stands in the run, and it is lawful (pd_stage's `Lawful`). Other edits and saves are refused so
 //! far, with their lines, and so are those that put, delete, retype or move a port of a box around; there is nothing to
 //! undo or redo. Then the run goes on.

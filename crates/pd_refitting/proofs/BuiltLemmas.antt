@@ -13,7 +13,7 @@ use Rattle.pd_grove.specs.declared.nodes.Node.{Node}
 use Rattle.pd_grove.specs.declared.seeds.Seed.{Seed}
 use Rattle.pd_grove.specs.declared.ports.Side.TheVariants.{Outlets}
 use Rattle.pd_grove.specs.Owning.{board_in}
-use Rattle.pd_web.specs.declared.web.Web.{Web}
+use Rattle.pd_web.specs.declared.jacks.Jack.{Jack}
 use Rattle.pd_web.specs.Hops.{ports_told}
 use Rattle.pd_patch.specs.declared.patch.Patch.{Patch}
 use Rattle.pd_patch.specs.Built.{IsBuilt, block_sizes}
@@ -56,7 +56,7 @@ module _ (p q : Patch) (table : Names) (key : ℕ) (n : Node) (s : Seed) (C : Ca
       (λ (e : k ≡ key). subst (λ x. option_map block_sizes (slice_get (blocks_told q) x) ≡ Some (replicate (block_count (ports_told q.web Outlets x)) 64)) (sym e)
       (ap (option_map block_sizes) R.blocks.is ∙ ap (λ (ns : List ℕ). Some ns) (silent_sizes (block_count (ports_told q.web Outlets key)))))
       (λ (d : k ≢ key). ap (option_map block_sizes) (R.blocks.others k d) ∙ B.blocks k (lives k live)
-      ∙ ap (λ (w : Web). Some (replicate (block_count (ports_told w Outlets k)) 64)) (sym R.web))
+      ∙ ap (λ (js : List Jack). Some (replicate (block_count js) 64)) (sym (R.ports.other_ports Outlets k d)))
       (cases_eq k key)
 
   no_block : (k outlet : ℕ) → get q.grove.nodes k ≡ None → block_at (blocks_told q) k outlet ≡ None

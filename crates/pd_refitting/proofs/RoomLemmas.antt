@@ -1,5 +1,5 @@
 -- Room for what a box becomes, and the names of the box that was and of the one that is.
-use Rattle.std.proofs.Common.{◌≡◌, ℕ, ℤ, suc, ◌+◌, ◌≤◌, ◌^◌, Bool, true, false, List, ◌++◌, take, drop, length, Option, Some, None, inl, inr, nat_eq, refl, sym, ap, ◌∙◌, subst, arith}
+use Rattle.std.proofs.Common.{◌≡◌, ℕ, ℤ, suc, ◌+◌, ◌≤◌, ◌^◌, Bool, true, false, List, ◌++◌, take, drop, length, Option, Some, None, IsSome, inl, inr, nat_eq, refl, sym, ap, ◌∙◌, subst, arith}
 use Rattle.std.specs.Prelude.{option_map, option_and_then, position, remove, replicate}
 use Rattle.std.specs.Option.{option_map_or}
 use mathlib.Core.Logic.{⊎_elim}
@@ -28,14 +28,18 @@ use Rattle.pd_bind.specs.Owning.{is_owned, owned_at}
 use Rattle.pd_owning.specs.Bound.{HasRoom, OthersStay}
 use Rattle.pd_owning.proofs.BoundLemmas.{owned_other, owned_same}
 use Rattle.pd_web.specs.declared.jacks.Jack.{Jack}
+use Rattle.pd_web.specs.declared.web.Web.{Web}
+use Rattle.pd_web.specs.Changes.{HasRoom as HasWebRoom}
 use Rattle.pd_web.specs.Hops.{ports_told}
-use Rattle.pd_web.specs.Jacks.{jacks_by, jacks_in, kind_jacks}
+use Rattle.pd_web.specs.Jacks.{kind_jacks}
 use Rattle.pd_patch.specs.declared.patch.Patch.{Patch}
+use Rattle.pd_patch.proofs.BlockLemmas.{live_below}
 use Rattle.pd_patch.specs.Values.{Blocks, block_count, first_blocks}
 use Rattle.pd_boxes.specs.Room.{SameButRoom}
 use Rattle.pd_boxes.specs.Rows.{PutsUnder}
 use Rattle.pd_boxes.proofs.RoomLemmas.{room_put}
 use Rattle.pd_refitting.specs.Refits.{CanRefit, IsPlainIn, OthersStay as BothStay}
+use Rattle.pd_refitting.proofs.WireLemmas.{meet_by, takes_same}
 
 -- Where room was set aside.
 
@@ -57,10 +61,20 @@ refit_still p q key n s S C = record {
   is = S.grove.nodes key ∙ C.is;
   bare = C.bare;
   leaf = C.leaf;
-  ports = C.ports;
+  wires = takes_same p.web q.web key s.row.kind S.web C.wires;
+  meet = meet_by p.web q.web S.web.fans S.web.feeds C.meet;
   plain = plain_still p q n.board n.kind S C.plain;
   stays_plain = plain_still p q n.board s.row.kind S C.stays_plain;
 }
+
+-- Room for the ports of each box that lives.
+
+pub room_below : (g : Grove) (w : Web) (end : ℕ) → length g.nodes.slots ≤ end → HasWebRoom w end 0 0 → (k : ℕ) → IsSome (get g.nodes k) → HasWebRoom w (k + 1) 0 0
+room_below g w end far room k live =
+    let low = live_below g.nodes k end end far refl live in
+    let boxes = room.boxes in
+    let homes = room.homes in
+    record { boxes = omega (arith, low, boxes); homes = omega (arith, low, homes); ends = room.ends; wires = room.wires }
 
 -- Room for owners where one was unbound.
 
@@ -149,14 +163,11 @@ module _ (g h : Grove) (table : Names) (key : ℕ) (n m : Node) (was : get g.nod
         spare = λ class name x y. b.spare class name y ∙ a.spare class name x;
       }
 
--- Blocks: the box has the outlets that it had.
+-- Blocks: the box has the outlets of its kind.
 
-pub silent_put : (p : Patch) (key : ℕ) (n : Node) (s : Seed) (old new : Blocks) (blocks : List (List ℤ)) → CanRefit p key n s → blocks ≡ replicate (block_count (kind_jacks Outlets s.row.kind)) silent_block
-    → PutsUnder old new key blocks → PutsUnder old new key (first_blocks p.web key)
-silent_put p key n s old new blocks C silent P =
-    let told : ports_told p.web Outlets key ≡ kind_jacks Outlets s.row.kind =
-    C.can.runs.ports.ports Outlets key ∙ ap (jacks_in Outlets p.grove) C.is ∙ ap (jacks_by Outlets p.grove n.kind) C.bare ∙ sym (C.ports.jacks Outlets) in
-    record {
-      is = P.is ∙ ap (λ (bs : List (List ℤ)). Some bs) (silent ∙ ap (λ (js : List Jack). replicate (block_count js) silent_block) (sym told));
-      others = P.others;
-    }
+pub silent_put : (w : Web) (key : ℕ) (k : Kind) (old new : Blocks) (blocks : List (List ℤ)) → ports_told w Outlets key ≡ kind_jacks Outlets k → blocks ≡ replicate (block_count (kind_jacks Outlets k)) silent_block
+    → PutsUnder old new key blocks → PutsUnder old new key (first_blocks w key)
+silent_put w key k old new blocks told silent P = record {
+  is = P.is ∙ ap (λ (bs : List (List ℤ)). Some bs) (silent ∙ ap (λ (js : List Jack). replicate (block_count js) silent_block) (sym told));
+  others = P.others;
+}

@@ -1,25 +1,15 @@
 -- Which box can become another one in its place.
-use Rattle.std.proofs.Common.{◌≡◌, ℕ, Bool, true, false, ◌||◌, not, is_some, map, Option, Some, None, inl, inr, refl, sym, ◌∙◌}
+use Rattle.std.proofs.Common.{◌≡◌, ℕ, Bool, true, false, ◌||◌, not, is_some, Option, Some, None, inl, inr, refl, sym, ◌∙◌}
 use Rattle.std.proofs.lemmas.Bool.{true≢false}
 use mathlib.Core.Logic.{⊎_elim}
 use Rattle.slab.specs.Slab.{get}
 use Rattle.pd_object.specs.declared.kinds.Kind.{Kind}
-use Rattle.pd_tree.specs.Ports.{sockets_by}
 use Rattle.pd_grove.specs.declared.ports.Side.{Side}
 use Rattle.pd_grove.specs.declared.ports.Side.TheVariants.{Inlets, Outlets}
 use Rattle.pd_grove.specs.Forest.{holder_in}
 use Rattle.pd_grove.specs.Ports.{port_signal}
-use Rattle.pd_web.specs.Jacks.{on_side, plain_jack}
 use Rattle.pd_patch.specs.declared.patch.Patch.{Patch}
-use Rattle.pd_refitting.specs.Refits.{IsPlainIn, SamePorts}
-use Rattle.pd_retyping.specs.Retypes.{HasPortsOf}
-
-pub same_ports : (k l : Kind) → HasPortsOf k l → SamePorts k l
-same_ports k l H = record {
-  jacks = λ side i. map plain_jack (on_side side (sockets_by (H.made i) (H.ports i)));
-  made = H.made;
-  signal = H.signal;
-}
+use Rattle.pd_refitting.specs.Refits.{IsPlainIn}
 
 pub none_of : {A : Type 0} (o : Option A) → is_some o ≡ false → o ≡ None
 none_of None h = refl

@@ -1,5 +1,5 @@
 -- Which of what grew is a box that another one can become, and one that did.
-use Rattle.std.proofs.Common.{◌≡◌, ◌≢◌, ℕ, true, is_some, List, [], ◌∷◌, length, get_or, Option, Some, None, refl, sym, ap, ◌∙◌, subst, arith}
+use Rattle.std.proofs.Common.{◌≡◌, ◌≢◌, ℕ, ◌+◌, ◌≤◌, true, is_some, List, [], ◌∷◌, length, get_or, Option, Some, None, refl, sym, ap, ◌∙◌, subst, arith}
 use Rattle.std.specs.Prelude.{IsSome, option_map}
 use Rattle.std.specs.List.{AllByRecursion}
 use Rattle.std.proofs.lemmas.List.{length-map}
@@ -12,28 +12,35 @@ use Rattle.pd_tree.specs.declared.rows.Row.{Row}
 use Rattle.pd_tree.specs.Trees.{Cell, Stand, Done, Leaf, stand_of, stands_of, stands_in}
 use Rattle.pd_growth.specs.Suits.{TextSuits, RowSuits}
 use Rattle.pd_grove.specs.declared.boards.Board.{Board}
+use Rattle.pd_order.specs.Listing.{Listing}
+use Rattle.pd_grove.specs.declared.grove.Grove.{Grove}
 use Rattle.pd_grove.specs.declared.nodes.Node.{Node}
+use Rattle.pd_grove.specs.Owning.{board_in}
+use Rattle.pd_grove.proofs.NestLemmas.{board_there}
+use Rattle.pd_web.specs.declared.web.Web.{Web}
+use Rattle.pd_patch.specs.Orders.{HasOrder}
 use Rattle.pd_grove.specs.declared.seeds.Seed.{Seed}
 use Rattle.pd_grove.specs.Standing.{BoardSeen, board_seen}
 use Rattle.pd_grove.specs.States.{AreSmall, IsFresh}
-use Rattle.pd_web.specs.Changes.{wires_told}
-use Rattle.pd_web.proofs.CountLemmas.{same_are_as_many}
+use Rattle.pd_wire.specs.Book.{wire_at}
+use Rattle.pd_web.specs.Changes.{line_told, wires_told, Meet}
+use Rattle.pd_web.proofs.CountLemmas.{held_alike, same_are_as_many}
 use Rattle.pd_patch.specs.declared.patch.Patch.{Patch}
 use Rattle.pd_patch.specs.Telling.{order_in}
 use Rattle.pd_patch.specs.Values.{blocks_told}
 use Rattle.pd_boxes.specs.Room.{SameButRoom}
-use Rattle.pd_boxes.specs.Put.{CanPut, IsLeaf}
+use Rattle.pd_boxes.specs.Put.{node_of, CanPut, IsLeaf}
 use Rattle.pd_boxes.proofs.ReserveLemmas.{same_grove, same_web, same_order, longer_self}
 use Rattle.pd_refitting.specs.declared.room.RefitRoom.{RefitRoom}
-use Rattle.pd_refitting.specs.Refits.{IsPlainIn, CanRefit, IsRefitted}
+use Rattle.pd_refitting.specs.Refits.{IsPlainIn, TakesWires, CanRefit, IsRefitted, refit_looks}
 use Rattle.pd_refitting.specs.Room.{IsFor}
 use Rattle.pd_adding.specs.declared.adding.Grown.{Grown}
 use Rattle.pd_adding.specs.Coming.{zero_in, own_zero}
 use Rattle.pd_adding.specs.Growing.{Added}
 use Rattle.pd_adding.specs.Adding.{IsAdded}
-use Rattle.pd_retyping.specs.Retypes.{HasPortsOf, CanBecome, HasBecome}
+use Rattle.pd_retyping.specs.Retypes.{CanBecome, HasBecome}
 use Rattle.pd_retyping.specs.Becoming.{IsAlike, MakesOther}
-use Rattle.pd_retyping.proofs.AlikeLemmas.{same_ports, not_none}
+use Rattle.pd_retyping.proofs.AlikeLemmas.{not_none}
 
 -- the box of a cell that holds no canvas
 abbrev alone : Cell → Stand
@@ -61,37 +68,37 @@ rows_small names (r ∷ rows) s = (s.0.1, rows_small names rows s.1)
 pub row_small : (rows : List Row) (row : Row) → AreSmall rows → rows ≡ row ∷ [] → IsSmallKind row.kind
 row_small rows row s r = let all : AreSmall (row ∷ []) = subst AreSmall r s in all.0
 
-module _ (p : Patch) (n : Node) (g : Grown) (a : Added) (A : IsAdded g a) where
+module _ (p : Patch) (key : ℕ) (n : Node) (g : Grown) (a : Added) (A : IsAdded g a) where
   -- the rows of a box that another one can become
-  rows_plain : (P : CanBecome p n a) → stands_in g.rows.items ≡ stands_of (Leaf P.cell Done)
+  rows_plain : (P : CanBecome p key n a) → stands_in g.rows.items ≡ stands_of (Leaf P.cell Done)
   rows_plain P = A.rows ∙ ap stands_of P.single
 
-  pub rows_one : CanBecome p n a → length g.rows.items ≡ 1
+  pub rows_one : CanBecome p key n a → length g.rows.items ≡ 1
   rows_one P = sym (length-map g.rows.items stand_of) ∙ ap (λ (ss : List Stand). length ss) (rows_plain P)
 
-  pub can_become : (row : Row) → a.boxes ≡ Leaf (stand_of row).cell Done → IsAlike p n row.kind → CanBecome p n a
+  pub can_become : (row : Row) → a.boxes ≡ Leaf (stand_of row).cell Done → IsAlike p key n row.kind → CanBecome p key n a
   can_become row single L = record {
     cell = (stand_of row).cell;
     single = single;
     bare = L.bare;
-    ports = L.ports;
+    wires = L.wires;
     plain = L.plain;
     stays_plain = L.stays_plain;
   }
 
-  pub many_never : length g.rows.items ≢ 1 → CanBecome p n a → ⊥
+  pub many_never : length g.rows.items ≢ 1 → CanBecome p key n a → ⊥
   many_never many P = many (rows_one P)
 
   module _ (row : Row) (r : g.rows.items ≡ row ∷ []) where
-    pub held_never : is_some row.sheet ≡ true → CanBecome p n a → ⊥
+    pub held_never : is_some row.sheet ≡ true → CanBecome p key n a → ⊥
     held_never holds P = not_none row.sheet holds (ap (λ (s : Stand). s.sheet) (stand_alone g.rows.items row P.cell r (rows_plain P)))
 
-    pub alike_of : CanBecome p n a → IsAlike p n row.kind
+    pub alike_of : CanBecome p key n a → IsAlike p key n row.kind
     alike_of P =
         let kind : P.cell.kind ≡ row.kind = sym (ap (λ (s : Stand). s.cell.kind) (stand_alone g.rows.items row P.cell r (rows_plain P))) in
-        subst (λ (k : Kind). IsAlike p n k) kind (record { bare = P.bare; ports = P.ports; plain = P.plain; stays_plain = P.stays_plain })
+        subst (λ (k : Kind). IsAlike p key n k) kind (record { bare = P.bare; wires = P.wires; plain = P.plain; stays_plain = P.stays_plain })
 
-  module _ (P : CanBecome p n a) (seed : Seed) (is : stand_of seed.row ∷ [] ≡ stands_in g.rows.items) where
+  module _ (P : CanBecome p key n a) (seed : Seed) (is : stand_of seed.row ∷ [] ≡ stands_in g.rows.items) where
     pub seed_stand : stand_of seed.row ≡ alone P.cell
     unfolding first
     seed_stand = ap (first (stand_of seed.row)) (is ∙ A.rows ∙ ap stands_of P.single)
@@ -99,15 +106,19 @@ module _ (p : Patch) (n : Node) (g : Grown) (a : Added) (A : IsAdded g a) where
     pub seed_leaf : (seed.row.sheet ≡ None → seed.row.boxes ≡ 0 → IsLeaf seed) → IsLeaf seed
     seed_leaf leaf = leaf (ap (λ (s : Stand). s.sheet) seed_stand) (ap (λ (s : Stand). s.boxes) seed_stand)
 
-    pub seed_refits : (key : ℕ) → CanPut p → get p.grove.nodes key ≡ Some n → IsLeaf seed → CanRefit p key n seed
-    seed_refits key can here leaf =
-        let kind : P.cell.kind ≡ seed.row.kind = sym (ap (λ (s : Stand). s.cell.kind) seed_stand) in
+    pub seed_kind : P.cell.kind ≡ seed.row.kind
+    seed_kind = sym (ap (λ (s : Stand). s.cell.kind) seed_stand)
+
+    pub seed_refits : CanPut p → Meet p.web → get p.grove.nodes key ≡ Some n → IsLeaf seed → CanRefit p key n seed
+    seed_refits can meet here leaf =
+        let kind : P.cell.kind ≡ seed.row.kind = seed_kind in
         record {
           can = can;
           is = here;
           bare = P.bare;
           leaf = leaf;
-          ports = same_ports n.kind seed.row.kind (subst (λ (k : Kind). HasPortsOf n.kind k) kind P.ports);
+          wires = subst (λ (k : Kind). TakesWires p.web key k) kind P.wires;
+          meet = meet;
           plain = P.plain;
           stays_plain = subst (λ (k : Kind). IsPlainIn p n.board k) kind P.stays_plain;
         }
@@ -120,9 +131,9 @@ module _ (p : Patch) (n : Node) (g : Grown) (a : Added) (A : IsAdded g a) where
         subst (λ (x : Stand). TextSuits names x.cell.text × IsSmallKind x.cell.kind) (sym same) s.0
 
     -- the box became what grew
-    pub has_become : (q : Patch) (now : ℕ) (table : Names) (key : ℕ) → a.known.names ≡ table → IsLeaf seed → IsFresh p.rate now seed → CanPut q → MakesOther p q table key n seed
+    pub has_become : (q : Patch) (now : ℕ) (table : Names) → a.known.names ≡ table → IsLeaf seed → IsFresh p.rate now seed → CanPut q → MakesOther p q table key n seed
         → HasBecome p q now key n a
-    has_become q now table key names leaf fresh can M = record {
+    has_become q now table names leaf fresh can M = record {
       can = P;
       ready = M.ready;
       room = M.room;
@@ -154,6 +165,17 @@ same_patch p = record {
   present = refl;
 }
 
+mapped_some : {X Y : Type 0} (f : X → Y) (o : Option X) → is_some (option_map f o) ≡ is_some o
+mapped_some f None = refl
+mapped_some f (Some x) = refl
+
+told_some : (w : Web) (k : ℕ) → is_some (line_told w k) ≡ is_some (wire_at w.book k)
+told_some w k = mapped_some _ (wire_at w.book k)
+
+-- where the lines are the same, there are as many wires
+as_many : (w v : Web) → ((k : ℕ) → line_told v k ≡ line_told w k) → wires_told v ≡ wires_told w
+as_many w v same = held_alike w.book.wires v.book.wires (λ k. sym (told_some v k) ∙ ap is_some (same k) ∙ told_some w k)
+
 zero_seen : (o o' : Option Board) → option_map board_seen o' ≡ option_map board_seen o → zero_in o' ≡ zero_in o
 zero_seen None None e = refl
 zero_seen None (Some b') e = absurd (none-some (board_seen b') (sym e))
@@ -172,7 +194,13 @@ module _ (p q : Patch) (table : Names) (key : ℕ) (n : Node) (s : Seed) (I : Is
   refit_zero = ap (λ (r : ℕ). zero_in (get q.grove.boards r)) I.grove.root ∙ ap (λ (bs : Slab Board). zero_in (get bs p.grove.root)) I.grove.boards
 
   pub refit_wires : wires_told q.web ≡ wires_told p.web
-  refit_wires = ap wires_told I.web
+  refit_wires = as_many p.web q.web I.ports.lines
+
+  -- looks at signal wires, by the kinds of the box that was and of the one that is
+  pub refit_seen : (m : Node) (steps steps' : ℕ) → get q.grove.nodes key ≡ Some m → steps' ≤ steps + refit_looks n.kind s.row.kind → steps' ≤ steps + refit_looks n.kind m.kind
+  refit_seen m steps steps' is few =
+      let same : s.row.kind ≡ m.kind = ap (λ (x : Node). x.kind) (same_Some (node_of n.board s) m (sym I.grove.is ∙ is)) in
+      subst (λ (k : Kind). steps' ≤ steps + refit_looks n.kind k) same few
 
 -- the room is for this box and this seed
 
@@ -194,6 +222,23 @@ module _ (p q : Patch) (key : ℕ) (n : Node) (s : Seed) (room : RefitRoom) (F :
         (subst (λ (k : ℕ). IsRefitted q r names k n room.seed) F.key
         (made n (ap (λ (k : ℕ). get q.grove.nodes k) F.key ∙ C.is))));
   }
+
+  -- looks at signal wires, where the box of the room becomes another one
+  pub for_looks : (steps steps' : ℕ) → SameButRoom p q → get p.grove.nodes key ≡ Some n → ((m : Node) → get q.grove.nodes room.key ≡ Some m → steps' ≤ steps + refit_looks m.kind room.seed.row.kind) → steps' ≤ steps + refit_looks n.kind s.row.kind
+  for_looks steps steps' S is few =
+      subst (λ (x : Seed). steps' ≤ steps + refit_looks n.kind x.row.kind) F.seed (few n (ap (λ (k : ℕ). get q.grove.nodes k) F.key ∙ S.grove.nodes key ∙ is))
+
+order_there : (g : Grove) (w : Web) (b : Option Board) (o : Option Listing) → IsSome b → HasOrder g w b o → IsSome o
+order_there g w None o live h = cc
+order_there g w (Some b) None live h = absurd h
+order_there g w (Some b) (Some o) live h = refl
+
+-- a box of a patch that runs lies in a canvas that has an order
+pub ordered_there : (p : Patch) (key : ℕ) (n : Node) → CanPut p → get p.grove.nodes key ≡ Some n → IsSome (order_in p.orders.items n.board)
+ordered_there p key n C is =
+    let at = C.forest.placed key n.board (ap board_in is) in
+    let b = board_there (get p.grove.boards n.board) at.0 key at.1 in
+    order_there p.grove p.web (get p.grove.boards n.board) (order_in p.orders.items n.board) (subst (λ (o : Option Board). IsSome o) (sym b.1) refl) (C.runs.orders n.board)
 
 pub lives_there : (p : Patch) (key : ℕ) (n : Node) → get p.grove.nodes key ≡ Some n → IsSome (get p.grove.nodes key)
 lives_there p key n e = lives (get p.grove.nodes key) n e

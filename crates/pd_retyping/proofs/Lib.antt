@@ -1,6 +1,7 @@
 mod TextLemmas
 pub mod AskLemmas
 mod AlikeLemmas
+mod StayLemmas
 mod SeedLemmas
 mod BecomeLemmas
 pub mod RetypeLemmas

@@ -1,5 +1,5 @@
 -- Why an edit makes no box another one, and what is counted where it makes one.
-use Rattle.std.proofs.Common.{◌≡◌, ◌≢◌, ◌+◌, ℕ, List, [], slice_get, Option, Some, None, Result, Ok, Err, IfSome, inl, inr, refl, sym, ap, ◌∙◌, subst, arith}
+use Rattle.std.proofs.Common.{◌≡◌, ◌≢◌, ◌+◌, ◌≤◌, ℕ, List, [], slice_get, Option, Some, None, Result, Ok, Err, IfSome, inl, inr, refl, sym, ap, ◌∙◌, subst, arith}
 use Rattle.std.specs.Prelude.{◌⊎◌, IsErrAnd, IfErr}
 use Rattle.std.specs.List.{All}
 use mathlib.Core.Logic.{⊎_elim}
@@ -12,6 +12,8 @@ use Rattle.pd_canvas.specs.declared.edits.Edit.{Edit}
 use Rattle.pd_canvas.specs.Pages.{Entry}
 use Rattle.pd_canvas.specs.Edits.{retyped}
 use Rattle.pd_canvas.specs.Views.{entry_of}
+use Rattle.pd_object.specs.declared.kinds.Kind.{Kind}
+use Rattle.pd_tree.specs.Trees.{Stand}
 use Rattle.pd_library.specs.declared.answers.Answer.{Answer}
 use Rattle.pd_fit.specs.Fitting.{wires_inside}
 use Rattle.pd_gather.specs.Gather.{Known, known, AreProper}
@@ -22,7 +24,8 @@ use Rattle.pd_patch.specs.declared.patch.Patch.{Patch}
 use Rattle.pd_wiring.specs.declared.refusals.EditRefusal.{EditRefusal}
 use Rattle.pd_wiring.specs.declared.refusals.EditRefusal.TheVariants.{NoDocument, ShelfFault, NoMemory}
 use Rattle.pd_boxes.specs.Room.{SameButRoom}
-use Rattle.pd_boxes.specs.Put.{CanPut}
+use Rattle.pd_boxes.specs.Put.{node_of, CanPut}
+use Rattle.pd_refitting.specs.Refits.{refit_looks}
 use Rattle.pd_adding.specs.declared.adding.Grown.{Grown}
 use Rattle.pd_adding.specs.declared.counts.Counts.{Counts}
 use Rattle.pd_adding.specs.Boxes.{CanBeWritten, settled_edit, box_put}
@@ -80,8 +83,16 @@ memory_no_fault why a b = cc
 document_no_fault : (why : EditRefusal) → why ≡ NoDocument → why ≡ ShelfFault → ⊥
 document_no_fault why a b = cc
 
-pub no_fault : (old new : Patch) (n : Node) (a : Added) (why : EditRefusal) → StaysItself old new n a why → why ≡ ShelfFault → ⊥
-no_fault old new n a why out f = ⊎_elim (λ s. memory_no_fault why s.0 f) (λ o. document_no_fault why o.0 f) out
+pub no_fault : (old new : Patch) (key : ℕ) (n : Node) (a : Added) (why : EditRefusal) → StaysItself old new key n a why → why ≡ ShelfFault → ⊥
+no_fault old new key n a why out f = ⊎_elim (λ s. memory_no_fault why s.0 f) (λ o. document_no_fault why o.0 f) out
+
+-- looks at signal wires, by the kind of what the box became
+pub kind_looks : (p q : Patch) (key now : ℕ) (n : Node) (a : Added) (H : HasBecome p q now key n a) (steps steps' : ℕ)
+    → ((n m : Node) → get p.grove.nodes key ≡ Some n → get q.grove.nodes key ≡ Some m → steps' ≤ steps + refit_looks n.kind m.kind) → steps' ≤ steps + refit_looks n.kind H.can.cell.kind
+kind_looks p q key now n a H steps steps' few =
+    let is : get p.grove.nodes key ≡ Some n = sym (H.room.grove.nodes key) ∙ H.could.is in
+    let kind : H.seed.row.kind ≡ H.can.cell.kind = ap (λ (s : Stand). s.cell.kind) H.is_row in
+    subst (λ (k : Kind). steps' ≤ steps + refit_looks n.kind k) kind (few n (node_of n.board H.seed) is H.refit.grove.is)
 
 module _ (p : Patch) (n left : Counts) (name path : List ℕ) (number : ℕ) (text : List Atom) (k : Known) (plan : Plan) (P : IsPlanned k.names p path number text plan)
     (L : (m : Node) → get p.grove.nodes plan.key ≡ Some m → left ≡ counts_but p.rate m n) where
@@ -112,13 +123,13 @@ module _ (p : Patch) (n left : Counts) (name path : List ℕ) (number : ℕ) (te
   not_grown holds why comes asks = inl (refl, not_so holds why comes asks)
 
   -- the box stays itself
-  pub left_so : (holds : Option (List FileRow)) (q : Patch) (a : Added) (why : EditRefusal) → ComesTo holds p left name path plan.edit k (Ok a) → CanPut q → StaysItself p q P.node a why
+  pub left_so : (holds : Option (List FileRow)) (q : Patch) (a : Added) (why : EditRefusal) → ComesTo holds p left name path plan.edit k (Ok a) → CanPut q → StaysItself p q plan.key P.node a why
       → IsNotRetyped p q n name path number text k why
   unfolding retypes_to
   left_so holds q a why comes can out = ⊎_elim
-      (λ (s : (why ≡ NoMemory) × (CanBecome p P.node a × SameButRoom p q)).
+      (λ (s : (why ≡ NoMemory) × (CanBecome p plan.key P.node a × SameButRoom p q)).
       inr (s.0, record { added = a; comes = retypes_to holds (Ok a) comes; can = s.1.0; room = s.1.1; goes_on = can }))
-      (λ (o : (why ≡ NoDocument) × ((q ≡ p) × (CanBecome p P.node a → ⊥))).
+      (λ (o : (why ≡ NoDocument) × ((q ≡ p) × (CanBecome p plan.key P.node a → ⊥))).
       inl (o.1.0, inr (inr (inr (inr (o.0, inr (inr (record { added = a; comes = retypes_to holds (Ok a) comes; other = o.1.1 })))))))) out
 
   module _ (holds : Option (List FileRow)) (files : List (ℕ × Answer)) (names : Names) (g : Grown) (G : Grows holds p left name path plan.edit k (known files names) g) where

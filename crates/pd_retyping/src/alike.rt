@@ -6,7 +6,6 @@ ghost use Rattle.pd_object.specs.Ports.{IsSmallKind};
 ghost use Rattle.pd_grove.specs.declared.ports.Side.TheVariants.{Inlets, Outlets};
 ghost use Rattle.pd_grove.specs.Forest.{holder_in};
 ghost use Rattle.pd_grove.specs.Ports.{port_signal};
-ghost use Rattle.pd_web.specs.Changes.{Meet};
 ghost use Rattle.pd_refitting.specs.Refits.{IsPlainIn};
 ghost use Rattle.pd_retyping.specs.Becoming.{IsAlike};
 
@@ -19,7 +18,6 @@ use pd_patch::Patch;
 /// a box around.
 pub(crate) fn is_alike(patch: &Patch, key: u32, node: &Node, kind: &Kind) -> bool
     requires small { IsSmallKind kind.now }
-    requires meet { Meet patch.now.web }
     ensures yes { result ≡ true → IsAlike patch.now key node.now kind.now }
     ensures no { result ≡ false → IsAlike patch.now key node.now kind.now → ⊥ }
 {

@@ -83,7 +83,6 @@ pub(crate) fn become_grown<L: Ledger>(
 
 /// Whether the box of a key can become what grew.
 fn can_become(patch: &Patch, key: u32, grown: &Grown) -> bool
-    requires meet { Meet patch.now.web }
     requires rows_small { AreSmall grown.now.rows.items }
     ensures yes { result ≡ true → (n : Node) (a : Added) → get patch.now.grove.nodes key ≡ Some n → IsAdded grown.now a → CanBecome patch.now key n a }
     ensures no { result ≡ false → (n : Node) (a : Added) → get patch.now.grove.nodes key ≡ Some n → IsAdded grown.now a → CanBecome patch.now key n a → ⊥ }

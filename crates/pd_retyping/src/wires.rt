@@ -3,8 +3,6 @@
 ghost use Rattle.std.specs.Prelude.{◌≡◌, ◌+◌, ℕ, true, false, Some, length, slice_get};
 ghost use Rattle.pd_object.specs.Ports.{IsSmallKind};
 ghost use Rattle.pd_tree.specs.Ports.{is_made as is_made_so};
-ghost use Rattle.pd_web.specs.declared.web.Hop.{Hop};
-ghost use Rattle.pd_web.specs.Changes.{Meet};
 ghost use Rattle.pd_web.specs.Hops.{ports_told, jack_told};
 ghost use Rattle.pd_web.specs.Jacks.{kind_jacks};
 ghost use Rattle.pd_web.specs.Sockets.{made_at};
@@ -20,14 +18,12 @@ use pd_web::{Hop, Jack, Line, Web, port_at, sockets_at};
 /// Whether all wires at a box fit where it is of a kind, and carry then what they carry now.
 pub(crate) fn takes_wires(web: &Web, key: u32, kind: &Kind) -> bool
     requires small { IsSmallKind kind.now }
-    requires meet { Meet web.now }
     ensures yes { result ≡ true → TakesWires web.now key kind.now }
     ensures no { result ≡ false → TakesWires web.now key kind.now → ⊥ }
 {
-    if !side_stays(web, Side::Outlets, key, kind) {
-        return false;
-    }
-    side_stays(web, Side::Inlets, key, kind)
+    let leaving = side_stays(web, Side::Outlets, key, kind);
+    let coming = side_stays(web, Side::Inlets, key, kind);
+    leaving && coming
 }
 
 /// Whether those at the ports of a side do.

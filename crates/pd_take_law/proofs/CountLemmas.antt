@@ -1,99 +1,144 @@
--- How much a tree counts with a box less.
-use Rattle.std.proofs.Common.{◌≡◌, ◌+◌, ℕ, zero, suc, List, [], ◌∷◌, slice_get, Option, Some, None, refl, sym, ap, ◌∙◌, subst, arith}
-use Rattle.std.specs.Prelude.{option_map}
-use Rattle.std.proofs.lemmas.Option.{none-some, same_Some}
+-- The counts of a tree from which a box went with all that lay in it.
+use Rattle.std.proofs.Common.{◌≡◌, ◌≤◌, ◌+◌, ℕ, true, false, cond, Bool, List, [], ◌∷◌, ◌++◌, length, map, filter, Option, Some, IsSome, refl, sym, ap, ◌∙◌, subst, arith}
+use Rattle.std.specs.Prelude.{option_map, slice_get}
+use Rattle.std.specs.List.{AllByRecursion}
+use Rattle.std.proofs.lemmas.Option.{slice_get-map}
+use Rattle.std.proofs.lemmas.List.{length-append, length-map, map-append}
+use Rattle.slab.specs.Slab.{get}
 use Rattle.pd_clock.specs.declared.times.Rate.{Rate}
-use Rattle.pd_object.specs.declared.kinds.Kind.{Kind}
 use Rattle.pd_kind.specs.States.{size_of}
-use Rattle.pd_tree.specs.Trees.{Cell, Trees, Done, Leaf, Holder, Tree, join, weight}
+use Rattle.pd_tree.specs.Trees.{Cell, Trees, Done, Leaf, Holder, Tree, weight}
 use Rattle.pd_grove.specs.declared.nodes.Node.{Node}
-use Rattle.pd_grove.specs.declared.boards.Board.{Board}
-use Rattle.pd_grove.specs.Standing.{NodeSeen, node_seen, Stands}
+use Rattle.pd_grove.specs.declared.grove.Grove.{Grove}
+use Rattle.pd_grove.specs.declared.spots.Spot.{Spot}
+use Rattle.pd_grove.specs.Forest.{IsForest}
+use Rattle.pd_grove.specs.Grafts.{LiesInBox, TakesBox}
+use Rattle.pd_grove.specs.Owning.{board_in}
+use Rattle.pd_grove.specs.Standing.{node_seen, GroveStands}
+use Rattle.pd_grove.specs.Telling.{keys_in}
+use Rattle.pd_grove.specs.TextOrder.{deep, cells_in_order, cell_under, keys_in_order, keys_of_spots, keys_standing, spots_among, spots_in_order}
+use Rattle.pd_grove.proofs.NestLemmas.{box_deep}
+use Rattle.pd_grove.proofs.SpotLemmas.{cells_stand, grove_spots, keys_stand, spots_live}
 use Rattle.pd_patch.specs.Sounds.{sound_of}
-use Rattle.pd_regrowth_law.specs.Canvases.{Nest, Alone, Inside, nested}
-use Rattle.pd_putting_law.proofs.WithinLemmas.{path_within}
-use Rattle.pd_regrowth_law.specs.Canvases.{own_along}
-use Rattle.pd_taking_law.specs.Takes.{boxes_less, less_box, taken_at}
+use Rattle.pd_owning.specs.Bound.{is_among, but, AreNew}
+use Rattle.pd_owning.specs.Parts.{ArePart}
+use Rattle.pd_owning.proofs.BoundLemmas.{never_twice}
+use Rattle.pd_owning.proofs.LessLemmas.{stay, canvas_stays}
+use Rattle.pd_owning.proofs.StandLemmas.{stands}
+use Rattle.pd_adding.specs.Counted.{sound_seen, sound_among}
+use Rattle.pd_clearing.proofs.PartLemmas.{part_live}
+use Rattle.pd_take_law.proofs.TotalLemmas.{total, total_length, total_same, total_less, new_once, once_by, there_among}
 
--- boxes are one less, which keeps so many values
-pub record IsOneLess (rate : Rate) (old new : Trees) (size : ℕ) : Type 0 where
-  pub boxes : weight new + 1 ≡ weight old
-  pub sound : sound_of rate new + size ≡ sound_of rate old
+-- boxes are so many less, which keep so many values
+pub record IsLess (rate : Rate) (old new : Trees) (count values : ℕ) : Type 0 where
+  pub boxes : weight new + count ≡ weight old
+  pub sound : sound_of rate new + values ≡ sound_of rate old
 
-seen_kind : (o : Option Node) (x : Node) (b : ℕ) (c : Cell) (i : Option ℕ) → o ≡ Some x → option_map node_seen o ≡ Some (record { board = b; cell = c; inner = i }) → x.kind ≡ c.kind
-seen_kind o x b c i is e = ap (λ (v : NodeSeen). v.cell.kind) (same_Some (node_seen x) (record { board = b; cell = c; inner = i }) (sym (ap (option_map node_seen) is) ∙ e))
+-- The boxes of a tree in text order.
 
-seen_inner : (o : Option Node) (x : Node) (b : ℕ) (c : Cell) (i : Option ℕ) → o ≡ Some x → option_map node_seen o ≡ Some (record { board = b; cell = c; inner = i }) → x.inner ≡ i
-seen_inner o x b c i is e = ap (λ (v : NodeSeen). v.inner) (same_Some (node_seen x) (record { board = b; cell = c; inner = i }) (sym (ap (option_map node_seen) is) ∙ e))
+weight_told : (t : Trees) → length (cells_in_order t) ≡ weight t
+weight_told Done = refl
+weight_told (Leaf c rest) = let h = weight_told rest in omega (arith, h)
+weight_told (Holder c s inner rest) =
+    let h = weight_told inner in
+    let k = weight_told rest in
+    let e = length-append (cells_in_order inner) (cells_in_order rest) in
+    omega (arith, h, k, e)
 
--- a box without a canvas goes from its place
-pub leaf_less : (rate : Rate) (nodes : ℕ → Option Node) (boards : ℕ → Option Board) (b d : ℕ) (keys : List ℕ) (t : Trees) (n k : ℕ) (x : Node) → Stands nodes boards b d keys t → slice_get keys n ≡ Some k
-    → nodes k ≡ Some x → x.inner ≡ None → IsOneLess rate t (boxes_less n t) (size_of x.kind rate)
-leaf_less rate nodes boards b d [] t n k x S at is bare = absurd (none-some k at)
-leaf_less rate nodes boards b d (l ∷ ls) Done n k x S at is bare = absurd S
-leaf_less rate nodes boards b d (l ∷ ls) (Leaf c rest) zero k x S at is bare =
-    let kinds : x.kind ≡ c.kind = seen_kind (nodes l) x b c None (ap nodes (same_Some l k at) ∙ is) S.0 in
-    record { boxes = refl; sound = sum (sound_of rate rest) (size_of x.kind rate) (size_of c.kind rate) (ap (λ (y : Kind). size_of y rate) kinds) }
-  where
-    sum : (r s z : ℕ) → s ≡ z → r + s ≡ z + r
-    sum r s z e = omega (arith, e)
-leaf_less rate nodes boards b d (l ∷ ls) (Leaf c rest) (suc n) k x S at is bare =
-    let less = leaf_less rate nodes boards b d ls rest n k x S.1 at is bare in
-    let w = less.boxes in
-    record { boxes = omega (arith, w); sound = sum (sound_of rate (boxes_less n rest)) (sound_of rate rest) (size_of c.kind rate) (size_of x.kind rate) less.sound }
-  where
-    sum : (r q z s : ℕ) → r + s ≡ q → (z + r) + s ≡ z + q
-    sum r q z s e = omega (arith, e)
-leaf_less rate nodes boards b d (l ∷ ls) (Holder c s inner rest) zero k x S at is bare =
-    absurd (none-some S.0 (sym bare ∙ seen_inner (nodes l) x b c (Some S.0) (ap nodes (same_Some l k at) ∙ is) S.2))
-leaf_less rate nodes boards b d (l ∷ ls) (Holder c s inner rest) (suc n) k x S at is bare =
-    let less = leaf_less rate nodes boards b d ls rest n k x S.5 at is bare in
-    let w = less.boxes in
-    record { boxes = omega (arith, w); sound = sum (sound_of rate (boxes_less n rest)) (sound_of rate rest) (size_of c.kind rate) (sound_of rate inner) (size_of x.kind rate) less.sound }
-  where
-    sum : (r q z i s : ℕ) → r + s ≡ q → (z + (i + r)) + s ≡ z + (i + q)
-    sum r q z i s e = omega (arith, e)
+sound_join : (r : Rate) (xs ys : List (Option Cell)) → sound_among r (xs ++ ys) ≡ sound_among r xs + sound_among r ys
+sound_join r [] ys = omega arith
+sound_join r (x ∷ xs) ys = let h = sound_join r xs ys in omega (arith, h)
 
-weight_join : (t u : Trees) → weight (join t u) ≡ weight t + weight u
-weight_join Done u = omega arith
-weight_join (Leaf c t) u = omega (arith, weight_join t u)
-weight_join (Holder c s inner t) u = omega (arith, weight_join t u)
+sound_cells : (r : Rate) (t : Trees) → sound_among r (map (λ c. Some c) (cells_in_order t)) ≡ sound_of r t
+sound_cells r Done = refl
+sound_cells r (Leaf c rest) = ap (λ n. size_of c.kind r + n) (sound_cells r rest)
+sound_cells r (Holder c s inner rest) =
+    let f : Cell → Option Cell = λ x. Some x in
+    let xs = cells_in_order inner in
+    let ys = cells_in_order rest in
+    ap (λ n. size_of c.kind r + n)
+    (ap (sound_among r) (map-append f xs ys) ∙ sound_join r (map f xs) (map f ys) ∙ (λ i. sound_cells r inner i + sound_cells r rest i))
 
-sound_join : (rate : Rate) (t u : Trees) → sound_of rate (join t u) ≡ sound_of rate t + sound_of rate u
-sound_join rate Done u = omega arith
-sound_join rate (Leaf c t) u = sum (size_of c.kind rate) (sound_of rate t) (sound_of rate u) (sound_of rate (join t u)) (sound_join rate t u)
-  where
-    sum : (a b c x : ℕ) → x ≡ b + c → a + x ≡ (a + b) + c
-    sum a b c x h = omega (arith, h)
-sound_join rate (Holder c s inner t) u =
-    sum (size_of c.kind rate) (sound_of rate inner) (sound_of rate t) (sound_of rate u) (sound_of rate (join t u)) (sound_join rate t u)
-  where
-    sum : (a i b c x : ℕ) → x ≡ b + c → a + (i + x) ≡ (a + (i + b)) + c
-    sum a i b c x h = omega (arith, h)
+-- how many values the box of a key keeps
+abbrev value_at : Rate → (ℕ → Option Node) → ℕ → ℕ
+value_at rate nodes k = sound_seen rate (cell_under nodes k)
 
--- where a canvas counts one box less, so does what lies around it
-nest_less : (rate : Rate) (nest : Nest) (u v : Tree) (size : ℕ) → IsOneLess rate u.boxes v.boxes size → IsOneLess rate (nested nest u).boxes (nested nest v).boxes size
-nest_less rate Alone u v size h = h
-nest_less rate (Inside sheet before c nest behind) u v size h =
-    let t = nested nest u in
-    let r = nested nest v in
-    let less = nest_less rate nest u v size h in
-    record {
-      boxes = boxes (weight before) (weight t.boxes) (weight r.boxes) (weight behind) (weight (join before (Holder c t.sheet t.boxes behind))) (weight (join before (Holder c r.sheet r.boxes behind)))
-          (weight_join before (Holder c t.sheet t.boxes behind)) (weight_join before (Holder c r.sheet r.boxes behind)) less.boxes;
-      sound = sound (sound_of rate before) (size_of c.kind rate) (sound_of rate t.boxes) (sound_of rate r.boxes) (sound_of rate behind) size
-          (sound_of rate (join before (Holder c t.sheet t.boxes behind))) (sound_of rate (join before (Holder c r.sheet r.boxes behind)))
-          (sound_join rate before (Holder c t.sheet t.boxes behind)) (sound_join rate before (Holder c r.sheet r.boxes behind)) less.sound;
-    }
-  where
-    boxes : (a t r b x y : ℕ) → x ≡ a + (t + b + 1) → y ≡ a + (r + b + 1) → r + 1 ≡ t → y + 1 ≡ x
-    boxes a t r b x y h k e = omega (arith, h, k, e)
+pub total_values : (rate : Rate) (nodes : ℕ → Option Node) (ks : List ℕ) → total (value_at rate nodes) ks ≡ sound_among rate (map (cell_under nodes) ks)
+total_values rate nodes [] = refl
+total_values rate nodes (k ∷ ks) = ap (λ n. sound_seen rate (cell_under nodes k) + n) (total_values rate nodes ks)
 
-    sound : (a s t r b n x y : ℕ) → x ≡ a + (s + (t + b)) → y ≡ a + (s + (r + b)) → r + n ≡ t → y + n ≡ x
-    sound a s t r b n x y h k e = omega (arith, h, k, e)
+module _ (g : Grove) (t : Tree) (G : GroveStands g t.sheet t.boxes) (low : deep t.boxes ≤ 256) where
+  keys_told : keys_in_order g ≡ keys_standing (get g.nodes) (get g.boards) g.root 0 G.keys t.boxes G.stands
+  keys_told = ap keys_of_spots (grove_spots g t.sheet t.boxes G low) ∙ keys_stand (get g.nodes) (get g.boards) g.root 0 true G.keys t.boxes G.stands
 
-pub tree_counts : (rate : Rate) (path : List ℕ) (n : ℕ) (t u : Tree) (size : ℕ) → own_along path t ≡ Some u → IsOneLess rate u.boxes (boxes_less n u.boxes) size → IsOneLess rate t.boxes (taken_at path n t).boxes size
-tree_counts rate path n t u size along h =
-    let p = path_within path t u along in
-    subst (λ (x : Tree). IsOneLess rate t.boxes x.boxes size) (sym (p.changed (less_box n)))
-    (subst (λ (x : Tree). IsOneLess rate x.boxes (nested p.nest (less_box n u)).boxes size) (sym p.whole) (nest_less rate p.nest u (less_box n u) size h))
+  cells_told : map (cell_under (get g.nodes)) (keys_in_order g) ≡ map (λ c. Some c) (cells_in_order t.boxes)
+  cells_told = ap (map (cell_under (get g.nodes))) keys_told ∙ cells_stand (get g.nodes) (get g.boards) g.root 0 G.keys t.boxes G.stands
+
+  boxes_told : total (λ k. 1) (keys_in_order g) ≡ weight t.boxes
+  boxes_told =
+      let f : Cell → Option Cell = λ c. Some c in
+      total_length (keys_in_order g) ∙ sym (length-map (keys_in_order g) (cell_under (get g.nodes))) ∙ ap (λ (os : List (Option Cell)). length os) cells_told
+      ∙ length-map (cells_in_order t.boxes) f ∙ weight_told t.boxes
+
+  values_told : (rate : Rate) → total (value_at rate (get g.nodes)) (keys_in_order g) ≡ sound_of rate t.boxes
+  values_told rate = total_values rate (get g.nodes) (keys_in_order g) ∙ ap (sound_among rate) cells_told ∙ sound_cells rate t.boxes
+
+keys_cond : (b : Bool) (p : Spot) (ps : List Spot) (ks : List ℕ) → keys_of_spots ps ≡ ks → keys_of_spots (cond b (p ∷ ps) ps) ≡ cond b (p.node ∷ ks) ks
+keys_cond true p ps ks e = ap (λ (l : List ℕ). p.node ∷ l) e
+keys_cond false p ps ks e = e
+
+keys_stay : (away : List ℕ) (ps : List Spot) → keys_of_spots (filter (stay away) ps) ≡ but away (keys_of_spots ps)
+keys_stay away [] = refl
+keys_stay away (p ∷ ps) = keys_cond (stay away p) p (filter (stay away) ps) (but away (keys_of_spots ps)) (keys_stay away ps)
+
+key_there : (ps : List Spot) (i : ℕ) (p : Spot) → slice_get ps i ≡ Some p → slice_get (keys_of_spots ps) i ≡ Some p.node
+key_there ps i p at = slice_get-map (λ (q : Spot). q.node) ps i ∙ ap (option_map (λ (q : Spot). q.node)) at
+
+same_value : (rate : Rate) (nodes nodes' : ℕ → Option Node) (ks : List ℕ) → ((k : ℕ) → IsSome (nodes' k) → nodes' k ≡ nodes k) → AllByRecursion (λ k. IsSome (nodes' k)) ks
+    → AllByRecursion (λ k. value_at rate nodes' k ≡ value_at rate nodes k) ks
+same_value rate nodes nodes' [] same A = tt
+same_value rate nodes nodes' (k ∷ ks) same A =
+    (ap (λ (o : Option Node). sound_seen rate (option_map (λ (n : Node). (node_seen n).cell) o)) (same k A.0), same_value rate nodes nodes' ks same A.1)
+
+-- A box goes with all that lies in it.
+
+module _ (g h : Grove) (c k : ℕ) (n : Node) (before behind part : List ℕ) (F : IsForest (get g.nodes) (get g.boards) g.root) (root : h.root ≡ g.root)
+    (T : TakesBox (get g.nodes) (get h.nodes) (get g.boards) (get h.boards) c k n before behind) (A : ArePart (get g.nodes) (get g.boards) k part) (once : AreNew part []) where
+  keys_left : keys_in_order h ≡ but part (keys_in_order g)
+  keys_left =
+      let lies : board_in (get g.nodes k) ≡ Some c = ap board_in T.was ∙ ap (λ y. Some y) T.lay in
+      let out : LiesInBox (get g.nodes) (get g.boards) k g.root → ⊥ =
+      (λ L. let d = box_deep (get g.nodes) (get g.boards) g.root k c g.root F lies L in let z = F.rooted.2 in absurd (omega (arith, d, z))) in
+      ap keys_of_spots (ap (λ r. spots_among (get h.nodes) (get h.boards) 257 true (keys_in (get h.boards r))) root
+      ∙ sym (canvas_stays (get g.nodes) (get g.boards) g.root F (get h.nodes) (get h.boards) c k n before behind T part A 257 g.root true out))
+      ∙ keys_stay part (spots_in_order g)
+
+  in_order : (x : ℕ) → is_among part x ≡ true → is_among (keys_in_order g) x ≡ true
+  in_order x at =
+      let s = stands (get g.nodes) (get g.boards) g.root F x (part_live (get g.nodes) (get g.boards) g.root F k part A (subst (λ (o : Option Node). IsSome o) (sym T.was) refl) x at) in
+      there_among (keys_in_order g) s.0 x (key_there (spots_in_order g) s.0 _ s.1)
+
+  less_by : (f : ℕ → ℕ) → total f (keys_in_order h) + total f part ≡ total f (keys_in_order g)
+  less_by f =
+      let less = total_less f part (keys_in_order g) (new_once part once)
+      (once_by (keys_in_order g) (λ i j x l a b. never_twice g F x (record { first = i; second = j; at = a; other_at = b; less = l }))) in_order in
+      let left = ap (total f) keys_left in
+      omega (arith, less, left)
+
+  pub trees_less : (rate : Rate) (t u : Tree) → GroveStands g t.sheet t.boxes → deep t.boxes ≤ 256 → GroveStands h u.sheet u.boxes → deep u.boxes ≤ 256
+      → IsLess rate t.boxes u.boxes (length part) (sound_among rate (map (cell_under (get g.nodes)) part))
+  trees_less rate t u G low H low' =
+      let ones = less_by (λ x. 1) in
+      let count = total_length part in
+      let was = boxes_told g t G low in
+      let is = boxes_told h u H low' in
+      let same = total_same (value_at rate (get h.nodes)) (value_at rate (get g.nodes)) (keys_in_order h)
+      (same_value rate (get g.nodes) (get h.nodes) (keys_in_order h) T.none_comes (spots_live (get h.nodes) (get h.boards) 257 true (keys_in (get h.boards h.root)))) in
+      let sound = less_by (value_at rate (get g.nodes)) in
+      let values = total_values rate (get g.nodes) part in
+      let sound_was = values_told g t G low rate in
+      let sound_is = values_told h u H low' rate in
+      record {
+        boxes = omega (arith, ones, count, was, is);
+        sound = omega (arith, same, sound, values, sound_was, sound_is);
+      }

@@ -1,25 +1,28 @@
 -- The wires to inlets, where a box went.
 use Rattle.std.proofs.Common.{◌≡◌, ◌≢◌, ℕ, zero, suc, Bool, true, false, cond, List, [], ◌∷◌, filter, slice_get, Option, Some, None, refl, sym, ap, ◌∙◌, inl, inr, arith}
 use Rattle.std.specs.Prelude.{option_map}
-use mathlib.Core.Logic.{⊎_elim}
 use Rattle.std.proofs.lemmas.Bool.Decides.{nat_tests}
-use Rattle.std.proofs.lemmas.Bool.{cases_eq}
+use Rattle.std.proofs.lemmas.Bool.{both_ways}
 use Rattle.std.proofs.lemmas.Option.{none-some, same_Some, slice_get-map}
 use Rattle.pd_atom.specs.Names.{Names}
 use Rattle.pd_web.specs.declared.lines.Line.{Line}
 use Rattle.pd_web.specs.declared.sockets.Spot.{Spot}
 use Rattle.pd_web.specs.declared.web.Hop.{Hop}
 use Rattle.pd_web.specs.declared.web.Web.{Web}
-use Rattle.pd_web.specs.Changes.{hop_at, line_by, line_told}
+use Rattle.pd_web.specs.Changes.{hop_at, line_by, line_told, Meet}
 use Rattle.pd_web.specs.Hops.{feed_hops, feed_keys, hop_by, hop_from}
 use Rattle.pd_web.specs.Wiring.{source_at}
 use Rattle.pd_patch.specs.declared.patch.Patch.{Patch}
+use Rattle.pd_boxes.specs.Put.{CanPut}
+use Rattle.pd_owning.specs.Bound.{is_among}
+use Rattle.pd_reload_law.proofs.SortedLemmas.{by_test}
 use Rattle.pd_alike_law.specs.Feeds.{FedOnce}
 use Rattle.pd_adding.specs.declared.counts.Counts.{Counts}
-use Rattle.pd_taking.specs.Loosening.{is_of_other, IsAt}
-use Rattle.pd_taking.proofs.TakenLemmas.{feeds_less, no_wires}
+use Rattle.pd_taking.specs.Loosening.{is_of_other}
+use Rattle.pd_clearing.specs.Losing.{IsAtOne}
 use Rattle.pd_deleting.specs.declared.deleting.OldBox.{OldBox}
 use Rattle.pd_deleting.specs.Deletes.{DeletesBox}
+use Rattle.pd_take_law.proofs.GoneLemmas.{feeder_out}
 
 -- Lists.
 
@@ -95,30 +98,28 @@ pub from_other : (key : ℕ) (h : Hop) → is_of_other key h ≡ true → h.node
 from_other key h t e = grind (arith, nat_tests)
 
 module _ (old new : Patch) (n : Counts) (table : Names) (path : List ℕ) (number steps steps' : ℕ) (b : OldBox) (D : DeletesBox old new n table path number steps steps' b) where
-  pub feeds_gone : (node inlet : ℕ) → node ≢ b.key → feed_hops new.web node inlet ≡ filter (is_of_other b.key) (feed_hops old.web node inlet)
-  feeds_gone node inlet d = feeds_less D.ready new table (record { canvas = b.canvas; number = number }) b.key steps steps' D.removed node inlet d
-      ∙ ap (filter (is_of_other b.key)) (D.room.web.feeds node inlet)
+  pub feeds_gone : (node inlet : ℕ) → is_among D.cleared.part node ≡ false → feed_hops new.web node inlet ≡ filter (is_of_other b.key) (feed_hops old.web node inlet)
+  feeds_gone node inlet out = D.cleared.wires.feeds node inlet out ∙ ap (filter (is_of_other b.key)) (D.room.web.feeds node inlet)
 
-  none_fed : (inlet : ℕ) → feed_hops new.web b.key inlet ≡ []
-  none_fed inlet = (no_wires D.ready new table (record { canvas = b.canvas; number = number }) b.key steps steps' D.removed).feeds inlet
+  none_fed : (node inlet : ℕ) → is_among D.cleared.part node ≡ true → feed_hops new.web node inlet ≡ []
+  none_fed node inlet at = (D.cleared.wires.bare node at).feeds inlet
 
-  line_left : (k : ℕ) (l : Line) → (IsAt b.key l → ⊥) → line_told old.web k ≡ Some l → line_told new.web k ≡ Some l
-  line_left k l d e = D.removed.taken.goes.ports.lines k ∙ D.removed.wires.other_lines k l d (D.room.web.lines k ∙ e)
+  line_left : (k : ℕ) (l : Line) → (IsAtOne D.cleared.part l → ⊥) → line_told old.web k ≡ Some l → line_told new.web k ≡ Some l
+  line_left k l d e = D.cleared.wires.other_lines k l d (D.room.web.lines k ∙ e)
 
-  pub still_fed : FedOnce old.web → FedOnce new.web
-  still_fed F = record {
-    lines = λ node inlet i h e. ⊎_elim
-        (λ (s : node ≡ b.key). absurd (nothing_there h i (ap (λ (hs : List Hop). slice_get hs i) (sym (ap (λ k. feed_hops new.web k inlet) s ∙ none_fed inlet)) ∙ e)))
-        (λ (d : node ≢ b.key).
-        let p = passed (is_of_other b.key) (feed_hops old.web node inlet) h i (ap (λ (hs : List Hop). slice_get hs i) (sym (feeds_gone node inlet d)) ∙ e) in
-        line_left h.key (line_by h (hop_at h.key node inlet)) (apart node inlet h d (from_other b.key h p.passes)) (F.lines node inlet p.place h p.stood))
-        (cases_eq node b.key);
-    once = λ node inlet i j k x y. ⊎_elim
-        (λ (s : node ≡ b.key). absurd (nothing_there (hop_from new.web k) i (ap (λ (hs : List Hop). slice_get hs i) (sym (ap (λ z. feed_hops new.web z inlet) s ∙ none_fed inlet)) ∙ key_at new.web node inlet i k x)))
-        (λ (d : node ≢ b.key). once_left old.web new.web b.key node inlet (feeds_gone node inlet d) (F.once node inlet) i j k x y)
-        (cases_eq node b.key);
+  pub still_fed : CanPut old → Meet old.web → FedOnce old.web → FedOnce new.web
+  still_fed C meet F = record {
+    lines = λ node inlet i h e. by_test (is_among D.cleared.part node)
+        (λ at. absurd (nothing_there h i (ap (λ (hs : List Hop). slice_get hs i) (sym (none_fed node inlet at)) ∙ e)))
+        (λ out.
+        let p = passed (is_of_other b.key) (feed_hops old.web node inlet) h i (ap (λ (hs : List Hop). slice_get hs i) (sym (feeds_gone node inlet out)) ∙ e) in
+        let far = feeder_out old new n table path number steps steps' b D C meet node inlet p.place h out p.stood (from_other b.key h p.passes) in
+        line_left h.key (line_by h (hop_at h.key node inlet)) (apart node inlet h out far) (F.lines node inlet p.place h p.stood));
+    once = λ node inlet i j k x y. by_test (is_among D.cleared.part node)
+        (λ at. absurd (nothing_there (hop_from new.web k) i (ap (λ (hs : List Hop). slice_get hs i) (sym (none_fed node inlet at)) ∙ key_at new.web node inlet i k x)))
+        (λ out. once_left old.web new.web b.key node inlet (feeds_gone node inlet out) (F.once node inlet) i j k x y);
   }
     where
-      apart : (node inlet : ℕ) (h : Hop) → node ≢ b.key → h.node ≢ b.key → IsAt b.key (line_by h (hop_at h.key node inlet)) → ⊥
-      apart node inlet h d e (inl s) = e s
-      apart node inlet h d e (inr s) = d s
+      apart : (node inlet : ℕ) (h : Hop) → is_among D.cleared.part node ≡ false → is_among D.cleared.part h.node ≡ false → IsAtOne D.cleared.part (line_by h (hop_at h.key node inlet)) → ⊥
+      apart node inlet h out far (inl s) = both_ways (is_among D.cleared.part h.node) far s
+      apart node inlet h out far (inr s) = both_ways (is_among D.cleared.part node) out s

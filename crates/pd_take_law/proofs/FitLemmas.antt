@@ -1,21 +1,20 @@
 -- Wires that fit, where a box went.
-use Rattle.std.proofs.Common.{◌≡◌, ◌≢◌, ℕ, zero, suc, ◌==◌, ◌&&◌, Bool, true, false, cond, not, List, [], ◌∷◌, map, filter, slice_get, Option, Some, None, refl, sym, ap, ◌∙◌, subst, arith}
+use Rattle.std.proofs.Common.{◌≡◌, ◌≢◌, ℕ, zero, suc, ◌==◌, ◌&&◌, Bool, true, false, cond, not, List, [], ◌∷◌, map, filter, slice_get, Option, Some, None, IsSome, refl, sym, ap, ◌∙◌, subst, arith}
 use Rattle.std.specs.Prelude.{remove}
 use Rattle.std.specs.List.{AllByRecursion}
 use mathlib.Core.Logic.{⊎_elim}
 use Rattle.std.proofs.lemmas.Bool.Decides.{nat_tests}
 use Rattle.std.proofs.lemmas.Bool.{cases_eq}
-use Rattle.std.proofs.lemmas.Option.{none-some, slice_get_past}
+use Rattle.std.proofs.lemmas.Option.{slice_get_past}
 use Rattle.slab.specs.Slab.{get}
 use Rattle.pd_atom.specs.Names.{Names}
 use Rattle.pd_canvas.specs.declared.wires.Wire.{Wire}
 use Rattle.pd_canvas.specs.Wiring.{lowered, lowered_wire, spares, without_box}
 use Rattle.pd_tree.specs.Ports.{Sockets as Seen, fits, fits_between}
 use Rattle.pd_grove.specs.declared.boards.Board.{Board}
-use Rattle.pd_grove.specs.declared.grove.Grove.{Grove}
 use Rattle.pd_grove.specs.declared.ports.Side.TheVariants.{Inlets, Outlets}
-use Rattle.pd_grove.specs.Owning.{board_in}
-use Rattle.pd_grove.specs.Telling.{inner_in, keys_in}
+use Rattle.pd_grove.specs.Telling.{keys_in}
+use Rattle.pd_grove.proofs.UseLemmas.{none_or_some}
 use Rattle.pd_web.specs.declared.jacks.Jack.{Jack}
 use Rattle.pd_web.specs.declared.web.Web.{Web}
 use Rattle.pd_web.specs.Canvases.{keys_at}
@@ -26,14 +25,14 @@ use Rattle.pd_web.specs.Sockets.{made_at}
 use Rattle.pd_present.specs.Presents.{wires_among}
 use Rattle.pd_patch.specs.declared.patch.Patch.{Patch}
 use Rattle.pd_boxes.specs.Put.{CanPut}
+use Rattle.pd_owning.specs.Bound.{is_among}
 use Rattle.pd_saved_law.specs.Fitting.{WiresFit}
-use Rattle.pd_taking_law.proofs.StayLemmas.{forest_still, keys_less, map_less}
+use Rattle.pd_taking_law.proofs.StayLemmas.{keys_less, map_less}
 use Rattle.pd_taking_law.proofs.WireLemmas.{wires_aside, wires_here}
 use Rattle.pd_adding.specs.declared.counts.Counts.{Counts}
 use Rattle.pd_deleting.specs.declared.deleting.OldBox.{OldBox}
 use Rattle.pd_deleting.specs.Deletes.{DeletesBox}
-use Rattle.pd_deleting.proofs.DeleteLemmas.{can_remove}
-use Rattle.pd_take_law.proofs.GoneLemmas.{box_gone, wires_gone}
+use Rattle.pd_take_law.proofs.GoneLemmas.{box_gone, lies_out, wires_gone}
 
 -- Lists with an element less.
 
@@ -73,26 +72,23 @@ all_less boxes n (v ∷ ws) h = step (spares n v) refl (all_less boxes n ws h.1)
 
 -- Ports.
 
-pub told_same : (w w' : Web) (key : ℕ) (ks : List ℕ) → ((k : ℕ) → k ≢ key → laid_at w'.sockets.items k ≡ laid_at w.sockets.items k) → ((i k : ℕ) → slice_get ks i ≡ Some k → k ≢ key)
-    → boxes_told w' ks ≡ boxes_told w ks
-told_same w w' key [] same other = refl
-told_same w w' key (k ∷ ks) same other =
-    ap (λ (s : Seen). s ∷ boxes_told w' ks) (same k (other 0 k refl)) ∙ ap (λ (ss : List Seen). laid_at w.sockets.items k ∷ ss) (told_same w w' key ks same (λ i. other (suc i)))
+pub told_same : (w w' : Web) (ks : List ℕ) → ((i k : ℕ) → slice_get ks i ≡ Some k → laid_at w'.sockets.items k ≡ laid_at w.sockets.items k) → boxes_told w' ks ≡ boxes_told w ks
+told_same w w' [] same = refl
+told_same w w' (k ∷ ks) same =
+    ap (λ (s : Seen). s ∷ boxes_told w' ks) (same 0 k refl) ∙ ap (λ (ss : List Seen). laid_at w.sockets.items k ∷ ss) (told_same w w' ks (λ i. same (suc i)))
 
 module _ (old new : Patch) (n : Counts) (table : Names) (path : List ℕ) (number steps steps' : ℕ) (b : OldBox) (D : DeletesBox old new n table path number steps steps' b) (C : CanPut old) (meet : Meet old.web) where
-  pub box_same : (k : ℕ) → k ≢ b.key → laid_at new.web.sockets.items k ≡ laid_at old.web.sockets.items k
-  box_same k d =
-      let G = D.removed.taken.goes.ports in
-      let L = D.removed.loosens.web.kept in
+  pub box_same : (k : ℕ) → is_among D.cleared.part k ≡ false → laid_at new.web.sockets.items k ≡ laid_at old.web.sockets.items k
+  box_same k out =
+      let P = D.cleared.ports in
       let R = D.room.web.kept in
-      ap (λ (js : List Jack). seen_by js (ports_told new.web Outlets k) (made_at new.web.sockets.items k)) (G.other_ports Inlets k d ∙ L.ports Inlets k ∙ R.ports Inlets k)
-      ∙ ap (λ (js : List Jack). seen_by (ports_told old.web Inlets k) js (made_at new.web.sockets.items k)) (G.other_ports Outlets k d ∙ L.ports Outlets k ∙ R.ports Outlets k)
-      ∙ ap (seen_by (ports_told old.web Inlets k) (ports_told old.web Outlets k)) (G.others_made k d ∙ L.made k ∙ R.made k)
+      ap (λ (js : List Jack). seen_by js (ports_told new.web Outlets k) (made_at new.web.sockets.items k)) (P.ports Inlets k out ∙ R.ports Inlets k)
+      ∙ ap (λ (js : List Jack). seen_by (ports_told old.web Inlets k) js (made_at new.web.sockets.items k)) (P.ports Outlets k out ∙ R.ports Outlets k)
+      ∙ ap (seen_by (ports_told old.web Inlets k) (ports_told old.web Outlets k)) (P.made k out ∙ R.made k)
 
-  pub not_key : (c i k : ℕ) → slice_get (keys_at new.grove c) i ≡ Some k → k ≢ b.key
-  not_key c i k at e =
-      let B = box_gone old new n table path number steps steps' b D C in
-      none-some c (sym (ap board_in (ap (get new.grove.nodes) e ∙ B.takes.gone)) ∙ (forest_still old.grove new.grove path b.canvas b.key number B).own.home c i k at)
+  -- the boxes of a canvas have the ports that they had
+  told_still : (c : ℕ) → boxes_told new.web (keys_at new.grove c) ≡ boxes_told old.web (keys_at new.grove c)
+  told_still c = told_same old.web new.web (keys_at new.grove c) (λ i k at. box_same k (lies_out old new n table path number steps steps' b D C c i k at))
 
   fits_here : WiresFit old → AllByRecursion (λ v. fits (boxes_told new.web (keys_at new.grove b.canvas)) v ≡ true) (wires_among new.web new.numbers.items (keys_at new.grove b.canvas))
   fits_here F =
@@ -100,28 +96,36 @@ module _ (old new : Patch) (n : Counts) (table : Names) (path : List ℕ) (numbe
       let W = wires_gone old new n table path number steps steps' b D C meet in
       let ws = wires_among old.web old.numbers.items (keys_at old.grove b.canvas) in
       let boxes : boxes_told new.web (keys_at new.grove b.canvas) ≡ remove (boxes_told old.web (keys_at old.grove b.canvas)) number =
-      told_same old.web new.web b.key (keys_at new.grove b.canvas) box_same (not_key b.canvas) ∙ ap (boxes_told old.web) (keys_less old.grove new.grove path b.canvas b.key number B)
+      told_still b.canvas ∙ ap (boxes_told old.web) (keys_less old.grove new.grove path b.canvas b.key number B)
       ∙ map_less (laid_at old.web.sockets.items) (keys_at old.grove b.canvas) number in
       subst (λ (vs : List Wire). AllByRecursion (λ v. fits (boxes_told new.web (keys_at new.grove b.canvas)) v ≡ true) vs)
       (sym (wires_here old.grove new.grove path b.canvas b.key number B old.web new.web old.numbers.items new.numbers.items W))
       (subst (λ (bs : List Seen). AllByRecursion (λ v. fits bs v ≡ true) (without_box number ws)) (sym boxes) (all_less (boxes_told old.web (keys_at old.grove b.canvas)) number ws (F.all b.canvas)))
 
-  fits_aside : WiresFit old → (c : ℕ) → c ≢ b.canvas → AllByRecursion (λ v. fits (boxes_told new.web (keys_at new.grove c)) v ≡ true) (wires_among new.web new.numbers.items (keys_at new.grove c))
-  fits_aside F c d =
+  fits_aside : WiresFit old → (c : ℕ) → c ≢ b.canvas → get new.grove.boards c ≡ get old.grove.boards c
+      → AllByRecursion (λ v. fits (boxes_told new.web (keys_at new.grove c)) v ≡ true) (wires_among new.web new.numbers.items (keys_at new.grove c))
+  fits_aside F c d stays =
       let B = box_gone old new n table path number steps steps' b D C in
       let W = wires_gone old new n table path number steps steps' b D C meet in
-      let bare : inner_in (get old.grove.nodes b.key) ≡ None =
-      ap (λ (g : Grove). inner_in (get g.nodes b.key)) (sym D.room.grove) ∙ (can_remove old D.ready path number b.canvas b.key D.room C meet D.is).leaf in
-      let stays : get new.grove.boards c ≡ get old.grove.boards c = B.takes.boards_stay c d (λ L. none-some L.0 (sym bare ∙ L.1)) in
-      let boxes : boxes_told new.web (keys_at new.grove c) ≡ boxes_told old.web (keys_at old.grove c) =
-      told_same old.web new.web b.key (keys_at new.grove c) box_same (not_key c) ∙ ap (λ (o : Option Board). boxes_told old.web (keys_in o)) stays in
+      let boxes : boxes_told new.web (keys_at new.grove c) ≡ boxes_told old.web (keys_at old.grove c) = told_still c ∙ ap (λ (o : Option Board). boxes_told old.web (keys_in o)) stays in
       subst (λ (vs : List Wire). AllByRecursion (λ v. fits (boxes_told new.web (keys_at new.grove c)) v ≡ true) vs)
       (sym (wires_aside old.grove new.grove path b.canvas b.key number B old.web new.web old.numbers.items new.numbers.items W c d stays))
       (subst (λ (bs : List Seen). AllByRecursion (λ v. fits bs v ≡ true) (wires_among old.web old.numbers.items (keys_at old.grove c))) (sym boxes) (F.all c))
+
+  -- a canvas that went has no boxes and no wires
+  fits_nowhere : (c : ℕ) → get new.grove.boards c ≡ None → AllByRecursion (λ v. fits (boxes_told new.web (keys_at new.grove c)) v ≡ true) (wires_among new.web new.numbers.items (keys_at new.grove c))
+  fits_nowhere c none =
+      subst (λ (o : Option Board). AllByRecursion (λ v. fits (boxes_told new.web (keys_in o)) v ≡ true) (wires_among new.web new.numbers.items (keys_in o))) (sym none) tt
+
+  fits_by : WiresFit old → (c : ℕ) → c ≢ b.canvas → AllByRecursion (λ v. fits (boxes_told new.web (keys_at new.grove c)) v ≡ true) (wires_among new.web new.numbers.items (keys_at new.grove c))
+  fits_by F c d = ⊎_elim
+      (λ (none : get new.grove.boards c ≡ None). fits_nowhere c none)
+      (λ (some : IsSome (get new.grove.boards c)). fits_aside F c d ((box_gone old new n table path number steps steps' b D C).takes.no_canvas_comes c d some))
+      (none_or_some (get new.grove.boards c))
 
   pub still_fit : WiresFit old → WiresFit new
   still_fit F = record {
     all = λ c. ⊎_elim
         (λ (e : c ≡ b.canvas). subst (λ x. AllByRecursion (λ v. fits (boxes_told new.web (keys_at new.grove x)) v ≡ true) (wires_among new.web new.numbers.items (keys_at new.grove x))) (sym e) (fits_here F))
-        (λ (d : c ≢ b.canvas). fits_aside F c d) (cases_eq c b.canvas);
+        (λ (d : c ≢ b.canvas). fits_by F c d) (cases_eq c b.canvas);
   }

@@ -1,5 +1,5 @@
 -- The canvases of a patch from which a box went, and the wires inside abstractions.
-use Rattle.std.proofs.Common.{◌≡◌, ◌≢◌, ℕ, List, [], ◌∷◌, ◌++◌, slice_get, Option, Some, None, refl, sym, ap, ◌∙◌, subst}
+use Rattle.std.proofs.Common.{◌≡◌, ◌≢◌, ℕ, List, [], ◌∷◌, ◌++◌, slice_get, Option, Some, None, IsSome, false, refl, sym, ap, ◌∙◌, subst}
 use Rattle.std.specs.Prelude.{option_map, option_and_then}
 use Rattle.std.proofs.lemmas.Option.{none-some, same_Some}
 use Rattle.slab.specs.Slab.{get}
@@ -21,9 +21,10 @@ use Rattle.pd_web.specs.Hops.{fan_hops, feed_hops, places_of}
 use Rattle.pd_patch.specs.declared.patch.Patch.{Patch}
 use Rattle.pd_patch.specs.Listing.{IsThere}
 use Rattle.pd_boxes.specs.Put.{CanPut}
+use Rattle.pd_owning.specs.Bound.{is_among}
 use Rattle.pd_reload_law.specs.Reloading.{RunsAs}
 use Rattle.pd_reload_law.proofs.EditLemmas.{sub_inner}
-use Rattle.pd_putting_law.proofs.PathLemmas.{LeadsNot, live_box, paths_once, sub_leads}
+use Rattle.pd_putting_law.proofs.PathLemmas.{LeadsNot, live_box, live_canvas, paths_once, sub_leads}
 use Rattle.pd_putting_law.proofs.StandLemmas.{aside_inside}
 use Rattle.pd_alike_law.specs.Feeds.{FeedsInOrder}
 use Rattle.pd_inside_law.specs.Inside.{HasWiresOf, HoldsWires, IsWiredInside}
@@ -33,11 +34,9 @@ use Rattle.pd_taking_law.proofs.StandLemmas.{live_inside, runs_less, stands_asid
 use Rattle.pd_taking_law.proofs.StayLemmas.{forest_still, leads_from_root}
 use Rattle.pd_taking_law.proofs.WireLemmas.{none_gone}
 use Rattle.pd_adding.specs.declared.counts.Counts.{Counts}
-use Rattle.pd_taking.proofs.TakenLemmas.{meets_less}
 use Rattle.pd_deleting.specs.declared.deleting.OldBox.{OldBox}
 use Rattle.pd_deleting.specs.Deletes.{DeletesBox}
-use Rattle.pd_deleting.proofs.DeleteLemmas.{can_remove}
-use Rattle.pd_take_law.proofs.GoneLemmas.{box_gone, was_there, wires_gone}
+use Rattle.pd_take_law.proofs.GoneLemmas.{box_gone, lies_out, not_key, was_there, wires_gone}
 use Rattle.pd_take_law.proofs.FitLemmas.{box_same, told_same}
 use Rattle.pd_take_law.proofs.FeedLemmas.{feeds_gone, still_fed}
 use Rattle.pd_take_law.proofs.OrderLemmas.{feeder_there, still_ordered}
@@ -76,6 +75,16 @@ step_on : (g : Grove) (c i k j : ℕ) (path : List ℕ) (d : ℕ) → slice_get 
     → reached g (Some j) path ≡ Some d → reached g (Some c) (i ∷ path) ≡ Some d
 step_on g c i k j path d is holds e =
     ap (λ o. reached g (option_and_then (λ x. inner_in (get g.nodes x)) o) path) is ∙ ap (λ o. reached g o path) holds ∙ e
+
+-- a canvas to which a path leads lives
+reached_live : (g : Grove) → IsForest (get g.nodes) (get g.boards) g.root → (path : List ℕ) (d : ℕ) → reached g (Some g.root) path ≡ Some d → IsSome (get g.boards d)
+reached_live g F path d e = from path g.root F.rooted.0 d e
+  where
+    from : (path : List ℕ) (c : ℕ) → IsSome (get g.boards c) → (d : ℕ) → reached g (Some c) path ≡ Some d → IsSome (get g.boards d)
+    from [] c live d e = subst (λ x. IsSome (get g.boards x)) (same_Some c d e) live
+    from (n ∷ path) c live d e =
+        let s = steps g c n path d e in
+        from path s.inner (live_canvas g F s.key s.inner s.holds) d s.on
 
 -- the canvas of a tree to which a path leads
 record IsAlong (g : Grove) (t : Tree) (path : List ℕ) (c : ℕ) : Type 0 where
@@ -173,11 +182,11 @@ module _ (old new : Patch) (n : Counts) (table : Names) (path : List ℕ) (numbe
           none-some b.canvas (sym (sub_nowhere new.grove more) ∙ ap (λ o. sub_reached new.grove o more) (sym off) ∙ sym (then_sub new.grove way more (Some new.grove.root))
           ∙ ap (sub_reached new.grove (Some new.grove.root)) same ∙ on)
 
-      bare : inner_in (get old.grove.nodes b.key) ≡ None
-      bare = ap (λ (g : Grove). inner_in (get g.nodes b.key)) (sym D.room.grove) ∙ (can_remove old D.ready path number b.canvas b.key D.room C meet D.is).leaf
+      live : IsSome (get new.grove.boards c)
+      live = reached_live new.grove F way c leads
 
       board_same : get new.grove.boards c ≡ get old.grove.boards c
-      board_same = B.takes.boards_stay c apart (λ L. none-some L.0 (sym bare ∙ L.1))
+      board_same = B.takes.no_canvas_comes c apart live
 
       -- the canvas is the same in the tree
       same_canvas : (u v : Tree) → CanvasStands old.grove c u → CanvasStands new.grove c v → u ≡ v
@@ -201,8 +210,11 @@ module _ (old new : Patch) (n : Counts) (table : Names) (path : List ℕ) (numbe
       keys_same : keys_at new.grove c ≡ keys_at old.grove c
       keys_same = ap keys_in board_same
 
+      out : (i k : ℕ) → slice_get (keys_at old.grove c) i ≡ Some k → is_among D.cleared.part k ≡ false
+      out i k at = lies_out old new n table path number steps_old steps_new b D C c i k (ap (λ (ks : List ℕ). slice_get ks i) keys_same ∙ at)
+
       aside : (k : ℕ) → IsThere (keys_at old.grove c) k → k ≢ b.key
-      aside k t e = apart (same_Some c b.canvas (sym (C.forest.own.home c t.0 b.key (t.1 ∙ ap (λ x. Some x) e)) ∙ C.forest.own.home b.canvas number b.key B.is))
+      aside k t = not_key old new n table path number steps_old steps_new b D k (out t.0 k t.1)
 
       fans_same : (i k outlet : ℕ) → slice_get (keys_at old.grove c) i ≡ Some k → fan_hops new.web k outlet ≡ fan_hops old.web k outlet
       fans_same i k outlet at =
@@ -212,12 +224,12 @@ module _ (old new : Patch) (n : Counts) (table : Names) (path : List ℕ) (numbe
 
       feeds_same : (i k inlet : ℕ) → slice_get (keys_at old.grove c) i ≡ Some k → feed_hops new.web k inlet ≡ feed_hops old.web k inlet
       feeds_same i k inlet at =
-          feeds_gone old new n table path number steps_old steps_new b D k inlet (aside k (i, at))
+          feeds_gone old new n table path number steps_old steps_new b D k inlet (out i k at)
           ∙ none_gone b.key (feed_hops old.web k inlet) (λ j x e. aside x.node (feeder_there old new n table path number steps_old steps_new b D C meet c k inlet j x (i, at) e))
 
       wires_same : (u : Tree) → HasWiresOf old.web (keys_at old.grove c) u → HasWiresOf new.web (keys_at new.grove c) u
       wires_same u H = subst (λ (ks : List ℕ). HasWiresOf new.web ks u) (sym keys_same) (record {
-        ports = told_same old.web new.web b.key (keys_at old.grove c) (box_same old new n table path number steps_old steps_new b D C meet) (λ i k at. aside k (i, at)) ∙ H.ports;
+        ports = told_same old.web new.web (keys_at old.grove c) (λ i k at. box_same old new n table path number steps_old steps_new b D C meet k (out i k at)) ∙ H.ports;
         fans = λ i outlet k at. ap places_of (fans_same i k outlet at) ∙ H.fans i outlet k at;
         feeds = λ i inlet k at. ap places_of (feeds_same i k inlet at) ∙ H.feeds i inlet k at;
       })
@@ -235,8 +247,8 @@ module _ (old new : Patch) (n : Counts) (table : Names) (path : List ℕ) (numbe
 
     pub still_holds : (t : Tree) → RunsAs old.grove t → HoldsWires old t → HoldsWires new (taken_at path number t)
     still_holds t R H = record {
-      fed = still_fed old new n table path number steps_old steps_new b D H.fed;
-      meet = meets_less D.ready new table (record { canvas = b.canvas; number = number }) b.key steps_old steps_new D.removed (can_remove old D.ready path number b.canvas b.key D.room C meet D.is);
+      fed = still_fed old new n table path number steps_old steps_new b D C meet H.fed;
+      meet = D.cleared.meet;
       inside = inside_still t R H;
       order = order_still t H;
     }

@@ -1,3 +1,4 @@
+pub mod TotalLemmas
 pub mod CountLemmas
 pub mod GoneLemmas
 pub mod FitLemmas

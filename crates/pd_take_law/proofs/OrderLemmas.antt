@@ -1,5 +1,5 @@
 -- The order of the wires to inlets, where a box went.
-use Rattle.std.proofs.Common.{◌≡◌, ◌≢◌, ℕ, zero, suc, ◌<◌, ◌≤◌, Bool, true, false, cond, List, [], ◌∷◌, filter, slice_get, Option, Some, None, sym, ap, ◌∙◌, subst, inl, inr, arith}
+use Rattle.std.proofs.Common.{◌≡◌, ◌≢◌, ℕ, zero, suc, ◌<◌, ◌≤◌, Bool, true, false, cond, List, [], ◌∷◌, filter, slice_get, Option, Some, IsSome, refl, sym, ap, ◌∙◌, subst, inl, inr, arith}
 use mathlib.Core.Logic.{⊎_elim}
 use Rattle.std.proofs.lemmas.Bool.Decides.{nat_tests}
 use Rattle.std.proofs.lemmas.Bool.{cases_eq}
@@ -8,8 +8,8 @@ use Rattle.slab.specs.Slab.{get}
 use Rattle.pd_atom.specs.Names.{Names}
 use Rattle.pd_canvas.specs.Wiring.{lowered}
 use Rattle.pd_grove.specs.declared.boards.Board.{Board}
-use Rattle.pd_grove.specs.declared.grove.Grove.{Grove}
-use Rattle.pd_grove.specs.Telling.{inner_in, keys_in}
+use Rattle.pd_grove.specs.Telling.{keys_in}
+use Rattle.pd_grove.proofs.NestLemmas.{board_there}
 use Rattle.pd_web.specs.declared.web.Hop.{Hop}
 use Rattle.pd_web.specs.Canvases.{keys_at}
 use Rattle.pd_web.specs.Changes.{hop_at, Meet}
@@ -27,9 +27,8 @@ use Rattle.pd_adding.specs.declared.counts.Counts.{Counts}
 use Rattle.pd_taking.specs.Loosening.{is_of_other}
 use Rattle.pd_deleting.specs.declared.deleting.OldBox.{OldBox}
 use Rattle.pd_deleting.specs.Deletes.{DeletesBox}
-use Rattle.pd_deleting.proofs.DeleteLemmas.{can_remove}
-use Rattle.pd_take_law.proofs.GoneLemmas.{box_gone, was_there, wires_gone}
-use Rattle.pd_take_law.proofs.FitLemmas.{less_at, not_key}
+use Rattle.pd_take_law.proofs.GoneLemmas.{box_gone, lies_out, was_there, wires_gone}
+use Rattle.pd_take_law.proofs.FitLemmas.{less_at}
 use Rattle.pd_take_law.proofs.FeedLemmas.{feeds_gone, from_other, passed}
 
 -- what is in order stays so where some go
@@ -87,34 +86,33 @@ module _ (old new : Patch) (n : Counts) (table : Names) (path : List ℕ) (numbe
       ap (λ (ks : List ℕ). slice_get ks (lowered number t.0)) (keys_less old.grove new.grove path b.canvas b.key number B) ∙ less_at (keys_at old.grove b.canvas) number t.0 apart ∙ t.1 in
       (label_is new.numbers.items k (lowered number t.0) (W.renumbered b.canvas (lowered number t.0) k at) ∙ ap (lowered number) (sym was), λ e. apart (sym was ∙ e))
 
-  label_aside : (c k : ℕ) → c ≢ b.canvas → IsThere (keys_at old.grove c) k → label_at new.numbers.items k ≡ label_at old.numbers.items k
-  label_aside c k d t =
-      let bare : inner_in (get old.grove.nodes b.key) ≡ None =
-      ap (λ (g : Grove). inner_in (get g.nodes b.key)) (sym D.room.grove) ∙ (can_remove old D.ready path number b.canvas b.key D.room C meet D.is).leaf in
-      let stays : get new.grove.boards c ≡ get old.grove.boards c = B.takes.boards_stay c d (λ L. none-some L.0 (sym bare ∙ L.1)) in
+  label_aside : (c k : ℕ) → c ≢ b.canvas → get new.grove.boards c ≡ get old.grove.boards c → IsThere (keys_at old.grove c) k → label_at new.numbers.items k ≡ label_at old.numbers.items k
+  label_aside c k d stays t =
       let at : slice_get (keys_at new.grove c) t.0 ≡ Some k = ap (λ (o : Option Board). slice_get (keys_in o) t.0) stays ∙ t.1 in
       label_is new.numbers.items k t.0 (W.renumbered c t.0 k at) ∙ sym (label_is old.numbers.items k t.0 (C.runs.numbers c t.0 k t.1))
 
   pub still_ordered : (c : ℕ) → FeedsInOrder old c → FeedsInOrder new c
   still_ordered c F = record { all = λ i k inlet at. one i k inlet at }
     where
-      relabel : (g h : Hop) → IsThere (keys_at old.grove c) g.node → IsThere (keys_at old.grove c) h.node → g.node ≢ b.key → h.node ≢ b.key → IsNoLater old.numbers.items g h → IsNoLater new.numbers.items g h
-      relabel g h s t d e later = ⊎_elim
+      relabel : (g h : Hop) → IsSome (get new.grove.boards c) → IsThere (keys_at old.grove c) g.node → IsThere (keys_at old.grove c) h.node → g.node ≢ b.key → h.node ≢ b.key → IsNoLater old.numbers.items g h → IsNoLater new.numbers.items g h
+      relabel g h live s t d e later = ⊎_elim
           (λ (same : c ≡ b.canvas).
           let x = label_here g.node (subst (λ z. IsThere (keys_at old.grove z) g.node) same s) d in
           let y = label_here h.node (subst (λ z. IsThere (keys_at old.grove z) h.node) same t) e in
           later_by old.numbers.items new.numbers.items g h (lowered number) x.0 y.0 (λ l. lowered_less number (label_at old.numbers.items g.node) (label_at old.numbers.items h.node) x.1 y.1 l) later)
-          (λ (apart : c ≢ b.canvas). later_by old.numbers.items new.numbers.items g h (λ z. z) (label_aside c g.node apart s) (label_aside c h.node apart t) (λ l. l) later)
+          (λ (apart : c ≢ b.canvas).
+          let stays = B.takes.no_canvas_comes c apart live in
+          later_by old.numbers.items new.numbers.items g h (λ z. z) (label_aside c g.node apart stays s) (label_aside c h.node apart stays t) (λ l. l) later)
           (cases_eq c b.canvas)
 
       one : (i k inlet : ℕ) → slice_get (keys_at new.grove c) i ≡ Some k → AreInOrder new.numbers.items (feed_hops new.web k inlet)
       one i k inlet at x y g h l u v =
-          let d = not_key old new n table path number steps steps' b D C meet c i k at in
+          let d = lies_out old new n table path number steps steps' b D C c i k at in
           let t = was_there old new n table path number steps steps' b D C c i k at in
           let hops = feeds_gone old new n table path number steps steps' b D k inlet d in
           let u' = ap (λ (hs : List Hop). slice_get hs x) (sym hops) ∙ u in
           let v' = ap (λ (hs : List Hop). slice_get hs y) (sym hops) ∙ v in
           let p = passed (is_of_other b.key) (feed_hops old.web k inlet) g x u' in
           let q = passed (is_of_other b.key) (feed_hops old.web k inlet) h y v' in
-          relabel g h (feeder_there c k inlet p.place g t p.stood) (feeder_there c k inlet q.place h t q.stood) (from_other b.key g p.passes) (from_other b.key h q.passes)
+          relabel g h (subst (λ (o : Option Board). IsSome o) (sym (board_there (get new.grove.boards c) i k at).1) refl) (feeder_there c k inlet p.place g t p.stood) (feeder_there c k inlet q.place h t q.stood) (from_other b.key g p.passes) (from_other b.key h q.passes)
           (order_kept (λ r s. IsNoLater old.numbers.items r s) (is_of_other b.key) (feed_hops old.web k inlet) (F.all t.0 k inlet t.1) x y g h l u' v')

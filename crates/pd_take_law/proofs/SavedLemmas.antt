@@ -1,5 +1,6 @@
 -- The tree without the box and its document, and what a save writes of the boxes that are left.
-use Rattle.std.proofs.Common.{◌≡◌, ◌≤◌, ℕ, true, List, slice_get, Option, Some, None, IfSome, sym, ap, ◌∙◌, subst}
+use Rattle.std.proofs.Common.{◌≡◌, ◌≤◌, ℕ, true, List, Option, Some, IfSome, sym, ap, ◌∙◌, subst}
+use Rattle.std.specs.List.{AllByRecursion}
 use Rattle.std.specs.Option.{option_map_or}
 use Rattle.slab.specs.Slab.{get}
 use Rattle.pd_atom.specs.Names.{Names}
@@ -8,8 +9,7 @@ use Rattle.pd_library.specs.declared.answers.Answer.{Answer}
 use Rattle.pd_tree.specs.Trees.{Tree, zeros_of, document_boxes, document_in}
 use Rattle.pd_grove.specs.declared.nodes.Node.{Node}
 use Rattle.pd_grove.specs.OwnPaths.{sub_reached}
-use Rattle.pd_grove.specs.Telling.{inner_in, kind_in, state_in}
-use Rattle.pd_web.specs.Canvases.{keys_at}
+use Rattle.pd_grove.specs.Telling.{kind_in, state_in}
 use Rattle.pd_web.specs.Changes.{wires_told}
 use Rattle.pd_hearing.specs.Worlds.{states_of}
 use Rattle.pd_patch.specs.declared.patch.Patch.{Patch}
@@ -28,29 +28,23 @@ use Rattle.pd_adding.specs.declared.counts.Counts.{Counts}
 use Rattle.pd_adding.specs.Counts.{AreWithin}
 use Rattle.pd_deleting.specs.declared.deleting.OldBox.{OldBox}
 use Rattle.pd_deleting.specs.Deletes.{DeletesBox}
-use Rattle.pd_deleting.proofs.DeleteLemmas.{fewer_wires, found_there, leads_there, within_less}
-use Rattle.pd_take_law.proofs.GoneLemmas.{box_gone, holds_none, was_there}
+use Rattle.pd_deleting.proofs.DeleteLemmas.{fewer_wires, leads_there, within_less}
+use Rattle.pd_take_law.proofs.GoneLemmas.{box_gone, was_there}
 use Rattle.pd_take_law.proofs.InsideLemmas.{root_back}
 use Rattle.pd_take_law.proofs.ShrinkLemmas as shrink
 
 module _ (old new : Patch) (n : Counts) (table : Names) (path : List ℕ) (number steps steps' : ℕ) (b : OldBox) (D : DeletesBox old new n table path number steps steps' b) where
   pub wires_fewer : wires_told new.web ≤ wires_told old.web
-  wires_fewer = fewer_wires old new D.ready table (record { canvas = b.canvas; number = number }) b.key steps steps' D.room D.removed
+  wires_fewer = fewer_wires old new D.ready table (record { canvas = b.canvas; number = number }) b.key steps steps' D.room D.cleared
 
   pub counts_within : n.wires ≡ wires_told old.web → AreWithin n → AreWithin b.counts
   counts_within counted w =
       let fewer = wires_fewer in
-      subst AreWithin (sym D.counts) (within_less n _ (wires_told new.web) (subst (λ (m : ℕ). wires_told new.web ≤ m) (sym counted) fewer) w)
+      subst AreWithin (sym D.counts) (within_less n _ _ (wires_told new.web) (subst (λ (m : ℕ). wires_told new.web ≤ m) (sym counted) fewer) w)
 
   module _ (C : CanPut old) where
     leads : sub_reached old.grove (Some old.grove.root) path ≡ Some b.canvas
     leads = leads_there old.grove number (sub_reached old.grove (Some old.grove.root) path) b.canvas b.key D.is
-
-    at : slice_get (keys_at old.grove b.canvas) number ≡ Some b.key
-    at = found_there old.grove number (sub_reached old.grove (Some old.grove.root) path) b.canvas b.key D.is
-
-    bare : inner_in (get old.grove.nodes b.key) ≡ None
-    bare = holds_none old new n table path number steps steps' b D
 
     -- ---- the tree
 
@@ -64,14 +58,14 @@ module _ (old new : Patch) (n : Counts) (table : Names) (path : List ℕ) (numbe
 
     -- ---- the document
 
-    pub zeros_stay : (t : Tree) → RunsAs old.grove t → zeros_of (taken_at path number t) ≡ zeros_of t
-    zeros_stay t R = shrink.zeros_same old.grove path b.canvas b.key number t C.forest R.stands leads at bare
+    pub zeros_left : (t : Tree) → RunsAs old.grove t → (P : ℕ → Type 0) → AllByRecursion P (zeros_of t) → AllByRecursion P (zeros_of (taken_at path number t))
+    zeros_left t R P A = shrink.zeros_left old.grove path b.canvas number t C.forest R.stands leads P A
 
     pub no_deeper : (t : Tree) → RunsAs old.grove t → levels (document_boxes (taken_at path number t).boxes) ≤ levels (document_boxes t.boxes)
-    no_deeper t R = shrink.no_deeper old.grove path b.canvas b.key number t C.forest R.stands leads at bare
+    no_deeper t R = shrink.no_deeper old.grove path b.canvas number t C.forest R.stands leads
 
     pub still_proper : (t : Tree) → RunsAs old.grove t → (later : Names) → IsProper later (document_in t) → IsProper later (document_in (taken_at path number t))
-    still_proper t R later p = shrink.proper_less old.grove path b.canvas b.key number t C.forest R.stands leads at bare later p
+    still_proper t R later p = shrink.proper_less old.grove path b.canvas number t C.forest R.stands leads later p
 
     -- ---- what is written of boxes
 

@@ -1,22 +1,16 @@
--- A tree with a box less: its document counts no more and is proper, and it has the same `$0` numbers.
-use Rattle.std.proofs.Common.{◌≡◌, ◌≤◌, ◌+◌, ◌++◌, ℕ, zero, suc, max, List, [], ◌∷◌, length, slice_get, Option, Some, None, refl, sym, ap, ◌∙◌, subst, arith}
-use Rattle.std.proofs.lemmas.Option.{none-some, same_Some}
-use Rattle.slab.specs.Slab.{get}
+-- A tree with a box less: its document counts no more and is proper, and its `$0` numbers are some of those that it had.
+use Rattle.std.proofs.Common.{◌≡◌, ◌≤◌, ◌+◌, ◌++◌, ℕ, zero, suc, max, List, [], ◌∷◌, length, Some, refl, sym, ap, subst, arith}
+use Rattle.std.specs.List.{AllByRecursion}
 use Rattle.pd_atom.specs.Names.{Names}
 use Rattle.pd_canvas.specs.Pages.{Shape, Sub, Head, Frame, Boxes, Box, frame_of, page_of, empty_page, weight}
 use Rattle.pd_canvas.specs.Proper.{HoldsNone, AreBoxes, IsFrame, IsProper, inner_wires, levels, levels_of}
 use Rattle.pd_tree.specs.declared.rows.Sheet.{Sheet}
 use Rattle.pd_tree.specs.Trees.{Cell, Trees, Done, Leaf, Holder, Tree, join, frame_in, box_with, document_boxes, document_in, own_zeros, zeros_in, zeros_of}
-use Rattle.pd_grove.specs.declared.nodes.Node.{Node}
-use Rattle.pd_grove.specs.declared.boards.Board.{Board}
 use Rattle.pd_grove.specs.declared.grove.Grove.{Grove}
 use Rattle.pd_grove.specs.OwnPaths.{sub_reached}
-use Rattle.pd_grove.specs.Standing.{GroveStands, Stands}
-use Rattle.pd_grove.specs.Telling.{inner_in}
-use Rattle.pd_grove.proofs.PlaceLemmas.{seen_keys}
-use Rattle.pd_web.specs.Canvases.{keys_at}
+use Rattle.pd_grove.specs.Standing.{GroveStands}
 use Rattle.pd_regrowth_law.specs.Canvases.{Nest, Alone, Inside, nested, AreSubpatches}
-use Rattle.pd_putting_law.proofs.StandLemmas.{seen_inner, path_along}
+use Rattle.pd_putting_law.proofs.StandLemmas.{path_along}
 use Rattle.pd_putting_law.proofs.PathLemmas.{Forest}
 use Rattle.pd_putting_law.proofs.WithinLemmas.{path_within}
 use Rattle.pd_taking_law.specs.Takes.{boxes_less, less_box, taken_at}
@@ -102,10 +96,37 @@ with_inner h s inner other rest form m =
 
 -- ---- boxes of a tree
 
--- the document of the second boxes is no more than that of the first, and their `$0` numbers are the same
-pub record Shrinks (old new : Trees) : Type 0 where
+-- numbers that are some of these
+abbrev AreSome : List ℕ → List ℕ → Type 1
+AreSome old new = (P : ℕ → Type 0) → AllByRecursion P old → AllByRecursion P new
+
+-- the document of the second boxes is no more than that of the first, and their `$0` numbers are some of those
+pub record Shrinks (old new : Trees) : Type 1 where
   pub document : AreNoMore (document_boxes old) (document_boxes new)
-  pub zeros : zeros_in new ≡ zeros_in old
+  pub zeros : AreSome (zeros_in old) (zeros_in new)
+
+all_left : (P : ℕ → Type 0) (xs ys : List ℕ) → AllByRecursion P (xs ++ ys) → AllByRecursion P xs
+all_left P [] ys A = tt
+all_left P (x ∷ xs) ys A = (A.0, all_left P xs ys A.1)
+
+all_right : (P : ℕ → Type 0) (xs ys : List ℕ) → AllByRecursion P (xs ++ ys) → AllByRecursion P ys
+all_right P [] ys A = A
+all_right P (x ∷ xs) ys A = all_right P xs ys A.1
+
+all_both : (P : ℕ → Type 0) (xs ys : List ℕ) → AllByRecursion P xs → AllByRecursion P ys → AllByRecursion P (xs ++ ys)
+all_both P [] ys A B = B
+all_both P (x ∷ xs) ys A B = (A.0, all_both P xs ys A.1 B)
+
+-- behind the same ones
+some_behind : (xs ys zs : List ℕ) → AreSome ys zs → AreSome (xs ++ ys) (xs ++ zs)
+some_behind xs ys zs S P A = all_both P xs zs (all_left P xs ys A) (S P (all_right P xs ys A))
+
+-- before the same ones
+some_before : (xs ys zs : List ℕ) → AreSome xs ys → AreSome (xs ++ zs) (ys ++ zs)
+some_before xs ys zs S P A = all_both P ys zs (S P (all_left P xs zs A)) (all_right P xs zs A)
+
+some_last : (xs ys : List ℕ) → AreSome (xs ++ ys) ys
+some_last xs ys P A = all_right P xs ys A
 
 shrinks_behind : (c : Cell) (t u : Trees) → Shrinks t u → Shrinks (Leaf c t) (Leaf c u)
 shrinks_behind c t u s = record { document = rest_less c.head (frame_of empty_page) _ (document_boxes t) (document_boxes u) s.document; zeros = s.zeros }
@@ -113,13 +134,13 @@ shrinks_behind c t u s = record { document = rest_less c.head (frame_of empty_pa
 shrinks_on : (c : Cell) (sheet : Sheet) (inner t u : Trees) → Shrinks t u → Shrinks (Holder c sheet inner t) (Holder c sheet inner u)
 shrinks_on c sheet inner t u s = record {
   document = with_rest c.head.form c.head sheet (document_boxes inner) (document_boxes t) (document_boxes u) s.document;
-  zeros = ap (λ (zs : List ℕ). own_zeros c.head.form sheet ++ (zeros_in inner ++ zs)) s.zeros;
+  zeros = some_behind (own_zeros c.head.form sheet) (zeros_in inner ++ zeros_in t) (zeros_in inner ++ zeros_in u) (some_behind (zeros_in inner) (zeros_in t) (zeros_in u) s.zeros);
 }
 
 shrinks_inside : (c : Cell) (sheet : Sheet) (t u rest : Trees) → c.head.form ≡ Sub → Shrinks t u → Shrinks (Holder c sheet t rest) (Holder c sheet u rest)
 shrinks_inside c sheet t u rest form s = record {
   document = with_inner c.head sheet (document_boxes t) (document_boxes u) (document_boxes rest) form s.document;
-  zeros = ap (λ (zs : List ℕ). own_zeros c.head.form sheet ++ (zs ++ zeros_in rest)) s.zeros;
+  zeros = some_behind (own_zeros c.head.form sheet) (zeros_in t ++ zeros_in rest) (zeros_in u ++ zeros_in rest) (some_before (zeros_in t) (zeros_in u) (zeros_in rest) s.zeros);
 }
 
 shrinks_around : (before t u : Trees) → Shrinks t u → Shrinks (join before t) (join before u)
@@ -127,22 +148,23 @@ shrinks_around Done t u s = s
 shrinks_around (Leaf c before) t u s = shrinks_behind c (join before t) (join before u) (shrinks_around before t u s)
 shrinks_around (Holder c sheet inner before) t u s = shrinks_on c sheet inner (join before t) (join before u) (shrinks_around before t u s)
 
--- a box without a canvas goes from its place
-leaf_gone : (nodes : ℕ → Option Node) (boards : ℕ → Option Board) (b d : ℕ) (keys : List ℕ) (t : Trees) (n k : ℕ) → Stands nodes boards b d keys t → slice_get keys n ≡ Some k
-    → inner_in (nodes k) ≡ None → Shrinks t (boxes_less n t)
-leaf_gone nodes boards b d [] t n k S at bare = absurd (none-some k at)
-leaf_gone nodes boards b d (l ∷ ls) Done n k S at bare = absurd S
-leaf_gone nodes boards b d (l ∷ ls) (Leaf c rest) zero k S at bare =
-    record { document = first_gone c.head (frame_of empty_page) _ (document_boxes rest); zeros = refl }
-leaf_gone nodes boards b d (l ∷ ls) (Leaf c rest) (suc n) k S at bare =
-    shrinks_behind c rest (boxes_less n rest) (leaf_gone nodes boards b d ls rest n k S.1 at bare)
-leaf_gone nodes boards b d (l ∷ ls) (Holder c s inner rest) zero k S at bare =
-    absurd (none-some S.0 (sym bare ∙ ap (λ (x : ℕ). inner_in (nodes x)) (sym (same_Some l k at)) ∙ seen_inner (nodes l) _ S.2))
-leaf_gone nodes boards b d (l ∷ ls) (Holder c s inner rest) (suc n) k S at bare =
-    shrinks_on c s inner rest (boxes_less n rest) (leaf_gone nodes boards b d ls rest n k S.5 at bare)
+-- a box goes from its place with all that lies in it
+first_with : (form : Shape) (h : Head) (s : Sheet) (inner rest : Boxes) → AreNoMore (box_with form h s inner rest) rest
+first_with Sub h s inner rest = first_gone h (frame_in s) inner rest
+first_with f h s inner rest = first_gone h (frame_of empty_page) _ rest
+
+box_gone : (t : Trees) (n : ℕ) → Shrinks t (boxes_less n t)
+box_gone Done n = record { document = all_stay (document_boxes Done); zeros = λ P A. A }
+box_gone (Leaf c rest) zero = record { document = first_gone c.head (frame_of empty_page) _ (document_boxes rest); zeros = λ P A. A }
+box_gone (Leaf c rest) (suc n) = shrinks_behind c rest (boxes_less n rest) (box_gone rest n)
+box_gone (Holder c s inner rest) zero = record {
+  document = first_with c.head.form c.head s (document_boxes inner) (document_boxes rest);
+  zeros = λ P A. some_last (zeros_in inner) (zeros_in rest) P (some_last (own_zeros c.head.form s) (zeros_in inner ++ zeros_in rest) P A);
+}
+box_gone (Holder c s inner rest) (suc n) = shrinks_on c s inner rest (boxes_less n rest) (box_gone rest n)
 
 -- a canvas of which the boxes shrink, and what lies around it
-record CanvasShrinks (t u : Tree) : Type 0 where
+record CanvasShrinks (t u : Tree) : Type 1 where
   sheet : u.sheet ≡ t.sheet
   boxes : Shrinks t.boxes u.boxes
 
@@ -159,23 +181,20 @@ nest_shrinks (Inside sheet before c nest behind) t u sub s =
           (shrinks_inside c v.sheet v.boxes w.boxes behind sub.0 on.boxes));
     }
 
--- the canvas to which a path leads without a box that holds none
-module _ (g : Grove) (path : List ℕ) (canvas key n : ℕ) (t : Tree) (F : Forest g) (G : GroveStands g t.sheet t.boxes) (leads : sub_reached g (Some g.root) path ≡ Some canvas)
-    (at : slice_get (keys_at g canvas) n ≡ Some key) (bare : inner_in (get g.nodes key) ≡ None) where
+-- the canvas to which a path leads without a box
+module _ (g : Grove) (path : List ℕ) (canvas n : ℕ) (t : Tree) (F : Forest g) (G : GroveStands g t.sheet t.boxes) (leads : sub_reached g (Some g.root) path ≡ Some canvas) where
   whole : CanvasShrinks t (taken_at path n t)
   whole =
       let along = path_along g path canvas t F G leads in
       let u = along.0 in
-      let S = along.2 in
       let w = path_within path t u along.1 in
-      let is : slice_get S.keys n ≡ Some key = ap (λ (ks : List ℕ). slice_get ks n) (sym (seen_keys (get g.boards canvas) _ S.board)) ∙ at in
       subst (λ (x : Tree). CanvasShrinks t x) (sym (w.changed (less_box n)))
       (subst (λ (x : Tree). CanvasShrinks x (nested w.nest (less_box n u))) (sym w.whole)
       (nest_shrinks w.nest u (less_box n u) w.subpatches
-      (record { sheet = refl; boxes = leaf_gone (get g.nodes) (get g.boards) canvas S.depth S.keys u.boxes n key S.stands is bare })))
+      (record { sheet = refl; boxes = box_gone u.boxes n })))
 
-  pub zeros_same : zeros_of (taken_at path n t) ≡ zeros_of t
-  zeros_same = ap (λ (s : Sheet). s.zero ∷ zeros_in (taken_at path n t).boxes) whole.sheet ∙ ap (λ (zs : List ℕ). t.sheet.zero ∷ zs) whole.boxes.zeros
+  pub zeros_left : (P : ℕ → Type 0) → AllByRecursion P (zeros_of t) → AllByRecursion P (zeros_of (taken_at path n t))
+  zeros_left P A = (subst (λ (s : Sheet). P s.zero) (sym whole.sheet) A.0, whole.boxes.zeros P A.1)
 
   pub no_deeper : levels (document_boxes (taken_at path n t).boxes) ≤ levels (document_boxes t.boxes)
   no_deeper = whole.boxes.document.levels

@@ -1,6 +1,7 @@
 //! Laws over a running patch of which an edit deleted a box, and its tree.
 
-ghost use Rattle.std.specs.Prelude.{◌≡◌, ◌≤◌, ℕ, List, Option};
+ghost use Rattle.std.specs.Prelude.{◌≡◌, ◌≤◌, ℕ, Bool, true, List, Option};
+ghost use Rattle.std.specs.List.{AllByRecursion};
 ghost use Rattle.pd_atom.specs.Names.{Names};
 ghost use Rattle.pd_canvas.specs.Edits.{edited};
 ghost use Rattle.pd_canvas.specs.Paths.{edit_at};
@@ -55,8 +56,8 @@ pub fn boxes_go_from_trees()
         DeletesBox old new n table path number steps steps' b → CanPut old → RunsAs old.grove t →
         (lib : ℕ → Option Answer) (file : List ℕ) (names : Names) → StandsAgain lib file names t → StandsAgain lib file names (taken_at path number t) }
     ensures zeros { (old new : Patch) (n : Counts) (table : Names) (path : List ℕ) (number steps steps' : ℕ) (b : OldBox) (t : Tree) →
-        DeletesBox old new n table path number steps steps' b → CanPut old → RunsAs old.grove t → (P : ℕ → Type 0) → AllByRecursion P (zeros_of t) →
-        AllByRecursion P (zeros_of (taken_at path number t)) }
+        DeletesBox old new n table path number steps steps' b → CanPut old → RunsAs old.grove t → (test : ℕ → Bool) →
+        AllByRecursion (λ z. test z ≡ true) (zeros_of t) → AllByRecursion (λ z. test z ≡ true) (zeros_of (taken_at path number t)) }
     ensures holds { (old new : Patch) (n : Counts) (table : Names) (path : List ℕ) (number steps steps' : ℕ) (b : OldBox) (t : Tree) →
         DeletesBox old new n table path number steps steps' b → CanPut old → RunsAs old.grove t → HoldsWires old t →
         HoldsWires new (taken_at path number t) }

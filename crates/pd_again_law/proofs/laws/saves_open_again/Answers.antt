@@ -6,7 +6,7 @@ use Rattle.pd_steady.proofs.EventLemmas.{Guards}
 use Rattle.pd_steady.proofs.FairLemmas.{lawful_fair}
 use Rattle.pd_again_law.proofs.StandLemmas.{EditLaws}
 use Rattle.pd_again_law.proofs.FoundLemmas.{run_found}
-use Rattle.pd_again_law.proofs.AgainLemmas.{first_good, all_again}
+use Rattle.pd_again_law.proofs.AgainLemmas.{first_good, saves_again}
 use Rattle.pd_again_law.proofs.laws.saves_open_again.Goals as goal
 
 pub returns : goal.returns
@@ -49,6 +49,7 @@ returns c = λ holds name rate d names table p base most steps ahead x top k l.
         runs = c.trees_follow_moves.ensures.runs;
         boxes = c.trees_follow_moves.ensures.boxes;
         sound = c.trees_follow_moves.ensures.sound;
+        zeros = c.trees_follow_moves.ensures.zeros;
         fit = c.wires_follow_moves.ensures.fit;
         owners = c.wires_follow_moves.ensures.owners;
         again = c.moved_trees_grow_again.ensures.again;
@@ -60,6 +61,7 @@ returns c = λ holds name rate d names table p base most steps ahead x top k l.
         names = c.boxes_become_others_in_trees.ensures.names;
         runs = c.boxes_become_others_in_trees.ensures.runs;
         again = c.boxes_become_others_in_trees.ensures.again;
+        zeros = c.boxes_become_others_in_trees.ensures.zeros;
         holds = c.boxes_become_others_in_trees.ensures.holds;
         fit = c.boxes_become_others_in_trees.ensures.fit;
         owners = c.boxes_become_others_in_trees.ensures.owners;
@@ -69,7 +71,7 @@ returns c = λ holds name rate d names table p base most steps ahead x top k l.
         contents = c.retyped_boxes_can_be_saved.ensures.contents;
       };
     } in
-    all_again c.documents_tell_trees.ensures.document c.written_read.ensures x.files.files rate name (most + block_units) (run_by own_ways name p table base ahead steps).edits
-    (run_found x.files.files rate name guards edits name p table base ahead steps most top
-    (first_good holds name rate d names p table base x most ahead (c.opening_is_steady.ensures.first holds name rate d names table p base most ahead x))
+    saves_again c.documents_tell_trees.ensures.document c.written_read.ensures x.files.files rate name (most + block_units) (run_by own_ways name p table base ahead steps).edits
+    (run_found x.files.files rate name guards edits name p table base ahead steps (Unit {0}) most top
+    (first_good holds name rate d names p table base x (Unit {0}) most ahead (c.opening_is_steady.ensures.first holds name rate d names table p base most ahead x))
     k (lawful_fair _ l))

@@ -1,42 +1,55 @@
-use Rattle.std.proofs.Common.{ℕ, sym, ap, ◌∙◌, subst, arith}
-use Rattle.pd_clock.specs.declared.times.Rate.{Rate}
-use Rattle.pd_kind.specs.States.{size_of}
+use Rattle.std.proofs.Common.{◌≡◌, length, sym, ap, ◌∙◌, subst, arith}
+use Rattle.pd_grove.specs.TextOrder.{keys_of_spots}
 use Rattle.pd_web.proofs.CountLemmas.{same_are_as_many}
 use Rattle.pd_patch.specs.declared.patch.Patch.{Patch}
 use Rattle.pd_wiring.specs.Changes.{SameButRoom}
 use Rattle.pd_boxes.specs.declared.room.Place.{Place}
-use Rattle.pd_taking.proofs.TakenLemmas.{meets_less, runs_less}
 use Rattle.pd_adding.specs.Counts.{AreWithin}
-use Rattle.pd_deleting.specs.Deletes.{counts_less}
-use Rattle.pd_deleting.proofs.DeleteLemmas.{can_remove, fewer_wires, reserved, still_meet, still_put, within_less, zero_stays}
+use Rattle.pd_clearing.specs.Clearing.{CanClear, IsCleared}
+use Rattle.pd_deleting.specs.Deletes.{counts_less, values_of}
+use Rattle.pd_deleting.proofs.DeleteLemmas.{box_lives, can_clear, counted_so, fewer_wires, part_room, reserved, still_meet, still_put, within_less}
 use Rattle.pd_deleting.proofs.deleting.delete_box.Goals as goal
 
-pub returns-in_default-clause-goes_on : goal.returns-in_default-clause-goes_on
-returns-in_default-clause-goes_on g c =
+pub part_of-requires-clause-here : goal.part_of-requires-clause-here
+part_of-requires-clause-here g c =
+    box_lives c.args.patch.now c.args.path.now c.args.number c.in_ok-going.going.canvas c.in_ok-going.going.key c.requires.can c.in_ok-going.ensures.is
+
+pub returns-in_default-reserve-clause-goes_on : goal.returns-in_default-reserve-clause-goes_on
+returns-in_default-reserve-clause-goes_on g c =
     let p = c.args.patch.now in
     let w = c.reserve.new.self in
     let q : Patch = record p { web = w } in
     let S : SameButRoom p q = reserved p w c.reserve.ensures.same in
     still_put p q S c.requires.can
 
-pub returns-in_default-clause-meet : goal.returns-in_default-clause-meet
-returns-in_default-clause-meet g c =
+pub returns-in_default-reserve-clause-meet : goal.returns-in_default-reserve-clause-meet
+returns-in_default-reserve-clause-meet g c =
     still_meet c.args.patch.now.web c.reserve.new.self c.reserve.ensures.same c.requires.meet
 
-pub returns-in_default-clause-as_many : goal.returns-in_default-clause-as_many
-returns-in_default-clause-as_many g c =
+pub returns-in_default-reserve-clause-as_many : goal.returns-in_default-reserve-clause-as_many
+returns-in_default-reserve-clause-as_many g c =
     same_are_as_many c.args.patch.now.web c.reserve.new.self c.reserve.ensures.same
 
-pub remove-removed-requires-clause-can : goal.remove-removed-requires-clause-can
-remove-removed-requires-clause-can g c =
+pub clear-wires-requires-clause-can : goal.clear-wires-requires-clause-can
+clear-wires-requires-clause-can g c =
     let p = c.args.patch.now in
     let w = c.reserve.new.self in
     let q : Patch = record p { web = w } in
     let S : SameButRoom p q = reserved p w c.reserve.ensures.same in
-    can_remove p q c.args.path.now c.args.number c.in_ok-going.going.canvas c.in_ok-going.going.key S c.requires.can c.requires.meet c.in_ok-going.ensures.is
+    let place : Place = record { canvas = c.in_ok-going.going.canvas; number = c.args.number } in
+    subst (λ k. CanClear q place k) (sym c.in-Ok.ensures.key)
+    (can_clear p q c.args.path.now c.args.number c.in_ok-going.going.canvas c.in_ok-going.going.key S c.requires.can c.requires.meet c.in_ok-going.ensures.is)
 
-pub remove-removed-requires-clause-counted : goal.remove-removed-requires-clause-counted
-remove-removed-requires-clause-counted g c =
+pub clear-wires-requires-clause-room : goal.clear-wires-requires-clause-room
+clear-wires-requires-clause-room g c =
+    let p = c.args.patch.now in
+    let key = c.in_ok-going.going.key in
+    part_room p.grove c.reserve.new.self c.nodes_end-keys.result key (keys_of_spots c.in-Ok.part.spots.items) c.requires.can.forest
+    (box_lives p c.args.path.now c.args.number c.in_ok-going.going.canvas key c.requires.can c.in_ok-going.ensures.is) c.in-Ok.ensures.part.are c.nodes_end-keys.ensures.slots
+    c.in-Ok-reserve.ensures.room
+
+pub clear-wires-requires-clause-counted : goal.clear-wires-requires-clause-counted
+clear-wires-requires-clause-counted g c =
     c.requires.counted ∙ sym (same_are_as_many c.args.patch.now.web c.reserve.new.self c.reserve.ensures.same)
 
 pub returns-clause-deleted : goal.returns-clause-deleted
@@ -45,63 +58,31 @@ returns-clause-deleted g c =
     let w = c.reserve.new.self in
     let q : Patch = record p { web = w } in
     let S : SameButRoom p q = reserved p w c.reserve.ensures.same in
-    let e = c.remove-removed.ensures in
-    let n = c.args.counts in
-    let kind = c.remove-removed.result.node.kind in
+    let place : Place = record { canvas = c.in_ok-going.going.canvas; number = c.args.number } in
+    let new = c.clear-wires.new.patch in
+    let spots = c.in-Ok.part.spots.items in
+    let K = subst (λ k. (x : IsCleared q new c.args.symbols.now place k c.args.steps.now c.clear-wires.new.steps) × (x.part ≡ keys_of_spots spots)) c.in-Ok.ensures.key c.clear-wires.ensures.cleared in
     record {
       is = c.in_ok-going.ensures.is;
-      node = c.remove-removed.result.node;
-      was = e.node;
       ready = q;
       room = S;
-      removed = e.removed;
-      counts = c.counts_without.ensures ∙ ap (λ (r : Rate). counts_less n (size_of kind r) c.remove-removed.result.wires) (e.removed.taken.goes.rate ∙ e.removed.loosens.rest.rate)
-          ∙ ap (λ (m : ℕ). counts_less n (size_of kind p.rate) m) e.counted;
+      cleared = K.0;
+      counts = counted_so p.rate p.grove c.args.counts c.counts_without-left.result K.0.part spots c.deref.result.now c.clear-wires.result c.counts_without-left.ensures c.deref.ensures.value K.1
+          ∙ ap (λ m. counts_less c.args.counts (length K.0.part) (values_of p.rate p.grove K.0.part) m) c.clear-wires.ensures.counted;
     }
 
 pub returns-clause-within : goal.returns-clause-within
-returns-clause-within g c =
+returns-clause-within g c = λ W.
     let p = c.args.patch.now in
     let w = c.reserve.new.self in
     let q : Patch = record p { web = w } in
     let S : SameButRoom p q = reserved p w c.reserve.ensures.same in
     let place : Place = record { canvas = c.in_ok-going.going.canvas; number = c.args.number } in
-    let e = c.remove-removed.ensures in
-    λ W. let n = c.args.counts in
-    let less = fewer_wires p c.remove-removed.new.patch q c.args.symbols.now place c.in_ok-going.going.key c.args.steps.now c.remove-removed.new.steps S e.removed in
-    let now = e.counted in
+    let n = c.args.counts in
+    let new = c.clear-wires.new.patch in
+    let I : IsCleared q new c.args.symbols.now place c.in-Ok.part.key c.args.steps.now c.clear-wires.new.steps = c.clear-wires.ensures.cleared.0 in
+    let less = fewer_wires p new q c.args.symbols.now place c.in-Ok.part.key c.args.steps.now c.clear-wires.new.steps S I in
+    let now = c.clear-wires.ensures.counted in
     let counted = c.requires.counted in
-    subst AreWithin (sym c.counts_without.ensures) (within_less n (size_of c.remove-removed.result.node.kind c.remove-removed.new.patch.rate) c.remove-removed.result.wires (omega (arith, less, now, counted)) W)
-
-pub returns-clause-zero : goal.returns-clause-zero
-returns-clause-zero g c =
-    let p = c.args.patch.now in
-    let w = c.reserve.new.self in
-    let q : Patch = record p { web = w } in
-    let S : SameButRoom p q = reserved p w c.reserve.ensures.same in
-    let place : Place = record { canvas = c.in_ok-going.going.canvas; number = c.args.number } in
-    let e = c.remove-removed.ensures in
-    zero_stays q c.remove-removed.new.patch c.args.symbols.now place c.in_ok-going.going.key c.args.steps.now c.remove-removed.new.steps e.removed
-    (can_remove p q c.args.path.now c.args.number c.in_ok-going.going.canvas c.in_ok-going.going.key S c.requires.can c.requires.meet c.in_ok-going.ensures.is)
-
-pub returns-clause-goes_on : goal.returns-clause-goes_on
-returns-clause-goes_on g c =
-    let p = c.args.patch.now in
-    let w = c.reserve.new.self in
-    let q : Patch = record p { web = w } in
-    let S : SameButRoom p q = reserved p w c.reserve.ensures.same in
-    let place : Place = record { canvas = c.in_ok-going.going.canvas; number = c.args.number } in
-    let e = c.remove-removed.ensures in
-    runs_less q c.remove-removed.new.patch c.args.symbols.now place c.in_ok-going.going.key c.args.steps.now c.remove-removed.new.steps e.removed
-    (can_remove p q c.args.path.now c.args.number c.in_ok-going.going.canvas c.in_ok-going.going.key S c.requires.can c.requires.meet c.in_ok-going.ensures.is)
-
-pub returns-clause-meet : goal.returns-clause-meet
-returns-clause-meet g c =
-    let p = c.args.patch.now in
-    let w = c.reserve.new.self in
-    let q : Patch = record p { web = w } in
-    let S : SameButRoom p q = reserved p w c.reserve.ensures.same in
-    let place : Place = record { canvas = c.in_ok-going.going.canvas; number = c.args.number } in
-    let e = c.remove-removed.ensures in
-    meets_less q c.remove-removed.new.patch c.args.symbols.now place c.in_ok-going.going.key c.args.steps.now c.remove-removed.new.steps e.removed
-    (can_remove p q c.args.path.now c.args.number c.in_ok-going.going.canvas c.in_ok-going.going.key S c.requires.can c.requires.meet c.in_ok-going.ensures.is)
+    subst AreWithin (sym (counted_so p.rate p.grove n c.counts_without-left.result I.part c.in-Ok.part.spots.items c.deref.result.now c.clear-wires.result c.counts_without-left.ensures c.deref.ensures.value c.clear-wires.ensures.cleared.1))
+    (within_less n _ _ c.clear-wires.result (omega (arith, less, now, counted)) W)

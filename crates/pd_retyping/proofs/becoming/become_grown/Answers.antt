@@ -1,22 +1,22 @@
 use Rattle.std.proofs.Common.{inl, inr, refl}
-use Rattle.pd_retyping.proofs.BecomeLemmas.{rows_small, rows_one, seed_leaf, seed_refits, has_become, same_patch, some_there}
+use Rattle.pd_retyping.proofs.BecomeLemmas.{rows_small, rows_one, seed_leaf, seed_refits, has_become, refit_seen, same_patch, some_there}
 use Rattle.slab.specs.Slab.{get}
 use Rattle.pd_retyping.proofs.becoming.become_grown.Goals as goal
 
-pub can_become-requires-clause-rows_small : goal.can_become-requires-clause-rows_small
-can_become-requires-clause-rows_small c = rows_small c.requires.grown.added.known.names c.args.grown.rows.items c.requires.grown.is.suit
+pub can_become-requires : goal.can_become-requires
+can_become-requires g c = record { rows_small = rows_small c.requires.grown.added.known.names c.args.grown.rows.items c.requires.grown.is.suit }
 
 pub seed_of-requires-clause-small : goal.seed_of-requires-clause-small
-seed_of-requires-clause-small c = rows_small c.requires.grown.added.known.names c.args.grown.rows.items c.requires.grown.is.suit
+seed_of-requires-clause-small g c = rows_small c.requires.grown.added.known.names c.args.grown.rows.items c.requires.grown.is.suit
 
 pub seed_of-requires-clause-one : goal.seed_of-requires-clause-one
-seed_of-requires-clause-one c =
+seed_of-requires-clause-one g c =
     let h = c.requires.grown in
     let n = some_there (get c.args.patch.now.grove.nodes c.args.key) c.requires.here in
-    rows_one c.args.patch.now n.0 c.args.grown h.added h.is (c.can_become.ensures.yes c.if-not-can_become.false n.0 h.added n.1 h.is)
+    rows_one c.args.patch.now c.args.key n.0 c.args.grown h.added h.is (c.can_become.ensures.yes c.if-not-can_become.false n.0 h.added n.1 h.is)
 
 pub make_other-requires : goal.make_other-requires
-make_other-requires c =
+make_other-requires g c =
     let p = c.args.patch.now in
     let h = c.requires.grown in
     let n = some_there (get p.grove.nodes c.args.key) c.requires.here in
@@ -24,25 +24,30 @@ make_other-requires c =
     record {
       can = (
         n.0,
-        seed_refits p n.0 c.args.grown h.added h.is P c.in-Ok.seed c.in-Ok.ensures.stand c.args.key c.requires.can n.1
-            (seed_leaf p n.0 c.args.grown h.added h.is P c.in-Ok.seed c.in-Ok.ensures.stand c.in-Ok.ensures.leaf),
+        seed_refits p c.args.key n.0 c.args.grown h.added h.is P c.in-Ok.seed c.in-Ok.ensures.stand c.requires.can c.requires.meet n.1
+            (seed_leaf p c.args.key n.0 c.args.grown h.added h.is P c.in-Ok.seed c.in-Ok.ensures.stand c.in-Ok.ensures.leaf),
       );
     }
 
 pub returns-clause-became : goal.returns-clause-became
-returns-clause-became c = λ n a is A names.
+returns-clause-became g c = λ n a is A names.
     let p = c.args.patch.now in
     let P = c.can_become.ensures.yes c.if-not-can_become.false n a is A in
-    let leaf = seed_leaf p n c.args.grown a A P c.in-Ok.seed c.in-Ok.ensures.stand c.in-Ok.ensures.leaf in
-    has_become p n c.args.grown a A P c.in-Ok.seed c.in-Ok.ensures.stand c.make_other.new.patch c.args.now c.args.symbols.now c.args.key names leaf c.in-Ok.ensures.fresh
+    let leaf = seed_leaf p c.args.key n c.args.grown a A P c.in-Ok.seed c.in-Ok.ensures.stand c.in-Ok.ensures.leaf in
+    has_become p c.args.key n c.args.grown a A P c.in-Ok.seed c.in-Ok.ensures.stand c.make_other.new.patch c.args.now c.args.symbols.now names leaf c.in-Ok.ensures.fresh
     c.make_other.ensures.goes_on (c.in-Ok-make_other.ensures.made n is)
 
 pub returns-then-not-can_become-clause-refused : goal.returns-then-not-can_become-clause-refused
-returns-then-not-can_become-clause-refused c = λ n a is A. inr (refl, (refl, c.can_become.ensures.no c.if-not-can_become.true n a is A))
+returns-then-not-can_become-clause-refused g c = λ n a is A. inr (refl, (refl, c.can_become.ensures.no c.if-not-can_become.true n a is A))
 
 pub returns-in_default-clause-refused : goal.returns-in_default-clause-refused
-returns-in_default-clause-refused c = λ n a is A. inl (refl, (c.can_become.ensures.yes c.if-not-can_become.false n a is A, same_patch c.args.patch.now))
+returns-in_default-clause-refused g c = λ n a is A. inl (refl, (c.can_become.ensures.yes c.if-not-can_become.false n a is A, same_patch c.args.patch.now))
 
 pub returns-in_default-make_other-clause-refused : goal.returns-in_default-make_other-clause-refused
-returns-in_default-make_other-clause-refused c = λ n a is A.
+returns-in_default-make_other-clause-refused g c = λ n a is A.
     inl (refl, (c.can_become.ensures.yes c.if-not-can_become.false n a is A, c.in_default-make_other.ensures.short))
+
+pub returns-clause-looks : goal.returns-clause-looks
+returns-clause-looks g c = λ n m is now.
+    let M = c.in-Ok-make_other.ensures.made n is in
+    refit_seen M.ready c.make_other.new.patch c.args.symbols.now c.args.key n c.in-Ok.seed M.refit m _ _ now (c.in-Ok-make_other.ensures.looks n is)

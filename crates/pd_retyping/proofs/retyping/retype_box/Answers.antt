@@ -8,8 +8,8 @@ use Rattle.pd_gather.proofs.AskLemmas.{names_cut}
 use Rattle.pd_wiring.specs.declared.refusals.EditRefusal.{EditRefusal}
 use Rattle.pd_wiring.specs.declared.refusals.EditRefusal.TheVariants.{ShelfFault}
 use Rattle.pd_adding.proofs.AddLemmas.{extends_same}
-use Rattle.pd_retyping.proofs.RetypeLemmas.{as_told, not_known, not_grown, left_so, no_fault, same_err, has_grown, names_grown, count_grown, retypes_box}
-use Rattle.pd_retyping.specs.Retypes.{IsNotRetyped}
+use Rattle.pd_retyping.proofs.RetypeLemmas.{as_told, not_known, not_grown, left_so, no_fault, same_err, has_grown, kind_looks, names_grown, count_grown, retypes_box}
+use Rattle.pd_retyping.specs.Retypes.{HasBecome, IsNotRetyped}
 use Rattle.pd_retyping.proofs.BecomeLemmas.{lives_there}
 use Rattle.pd_retyping.proofs.retyping.retype_box.Goals as goal
 
@@ -71,7 +71,7 @@ pub returns-clause-cause : goal.returns-clause-cause
 returns-clause-cause g c = λ h.
     let G = c.in_ok-grown.ensures.grown in
     let P = c.in_ok-plan.ensures.planned in
-    absurd (no_fault c.args.patch.now c.become_grown.new.patch P.node G.added c.in-Err.why (c.in-Err.ensures.refused P.node G.added P.chosen.is G.is) (same_err c.in-Err.why ShelfFault h))
+    absurd (no_fault c.args.patch.now c.become_grown.new.patch c.in_ok-plan.plan.key P.node G.added c.in-Err.why (c.in-Err.ensures.refused P.node G.added P.chosen.is G.is) (same_err c.in-Err.why ShelfFault h))
 
 pub returns-clause-extends : goal.returns-clause-extends
 returns-clause-extends g c =
@@ -87,3 +87,8 @@ returns-in_err-grown-clause-refused g c =
     (IsNotRetyped c.args.patch.now c.args.patch.now c.args.counts c.args.site.name.now c.args.site.path.now c.args.number c.args.text.now k) c.from_residual-in_err-grown.ensures.1
     (not_grown c.args.patch.now c.args.counts c.counts_without-left.result c.args.site.name.now c.args.site.path.now c.args.number c.args.text.now k c.in_ok-plan.plan c.in_ok-plan.ensures.planned
     c.counts_without-left.ensures.less (g.H.Shelf.holds c.args.shelf.now) why c.in_err-grown.ensures.refused (λ h. c.in_err-grown.ensures.asks (ap (λ (x : EditRefusal). Err x) h)))
+
+pub returns-in-Ok-clause-looks : goal.returns-in-Ok-clause-looks
+returns-in-Ok-clause-looks g c = λ r.
+    kind_looks c.args.patch.now c.become_grown.new.patch c.in_ok-plan.plan.key c.args.site.now r.node r.added
+    (subst (λ x. HasBecome c.args.patch.now c.become_grown.new.patch c.args.site.now x r.node r.added) c.in-Ok.ensures.key r.became) _ _ c.in-Ok.ensures.looks

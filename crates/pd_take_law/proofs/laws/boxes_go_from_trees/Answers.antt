@@ -1,7 +1,8 @@
+use Rattle.std.proofs.Common.{◌≡◌, true}
 use Rattle.pd_take_law.proofs.FitLemmas.{still_fit}
 use Rattle.pd_take_law.proofs.GoneLemmas.{owners_stay}
 use Rattle.pd_take_law.proofs.InsideLemmas.{still_holds}
-use Rattle.pd_take_law.proofs.SavedLemmas.{still_again, still_runs, wires_fewer, zeros_stay}
+use Rattle.pd_take_law.proofs.SavedLemmas.{still_again, still_runs, wires_fewer, zeros_left}
 use Rattle.pd_take_law.proofs.laws.boxes_go_from_trees.Goals as goal
 
 pub returns-clause-runs : goal.returns-clause-runs
@@ -12,7 +13,7 @@ returns-clause-again c = λ old new n table path number steps steps' b t D C R l
     still_again old new n table path number steps steps' b D C t R lib file names S
 
 pub returns-clause-zeros : goal.returns-clause-zeros
-returns-clause-zeros c = λ old new n table path number steps steps' b t D C R. zeros_stay old new n table path number steps steps' b D C t R
+returns-clause-zeros c = λ old new n table path number steps steps' b t D C R test A. zeros_left old new n table path number steps steps' b D C t R (λ z. test z ≡ true) A
 
 pub returns-clause-holds : goal.returns-clause-holds
 returns-clause-holds c = λ old new n table path number steps steps' b t D C R h. still_holds old new n table path number steps steps' b D C h.meet t R h
