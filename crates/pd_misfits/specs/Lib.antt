@@ -1,0 +1,4 @@
+pub mod Misfits
+pub mod Ports
+pub mod Ranks
+pub mod Shedding

@@ -1,0 +1,79 @@
+-- The wires at a box that don't fit where it is of another kind.
+use Rattle.std.specs.Prelude.{ℕ, Bool, true, false, not, ◌==◌, ◌&&◌, ◌||◌, cond, List, [], ◌∷◌, length, Option, Some, None}
+use Rattle.std.specs.List.{flat_map, range_with_len}
+use Rattle.pd_canvas.specs.declared.wires.Wire.{Wire}
+use Rattle.pd_object.specs.declared.kinds.Kind.{Kind}
+use Rattle.pd_grove.specs.declared.ports.Side.TheVariants.{Inlets, Outlets}
+use Rattle.pd_web.specs.declared.jacks.Jack.{Jack}
+use Rattle.pd_web.specs.declared.lines.Line.{Line}
+use Rattle.pd_web.specs.declared.web.Hop.{Hop}
+use Rattle.pd_web.specs.declared.web.Web.{Web}
+use Rattle.pd_web.specs.Canvases.{keys_at}
+use Rattle.pd_web.specs.Hops.{ports_told, signal_in, fan_hops}
+use Rattle.pd_present.specs.Presents.{number_in}
+use Rattle.pd_patch.specs.declared.patch.Patch.{Patch}
+use Rattle.pd_wiring.specs.Changes.{is_signal_line}
+use Rattle.pd_taking.specs.Loosening.{line_at}
+use Rattle.pd_refitting.specs.Refits.{jack_with, made_with}
+use Rattle.pd_misfits.specs.declared.misfit.Misfit.{Misfit}
+
+-- A wire between two ports fits where both are there, and it carries signals into no port without of a box that is made.
+abbrev pub fits_between : Option Jack → Option Jack → Bool → Bool
+fits_between None to made = false
+fits_between (Some from) None made = false
+fits_between (Some from) (Some to) made = not (from.is_signal && (not to.is_signal && made))
+
+-- the wire along the line fits where the box of the key is of this kind
+abbrev pub is_fit : Web → ℕ → Kind → Line → Bool
+is_fit w key k l = fits_between (jack_with w key k Outlets l.source l.outlet) (jack_with w key k Inlets l.sink l.inlet) (made_with w key k l.sink)
+
+-- it is a signal wire then
+abbrev pub is_signal_with : Web → ℕ → Kind → Line → Bool
+is_signal_with w key k l = signal_in (jack_with w key k Outlets l.source l.outlet) && signal_in (jack_with w key k Inlets l.sink l.inlet)
+
+-- one of two is true
+abbrev pub differ : Bool → Bool → Bool
+differ a b = cond a (not b) b
+
+-- it stays, but becomes a signal wire or ceases to be one
+abbrev pub turns : Web → ℕ → Kind → Line → Bool
+turns w key k l = is_fit w key k l && differ (is_signal_with w key k l) (is_signal_line w l)
+
+-- the line leads from the box or to it
+abbrev pub is_at : ℕ → Line → Bool
+is_at key l = l.source == key || l.sink == key
+
+-- the wire at the box goes where that is of this kind
+abbrev pub goes : Web → ℕ → Kind → Line → Bool
+goes w key k l = is_at key l && not (is_fit w key k l)
+
+-- a wire by its key and its line, with the numbers of its boxes
+abbrev pub misfit_of : List ℕ → ℕ → Line → Misfit
+misfit_of numbers key l = record {
+  wire = record { source = number_in numbers l.source; outlet = l.outlet; sink = number_in numbers l.sink; inlet = l.inlet };
+  line = l;
+  key = key;
+}
+
+-- a wire along a line, if it goes
+abbrev pub misfit_along : Web → List ℕ → ℕ → Kind → ℕ → Line → List Misfit
+misfit_along w numbers key k wire l = cond (goes w key k l) (misfit_of numbers wire l ∷ []) []
+
+abbrev pub misfit_from : Web → List ℕ → ℕ → Kind → ℕ → ℕ → Hop → List Misfit
+misfit_from w numbers key k node outlet h = misfit_along w numbers key k h.key (line_at Outlets node outlet h)
+
+-- the wires from an outlet that go, in their order
+abbrev pub outlet_misfits : Web → List ℕ → ℕ → Kind → ℕ → ℕ → List Misfit
+outlet_misfits w numbers key k node outlet = flat_map (misfit_from w numbers key k node outlet) (fan_hops w node outlet)
+
+-- the wires that leave a box and go, outlet by outlet
+abbrev pub box_misfits : Web → List ℕ → ℕ → Kind → ℕ → List Misfit
+box_misfits w numbers key k node = flat_map (outlet_misfits w numbers key k node) (range_with_len 0 (length (ports_told w Outlets node)))
+
+-- the wires that leave boxes and go, box by box
+abbrev pub misfits_among : Web → List ℕ → ℕ → Kind → List ℕ → List Misfit
+misfits_among w numbers key k keys = flat_map (box_misfits w numbers key k) keys
+
+-- The wires of a canvas that go where the box of the key, which lies in it, is of this kind, in the order of the canvas's wires.
+abbrev pub misfits : Patch → ℕ → ℕ → Kind → List Misfit
+misfits p canvas key k = misfits_among p.web p.numbers.items key k (keys_at p.grove canvas)

@@ -1,0 +1,41 @@
+-- The wires at a box that don't fit go.
+use Rattle.std.specs.Prelude.{◌≡◌, ℕ, Bool, true, false, not, ◌==◌, ◌||◌, List, [], ◌∷◌, filter, slice_get, Some}
+use Rattle.pd_object.specs.declared.kinds.Kind.{Kind}
+use Rattle.pd_grove.specs.declared.ports.Side.{Side}
+use Rattle.pd_web.specs.declared.web.Hop.{Hop}
+use Rattle.pd_web.specs.declared.web.Web.{Web}
+use Rattle.pd_web.specs.Hops.{fan_hops, feed_hops}
+use Rattle.pd_web.specs.Changes.{IsListed}
+use Rattle.pd_wiring.specs.Changes.{LeadsAlong}
+use Rattle.pd_taking.specs.Loosening.{hops_at, line_at, IsAt}
+use Rattle.pd_misfits.specs.declared.misfit.Misfit.{Misfit}
+use Rattle.pd_misfits.specs.Misfits.{is_fit}
+
+-- one of these wires has the key
+abbrev pub is_among : List Misfit → ℕ → Bool
+is_among [] key = false
+is_among (m ∷ ms) key = m.key == key || is_among ms key
+
+-- these are wires at the box, each once
+pub record AreWiresAt (w : Web) (box : ℕ) (ms : List Misfit) : Type 0 where
+  pub along : (i : ℕ) (m : Misfit) → slice_get ms i ≡ Some m → LeadsAlong w m.key m.line
+  pub at : (i : ℕ) (m : Misfit) → slice_get ms i ≡ Some m → IsAt box m.line
+  pub once : (i j : ℕ) (m n : Misfit) → slice_get ms i ≡ Some m → slice_get ms j ≡ Some n → m.key ≡ n.key → i ≡ j
+
+-- the wire is none of these
+abbrev pub is_left : List Misfit → Hop → Bool
+is_left ms h = not (is_among ms h.key)
+
+-- these wires are gone, and each list has all others as it had them
+pub record Sheds (w w' : Web) (ms : List Misfit) : Type 0 where
+  pub fans : (node outlet : ℕ) → fan_hops w' node outlet ≡ filter (is_left ms) (fan_hops w node outlet)
+  pub feeds : (node inlet : ℕ) → feed_hops w' node inlet ≡ filter (is_left ms) (feed_hops w node inlet)
+
+-- All wires at the box fit where that is of this kind.
+abbrev pub AllFit : Web → ℕ → Kind → Type 0
+AllFit w key k = (side : Side) (port i : ℕ) (h : Hop) → slice_get (hops_at w side key port) i ≡ Some h → is_fit w key k (line_at side key port h) ≡ true
+
+-- The wires at the box that fit are there still, and no others.
+pub record KeepsFit (w w' : Web) (key : ℕ) (k : Kind) : Type 0 where
+  pub fit : AllFit w' key k
+  pub stay : (side : Side) (port i : ℕ) (h : Hop) → slice_get (hops_at w side key port) i ≡ Some h → is_fit w key k (line_at side key port h) ≡ true → IsListed (hops_at w' side key port) h

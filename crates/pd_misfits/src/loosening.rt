@@ -1,0 +1,39 @@
+//! The wires that don't fit go.
+
+ghost use Rattle.std.specs.Prelude.{◌≡◌};
+ghost use Rattle.pd_web.specs.Changes.{wires_told, Meet};
+ghost use Rattle.pd_wiring.specs.Changes.{CanRewire};
+ghost use Rattle.pd_taking.specs.Loosening.{Loosens};
+ghost use Rattle.pd_misfits.specs.Shedding.{AreWiresAt, Sheds};
+
+use crate::misfit::Misfit;
+use pd_order::Steps;
+use pd_patch::Patch;
+use pd_wiring::detach;
+use std::sync::ledger::Ledger;
+
+/// Takes these wires at a box out, one after the other. `wires` is how many wires there are, and what is given how many there are then.
+/// Looks at signal wires are counted in `steps`.
+pub fn loosen_misfits<L: Ledger>(
+    patch: &mut Patch,
+    key: u32,
+    misfits: &[Misfit],
+    wires: usize,
+    steps: &mut Steps<L>,
+) -> usize
+    requires runs { CanRewire patch.old }
+    requires meet { Meet patch.old.web }
+    requires wires { AreWiresAt patch.old.web key misfits.now }
+    requires counted { wires ≡ wires_told patch.old.web }
+    ensures loosens { Loosens patch.old patch.new key steps.old steps.new }
+    ensures sheds { Sheds patch.old.web patch.new.web misfits.now }
+    ensures counted { result ≡ wires_told patch.new.web }
+{
+    let mut left = wires;
+    for misfit in misfits {
+        patch.web.laws();
+        detach(patch, misfit.line, misfit.key, steps);
+        left -= 1;
+    }
+    left
+}
