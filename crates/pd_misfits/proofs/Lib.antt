@@ -1,0 +1,4 @@
+pub mod ListLemmas
+pub mod WalkLemmas
+pub mod PortLemmas
+pub mod TurnLemmas
