@@ -4,3 +4,4 @@ pub mod PortLemmas
 pub mod TurnLemmas
 pub mod RankLemmas
 pub mod GatherLemmas
+pub mod WireLemmas

@@ -7,7 +7,6 @@ use Rattle.std.proofs.Math.Seq.{take-suc}
 use Rattle.std.proofs.lemmas.Bool.{cases_eq, cases_lt}
 use Rattle.std.proofs.lemmas.List.{flat_map_more, take_all}
 use Rattle.std.proofs.lemmas.Option.{none-some, same_Some, slice_get-map, slice_get_within, get_or_from_slice_get}
-use Rattle.pd_grove.specs.declared.ports.Side.{Side}
 use Rattle.pd_grove.specs.declared.ports.Side.TheVariants.{Inlets, Outlets}
 use Rattle.pd_web.specs.declared.sockets.Spot.{Spot}
 use Rattle.pd_web.specs.declared.web.Hop.{Hop}
@@ -108,17 +107,12 @@ key_of f kept (Some k) h e = ap (λ x. Some x) (sym (kept k) ∙ ap (λ (x : Hop
 key_listed : (f : ℕ → Hop) → ((k : ℕ) → (f k).key ≡ k) → (keys : List ℕ) (i : ℕ) (h : Hop) → slice_get (map f keys) i ≡ Some h → slice_get keys i ≡ Some h.key
 key_listed f kept keys i h e = key_of f kept (slice_get keys i) h (sym (slice_get-map f keys i) ∙ e)
 
-fan_once : (w : Web) (node outlet : ℕ) → ((i j k : ℕ) → slice_get (fan_keys w node outlet) i ≡ Some k → slice_get (fan_keys w node outlet) j ≡ Some k → i ≡ j) → AreOnce (hops_at w Outlets node outlet)
+pub fan_once : (w : Web) (node outlet : ℕ) → ((i j k : ℕ) → slice_get (fan_keys w node outlet) i ≡ Some k → slice_get (fan_keys w node outlet) j ≡ Some k → i ≡ j) → AreOnce (hops_at w Outlets node outlet)
 fan_once w node outlet once i j g h a b e =
     let kept : (k : ℕ) → (hop_to w k).key ≡ k = (λ k. key_kept k (slice_get w.spots.items (sink_at w.book k))) in
     once i j g.key (key_listed (hop_to w) kept (fan_keys w node outlet) i g a) (key_listed (hop_to w) kept (fan_keys w node outlet) j h b ∙ ap (λ x. Some x) (sym e))
 
-feed_once : (w : Web) (node inlet : ℕ) → ((i j k : ℕ) → slice_get (feed_keys w node inlet) i ≡ Some k → slice_get (feed_keys w node inlet) j ≡ Some k → i ≡ j) → AreOnce (hops_at w Inlets node inlet)
+pub feed_once : (w : Web) (node inlet : ℕ) → ((i j k : ℕ) → slice_get (feed_keys w node inlet) i ≡ Some k → slice_get (feed_keys w node inlet) j ≡ Some k → i ≡ j) → AreOnce (hops_at w Inlets node inlet)
 feed_once w node inlet once i j g h a b e =
     let kept : (k : ℕ) → (hop_from w k).key ≡ k = (λ k. key_kept k (slice_get w.spots.items (source_at w.book k))) in
     once i j g.key (key_listed (hop_from w) kept (feed_keys w node inlet) i g a) (key_listed (hop_from w) kept (feed_keys w node inlet) j h b ∙ ap (λ x. Some x) (sym e))
-
-pub once_at : (w : Web) (side : Side) (node port : ℕ) → ((node outlet i j k : ℕ) → slice_get (fan_keys w node outlet) i ≡ Some k → slice_get (fan_keys w node outlet) j ≡ Some k → i ≡ j)
-    → ((node inlet i j k : ℕ) → slice_get (feed_keys w node inlet) i ≡ Some k → slice_get (feed_keys w node inlet) j ≡ Some k → i ≡ j) → AreOnce (hops_at w side node port)
-once_at w Inlets node port fans feeds = feed_once w node port (feeds node port)
-once_at w Outlets node port fans feeds = fan_once w node port (fans node port)

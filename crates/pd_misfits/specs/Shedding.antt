@@ -2,10 +2,11 @@
 use Rattle.std.specs.Prelude.{◌≡◌, ℕ, Bool, true, false, not, ◌==◌, ◌||◌, List, [], ◌∷◌, filter, slice_get, Some}
 use Rattle.pd_object.specs.declared.kinds.Kind.{Kind}
 use Rattle.pd_grove.specs.declared.ports.Side.{Side}
+use Rattle.pd_grove.specs.declared.ports.Side.TheVariants.{Inlets, Outlets}
 use Rattle.pd_web.specs.declared.web.Hop.{Hop}
 use Rattle.pd_web.specs.declared.web.Web.{Web}
 use Rattle.pd_web.specs.Hops.{fan_hops, feed_hops}
-use Rattle.pd_web.specs.Changes.{IsListed}
+use Rattle.pd_web.specs.Changes.{line_told, IsListed}
 use Rattle.pd_wiring.specs.Changes.{LeadsAlong}
 use Rattle.pd_taking.specs.Loosening.{hops_at, line_at, IsAt}
 use Rattle.pd_misfits.specs.declared.misfit.Misfit.{Misfit}
@@ -14,7 +15,7 @@ use Rattle.pd_misfits.specs.Misfits.{is_fit}
 -- one of these wires has the key
 abbrev pub is_among : List Misfit → ℕ → Bool
 is_among [] key = false
-is_among (m ∷ ms) key = m.key == key || is_among ms key
+is_among (m ∷ ms) key = key == m.key || is_among ms key
 
 -- these are wires at the box, each once
 pub record AreWiresAt (w : Web) (box : ℕ) (ms : List Misfit) : Type 0 where
@@ -30,6 +31,11 @@ is_left ms h = not (is_among ms h.key)
 pub record Sheds (w w' : Web) (ms : List Misfit) : Type 0 where
   pub fans : (node outlet : ℕ) → fan_hops w' node outlet ≡ filter (is_left ms) (fan_hops w node outlet)
   pub feeds : (node inlet : ℕ) → feed_hops w' node inlet ≡ filter (is_left ms) (feed_hops w node inlet)
+
+-- each wire in a list leads along its line
+pub record IsWired (w : Web) : Type 0 where
+  pub fans : (node outlet i : ℕ) (h : Hop) → slice_get (fan_hops w node outlet) i ≡ Some h → line_told w h.key ≡ Some (line_at Outlets node outlet h)
+  pub feeds : (node inlet i : ℕ) (h : Hop) → slice_get (feed_hops w node inlet) i ≡ Some h → line_told w h.key ≡ Some (line_at Inlets node inlet h)
 
 -- All wires at the box fit where that is of this kind.
 abbrev pub AllFit : Web → ℕ → Kind → Type 0

@@ -11,11 +11,11 @@ ghost use Rattle.pd_patch.specs.Listing.{IsThere};
 ghost use Rattle.pd_wiring.specs.Changes.{CanRewire};
 ghost use Rattle.pd_refitting.specs.Refits.{StaysWire};
 ghost use Rattle.pd_misfits.specs.Misfits.{is_fit, misfits, turns};
-ghost use Rattle.pd_misfits.specs.Shedding.{KeepsFit, Sheds};
+ghost use Rattle.pd_misfits.specs.Shedding.{IsWired, KeepsFit, Sheds};
 
 /// Where the wires that don't fit are gone, those at the box that fit are there still, and no others.
 pub fn misfits_leave_what_fits()
-    ensures { (p : Patch) (w : Web) (canvas key : ℕ) (k : Kind) → CanRewire p → Meet p.web → IsThere (keys_at p.grove canvas) key →
+    ensures { (p : Patch) (w : Web) (canvas key : ℕ) (k : Kind) → CanRewire p → Meet p.web → IsWired p.web → IsThere (keys_at p.grove canvas) key →
         KeepsPorts p.web w → Sheds p.web w (misfits p canvas key k) → KeepsFit p.web w key k }
 {}
 

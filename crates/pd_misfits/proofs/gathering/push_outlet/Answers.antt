@@ -1,6 +1,7 @@
-use Rattle.std.proofs.Common.{subst}
+use Rattle.std.proofs.Common.{◌≡◌, ℕ, List, ◌++◌, ap, ◌∙◌, subst}
 use Rattle.pd_web.specs.Hops.{fan_hops}
-use Rattle.pd_misfits.specs.Misfits.{misfit_from}
+use Rattle.pd_misfits.specs.declared.misfit.Misfit.{Misfit}
+use Rattle.pd_misfits.specs.Misfits.{misfit_along, misfit_from}
 use Rattle.pd_misfits.proofs.WalkLemmas.{fan_once, walk_all, walk_first, walk_next, walk_smaller, IsWalked}
 use Rattle.pd_misfits.proofs.gathering.push_outlet.Goals as goal
 
@@ -17,7 +18,12 @@ loop-next-preserved c =
     let f = misfit_from w c.args.numbers.now c.args.key c.args.kind.now o.node o.port in
     let hops = fan_hops w o.node o.port in
     let W = subst (λ x. IsWalked f hops c.args.found.now.items c.loop-next.found.items x) c.in-Some.is c.loop-next.invariant in
-    walk_next f hops c.args.found.now.items c.loop-next.found.items c.push_wire.new.found.items c.in-Some.hop c.fan_next-next.result W ? (c.fan_next-next.ensures o.node o.port)
+    let old = c.loop-next.found.items in
+    let along : ℕ → ℕ → ℕ → List Misfit = λ x n i. misfit_along w c.args.numbers.now c.args.key c.args.kind.now x (record { source = o.node; outlet = o.port; sink = n; inlet = i }) in
+    let pushed : c.push_wire.new.found.items ≡ old ++ f c.in-Some.hop =
+    c.in_ok-push_wire.ensures ∙ ap (λ x. old ++ along x c.node.result c.port.result) c.key.ensures ∙ ap (λ n. old ++ along c.in-Some.hop.key n c.port.result) c.node.ensures
+    ∙ ap (λ i. old ++ along c.in-Some.hop.key c.in-Some.hop.node i) c.port.ensures in
+    walk_next f hops c.args.found.now.items c.loop-next.found.items c.push_wire.new.found.items c.in-Some.hop c.fan_next-next.result W pushed (c.fan_next-next.ensures o.node o.port)
 
 pub loop-next-smaller : goal.loop-next-smaller
 loop-next-smaller c =
