@@ -96,7 +96,6 @@ port_there w side box port h i = ⊎_elim
     (cases_lt port (length (ports_told w side box)))
 
 module _ (p : Patch) (canvas key : ℕ) (k : Kind) (R : CanRewire p) (meet : Meet p.web) (here : IsThere (keys_at p.grove canvas) key) where
-
   pub number_is : (i node : ℕ) → slice_get (keys_at p.grove canvas) i ≡ Some node → number_in p.numbers.items node ≡ i
   number_is i node e = ap (λ (o : Option ℕ). option_map_or (λ (n : ℕ). n) o 0) (R.numbers canvas i node e)
 

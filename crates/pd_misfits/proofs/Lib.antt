@@ -5,3 +5,5 @@ pub mod TurnLemmas
 pub mod RankLemmas
 pub mod GatherLemmas
 pub mod WireLemmas
+pub mod ShedLemmas
+pub mod FitLemmas

@@ -84,12 +84,13 @@ module _ {X : Type 0} (f : Hop → List X) (hops : List Hop) (old : List X) wher
         done = e ∙ ap (λ (xs : List X). xs ++ f h) W.done ∙ flat_map_more f old (take W.place hops) h ∙ ap (λ (hs : List Hop). old ++ flat_map f hs) (sym taken);
       }
 
-  pub walk_smaller : (now : List X) (h : Hop) (next : Option Hop) → AreOnce hops → IsWalked f hops old now (Some h)
-      → ((i : ℕ) → slice_get hops i ≡ Some h → next ≡ slice_get hops (i + 1)) → length hops - passed hops next < length hops - passed hops (Some h)
-  walk_smaller now h next once W after =
-      let l = slice_get_within hops W.place h (sym W.here) in
-      let a = passed_is hops (Some h) W.place once W.here W.within in
-      let b = passed_is hops next (W.place + 1) once (after W.place (sym W.here)) (omega (arith, l)) in
+  pub walk_smaller : (now : List X) (was next : Option Hop) (h : Hop) → was ≡ Some h → AreOnce hops → IsWalked f hops old now was
+      → ((i : ℕ) → slice_get hops i ≡ Some h → next ≡ slice_get hops (i + 1)) → length hops - passed hops next < length hops - passed hops was
+  walk_smaller now was next h is once W after =
+      let at : slice_get hops W.place ≡ Some h = sym W.here ∙ is in
+      let l = slice_get_within hops W.place h at in
+      let a = passed_is hops was W.place once W.here W.within in
+      let b = passed_is hops next (W.place + 1) once (after W.place at) (omega (arith, l)) in
       omega (arith, l, a, b)
 
   pub walk_all : (now : List X) (next : Option Hop) → next ≡ None → IsWalked f hops old now next → now ≡ old ++ flat_map f hops

@@ -35,7 +35,8 @@ lone_from : {X : Type 0} (xs : List X) → ((i j : ℕ) (x : X) → slice_get xs
 lone_from [] h = tt
 lone_from (x ∷ xs) h = (
   λ i. let l = listed_in x xs i in let e = h 0 (suc l.0) x refl l.1 in omega (arith, e),
-  lone_from xs (λ i j y a b. let e = h (suc i) (suc j) y a b in omega (arith, e)))
+  lone_from xs (λ i j y a b. let e = h (suc i) (suc j) y a b in omega (arith, e)),
+)
 
 lone_range : (a n : ℕ) → Lone (range_with_len a n)
 lone_range a zero = tt
@@ -50,7 +51,8 @@ apart_append : (xs ys : List Misfit) → Apart xs → Apart ys → ((m n : Misfi
 apart_append [] ys a b d = b
 apart_append (m ∷ xs) ys a b d = (
   λ n i e. ⊎_elim (λ (l : IsIn n xs). a.0 n l e) (λ (r : IsIn n ys). d m n (inl refl) r e) (in_either n xs ys i),
-  apart_append xs ys a.1 b (λ u v i j e. d u v (inr i) j e))
+  apart_append xs ys a.1 b (λ u v i j e. d u v (inr i) j e),
+)
 
 apart_flat : {X : Type 0} (f : X → List Misfit) (xs : List X) → Lone xs → ((x : X) → IsIn x xs → Apart (f x))
     → ((x y : X) (m n : Misfit) → IsIn x xs → IsIn y xs → IsIn m (f x) → IsIn n (f y) → m.key ≡ n.key → x ≡ y) → Apart (flat_map f xs)

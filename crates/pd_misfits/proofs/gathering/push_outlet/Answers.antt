@@ -31,8 +31,8 @@ loop-next-smaller c =
     let o = c.args.outlet in
     let f = misfit_from w c.args.numbers.now c.args.key c.args.kind.now o.node o.port in
     let hops = fan_hops w o.node o.port in
-    let W = subst (λ x. IsWalked f hops c.args.found.now.items c.loop-next.found.items x) c.in-Some.is c.loop-next.invariant in
-    walk_smaller f hops c.args.found.now.items c.loop-next.found.items c.in-Some.hop c.fan_next-next.result (fan_once w o.node o.port (c.laws.ensures.once o.node o.port)) W (c.fan_next-next.ensures o.node o.port)
+    walk_smaller f hops c.args.found.now.items c.loop-next.found.items c.loop-next.next c.fan_next-next.result c.in-Some.hop c.in-Some.is (fan_once w o.node o.port (c.laws.ensures.once o.node o.port))
+    c.loop-next.invariant (c.fan_next-next.ensures o.node o.port)
 
 pub returns : goal.returns
 returns c =

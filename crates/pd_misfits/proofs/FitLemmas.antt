@@ -1,0 +1,71 @@
+-- Where the wires that don't fit are gone, those that fit are there, and no others.
+use Rattle.std.proofs.Common.{◌≡◌, ℕ, ◌==◌, Bool, true, false, cond, not, List, filter, slice_get, Option, Some, refl, sym, ap, ◌∙◌, subst}
+use Rattle.std.proofs.lemmas.Option.{same_Some}
+use Rattle.pd_object.specs.declared.kinds.Kind.{Kind}
+use Rattle.pd_tree.specs.Ports.{is_made}
+use Rattle.pd_grove.specs.declared.ports.Side.{Side}
+use Rattle.pd_grove.specs.declared.ports.Side.TheVariants.{Inlets, Outlets}
+use Rattle.pd_web.specs.declared.jacks.Jack.{Jack}
+use Rattle.pd_web.specs.declared.lines.Line.{Line}
+use Rattle.pd_web.specs.declared.web.Hop.{Hop}
+use Rattle.pd_web.specs.declared.web.Web.{Web}
+use Rattle.pd_web.specs.Canvases.{keys_at}
+use Rattle.pd_web.specs.Jacks.{kind_jacks}
+use Rattle.pd_web.specs.Changes.{line_told, KeepsPorts, IsListed, Meet}
+use Rattle.pd_patch.specs.declared.patch.Patch.{Patch}
+use Rattle.pd_patch.specs.Listing.{IsThere}
+use Rattle.pd_wiring.specs.Changes.{CanRewire}
+use Rattle.pd_taking.specs.Loosening.{hops_at, line_at}
+use Rattle.pd_refitting.specs.Refits.{jack_with, made_with}
+use Rattle.pd_misfits.specs.declared.misfit.Misfit.{Misfit}
+use Rattle.pd_misfits.specs.Misfits.{fits_between, is_fit, misfits}
+use Rattle.pd_misfits.specs.Shedding.{is_among, is_left, AllFit, IsWired, KeepsFit, Sheds}
+use Rattle.pd_misfits.proofs.ListLemmas.{in_listed, listed_in, IsIn}
+use Rattle.pd_misfits.proofs.ShedLemmas.{among_some, from_filter, in_filter}
+use Rattle.pd_misfits.proofs.WireLemmas.{line_told_all, unfit_all, unfit_among}
+
+-- a wire fits where it fitted
+fits_still : (w v : Web) (key : ℕ) (k : Kind) (l : Line) → KeepsPorts w v → is_fit v key k l ≡ is_fit w key k l
+fits_still w v key k l K =
+    ap (λ (js : List Jack). fits_between (cond (l.source == key) (slice_get (kind_jacks Outlets k) l.outlet) (slice_get js l.outlet)) (jack_with v key k Inlets l.sink l.inlet) (made_with v key k l.sink))
+    (K.ports Outlets l.source)
+    ∙ ap (λ (js : List Jack). fits_between (jack_with w key k Outlets l.source l.outlet) (cond (l.sink == key) (slice_get (kind_jacks Inlets k) l.inlet) (slice_get js l.inlet)) (made_with v key k l.sink))
+    (K.ports Inlets l.sink)
+    ∙ ap (λ (b : Bool). fits_between (jack_with w key k Outlets l.source l.outlet) (jack_with w key k Inlets l.sink l.inlet) (cond (l.sink == key) (is_made k) b)) (K.made l.sink)
+
+left_at : (w v : Web) (ms : List Misfit) (side : Side) (key port : ℕ) → Sheds w v ms → hops_at v side key port ≡ filter (is_left ms) (hops_at w side key port)
+left_at w v ms Inlets key port S = S.feeds key port
+left_at w v ms Outlets key port S = S.fans key port
+
+wired_at : (w : Web) (side : Side) (key port i : ℕ) (h : Hop) → IsWired w → slice_get (hops_at w side key port) i ≡ Some h → line_told w h.key ≡ Some (line_at side key port h)
+wired_at w Inlets key port i h W e = W.feeds key port i h e
+wired_at w Outlets key port i h W e = W.fans key port i h e
+
+both_ways : true ≡ false → ⊥
+both_ways e = cc
+
+pub keeps_fit : (p : Patch) (v : Web) (canvas key : ℕ) (k : Kind) → CanRewire p → Meet p.web → IsWired p.web → IsThere (keys_at p.grove canvas) key → KeepsPorts p.web v
+    → Sheds p.web v (misfits p canvas key k) → KeepsFit p.web v key k
+keeps_fit p v canvas key k R meet W here K S = record {
+  fit = λ side port i h e.
+      let ms = misfits p canvas key k in
+      let f = from_filter (is_left ms) (hops_at p.web side key port) h (subst (λ hs. IsIn h hs) (left_at p.web v ms side key port S) (in_listed h (hops_at v side key port) i e)) in
+      fits_still p.web v key k (line_at side key port h) K ∙ so (is_fit p.web key k (line_at side key port h))
+      (λ u. both_ways (sym f.1 ∙ ap not (unfit_among p canvas key k R meet here side port h f.0 u)));
+  stay = λ side port i h e fit.
+      let ms = misfits p canvas key k in
+      let left : is_left ms h ≡ true = none (is_among ms h.key) (λ a.
+      let s = among_some ms h.key a in
+      let line : s.0.line ≡ line_at side key port h =
+      same_Some s.0.line (line_at side key port h) (sym (line_told_all p.web p.numbers.items key k (keys_at p.grove canvas) s.0 W s.1.0) ∙ ap (line_told p.web) (sym s.1.1) ∙ wired_at p.web side key port i h W e) in
+      both_ways (sym fit ∙ ap (is_fit p.web key k) (sym line) ∙ unfit_all p.web p.numbers.items key k (keys_at p.grove canvas) s.0 s.1.0)) in
+      listed_in h (hops_at v side key port) (subst (λ hs. IsIn h hs) (sym (left_at p.web v ms side key port S)) (in_filter (is_left ms) (hops_at p.web side key port) h (in_listed h (hops_at p.web side key port) i e) left));
+}
+  where
+    so : (b : Bool) → (b ≡ false → ⊥) → b ≡ true
+    so true n = refl
+    so false n = absurd (n refl)
+
+    none : (b : Bool) → (b ≡ true → ⊥) → not b ≡ true
+    none true n = absurd (n refl)
+    none false n = refl
