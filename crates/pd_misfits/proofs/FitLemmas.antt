@@ -1,5 +1,5 @@
 -- Where the wires that don't fit are gone, those that fit are there, and no others.
-use Rattle.std.proofs.Common.{◌≡◌, ℕ, ◌==◌, Bool, true, false, cond, not, List, filter, slice_get, Option, Some, refl, sym, ap, ◌∙◌, subst}
+use Rattle.std.proofs.Common.{◌≡◌, ℕ, ◌==◌, Bool, true, false, cond, not, List, filter, slice_get, Some, refl, sym, ap, ◌∙◌, subst}
 use Rattle.std.proofs.lemmas.Option.{same_Some}
 use Rattle.pd_object.specs.declared.kinds.Kind.{Kind}
 use Rattle.pd_tree.specs.Ports.{is_made}
@@ -11,7 +11,7 @@ use Rattle.pd_web.specs.declared.web.Hop.{Hop}
 use Rattle.pd_web.specs.declared.web.Web.{Web}
 use Rattle.pd_web.specs.Canvases.{keys_at}
 use Rattle.pd_web.specs.Jacks.{kind_jacks}
-use Rattle.pd_web.specs.Changes.{line_told, KeepsPorts, IsListed, Meet}
+use Rattle.pd_web.specs.Changes.{line_told, KeepsPorts, Meet}
 use Rattle.pd_patch.specs.declared.patch.Patch.{Patch}
 use Rattle.pd_patch.specs.Listing.{IsThere}
 use Rattle.pd_wiring.specs.Changes.{CanRewire}
@@ -19,7 +19,7 @@ use Rattle.pd_taking.specs.Loosening.{hops_at, line_at}
 use Rattle.pd_refitting.specs.Refits.{jack_with, made_with}
 use Rattle.pd_misfits.specs.declared.misfit.Misfit.{Misfit}
 use Rattle.pd_misfits.specs.Misfits.{fits_between, is_fit, misfits}
-use Rattle.pd_misfits.specs.Shedding.{is_among, is_left, AllFit, IsWired, KeepsFit, Sheds}
+use Rattle.pd_misfits.specs.Shedding.{is_among, is_left, IsWired, KeepsFit, Sheds}
 use Rattle.pd_misfits.proofs.ListLemmas.{in_listed, listed_in, IsIn}
 use Rattle.pd_misfits.proofs.ShedLemmas.{among_some, from_filter, in_filter}
 use Rattle.pd_misfits.proofs.WireLemmas.{line_told_all, unfit_all, unfit_among}

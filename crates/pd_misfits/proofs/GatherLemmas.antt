@@ -1,5 +1,5 @@
 -- The wires that are gathered are those of the canvas that go.
-use Rattle.std.proofs.Common.{◌≡◌, ◌≢◌, ℕ, zero, suc, ◌+◌, ◌<◌, ◌≤◌, ◌==◌, Bool, true, false, cond, not, ◌&&◌, ◌||◌, List, [], ◌∷◌, ◌++◌, map, length, slice_get, Option, Some, None, refl, sym, ap, ◌∙◌, subst, inl, inr, eqb-true, arith}
+use Rattle.std.proofs.Common.{◌≡◌, ◌≢◌, ℕ, ◌+◌, ◌<◌, ◌≤◌, ◌==◌, Bool, true, false, cond, not, ◌&&◌, ◌||◌, List, [], ◌∷◌, length, slice_get, Option, Some, refl, sym, ap, ◌∙◌, subst, inl, inr, eqb-true, arith}
 use Rattle.std.specs.Prelude.{◌⊎◌}
 use Rattle.std.specs.List.{flat_map, range_with_len, Contains}
 use Rattle.std.specs.List.Sorted.{IsStrictlyIncreasing}
@@ -7,13 +7,10 @@ use Rattle.std.specs.Option.{option_map_or}
 use mathlib.Core.Logic.{⊎_elim}
 use Rattle.std.proofs.lemmas.Bool.{cases_eq, cases_lt}
 use Rattle.std.proofs.lemmas.List.Kept.{AllPairs-from_increasing}
-use Rattle.std.proofs.lemmas.Option.{none-some, same_Some}
-use Rattle.slab.specs.Slab.{get}
+use Rattle.std.proofs.lemmas.Option.{same_Some}
 use Rattle.pd_object.specs.declared.kinds.Kind.{Kind}
-use Rattle.pd_grove.specs.Owning.{board_in}
 use Rattle.pd_grove.specs.declared.ports.Side.{Side}
 use Rattle.pd_grove.specs.declared.ports.Side.TheVariants.{Inlets, Outlets}
-use Rattle.pd_web.specs.declared.lines.Line.{Line}
 use Rattle.pd_web.specs.declared.web.Hop.{Hop}
 use Rattle.pd_web.specs.declared.web.Web.{Web}
 use Rattle.pd_web.specs.Canvases.{keys_at}
@@ -23,13 +20,13 @@ use Rattle.pd_present.specs.Presents.{number_in}
 use Rattle.pd_patch.specs.declared.patch.Patch.{Patch}
 use Rattle.pd_patch.specs.Linked.{ShareCanvas}
 use Rattle.pd_patch.specs.Listing.{IsThere}
-use Rattle.pd_wiring.specs.Changes.{CanRewire, LeadsAlong}
+use Rattle.pd_wiring.specs.Changes.{CanRewire}
 use Rattle.pd_wiring.proofs.WebLemmas.{line_inside}
 use Rattle.pd_taking.specs.Loosening.{hops_at, line_at}
 use Rattle.pd_taking.proofs.LoosenLemmas.{none_beyond}
-use Rattle.pd_misfits.specs.Misfits.{goes, is_at, is_fit, misfit_from, misfit_of, misfits, outlet_misfits}
-use Rattle.pd_misfits.specs.Ranks.{rank_of, own_ranks, rank_along, rank_fed, inlet_ranks, fed_ranks, ranks_at, misfits_under}
-use Rattle.pd_misfits.proofs.ListLemmas.{contains_in, flat_none, flat_same, from_flat, from_map, from_range, in_contained, in_either, in_flat, in_left, in_listed, in_map, in_range, in_right, listed_in, rise_from, IsIn, FromFlat}
+use Rattle.pd_misfits.specs.Misfits.{goes, is_fit, misfit_from, misfit_of, misfits}
+use Rattle.pd_misfits.specs.Ranks.{rank_of, own_ranks, rank_fed, inlet_ranks, fed_ranks, ranks_at, misfits_under}
+use Rattle.pd_misfits.proofs.ListLemmas.{contains_in, flat_none, flat_same, from_flat, from_map, from_range, in_contained, in_either, in_flat, in_left, in_listed, in_map, in_range, in_right, listed_in, rise_from, IsIn}
 use Rattle.pd_misfits.proofs.RankLemmas.{from_ranks, in_ranks, ranks_from, ranks_give, ranks_rise, under_is}
 
 -- Bools.

@@ -1,16 +1,15 @@
 -- Wires go, one after the other.
-use Rattle.std.proofs.Common.{◌≡◌, ◌≢◌, ℕ, zero, suc, ◌+◌, ◌<◌, ◌≤◌, ◌==◌, Bool, true, false, cond, not, ◌&&◌, ◌||◌, List, [], ◌∷◌, ◌++◌, filter, length, take, get_or, slice_get, Some, None, refl, sym, ap, ◌∙◌, subst, inl, inr, eqb-true, arith}
+use Rattle.std.proofs.Common.{◌≡◌, ℕ, zero, suc, ◌+◌, ◌<◌, ◌≤◌, ◌==◌, Bool, true, false, cond, not, ◌&&◌, ◌||◌, List, [], ◌∷◌, ◌++◌, filter, length, take, get_or, slice_get, Some, refl, sym, ap, ◌∙◌, subst, inl, inr, eqb-true, arith}
 use mathlib.Core.Logic.{⊎_elim}
 use Rattle.std.proofs.Math.Seq.{take-suc}
-use Rattle.std.proofs.lemmas.Option.{none-some, same_Some, slice_get_within, get_or_from_slice_get}
-use Rattle.pd_web.specs.declared.lines.Line.{Line}
+use Rattle.std.proofs.lemmas.Option.{slice_get_within, get_or_from_slice_get}
 use Rattle.pd_web.specs.declared.web.Hop.{Hop}
 use Rattle.pd_web.specs.declared.web.Web.{Web}
 use Rattle.pd_web.specs.Hops.{fan_hops, feed_hops}
-use Rattle.pd_web.specs.Changes.{hop_at, line_told, without_hop, wires_told, CutsWire, IsListed}
+use Rattle.pd_web.specs.Changes.{hop_at, line_told, without_hop, wires_told, CutsWire}
 use Rattle.pd_patch.specs.declared.patch.Patch.{Patch}
 use Rattle.pd_wiring.specs.Changes.{LeadsAlong}
-use Rattle.pd_taking.specs.Loosening.{IsAt, Loosens}
+use Rattle.pd_taking.specs.Loosening.{Loosens}
 use Rattle.pd_misfits.specs.declared.misfit.Misfit.{Misfit}
 use Rattle.pd_misfits.specs.Shedding.{is_among, is_left, AreWiresAt, Sheds}
 use Rattle.pd_taking.proofs.LoseLemmas.{IsWeb}

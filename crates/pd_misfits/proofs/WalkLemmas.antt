@@ -1,6 +1,6 @@
 -- Along a list of wires, of which each gives a list.
-use Rattle.std.proofs.Common.{◌≡◌, ◌≢◌, ℕ, zero, suc, ◌+◌, ◌-◌, ◌<◌, ◌≤◌, ◌==◌, cond, List, [], ◌∷◌, ◌++◌, map, length, take, get_or, Option, Some, None, refl, sym, ap, ◌∙◌, eq-eqb, ne_eqb, arith, append-nil}
-use Rattle.std.specs.Prelude.{slice_get, option_map, ◌⊎◌}
+use Rattle.std.proofs.Common.{◌≡◌, ◌≢◌, ℕ, zero, suc, ◌+◌, ◌-◌, ◌<◌, ◌≤◌, ◌==◌, cond, List, [], ◌∷◌, ◌++◌, map, length, take, Option, Some, None, refl, sym, ap, ◌∙◌, eq-eqb, ne_eqb, arith, append-nil}
+use Rattle.std.specs.Prelude.{slice_get, option_map}
 use Rattle.std.specs.List.{flat_map}
 use mathlib.Core.Logic.{⊎_elim}
 use Rattle.std.proofs.Math.Seq.{take-suc}

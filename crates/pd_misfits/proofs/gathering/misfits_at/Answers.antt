@@ -1,8 +1,7 @@
-use Rattle.std.proofs.Common.{◌≡◌, List, ap, ◌∙◌, subst, sym}
+use Rattle.std.proofs.Common.{◌≡◌, ap, ◌∙◌, subst, sym}
 use Rattle.std.specs.List.{flat_map, Contains}
 use Rattle.std.proofs.lemmas.Result.{IfOk-weaker}
 use Rattle.pd_web.specs.Canvases.{keys_at}
-use Rattle.pd_misfits.specs.declared.misfit.Misfit.{Misfit}
 use Rattle.pd_misfits.specs.Misfits.{misfits}
 use Rattle.pd_misfits.specs.Ranks.{misfits_under, ranks_at}
 use Rattle.pd_misfits.specs.Shedding.{AreWiresAt, IsWired}
