@@ -10,7 +10,7 @@ use Rattle.pd_web.specs.Changes.{hop_at, line_told, without_hop, wires_told, Cut
 use Rattle.pd_patch.specs.declared.patch.Patch.{Patch}
 use Rattle.pd_wiring.specs.Changes.{LeadsAlong}
 use Rattle.pd_taking.specs.Loosening.{Loosens}
-use Rattle.pd_misfits.specs.declared.misfit.Misfit.{Misfit}
+use Rattle.pd_misfits.specs.declared.wires.BoxWire.{BoxWire}
 use Rattle.pd_misfits.specs.Shedding.{is_among, is_left, AreWiresAt, Sheds}
 use Rattle.pd_taking.proofs.LoseLemmas.{IsWeb}
 use Rattle.pd_taking.proofs.LoosenLemmas.{loosens_more, TakesOut}
@@ -54,7 +54,7 @@ from_filter {X} p (y ∷ xs) x i = step (p y) refl i (λ j. from_filter p xs x j
 
 -- Which are among the wires that go.
 
-among_append : (ms : List Misfit) (m : Misfit) (k : ℕ) → is_among (ms ++ m ∷ []) k ≡ (is_among ms k || k == m.key)
+among_append : (ms : List BoxWire) (m : BoxWire) (k : ℕ) → is_among (ms ++ m ∷ []) k ≡ (is_among ms k || k == m.key)
 among_append [] m k = or_false (k == m.key)
   where
     or_false : (b : Bool) → (b || false) ≡ b
@@ -66,34 +66,34 @@ among_append (x ∷ ms) m k = step (k == x.key) (among_append ms m k)
     step true e = refl
     step false e = e
 
-left_append : (ms : List Misfit) (m : Misfit) (h : Hop) → is_left (ms ++ m ∷ []) h ≡ (is_left ms h && not (h.key == m.key))
+left_append : (ms : List BoxWire) (m : BoxWire) (h : Hop) → is_left (ms ++ m ∷ []) h ≡ (is_left ms h && not (h.key == m.key))
 left_append ms m h = ap not (among_append ms m h.key) ∙ neither (is_among ms h.key) (h.key == m.key)
   where
     neither : (a b : Bool) → not (a || b) ≡ (not a && not b)
     neither true b = refl
     neither false b = refl
 
-pub among_some : (ms : List Misfit) (k : ℕ) → is_among ms k ≡ true → (m : Misfit) × (IsIn m ms × (k ≡ m.key))
+pub among_some : (ms : List BoxWire) (k : ℕ) → is_among ms k ≡ true → (m : BoxWire) × (IsIn m ms × (k ≡ m.key))
 among_some [] k e = cc
 among_some (x ∷ ms) k e = step (k == x.key) refl e (λ f. among_some ms k f)
   where
-    step : (b : Bool) → (k == x.key) ≡ b → (b || is_among ms k) ≡ true → (is_among ms k ≡ true → (m : Misfit) × (IsIn m ms × (k ≡ m.key))) → (m : Misfit) × (IsIn m (x ∷ ms) × (k ≡ m.key))
+    step : (b : Bool) → (k == x.key) ≡ b → (b || is_among ms k) ≡ true → (is_among ms k ≡ true → (m : BoxWire) × (IsIn m ms × (k ≡ m.key))) → (m : BoxWire) × (IsIn m (x ∷ ms) × (k ≡ m.key))
     step true f e rec = (x, (inl refl, eqb-true k x.key f))
     step false f e rec = let r = rec e in (r.0, (inr r.1.0, r.1.1))
 
-take_more : (ms : List Misfit) (i : ℕ) (m : Misfit) → slice_get ms i ≡ Some m → take (i + 1) ms ≡ take i ms ++ m ∷ []
+take_more : (ms : List BoxWire) (i : ℕ) (m : BoxWire) → slice_get ms i ≡ Some m → take (i + 1) ms ≡ take i ms ++ m ∷ []
 take_more ms i m e =
     let on : i + 1 ≡ suc i = omega arith in
-    ap (λ n. take n ms) on ∙ take-suc ms i m (slice_get_within ms i m e) ∙ ap (λ (x : Misfit). take i ms ++ x ∷ []) (get_or_from_slice_get ms i m m e)
+    ap (λ n. take n ms) on ∙ take-suc ms i m (slice_get_within ms i m e) ∙ ap (λ (x : BoxWire). take i ms ++ x ∷ []) (get_or_from_slice_get ms i m m e)
 
-taken_before : (ms : List Misfit) (i : ℕ) (m : Misfit) → IsIn m (take i ms) → (j : ℕ) × ((j < i) × (slice_get ms j ≡ Some m))
+taken_before : (ms : List BoxWire) (i : ℕ) (m : BoxWire) → IsIn m (take i ms) → (j : ℕ) × ((j < i) × (slice_get ms j ≡ Some m))
 taken_before ms zero m h = absurd h
 taken_before [] (suc i) m h = absurd h
 taken_before (x ∷ ms) (suc i) m h = ⊎_elim
-    (λ (e : x ≡ m). (0, (omega arith, ap (λ (y : Misfit). Some y) e)))
+    (λ (e : x ≡ m). (0, (omega arith, ap (λ (y : BoxWire). Some y) e)))
     (λ (r : IsIn m (take i ms)). let t = taken_before ms i m r in let l = t.1.0 in (suc t.0, (omega (arith, l), t.1.1))) h
 
-module _ (w : Web) (box : ℕ) (ms : List Misfit) (A : AreWiresAt w box ms) (i : ℕ) (m : Misfit) (at : slice_get ms i ≡ Some m) where
+module _ (w : Web) (box : ℕ) (ms : List BoxWire) (A : AreWiresAt w box ms) (i : ℕ) (m : BoxWire) (at : slice_get ms i ≡ Some m) where
   -- none of those before has its key
   not_before : is_among (take i ms) m.key ≡ false
   not_before = step (is_among (take i ms) m.key) refl
@@ -121,7 +121,7 @@ module _ (w : Web) (box : ℕ) (ms : List Misfit) (A : AreWiresAt w box ms) (i :
   pub sheds_more : (v u : Web) → Sheds w v (take i ms) → CutsWire v u m.key → Sheds w u (take (i + 1) ms)
   sheds_more v u S C =
       let both : (x : Hop) → is_left (take (i + 1) ms) x ≡ (is_left (take i ms) x && not (x.key == m.key)) =
-      (λ x. ap (λ (ns : List Misfit). is_left ns x) (take_more ms i m at) ∙ left_append (take i ms) m x) in
+      (λ x. ap (λ (ns : List BoxWire). is_left ns x) (take_more ms i m at) ∙ left_append (take i ms) m x) in
       record {
         fans = λ node outlet. C.fans node outlet ∙ ap (without_hop m.key) (S.fans node outlet)
             ∙ filter_both (is_left (take i ms)) (λ x. not (x.key == m.key)) (is_left (take (i + 1) ms)) (fan_hops w node outlet) both;
@@ -136,13 +136,13 @@ sheds_none w = record {
 }
 
 -- the element at a place
-pub item_at : (ms : List Misfit) (i : ℕ) (m : Misfit) → i < length ms → m ≡ get_or ms i m → slice_get ms i ≡ Some m
+pub item_at : (ms : List BoxWire) (i : ℕ) (m : BoxWire) → i < length ms → m ≡ get_or ms i m → slice_get ms i ≡ Some m
 item_at [] i m l e = absurd (omega (arith, l))
-item_at (x ∷ ms) zero m l e = ap (λ (y : Misfit). Some y) (sym e)
+item_at (x ∷ ms) zero m l e = ap (λ (y : BoxWire). Some y) (sym e)
 item_at (x ∷ ms) (suc i) m l e = item_at ms i m (omega (arith, l)) e
 
 -- One wire more goes.
-module _ (p q r : Patch) (box : ℕ) (ms : List Misfit) (i : ℕ) (m : Misfit) (A : AreWiresAt p.web box ms) (S : Sheds p.web q.web (take i ms)) (within : i < length ms) (is : m ≡ get_or ms i m) where
+module _ (p q r : Patch) (box : ℕ) (ms : List BoxWire) (i : ℕ) (m : BoxWire) (A : AreWiresAt p.web box ms) (S : Sheds p.web q.web (take i ms)) (within : i < length ms) (is : m ≡ get_or ms i m) where
   pub item_leads : LeadsAlong q.web m.key m.line
   item_leads = leads_still p.web box ms A i m (item_at ms i m within is) q.web S
 
@@ -158,5 +158,5 @@ module _ (p q r : Patch) (box : ℕ) (ms : List Misfit) (i : ℕ) (m : Misfit) (
   pub item_one_less : HasLaws q.web → CutsWire q.web r.web m.key → wires_told r.web + 1 ≡ wires_told q.web
   item_one_less laws C = cut_is_one_less q.web r.web m.key C (ap is_some (item_told laws))
 
-pub sheds_all : (w v : Web) (ms : List Misfit) (i : ℕ) → length ms ≤ i → Sheds w v (take i ms) → Sheds w v ms
+pub sheds_all : (w v : Web) (ms : List BoxWire) (i : ℕ) → length ms ≤ i → Sheds w v (take i ms) → Sheds w v ms
 sheds_all w v ms i l S = subst (Sheds w v) (take_all i ms l) S

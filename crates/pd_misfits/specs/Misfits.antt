@@ -14,7 +14,9 @@ use Rattle.pd_patch.specs.declared.patch.Patch.{Patch}
 use Rattle.pd_wiring.specs.Changes.{is_signal_line}
 use Rattle.pd_taking.specs.Loosening.{line_at}
 use Rattle.pd_refitting.specs.Refits.{jack_with, made_with}
-use Rattle.pd_misfits.specs.declared.misfit.Misfit.{Misfit}
+use Rattle.pd_misfits.specs.declared.wires.BoxWire.{BoxWire}
+use Rattle.pd_misfits.specs.declared.wires.Fate.{Fate}
+use Rattle.pd_misfits.specs.declared.wires.Fate.TheVariants.{Goes, Turns}
 
 -- A wire between two ports fits where both are there, and it carries signals into no port without of a box that is made.
 abbrev pub fits_between : Option Jack → Option Jack → Bool → Bool
@@ -42,37 +44,49 @@ turns w key k l = is_fit w key k l && differ (is_signal_with w key k l) (is_sign
 abbrev pub is_at : ℕ → Line → Bool
 is_at key l = l.source == key || l.sink == key
 
--- the wire at the box goes where that is of this kind
-abbrev pub goes : Web → ℕ → Kind → Line → Bool
-goes w key k l = is_at key l && not (is_fit w key k l)
+-- it is one of those that are meant
+abbrev pub wants : Fate → Web → ℕ → Kind → Line → Bool
+wants Goes w key k l = not (is_fit w key k l)
+wants Turns w key k l = turns w key k l
+
+-- the wire is one at the box, and one of those that are meant
+abbrev pub picks : Fate → Web → ℕ → Kind → Line → Bool
+picks fate w key k l = is_at key l && wants fate w key k l
 
 -- a wire by its key and its line, with the numbers of its boxes
-abbrev pub misfit_of : List ℕ → ℕ → Line → Misfit
-misfit_of numbers key l = record {
+abbrev pub wire_of : List ℕ → ℕ → Line → BoxWire
+wire_of numbers key l = record {
   wire = record { source = number_in numbers l.source; outlet = l.outlet; sink = number_in numbers l.sink; inlet = l.inlet };
   line = l;
   key = key;
 }
 
--- a wire along a line, if it goes
-abbrev pub misfit_along : Web → List ℕ → ℕ → Kind → ℕ → Line → List Misfit
-misfit_along w numbers key k wire l = cond (goes w key k l) (misfit_of numbers wire l ∷ []) []
+-- a wire, if it is one of those that are meant
+abbrev pub wire_picked : Fate → Web → ℕ → Kind → BoxWire → List BoxWire
+wire_picked fate w key k m = cond (picks fate w key k m.line) (m ∷ []) []
 
-abbrev pub misfit_from : Web → List ℕ → ℕ → Kind → ℕ → ℕ → Hop → List Misfit
-misfit_from w numbers key k node outlet h = misfit_along w numbers key k h.key (line_at Outlets node outlet h)
+abbrev pub wire_from : Fate → Web → List ℕ → ℕ → Kind → ℕ → ℕ → Hop → List BoxWire
+wire_from fate w numbers key k node outlet h = wire_picked fate w key k (wire_of numbers h.key (line_at Outlets node outlet h))
 
--- the wires from an outlet that go, in their order
-abbrev pub outlet_misfits : Web → List ℕ → ℕ → Kind → ℕ → ℕ → List Misfit
-outlet_misfits w numbers key k node outlet = flat_map (misfit_from w numbers key k node outlet) (fan_hops w node outlet)
+-- such wires from an outlet, in their order
+abbrev pub outlet_wires : Fate → Web → List ℕ → ℕ → Kind → ℕ → ℕ → List BoxWire
+outlet_wires fate w numbers key k node outlet = flat_map (wire_from fate w numbers key k node outlet) (fan_hops w node outlet)
 
--- the wires that leave a box and go, outlet by outlet
-abbrev pub box_misfits : Web → List ℕ → ℕ → Kind → ℕ → List Misfit
-box_misfits w numbers key k node = flat_map (outlet_misfits w numbers key k node) (range_with_len 0 (length (ports_told w Outlets node)))
+-- those that leave a box, outlet by outlet
+abbrev pub box_wires : Fate → Web → List ℕ → ℕ → Kind → ℕ → List BoxWire
+box_wires fate w numbers key k node = flat_map (outlet_wires fate w numbers key k node) (range_with_len 0 (length (ports_told w Outlets node)))
 
--- the wires that leave boxes and go, box by box
-abbrev pub misfits_among : Web → List ℕ → ℕ → Kind → List ℕ → List Misfit
-misfits_among w numbers key k keys = flat_map (box_misfits w numbers key k) keys
+-- those that leave boxes, box by box
+abbrev pub wires_among : Fate → Web → List ℕ → ℕ → Kind → List ℕ → List BoxWire
+wires_among fate w numbers key k keys = flat_map (box_wires fate w numbers key k) keys
+
+abbrev pub picked : Fate → Patch → ℕ → ℕ → Kind → List BoxWire
+picked fate p canvas key k = wires_among fate p.web p.numbers.items key k (keys_at p.grove canvas)
 
 -- The wires of a canvas that go where the box of the key, which lies in it, is of this kind, in the order of the canvas's wires.
-abbrev pub misfits : Patch → ℕ → ℕ → Kind → List Misfit
-misfits p canvas key k = misfits_among p.web p.numbers.items key k (keys_at p.grove canvas)
+abbrev pub misfits : Patch → ℕ → ℕ → Kind → List BoxWire
+misfits p canvas key k = picked Goes p canvas key k
+
+-- those that stay, but become signal wires or cease to be such
+abbrev pub turning : Patch → ℕ → ℕ → Kind → List BoxWire
+turning p canvas key k = picked Turns p canvas key k

@@ -9,26 +9,26 @@ use Rattle.pd_web.specs.Hops.{fan_hops, feed_hops}
 use Rattle.pd_web.specs.Changes.{line_told, IsListed}
 use Rattle.pd_wiring.specs.Changes.{LeadsAlong}
 use Rattle.pd_taking.specs.Loosening.{hops_at, line_at, IsAt}
-use Rattle.pd_misfits.specs.declared.misfit.Misfit.{Misfit}
+use Rattle.pd_misfits.specs.declared.wires.BoxWire.{BoxWire}
 use Rattle.pd_misfits.specs.Misfits.{is_fit}
 
 -- one of these wires has the key
-abbrev pub is_among : List Misfit → ℕ → Bool
+abbrev pub is_among : List BoxWire → ℕ → Bool
 is_among [] key = false
 is_among (m ∷ ms) key = key == m.key || is_among ms key
 
 -- these are wires at the box, each once
-pub record AreWiresAt (w : Web) (box : ℕ) (ms : List Misfit) : Type 0 where
-  pub along : (i : ℕ) (m : Misfit) → slice_get ms i ≡ Some m → LeadsAlong w m.key m.line
-  pub at : (i : ℕ) (m : Misfit) → slice_get ms i ≡ Some m → IsAt box m.line
-  pub once : (i j : ℕ) (m n : Misfit) → slice_get ms i ≡ Some m → slice_get ms j ≡ Some n → m.key ≡ n.key → i ≡ j
+pub record AreWiresAt (w : Web) (box : ℕ) (ms : List BoxWire) : Type 0 where
+  pub along : (i : ℕ) (m : BoxWire) → slice_get ms i ≡ Some m → LeadsAlong w m.key m.line
+  pub at : (i : ℕ) (m : BoxWire) → slice_get ms i ≡ Some m → IsAt box m.line
+  pub once : (i j : ℕ) (m n : BoxWire) → slice_get ms i ≡ Some m → slice_get ms j ≡ Some n → m.key ≡ n.key → i ≡ j
 
 -- the wire is none of these
-abbrev pub is_left : List Misfit → Hop → Bool
+abbrev pub is_left : List BoxWire → Hop → Bool
 is_left ms h = not (is_among ms h.key)
 
 -- these wires are gone, and each list has all others as it had them
-pub record Sheds (w w' : Web) (ms : List Misfit) : Type 0 where
+pub record Sheds (w w' : Web) (ms : List BoxWire) : Type 0 where
   pub fans : (node outlet : ℕ) → fan_hops w' node outlet ≡ filter (is_left ms) (fan_hops w node outlet)
   pub feeds : (node inlet : ℕ) → feed_hops w' node inlet ≡ filter (is_left ms) (feed_hops w node inlet)
 

@@ -9,14 +9,20 @@ ghost use Rattle.pd_web.specs.Changes.{KeepsPorts, Meet};
 ghost use Rattle.pd_patch.specs.declared.patch.Patch.{Patch};
 ghost use Rattle.pd_patch.specs.Listing.{IsThere};
 ghost use Rattle.pd_wiring.specs.Changes.{CanRewire};
-ghost use Rattle.pd_refitting.specs.Refits.{StaysWire};
-ghost use Rattle.pd_misfits.specs.Misfits.{is_fit, misfits, turns};
-ghost use Rattle.pd_misfits.specs.Shedding.{IsWired, KeepsFit, Sheds};
+ghost use Rattle.pd_refitting.specs.Refits.{StaysWire, TakesWires};
+ghost use Rattle.pd_misfits.specs.Misfits.{is_fit, misfits, turning, turns};
+ghost use Rattle.pd_misfits.specs.Shedding.{AllFit, IsWired, KeepsFit, Sheds};
 
 /// Where the wires that don't fit are gone, those at the box that fit are there still, and no others.
 pub fn misfits_leave_what_fits()
     ensures { (p : Patch) (w : Web) (canvas key : ℕ) (k : Kind) → CanRewire p → Meet p.web → IsWired p.web → IsThere (keys_at p.grove canvas) key →
         KeepsPorts p.web w → Sheds p.web w (misfits p canvas key k) → KeepsFit p.web w key k }
+{}
+
+/// Where all wires at the box fit and those that turn are gone, what is left stays as it is.
+pub fn wires_left_stay()
+    ensures { (p : Patch) (w : Web) (canvas key : ℕ) (k : Kind) → CanRewire p → Meet p.web → IsThere (keys_at p.grove canvas) key →
+        AllFit p.web key k → KeepsPorts p.web w → Sheds p.web w (turning p canvas key k) → TakesWires w key k }
 {}
 
 /// A wire that fits and doesn't turn stays as it is, and no other wire does.

@@ -1,15 +1,17 @@
-//! The wires at a box of a running patch that don't fit where it becomes one of another kind.
+//! The wires at a box of a running patch that don't stay as they are where it becomes one of another kind.
 //!
-//! `misfits_at` tells them with the numbers of their boxes, in the order of the wires of their canvas (`misfits`): those that lose one of
-//! their ports, or carry signals into a port without of a box that is made. It alone takes memory and can fail, and it changes nothing.
-//! `loosen_misfits` then takes them out, one after the other, each with the mend that the order of the canvas needs (`Loosens`): every
+//! `misfits_at` tells those that don't fit any more, with the numbers of their boxes and in the order of the wires of their canvas
+//! (`misfits`): they lose one of their ports, or carry signals into a port without of a box that is made. `turning_at` tells those that
+//! fit, but become signal wires or cease to be such (`turning`). Both take memory and can fail, and change nothing.
+//! `loosen_wires` then takes such wires out, one after the other, each with the mend that the order of the canvas needs (`Loosens`): every
 //! list of wires has all others as it had them (`Sheds`). It takes no memory and can't fail.
 //!
-//! Laws: where these wires are gone, those at the box that fit are there still, and no others (`misfits_leave_what_fits`); of the wires
-//! at a box that fit, those that don't turn stay as `pd_refitting` asks (`wires_stay_unless_they_turn`).
+//! Laws: where the wires that don't fit are gone, those at the box that fit are there still, and no others (`misfits_leave_what_fits`);
+//! those of them that don't turn stay as `pd_refitting` asks (`wires_stay_unless_they_turn`), so that it can make the box another one
+//! where those that turn are gone too (`wires_left_stay`).
 //!
 //! By no clause: how much is looked at to tell them. It is each wire at the box, and each in the fan-out of an outlet of the box or of
-//! one from which a wire comes that doesn't fit.
+//! one from which a wire comes that is told.
 //!
 //! Definitions: `Misfits` (which wires go, and which turn), `Shedding` (they go), `Ranks` (outlets in order).
 #![tactic(auto)]
@@ -18,11 +20,11 @@ mod fitting;
 mod gathering;
 mod laws;
 mod loosening;
-mod misfit;
 mod ports;
 mod ranking;
+mod wires;
 
-pub use gathering::misfits_at;
-pub use laws::{misfits_leave_what_fits, wires_stay_unless_they_turn};
-pub use loosening::loosen_misfits;
-pub use misfit::Misfit;
+pub use gathering::{misfits_at, turning_at};
+pub use laws::{misfits_leave_what_fits, wires_left_stay, wires_stay_unless_they_turn};
+pub use loosening::loosen_wires;
+pub use wires::BoxWire;

@@ -1,4 +1,4 @@
-//! The wires that don't fit go.
+//! Wires at a box go.
 
 ghost use Rattle.std.specs.Prelude.{◌≡◌};
 ghost use Rattle.pd_web.specs.Changes.{wires_told, Meet};
@@ -6,7 +6,7 @@ ghost use Rattle.pd_wiring.specs.Changes.{CanRewire};
 ghost use Rattle.pd_taking.specs.Loosening.{Loosens};
 ghost use Rattle.pd_misfits.specs.Shedding.{AreWiresAt, Sheds};
 
-use crate::misfit::Misfit;
+use crate::wires::BoxWire;
 use pd_order::Steps;
 use pd_patch::Patch;
 use pd_wiring::detach;
@@ -14,25 +14,25 @@ use std::sync::ledger::Ledger;
 
 /// Takes these wires at a box out, one after the other. `wires` is how many wires there are, and what is given how many there are then.
 /// Looks at signal wires are counted in `steps`.
-pub fn loosen_misfits<L: Ledger>(
+pub fn loosen_wires<L: Ledger>(
     patch: &mut Patch,
     key: u32,
-    misfits: &[Misfit],
+    gone: &[BoxWire],
     wires: usize,
     steps: &mut Steps<L>,
 ) -> usize
     requires runs { CanRewire patch.old }
     requires meet { Meet patch.old.web }
-    requires wires { AreWiresAt patch.old.web key misfits.now }
+    requires wires { AreWiresAt patch.old.web key gone.now }
     requires counted { wires ≡ wires_told patch.old.web }
     ensures loosens { Loosens patch.old patch.new key steps.old steps.new }
-    ensures sheds { Sheds patch.old.web patch.new.web misfits.now }
+    ensures sheds { Sheds patch.old.web patch.new.web gone.now }
     ensures counted { result ≡ wires_told patch.new.web }
 {
     let mut left = wires;
-    for misfit in misfits {
+    for wire in gone {
         patch.web.laws();
-        detach(patch, misfit.line, misfit.key, steps);
+        detach(patch, wire.line, wire.key, steps);
         left -= 1;
     }
     left
