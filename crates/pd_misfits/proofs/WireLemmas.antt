@@ -1,5 +1,5 @@
 -- The wires that go are wires at the box, each once, and no other wire at it goes.
-use Rattle.std.proofs.Common.{◌≡◌, ℕ, zero, suc, ◌+◌, ◌==◌, Bool, true, false, cond, not, ◌&&◌, ◌||◌, List, [], ◌∷◌, ◌++◌, length, slice_get, Some, refl, sym, ap, ◌∙◌, subst, inl, inr, eqb-true, eq-eqb, arith}
+use Rattle.std.proofs.Common.{◌≡◌, ℕ, zero, suc, ◌+◌, ◌==◌, Bool, true, false, cond, ◌&&◌, ◌||◌, List, [], ◌∷◌, ◌++◌, length, slice_get, Some, refl, sym, ap, ◌∙◌, subst, inl, inr, eqb-true, eq-eqb, arith}
 use Rattle.std.specs.List.{flat_map, range_with_len}
 use mathlib.Core.Logic.{⊎_elim}
 use Rattle.std.proofs.lemmas.Option.{none-some, same_Some}
@@ -21,7 +21,7 @@ use Rattle.pd_misfits.specs.declared.wires.Fate.{Fate}
 use Rattle.pd_misfits.specs.Misfits.{box_wires, outlet_wires, picked, picks, wants, wire_from, wire_of}
 use Rattle.pd_misfits.specs.Shedding.{is_among, AreWiresAt, IsWired}
 use Rattle.pd_misfits.proofs.ListLemmas.{from_flat, from_range, in_either, in_flat, in_listed, in_range, listed_in, IsIn}
-use Rattle.pd_misfits.proofs.GatherLemmas.{both_left, both_right, choose, chosen, feeder, not_so, port_there}
+use Rattle.pd_misfits.proofs.GatherLemmas.{both_left, both_right, choose, chosen, feeder, port_there}
 use Rattle.pd_misfits.proofs.WalkLemmas.{AreOnce}
 
 -- Lists of which each is there once.
