@@ -13,7 +13,6 @@ use Rattle.pd_name.specs.declared.Class.{Class}
 use Rattle.pd_order.specs.Graph.{IsOrder}
 use Rattle.pd_order.specs.Listing.{Listing}
 use Rattle.pd_chain.specs.Wires.{graph_of}
-use Rattle.pd_links.specs.declared.links.Links.{Links}
 use Rattle.pd_grove.specs.declared.nodes.Node.{Node}
 use Rattle.pd_grove.specs.declared.boards.Board.{Board}
 use Rattle.pd_grove.specs.declared.spots.Spot.{Spot}
@@ -38,13 +37,13 @@ use Rattle.pd_web.specs.Hops.{ports_told, fan_hops}
 use Rattle.pd_web.specs.Jacks.{spot_jack, jacks_by, jacks_in, jacks_at, made_in}
 use Rattle.pd_patch.specs.declared.patch.Patch.{Patch}
 use Rattle.pd_patch.specs.Built.{IsBuilt, block_sizes}
-use Rattle.pd_patch.specs.Linked.{HasLinks, ShareCanvas}
+use Rattle.pd_patch.specs.Linked.{ShareCanvas}
 use Rattle.pd_patch.specs.Listing.{IsThere}
 use Rattle.pd_patch.specs.Orders.{is_signal_node, signal_wires_among, HasOrder}
 use Rattle.pd_patch.specs.Telling.{order_in}
 use Rattle.pd_patch.specs.Values.{block_at, block_count, blocks_told}
 use Rattle.pd_wiring.specs.Changes.{CanRewire}
-use Rattle.pd_wiring.proofs.BuiltLemmas.{roomed, roomed_built, same_links}
+use Rattle.pd_wiring.proofs.BuiltLemmas.{roomed, roomed_built}
 use Rattle.pd_placing.specs.Room.{IsSameButRoom as IsSameOrder}
 use Rattle.pd_boxes.specs.Rows.{IsLonger}
 use Rattle.pd_boxes.specs.Room.{SameButRoom}
@@ -164,11 +163,11 @@ order_moved g g' w nodes (Some b) (Some b') e (Some x) (Some y) r h =
 
 module _ (p q : Patch) (S : SameButRoom p q) where
   abbrev rewebbed : Patch
-  rewebbed = record p { web = q.web }
+  rewebbed = record p { web = q.web; links = q.links }
 
   still_rewires : CanRewire p → CanRewire q
   still_rewires before =
-      let R = roomed p rewebbed (record { grove = refl; web = S.web; links = same_links p.links; names = refl; timers = refl; orders = refl; numbers = refl; values = refl; rate = refl; present = refl }) before in
+      let R = roomed p rewebbed (record { grove = refl; web = S.web; links = S.links; names = refl; timers = refl; orders = refl; numbers = refl; values = refl; rate = refl; present = refl }) before in
       record {
         own = record {
           home = λ c i k at. ap board_in (S.grove.nodes k) ∙ R.own.home c i k (sym (ap (λ (ks : List ℕ). slice_get ks i) (keys_same p.grove q.grove S.grove c)) ∙ at);
@@ -183,7 +182,7 @@ module _ (p q : Patch) (S : SameButRoom p q) where
           homes_found = λ j k i P. R.ports.homes_found j k i (record { side = P.side; told = sym (ap (λ (js : List Jack). box_in (slice_get js i)) (jacks_same p.grove q.grove S.grove P.side k)) ∙ P.told });
         };
         inside = λ u o. all_imply (λ (h : Hop). ShareCanvas p.grove u h.node) (λ (h : Hop). ShareCanvas q.grove u h.node) (λ h s. share_same p.grove q.grove S.grove u h.node s) (fan_hops q.web u o) (R.inside u o);
-        linked = subst (λ (l : Links). HasLinks q.web l) (sym S.links) R.linked;
+        linked = R.linked;
         orders = λ c. order_moved p.grove q.grove q.web (nodes_same p.grove q.grove S.grove) (get p.grove.boards c) (get q.grove.boards c) (S.grove.boards c) (order_in p.orders.items c) (order_in q.orders.items c)
             (S.orders c) (R.orders c);
         numbers = λ c i k at. longer_at 0 p.numbers.items q.numbers.items k i S.numbers (R.numbers c i k (sym (ap (λ (ks : List ℕ). slice_get ks i) (keys_same p.grove q.grove S.grove c)) ∙ at));
@@ -216,7 +215,7 @@ module _ (p q : Patch) (S : SameButRoom p q) where
   -- a patch that runs still does
   pub room_built : (names : Names) (file : List ℕ) (rate : Rate) → IsBuilt p names file rate → IsBuilt q names file rate
   room_built names file rate before =
-      let b = roomed_built p rewebbed (record { grove = refl; web = S.web; links = same_links p.links; names = refl; timers = refl; orders = refl; numbers = refl; values = refl; rate = refl; present = refl }) names file rate before in
+      let b = roomed_built p rewebbed (record { grove = refl; web = S.web; links = S.links; names = refl; timers = refl; orders = refl; numbers = refl; values = refl; rate = refl; present = refl }) names file rate before in
       let R = still_rewires (record { own = before.own; ports = before.ports; inside = before.inside; linked = before.linked; orders = before.orders; numbers = before.numbers }) in
       record {
         own = R.own;

@@ -3,6 +3,7 @@ use Rattle.std.specs.Prelude.{◌≡◌, ◌<◌, ◌≤◌, ◌+◌, ◌^◌, �
 use Rattle.slab.specs.Slab.{get}
 use Rattle.pd_atom.specs.Names.{Names}
 use Rattle.pd_kind.specs.States.{silent_block}
+use Rattle.pd_links.specs.Linked.{SameLinks}
 use Rattle.pd_name.specs.Rows.{OwnersStay}
 use Rattle.pd_tree.specs.Trees.{stand_of}
 use Rattle.pd_grove.specs.declared.seeds.Seed.{Seed}
@@ -28,7 +29,7 @@ pub record SameButRoom (old new : Patch) : Type 0 where
   pub grove : IsSameButRoom old.grove new.grove
   pub web : IsSame old.web new.web
   pub names : OwnersStay old.names new.names
-  pub links : new.links ≡ old.links
+  pub links : SameLinks old.links new.links
   pub orders : (c : ℕ) → IsSameOrder (order_in old.orders.items c) (order_in new.orders.items c)
   pub numbers : IsLonger 0 old.numbers.items new.numbers.items
   pub values : IsLonger [] (blocks_told old) (blocks_told new)

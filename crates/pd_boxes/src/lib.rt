@@ -8,7 +8,7 @@
 //!
 //! Laws: a patch that runs goes on to be one, where the box is no port of a box around (`patches_run_on`), and where room was
 //! set aside (`room_changes_nothing`). A port box in a canvas that a box holds gives that box a port, which isn't done here:
-//! `put` asks that the box is none. What `put` asks of a patch, it asks of every patch that is alike but for what boxes keep, for
+//! `put` asks that the box is none, and `put_apart`, which puts a box in but in no order, doesn't. What `put` asks of a patch, it asks of every patch that is alike but for what boxes keep, for
 //! names, clocks and blocks, and after an edit of wires too (`putting_asks_alike`).
 //!
 //! Free: want of memory in `reserve_box`, and the key.
@@ -24,7 +24,7 @@ mod room;
 mod rows;
 
 pub use laws::{patches_run_on, putting_asks_alike, room_changes_nothing};
-pub use putting::put;
+pub use putting::{put, put_apart};
 pub use reserving::reserve_box;
 pub use room::{Place, Room};
 pub use rows::{Blocks, number_boxes, put_blocks, reach_numbers, reach_values, silent_blocks};

@@ -1,8 +1,9 @@
 //! A box comes in, layer by layer.
 
-ghost use Rattle.std.specs.Prelude.{◌≡◌, ◌≤◌, ◌+◌, length};
-ghost use Rattle.slab.specs.Slab.{ContainsKey};
+ghost use Rattle.std.specs.Prelude.{◌≡◌, ◌≤◌, ◌+◌, ℕ, IsSome, length};
+ghost use Rattle.slab.specs.Slab.{get, ContainsKey};
 ghost use Rattle.pd_web.specs.Canvases.{keys_at};
+ghost use Rattle.pd_web.specs.Changes.{HasRoom};
 ghost use Rattle.pd_boxes.specs.Room.{TakesBox};
 ghost use Rattle.pd_boxes.specs.Put.{CanPut, ComesIn, IsLeaf, IsNoPort, IsPut};
 
@@ -48,8 +49,9 @@ pub fn put<L: Ledger>(
     key
 }
 
-/// Puts a box into a live canvas in all layers but the orders, and gives its key.
-fn put_apart(patch: &mut Patch, room: Room, symbols: &mut Symbols) -> u32
+/// Puts a box, for which room was set aside, into a live canvas in all layers but the orders, and gives its key. Where the box is a port of a box
+/// around, that one is as it was.
+pub fn put_apart(patch: &mut Patch, room: Room, symbols: &mut Symbols) -> u32
     requires can { CanPut patch.old }
     requires here { ContainsKey patch.old.grove.boards room.place.canvas }
     requires number { room.place.number ≤ length (keys_at patch.old.grove room.place.canvas) }
@@ -57,6 +59,7 @@ fn put_apart(patch: &mut Patch, room: Room, symbols: &mut Symbols) -> u32
     requires room { TakesBox patch.old room symbols.old }
     ensures comes { ComesIn patch.old patch.new symbols.old room.place room.seed result }
     ensures orders { patch.new.orders ≡ patch.old.orders }
+    ensures near { (k : ℕ) → IsSome (get patch.new.grove.nodes k) → HasRoom patch.new.web (k + 1) 0 0 }
     ensures table { symbols.new ≡ symbols.old }
 {
     let Room {

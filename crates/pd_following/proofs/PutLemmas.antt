@@ -1,6 +1,6 @@
 -- The blocks of the box around where a port box comes.
 use Rattle.std.proofs.Common.{◌≡◌, ℕ, ℤ, zero, suc, ◌<◌, Bool, true, false, ◌||◌, List, [], ◌∷◌, map, length, slice_get, Option, Some, None, IsSome, refl, sym, ap, ◌∙◌, subst, arith}
-use Rattle.std.specs.Prelude.{replicate, if◌then◌else◌}
+use Rattle.std.specs.Prelude.{replicate, if◌then◌else◌, is_some, option_map}
 use Rattle.std.specs.List.{insert, list_any}
 use Rattle.std.proofs.lemmas.List.{length-map}
 use Rattle.std.proofs.lemmas.Option.{none-some, slice_get_within}
@@ -8,16 +8,22 @@ use Rattle.slab.specs.Slab.{get}
 use Rattle.pd_atom.specs.Names.{Names}
 use Rattle.pd_kind.specs.States.{silent_block}
 use Rattle.pd_grove.specs.declared.nodes.Node.{Node}
+use Rattle.pd_grove.specs.declared.seeds.Seed.{Seed}
 use Rattle.pd_grove.specs.declared.ports.Side.{Side}
 use Rattle.pd_grove.specs.declared.ports.Side.TheVariants.{Inlets, Outlets}
 use Rattle.pd_grove.specs.Telling.{inner_in}
+use Rattle.pd_wire.specs.Book.{wire_at}
 use Rattle.pd_web.specs.declared.jacks.Jack.{Jack}
+use Rattle.pd_web.specs.declared.lines.Line.{Line}
 use Rattle.pd_web.specs.declared.web.Web.{Web}
-use Rattle.pd_web.specs.Hops.{ports_told}
+use Rattle.pd_web.specs.Changes.{line_by, line_told, wires_told}
+use Rattle.pd_web.specs.Hops.{hop_from, hop_to, ports_told}
 use Rattle.pd_web.specs.Jacks.{plain_jack}
+use Rattle.pd_web.proofs.CountLemmas.{holds, held_alike}
 use Rattle.pd_ports.specs.Known.{KnowsHomes}
 use Rattle.pd_patch.specs.declared.patch.Patch.{Patch}
 use Rattle.pd_patch.specs.Values.{block_count, blocks_told, first_blocks}
+use Rattle.pd_boxes.specs.declared.room.Place.{Place}
 use Rattle.pd_boxes.specs.Put.{ComesIn}
 use Rattle.pd_boxes.specs.Rows.{PutsUnder}
 use Rattle.pd_following.specs.declared.room.PortBoxRoom.{PortBoxRoom}
@@ -88,3 +94,16 @@ module _ (p r : Patch) (table : Names) (room : PortBoxRoom) (key : ℕ) (P : Can
       by : (t : Side) → room.side ≡ t → BlocksFollow t r q room.holder
       by Inlets e = ap (λ vs. map (λ b. b.items) vs.items) (inlets e)
       by Outlets e = subst (λ (bs : List (List ℤ)). PutsUnder (blocks_told r) (blocks_told q) room.holder bs) (outlets_then q.web at e X) (outlets e)
+
+-- There are as many wires where each wire stays.
+
+told_there : {X Y : Type 0} (f : X → Y) (o : Option X) → is_some (option_map f o) ≡ is_some o
+told_there f None = refl
+told_there f (Some x) = refl
+
+told_holds : (w : Web) (k : ℕ) → is_some (line_told w k) ≡ holds w.book.wires k
+told_holds w k = told_there (λ _. line_by (hop_from w k) (hop_to w k)) (wire_at w.book k)
+
+pub as_many_come : (p r : Patch) (table : Names) (place : Place) (s : Seed) (key : ℕ) → ComesIn p r table place s key → wires_told r.web ≡ wires_told p.web
+as_many_come p r table place s key C =
+    held_alike p.web.book.wires r.web.book.wires (λ k. sym (told_holds r.web k) ∙ ap (λ (o : Option Line). is_some o) (C.ports.lines k) ∙ told_holds p.web k)

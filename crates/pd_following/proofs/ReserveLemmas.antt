@@ -17,6 +17,7 @@ use Rattle.pd_web.specs.Hops.{signal_in}
 use Rattle.pd_patch.specs.declared.patch.Patch.{Patch}
 use Rattle.pd_patch.specs.Telling.{order_in}
 use Rattle.pd_patch.specs.Values.{blocks_told}
+use Rattle.pd_wiring.proofs.BuiltLemmas.{same_links}
 use Rattle.pd_boxes.specs.declared.room.Place.{Place}
 use Rattle.pd_boxes.specs.Room.{SameButRoom}
 use Rattle.pd_boxes.proofs.ReserveLemmas.{same_grove, same_order, longer_self}
@@ -29,7 +30,7 @@ room_web p w S = record {
   grove = same_grove p.grove;
   web = S;
   names = λ class name. refl;
-  links = refl;
+  links = same_links p.links;
   orders = λ d. same_order (order_in p.orders.items d);
   numbers = longer_self 0 p.numbers.items;
   values = longer_self [] (blocks_told p);

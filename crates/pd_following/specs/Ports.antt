@@ -10,7 +10,7 @@ use Rattle.pd_grove.specs.declared.ports.Side.TheVariants.{Inlets, Outlets}
 use Rattle.pd_grove.specs.Forest.{holder_in}
 use Rattle.pd_grove.specs.Ports.{port_signal}
 use Rattle.pd_web.specs.declared.jacks.Jack.{Jack}
-use Rattle.pd_web.specs.Changes.{Meet}
+use Rattle.pd_web.specs.Changes.{Meet, wires_told}
 use Rattle.pd_web.specs.Jacks.{jacks_at}
 use Rattle.pd_ports.specs.Known.{KnowsHomes}
 use Rattle.pd_ports.specs.Moves.{FollowsPorts}
@@ -70,6 +70,7 @@ pub record IsPortPut (p q : Patch) (table : Names) (place : Place) (s : Seed) (k
   pub raises : Raises ready.web q.web holder side number (port_jack side s.row.kind key)
   pub known : KnowsHomes q.web
   pub meet : Meet q.web
+  pub wires : wires_told q.web ≡ wires_told p.web
   pub blocks : BlocksFollow side ready q holder
   pub order : HasOrder q.grove q.web (get q.grove.boards place.canvas) (order_in q.orders.items place.canvas)
   pub other_orders : (c : ℕ) → c ≢ place.canvas → order_in q.orders.items c ≡ order_in p.orders.items c

@@ -7,7 +7,7 @@ ghost use Rattle.pd_grove.specs.Owning.{AreOwn};
 ghost use Rattle.pd_grove.specs.Telling.{inner_in};
 ghost use Rattle.pd_web.specs.declared.jacks.Jack.{Jack};
 ghost use Rattle.pd_web.specs.Jacks.{jacks_at};
-ghost use Rattle.pd_web.specs.Changes.{HasRoom, Meet};
+ghost use Rattle.pd_web.specs.Changes.{HasRoom, Meet, wires_told};
 ghost use Rattle.pd_ports.specs.Room.{HasLists};
 ghost use Rattle.pd_ports.specs.Moves.{FollowsPorts};
 ghost use Rattle.pd_ports.specs.Known.{AreBareWithout, AreFreeFor, KnowsHomes};
@@ -33,6 +33,7 @@ pub(crate) fn follow_port(web: &mut Web, grove: &Grove, holder: u32, side: Side,
     ensures raises { (at : ℕ) (jack : Jack) → IsOneMore web.old grove.now holder side at jack → Raises web.old web.new holder side at jack }
     ensures known { KnowsHomes web.new }
     ensures meet { Meet web.new }
+    ensures as_many { wires_told web.new ≡ wires_told web.old }
 {
     web.laws();
     follow_ports(web, grove, holder, side, room);

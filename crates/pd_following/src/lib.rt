@@ -4,8 +4,8 @@
 //! tells stays (`SameButRoom`). `put_port` then puts the box in, at a number of the canvas, in every layer, as `put` of `pd_boxes` does any
 //! other box, and the box around gets a port more (`IsPortPut`): at the number that the port box has from left to right among those of its
 //! side, without wires. The ports from there on have the next numbers, and their wires go with them, in their order and under their keys
-//! (`Raises`). Where an outlet came, the box around has as many silent blocks as it asks for now. It can't fail, and every other port and
-//! block, every clock, and the orders of the other canvases stay.
+//! (`Raises`), so there are as many wires as before. Where an outlet came, the box around has as many silent blocks as it asks for now. It
+//! can't fail, and every other port and block, every clock, and the orders of the other canvases stay.
 //!
 //! Laws: a patch that runs goes on to be one, ready for more boxes (`patches_run_on_with_ports`), also where room was set aside
 //! (`port_room_changes_nothing`); feeds that were in order are (`feeds_stay_in_order`).

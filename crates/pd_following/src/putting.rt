@@ -1,23 +1,20 @@
 //! A port box comes in, layer by layer, and the box around gets its port.
 
-ghost use Rattle.std.specs.Prelude.{◌≡◌, ◌≤◌, ◌+◌, ℕ, IsSome, length};
-ghost use Rattle.slab.specs.Slab.{get, ContainsKey};
+ghost use Rattle.std.specs.Prelude.{◌≡◌, ◌≤◌, ◌+◌, length};
+ghost use Rattle.slab.specs.Slab.{ContainsKey};
 ghost use Rattle.pd_web.specs.Canvases.{keys_at};
-ghost use Rattle.pd_web.specs.Changes.{HasRoom};
 ghost use Rattle.pd_boxes.specs.Room.{TakesBox};
-ghost use Rattle.pd_boxes.specs.Put.{CanPut, ComesIn, IsLeaf};
 ghost use Rattle.pd_following.specs.Ports.{CanPutPort, IsPortPut};
 ghost use Rattle.pd_following.specs.Room.{TakesPort};
 
 use crate::following::{follow_blocks, follow_port};
 use crate::room::PortBoxRoom;
 use pd_atom::Symbols;
-use pd_boxes::{Room, number_boxes, put_blocks};
+use pd_boxes::put_apart;
 use pd_order::Steps;
-use pd_owning::{bind_box, spot_at};
 use pd_patch::Patch;
 use pd_placing::place_box;
-use pd_ports::{open_box, port_boxes_are_known, wires_still_meet};
+use pd_ports::{port_boxes_are_known, wires_still_meet};
 use std::sync::ledger::Ledger;
 
 /// Puts a port box, for which room was set aside, into a live canvas in a box at its number, and gives its key. The boxes from that number
@@ -59,35 +56,5 @@ pub fn put_port<L: Ledger>(
         key,
         steps,
     );
-    key
-}
-
-/// Puts a box into a live canvas in all layers but the orders, and gives its key.
-fn put_apart(patch: &mut Patch, room: Room, symbols: &mut Symbols) -> u32
-    requires can { CanPut patch.old }
-    requires here { ContainsKey patch.old.grove.boards room.place.canvas }
-    requires number { room.place.number ≤ length (keys_at patch.old.grove room.place.canvas) }
-    requires leaf { IsLeaf room.seed }
-    requires room { TakesBox patch.old room symbols.old }
-    ensures comes { ComesIn patch.old patch.new symbols.old room.place room.seed result }
-    ensures orders { patch.new.orders ≡ patch.old.orders }
-    ensures near { (k : ℕ) → IsSome (get patch.new.grove.nodes k) → HasRoom patch.new.web (k + 1) 0 0 }
-    ensures table { symbols.new ≡ symbols.old }
-{
-    let Room {
-        place,
-        seed,
-        ports,
-        blocks,
-        mut inside,
-    } = room;
-    let key = patch
-        .grove
-        .put_box(place.canvas, place.number, seed, &mut inside);
-    open_box(&mut patch.web, &patch.grove, key, ports);
-    let spot = spot_at(&patch.grove, key);
-    bind_box(&mut patch.names, &patch.grove, spot, symbols);
-    number_boxes(&mut patch.numbers, &patch.grove, place);
-    put_blocks(&mut patch.values, key, blocks);
     key
 }

@@ -37,7 +37,7 @@ pub rows_pushed : (rows : List (Vec ℕ Global)) (v : Vec ℕ Global) → v.item
 rows_pushed rows v e = record { keys = λ k. keys_pushed rows v k e; spare = spare_pushed rows v }
 
 -- with another list of the same keys in the place of one
-keys_set : (rows : List (Vec ℕ Global)) (i k : ℕ) (v : Vec ℕ Global) → v.items ≡ keys_at rows i → keys_at (set rows i v) k ≡ keys_at rows k
+pub keys_set : (rows : List (Vec ℕ Global)) (i k : ℕ) (v : Vec ℕ Global) → v.items ≡ keys_at rows i → keys_at (set rows i v) k ≡ keys_at rows k
 keys_set [] i k v e = refl
 keys_set (r ∷ rows) zero zero v e = e
 keys_set (r ∷ rows) zero (suc k) v e = refl

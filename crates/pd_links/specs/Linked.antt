@@ -32,12 +32,23 @@ link_graph labels l = record {
   followers = λ x. followers_of l x;
 }
 
+-- there are lists for each key below the end
+pub record ReachesKeys (l : Links) (end : ℕ) : Type 0 where
+  pub into : end ≤ length l.into.items
+  pub from : end ≤ length l.from.items
+
 -- the wires are the same, and there is room for at least as many more
 pub record SameLinks (old new : Links) : Type 0 where
   pub feeders : (x : ℕ) → feeders_of new x ≡ feeders_of old x
   pub followers : (x : ℕ) → followers_of new x ≡ followers_of old x
   pub spare_into : (x : ℕ) → spare_into old x ≤ spare_into new x
   pub spare_from : (x : ℕ) → spare_from old x ≤ spare_from new x
+
+-- the wires are the same
+pub record KeepsLinks (old new : Links) : Type 0 where
+  pub feeders : (x : ℕ) → feeders_of new x ≡ feeders_of old x
+  pub followers : (x : ℕ) → followers_of new x ≡ followers_of old x
+  pub reach : (end : ℕ) → ReachesKeys old end → ReachesKeys new end
 
 -- there is room for a wire more from the source to the sink, and it can be counted
 pub record TakesOne (l : Links) (source sink : ℕ) : Type 0 where

@@ -1,5 +1,5 @@
 // Signal wires that come and go.
-ghost use Rattle.std.specs.Prelude.{◌≡◌, ℕ, true, ◌+◌, ◌<◌, ◌≤◌, ◌^◌, [], length, slice_index, IfOk, OnOk};
+ghost use Rattle.std.specs.Prelude.{◌≡◌, ◌≢◌, ℕ, true, ◌+◌, ◌<◌, ◌≤◌, ◌^◌, [], length, slice_index, IfOk, OnOk};
 ghost use Rattle.pd_order.specs.Graph.{tally};
 ghost use Rattle.pd_links.specs.Linked.{feeders_of, followers_of, spare_into, spare_from, SameLinks, TakesOne, HasOneMore};
 
@@ -66,6 +66,8 @@ impl Links {
         ensures wires { HasOneMore self.old self.new source sink }
         ensures spare_from { spare_from self.new source + 1 ≡ spare_from self.old source }
         ensures spare_into { spare_into self.new sink + 1 ≡ spare_into self.old sink }
+        ensures others_from { (x : ℕ) → x ≢ source → spare_from self.new x ≡ spare_from self.old x }
+        ensures others_into { (x : ℕ) → x ≢ sink → spare_into self.new x ≡ spare_into self.old x }
     {
         put(self.from.as_mut_slice(), source, sink);
         put(self.into.as_mut_slice(), sink, source);

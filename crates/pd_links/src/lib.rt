@@ -2,8 +2,8 @@
 //! time.
 //!
 //! `Links` has by key from which boxes signal wires come and to which they lead, with repeats; `of` makes those of a
-//! list of wires, and `add` and `cut` put one wire in or take one out, after `reserve` or `reserve_one`, which alone
-//! can fail. `LinkGraph` is the graph of `pd_order` over them, with ranks that the caller gives, where all boxes lie in one
+//! list of wires, and `add` and `cut` put one wire in or take one out, after `reserve` or `reserve_one`, or `open` for a
+//! box that has come, after `reach`; these set room aside, and `open`, `add` and `cut` can't fail. `LinkGraph` is the graph of `pd_order` over them, with ranks that the caller gives, where all boxes lie in one
 //! canvas; `pd_wiring` has that of one canvas among many.
 //!
 //! Laws: links stay lawful (`linked_more`, `linked_less`, `links_are_lawful`), and the order of a canvas by its links
@@ -16,6 +16,7 @@ mod filling;
 mod graph;
 mod laws;
 mod links;
+mod opening;
 mod rows;
 
 pub use graph::LinkGraph;
@@ -23,3 +24,4 @@ pub use laws::{
     linked_less, linked_more, links_are_lawful, mend_after_add, mend_after_cut, order_by_links,
 };
 pub use links::Links;
+pub use opening::LinkRoom;

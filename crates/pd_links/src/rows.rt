@@ -1,5 +1,5 @@
 // Lists of keys under keys.
-ghost use Rattle.std.specs.Prelude.{◌≡◌, ℕ, ◌+◌, ◌<◌, ◌≤◌, ◌∷◌, ◌++◌, [], length, slice_index, position, nat_eq, vec_capacity, OnOk};
+ghost use Rattle.std.specs.Prelude.{◌≡◌, ℕ, ◌+◌, ◌-◌, ◌<◌, ◌≤◌, ◌∷◌, ◌++◌, [], length, slice_index, position, nat_eq, vec_len, vec_capacity, OnOk};
 ghost use Rattle.pd_order.specs.Graph.{tally};
 ghost use Rattle.pd_links.specs.Rows.{keys_at, spare_at, AreFew, SameRows, OthersStay};
 
@@ -90,6 +90,34 @@ fn lengthen(alloc: Global, rows: &mut Vec<Vec<u32>>, key: u32) -> Result<(), All
         rows.push(Vec::new(alloc))?;
     }
     Ok(())
+}
+
+// A list under each key below an end.
+pub(crate) fn lengthen_to(
+    alloc: Global,
+    rows: &mut Vec<Vec<u32>>,
+    end: u32,
+) -> Result<(), AllocError>
+    ensures same { SameRows rows.old.items rows.new.items }
+    ensures far { OnOk result (end ≤ length rows.new.items) }
+{
+    while rows.len() < end as usize {
+        rows.push(Vec::new(alloc))?;
+    }
+    Ok(())
+}
+
+// Another list without keys in the place of one.
+pub(crate) fn put_row(rows: &mut Vec<Vec<u32>>, key: u32, row: Vec<u32>)
+    requires there { key < length rows.old.items }
+    requires bare { keys_at rows.old.items key ≡ [] }
+    requires none { row.items ≡ [] }
+    ensures keys { (k : ℕ) → keys_at rows.new.items k ≡ keys_at rows.old.items k }
+    ensures spare { spare_at rows.new.items key ≡ vec_capacity row - vec_len row }
+    ensures others { OthersStay rows.old.items rows.new.items key }
+    ensures len { length rows.new.items ≡ length rows.old.items }
+{
+    rows[key as usize] = row;
 }
 
 // Room for so many more keys under the key.

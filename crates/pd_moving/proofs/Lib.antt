@@ -1,5 +1,5 @@
 mod ListLemmas
-mod MeetLemmas
+pub mod MeetLemmas
 mod PlaceLemmas
 mod LiftLemmas
 mod LayLemmas

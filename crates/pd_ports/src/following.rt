@@ -7,7 +7,7 @@ ghost use Rattle.pd_grove.specs.declared.ports.Side.TheVariants.{Inlets, Outlets
 ghost use Rattle.pd_grove.specs.Owning.{AreOwn};
 ghost use Rattle.pd_grove.specs.Telling.{inner_in};
 ghost use Rattle.pd_web.specs.Jacks.{spot_jack, jacks_at, jacks_in};
-ghost use Rattle.pd_web.specs.Changes.{HasRoom, KeepsRoom, Meet};
+ghost use Rattle.pd_web.specs.Changes.{HasRoom, KeepsRoom, Meet, wires_told};
 ghost use Rattle.pd_ports.specs.Room.{HasLists};
 ghost use Rattle.pd_ports.specs.Moves.{FollowsPorts};
 ghost use Rattle.pd_ports.specs.Known.{AreBareWithout, AreFreeFor, KnowsHomes};
@@ -32,6 +32,7 @@ pub fn follow_ports(web: &mut Web, grove: &Grove, key: u32, side: Side, room: Po
     ensures follows { FollowsPorts web.old web.new key side (jacks_at side grove.now key) }
     ensures known { KnowsHomes web.new }
     ensures meet { Meet web.new }
+    ensures as_many { wires_told web.new ≡ wires_told web.old }
     ensures room { KeepsRoom web.old web.new }
 {
     let PortRoom {

@@ -4,7 +4,7 @@ ghost use Rattle.std.specs.Prelude.{◌≡◌, ◌+◌, ◌<◌, ◌≤◌, ◌^
 ghost use Rattle.pd_web.specs.Sockets.{ports_at};
 ghost use Rattle.pd_web.specs.Homes.{inner_in};
 ghost use Rattle.pd_web.specs.Hops.{ports_told};
-ghost use Rattle.pd_web.specs.Changes.{HasRoom, KeepsRoom, Meet};
+ghost use Rattle.pd_web.specs.Changes.{HasRoom, KeepsRoom, Meet, wires_told};
 ghost use Rattle.pd_ports.specs.Moves.{AreOnce, FollowsPorts, Goes, KnowsSide, keys_at};
 
 use crate::ends::drop_left;
@@ -29,6 +29,7 @@ pub fn set_ports(web: &mut Web, key: u32, side: Side, jacks: &[Jack], room: Vec<
     ensures follows { FollowsPorts web.old web.new key side jacks.now }
     ensures meet { Meet web.new }
     ensures homes { KnowsSide web.old web.new key side jacks.now }
+    ensures as_many { wires_told web.new ≡ wires_told web.old }
     ensures room { KeepsRoom web.old web.new }
 {
     web.book.laws();

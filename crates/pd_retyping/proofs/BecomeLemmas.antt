@@ -28,6 +28,7 @@ use Rattle.pd_web.proofs.CountLemmas.{held_alike, same_are_as_many}
 use Rattle.pd_patch.specs.declared.patch.Patch.{Patch}
 use Rattle.pd_patch.specs.Telling.{order_in}
 use Rattle.pd_patch.specs.Values.{blocks_told}
+use Rattle.pd_wiring.proofs.BuiltLemmas.{same_links}
 use Rattle.pd_boxes.specs.Room.{SameButRoom}
 use Rattle.pd_boxes.specs.Put.{node_of, CanPut, IsLeaf}
 use Rattle.pd_boxes.proofs.ReserveLemmas.{same_grove, same_web, same_order, longer_self}
@@ -155,7 +156,7 @@ same_patch p = record {
   grove = same_grove p.grove;
   web = same_web p.web;
   names = λ class name. refl;
-  links = refl;
+  links = same_links p.links;
   orders = λ c. same_order (order_in p.orders.items c);
   numbers = longer_self 0 p.numbers.items;
   values = longer_self [] (blocks_told p);

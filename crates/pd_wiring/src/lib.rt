@@ -31,6 +31,7 @@ mod lines;
 mod link;
 mod mend;
 mod refusals;
+mod rejoining;
 mod room;
 
 pub use asking::{WireRefusal, line_of, line_there};
@@ -39,4 +40,5 @@ pub use detaching::detach;
 pub use graph::CanvasGraph;
 pub use laws::{feeds_stay_in_order, patches_that_run_rewire, rewiring_asks_alike};
 pub use refusals::EditRefusal;
+pub use rejoining::attach_before;
 pub use room::reserve_wire;

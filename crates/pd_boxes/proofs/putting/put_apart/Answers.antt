@@ -227,3 +227,14 @@ returns-clause-comes c =
       rate = refl;
       present = refl;
     }
+
+pub returns-clause-near : goal.returns-clause-near
+returns-clause-near c =
+    let p = c.args.patch.now in
+    let r = c.args.room in
+    let g = c.put_box-key.new.self in
+    let k = c.put_box-key.result in
+    let e = c.put_box-key.ensures in
+    let M = leaf_in (get p.grove.nodes) (get g.nodes) (get p.grove.boards) (get g.boards) p.grove.root r.place.canvas k r.seed (seeds_in r.inside) (seeds_in c.put_box-key.new.seeds)
+    (keys_before p r.place) (keys_behind p r.place) c.requires.leaf c.requires.room.inside c.requires.can.forest e.part e.stands e.uses in
+    λ l live. c.open_box.ensures.room (l + 1) 0 0 (near p r c.args.symbols.now c.requires.can c.requires.room c.requires.leaf g k e.key M l live)

@@ -9,7 +9,7 @@ use Rattle.pd_boxes.proofs.SignalLemmas.{is_there, is_loose, lacks_box, still_la
 use Rattle.pd_following.specs.Ports.{port_jack}
 use Rattle.pd_following.proofs.ComeLemmas.{hold_alone, ready_own, ready_holds, ready_more, ready_known, ready_one_more, ready_free, ready_bare, ready_lists}
 use Rattle.pd_following.proofs.RunLemmas.{is_wired}
-use Rattle.pd_following.proofs.PutLemmas.{holder_reached, blocks_follow}
+use Rattle.pd_following.proofs.PutLemmas.{holder_reached, blocks_follow, as_many_come}
 use Rattle.pd_following.proofs.putting.put_port.Goals as goal
 
 pub follow_port-requires-clause-holds : goal.follow_port-requires-clause-holds
@@ -133,6 +133,7 @@ returns-clause-put g c =
       raises = X;
       known = c.follow_port.ensures.known;
       meet = c.follow_port.ensures.meet;
+      wires = c.follow_port.ensures.as_many ∙ as_many_come p r c.args.symbols.now room.own.place room.own.seed key C;
       blocks = blocks_follow p r c.args.symbols.now room key P C known c.requires.room (record r { web = c.follow_port.new.web; values = c.follow_blocks.new.values; orders = c.place_box.new.orders }) M.place X
           c.follow_blocks.ensures.inlets c.follow_blocks.ensures.outlets;
       order = ordered_by_wires r.grove c.follow_port.new.web r.links W c.place_box.new.orders.items (c.place_box.ensures.all B) room.own.place.canvas;

@@ -4,6 +4,7 @@ use Rattle.pd_web.specs.declared.sockets.Sockets.{Sockets}
 use Rattle.pd_web.specs.declared.sockets.Spot.{Spot}
 use Rattle.pd_web.specs.Sockets.{ports_at, jacks_of}
 use Rattle.pd_web.specs.Homes.{inner_of}
+use Rattle.pd_web.proofs.CountLemmas.{wires_alike}
 use Rattle.pd_ports.specs.Ends.{AreLive}
 use Rattle.pd_ports.specs.Homes.{Forgets, Knows, IsInner}
 use Rattle.pd_ports.specs.Moves.{AreOnce, AreApart, moved_ports}
@@ -153,3 +154,6 @@ returns-clause-homes c =
     let k = side_known c.args.key c.args.side olds (moved_ports olds c.args.jacks.now) c.args.jacks.now w.homes.items c.forget_side.new.homes.items c.know_side.new.homes.items (subst P old c.forget_side.ensures)
     (subst Q new c.know_side.ensures) (jacks_moved olds c.args.jacks.now) (λ m j h. let r = (c.requires.near m j h).homes in omega (arith, r)) in
     record { found = k.found; gone = k.gone; others = k.others }
+
+pub returns-clause-as_many : goal.returns-clause-as_many
+returns-clause-as_many c = wires_alike c.args.web.now.book c.drop_left.new.book c.drop_left.ensures.wires

@@ -4,6 +4,7 @@ use Rattle.pd_owning.specs.Bound.{HasRoom as HasOwnerRoom}
 use Rattle.pd_patch.specs.Telling.{order_in}
 use Rattle.pd_patch.specs.Values.{blocks_told}
 use Rattle.pd_placing.specs.Room.{HasPlaces}
+use Rattle.pd_wiring.proofs.BuiltLemmas.{same_links}
 use Rattle.pd_boxes.proofs.KindLemmas.{blocks_count, inlet_count, outlet_count}
 use Rattle.pd_boxes.proofs.ReserveLemmas.{same_grove, same_web, same_order, same_orders, lists_for, longer_self}
 use Rattle.pd_refitting.proofs.RoomLemmas.{room_below}
@@ -16,7 +17,7 @@ returns-in_err-blocks-clause-same c =
       grove = same_grove p.grove;
       web = same_web p.web;
       names = λ class name. refl;
-      links = refl;
+      links = same_links p.links;
       orders = λ d. same_order (order_in p.orders.items d);
       numbers = longer_self 0 p.numbers.items;
       values = longer_self [] (blocks_told p);
@@ -33,7 +34,7 @@ returns-in_err-ports-clause-same c =
       grove = same_grove p.grove;
       web = c.reserve_ports.ensures.same;
       names = λ class name. refl;
-      links = refl;
+      links = same_links p.links;
       orders = λ d. same_order (order_in p.orders.items d);
       numbers = longer_self 0 p.numbers.items;
       values = longer_self [] (blocks_told p);
@@ -50,7 +51,7 @@ returns-in_err-reserve_owner-clause-same c =
       grove = same_grove p.grove;
       web = c.reserve_ports.ensures.same;
       names = c.reserve_owner.ensures.owners;
-      links = refl;
+      links = same_links p.links;
       orders = λ d. same_order (order_in p.orders.items d);
       numbers = longer_self 0 p.numbers.items;
       values = longer_self [] (blocks_told p);
@@ -67,7 +68,7 @@ returns-in_err-reach_values-clause-same c =
       grove = same_grove p.grove;
       web = c.reserve_ports.ensures.same;
       names = c.reserve_owner.ensures.owners;
-      links = refl;
+      links = same_links p.links;
       orders = λ d. same_order (order_in p.orders.items d);
       numbers = longer_self 0 p.numbers.items;
       values = c.reach_values.ensures.longer;
@@ -84,7 +85,7 @@ returns-in_err-reserve_place-clause-same c =
       grove = same_grove p.grove;
       web = c.reserve_ports.ensures.same;
       names = c.reserve_owner.ensures.owners;
-      links = refl;
+      links = same_links p.links;
       orders = same_orders p.orders.items c.reserve_place.new.orders.items c.canvas_of-canvas.result c.reserve_place.ensures.same c.reserve_place.ensures.others;
       numbers = longer_self 0 p.numbers.items;
       values = c.reach_values.ensures.longer;
@@ -101,7 +102,7 @@ returns-clause-same c =
       grove = same_grove p.grove;
       web = c.reserve_ports.ensures.same;
       names = c.reserve_owner.ensures.owners;
-      links = refl;
+      links = same_links p.links;
       orders = same_orders p.orders.items c.reserve_place.new.orders.items c.canvas_of-canvas.result c.reserve_place.ensures.same c.reserve_place.ensures.others;
       numbers = longer_self 0 p.numbers.items;
       values = c.reach_values.ensures.longer;
