@@ -1,21 +1,13 @@
 -- The lines of growth.
-use Rattle.std.specs.Prelude.{ℕ, List, [], ◌∷◌, codes, decimal}
-use Rattle.std.specs.List.{flat_map, concat}
+use Rattle.std.specs.Prelude.{ℕ, List}
+use Rattle.std.specs.List.{flat_map}
 use Rattle.slab.specs.Slab.{get}
 use Rattle.pd_atom.specs.Names.{Names}
-use Rattle.pd_canvas.specs.declared.wires.Wire.{Wire}
 use Rattle.pd_patch.specs.declared.patch.Patch.{Patch}
 use Rattle.pd_patch.specs.declared.report.Remark.{Remark}
 use Rattle.pd_patch.specs.declared.report.Remark.TheVariants.{NotMade, Unfit, Loop}
 use Rattle.pd_patch.specs.Telling.{fault_in}
-use Rattle.pd_say.specs.Paths.{path_text}
-use Rattle.pd_stage.specs.Lines.{path_in, loop_text, unmade_text}
-
--- a wire of the canvas at a path doesn't fit
-abbrev pub unfit_text : List ℕ → Wire → List ℕ
-unfit_text path w =
-    concat (codes "error: wire " ∷ decimal w.source ∷ codes " " ∷ decimal w.outlet ∷ codes " " ∷ decimal w.sink ∷ codes " " ∷ decimal w.inlet ∷
-    codes " does not fit at " ∷ path_text path ∷ codes "\n" ∷ [])
+use Rattle.pd_stage.specs.Lines.{path_in, loop_text, unfit_text, unmade_text}
 
 -- the line of a remark
 unfoldable pub remark_text : Names → Patch → Remark → List ℕ

@@ -8,7 +8,7 @@ ghost use Rattle.pd_patch.specs.Telling.{fault_in};
 ghost use Rattle.pd_patch.specs.Values.{stuck_in};
 ghost use Rattle.pd_hearing.specs.Worlds.{net_of};
 ghost use Rattle.pd_stage.specs.Lines.{numbers_told, path_in, loop_text, loops_text, told_fault, unmade_text};
-ghost use Rattle.pd_engine.specs.Remarks.{unfit_text, remark_text, remarks_text};
+ghost use Rattle.pd_engine.specs.Remarks.{remark_text, remarks_text};
 
 use crate::room::BoxNumbers;
 use crate::showing::fill_numbers;

@@ -1,7 +1,8 @@
 -- The wires at a box that don't fit where it is of another kind.
-use Rattle.std.specs.Prelude.{ℕ, Bool, false, not, ◌==◌, ◌&&◌, ◌||◌, cond, List, [], ◌∷◌, length, Option, Some, None}
+use Rattle.std.specs.Prelude.{◌≡◌, ℕ, Bool, false, not, ◌==◌, ◌&&◌, ◌||◌, cond, List, [], ◌∷◌, length, slice_get, Option, Some, None}
 use Rattle.std.specs.List.{flat_map, range_with_len}
 use Rattle.pd_object.specs.declared.kinds.Kind.{Kind}
+use Rattle.pd_grove.specs.declared.ports.Side.{Side}
 use Rattle.pd_grove.specs.declared.ports.Side.TheVariants.{Inlets, Outlets}
 use Rattle.pd_web.specs.declared.jacks.Jack.{Jack}
 use Rattle.pd_web.specs.declared.lines.Line.{Line}
@@ -12,7 +13,7 @@ use Rattle.pd_web.specs.Hops.{ports_told, signal_in, fan_hops}
 use Rattle.pd_present.specs.Presents.{number_in}
 use Rattle.pd_patch.specs.declared.patch.Patch.{Patch}
 use Rattle.pd_wiring.specs.Changes.{is_signal_line}
-use Rattle.pd_taking.specs.Loosening.{line_at}
+use Rattle.pd_taking.specs.Loosening.{hops_at, line_at}
 use Rattle.pd_refitting.specs.Refits.{jack_with, made_with}
 use Rattle.pd_misfits.specs.declared.wires.BoxWire.{BoxWire}
 use Rattle.pd_misfits.specs.declared.wires.Fate.{Fate}
@@ -39,6 +40,10 @@ differ a b = cond a (not b) b
 -- it stays, but becomes a signal wire or ceases to be one
 abbrev pub turns : Web → ℕ → Kind → Line → Bool
 turns w key k l = is_fit w key k l && differ (is_signal_with w key k l) (is_signal_line w l)
+
+-- no wire at the box that fits where that is of this kind becomes a signal wire or ceases to be one
+abbrev pub NoneTurns : Web → ℕ → Kind → Type 0
+NoneTurns w key k = (side : Side) (port i : ℕ) (h : Hop) → slice_get (hops_at w side key port) i ≡ Some h → turns w key k (line_at side key port h) ≡ false
 
 -- the line leads from the box or to it
 abbrev pub is_at : ℕ → Line → Bool

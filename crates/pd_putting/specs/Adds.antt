@@ -8,6 +8,7 @@ use Rattle.pd_tree.specs.declared.rows.Sheet.{Sheet}
 use Rattle.pd_tree.specs.Trees.{Cell, Done, Leaf, Holder, stand_of}
 use Rattle.pd_growth.specs.Suits.{RowSuits}
 use Rattle.pd_gather.specs.Gather.{Known, AreProper}
+use Rattle.pd_grove.specs.declared.ports.Side.{Side}
 use Rattle.pd_grove.specs.declared.seeds.Seed.{Seed}
 use Rattle.pd_grove.specs.States.{IsFresh}
 use Rattle.pd_web.specs.Canvases.{keys_at}
@@ -17,6 +18,7 @@ use Rattle.pd_wiring.specs.declared.refusals.EditRefusal.TheVariants.{NoDocument
 use Rattle.pd_boxes.specs.declared.room.Place.{Place}
 use Rattle.pd_boxes.specs.Room.{SameButRoom}
 use Rattle.pd_boxes.specs.Put.{CanPut, IsLeaf, IsNoPort, IsPut}
+use Rattle.pd_following.specs.Ports.{CanPutPort, IsPortAt, IsPortPut}
 use Rattle.pd_subpatches.specs.Shell.{IsShallow, IsShell, IsShellPut}
 use Rattle.pd_adding.specs.declared.counts.Counts.{Counts}
 use Rattle.pd_adding.specs.Boxes.{IsKnown, CanBeWritten, settled_edit, box_put}
@@ -44,9 +46,17 @@ pub record IsSub (p : Patch) (a : Added) : Type 0 where
   pub canvas : cell.kind ≡ kind.Canvas
   pub shallow : IsShallow p (last_place p a.canvas)
 
--- What grew is one or the other. Other boxes aren't put yet.
+-- What grew is one box without a canvas, and it is a port of the box around, on this side.
+pub record IsPort (p : Patch) (a : Added) : Type 0 where
+  pub cell : Cell
+  pub single : a.boxes ≡ Leaf cell Done
+  pub holder : ℕ
+  pub side : Side
+  pub at : IsPortAt p.grove (last_place p a.canvas) cell.kind holder side
+
+-- What grew is one of these. Other boxes aren't put yet.
 abbrev pub CanCome : Patch → Added → Type 0
-CanCome p a = IsPlain p a ⊎ IsSub p a
+CanCome p a = IsPlain p a ⊎ (IsSub p a ⊎ IsPort p a)
 
 -- What grew came in as the last box of its canvas, under this key, and keeps what its kind keeps at first. All else of the patch stays, but that
 -- there is more room.
@@ -75,9 +85,22 @@ pub record IsSubPut (old new : Patch) (now : ℕ) (a : Added) (key : ℕ) : Type
   pub put : IsShellPut ready new a.known.names (last_place old a.canvas) seed key
   pub goes_on : CanPut new
 
+-- The same of a port box: the box around has the port that it is.
+pub record IsPortBoxPut (old new : Patch) (now : ℕ) (a : Added) (key : ℕ) : Type 0 where
+  pub port : IsPort old a
+  pub ready : Patch
+  pub room : SameButRoom old ready
+  pub seed : Seed
+  pub is_row : stand_of seed.row ≡ record { cell = port.cell; sheet = None; boxes = 0 }
+  pub suits : RowSuits a.known.names seed.row
+  pub fresh : IsFresh old.rate now seed
+  pub could : CanPutPort ready (last_place old a.canvas) seed port.holder port.side
+  pub put : IsPortPut ready new a.known.names (last_place old a.canvas) seed key port.holder port.side
+  pub goes_on : CanPut new
+
 -- what grew came in
 abbrev pub HasCome : Patch → Patch → ℕ → Added → ℕ → Type 0
-HasCome old new now a key = IsBoxPut old new now a key ⊎ IsSubPut old new now a key
+HasCome old new now a key = IsBoxPut old new now a key ⊎ (IsSubPut old new now a key ⊎ IsPortBoxPut old new now a key)
 
 -- An edit put a box, with this known after it, as what grew: `k` was known before it, `n` were the counts of the patch, and it is this time. The
 -- documents that were found before it are proper. It grew where the files were known for which it asked.

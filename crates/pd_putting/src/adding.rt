@@ -4,7 +4,7 @@ ghost use Rattle.std.specs.Prelude.{◌≡◌, ◌≤◌, Err, IfOk, IfErr, OnEr
 ghost use Rattle.pd_io.specs.Faults.{Rose};
 ghost use Rattle.pd_atom.specs.Names.{Extends};
 ghost use Rattle.pd_gather.specs.Gather.{known, AreProper};
-ghost use Rattle.pd_web.specs.Changes.{wires_told};
+ghost use Rattle.pd_web.specs.Changes.{wires_told, Meet};
 ghost use Rattle.pd_wiring.specs.declared.refusals.EditRefusal.TheVariants.{ShelfFault};
 ghost use Rattle.pd_boxes.specs.Put.{CanPut};
 ghost use Rattle.pd_adding.specs.Coming.{own_zero};
@@ -41,8 +41,8 @@ pub struct NewBox {
     pub counts: Counts,
 }
 
-/// Puts a box that an edit names last into a canvas of the patch's own document: one without a canvas inside, which is no port of a box
-/// around, or a subpatch without boxes. `counts` are the counts of the patch.
+/// Puts a box that an edit names last into a canvas of the patch's own document: one without a canvas inside, with the port of the box around
+/// that it is, or a subpatch without boxes. `counts` are the counts of the patch.
 ///
 /// # Errors
 ///
@@ -61,6 +61,7 @@ pub fn add_box<H: Shelf, L: Ledger>(
     steps: &mut Steps<L>,
 ) -> Result<NewBox, EditRefusal>
     requires can { CanPut patch.old }
+    requires meet { Meet patch.old.web }
     requires counted { counts.wires ≡ wires_told patch.old.web }
     requires within { AreWithin counts }
     requires zero { own_zero patch.old ≤ 1000000000 }
@@ -68,6 +69,7 @@ pub fn add_box<H: Shelf, L: Ledger>(
     ensures added { IfOk result (λ b. AddsBox patch.old patch.new counts site.entry.name.now site.entry.path.now site.entry.now edit.now (known library.old symbols.old) (known library.new symbols.new) b) }
     ensures refused { IfErr result (IsNotAdded patch.old patch.new counts site.entry.name.now site.entry.path.now edit.now (known library.old symbols.old)) }
     ensures goes_on { CanPut patch.new }
+    ensures meet { Meet patch.new.web }
     ensures counted { IfOk result (λ b. b.counts.wires ≡ wires_told patch.new.web) }
     ensures as_many { OnErr result (wires_told patch.new.web ≡ wires_told patch.old.web) }
     ensures within { IfOk result (λ b. AreWithin b.counts) }

@@ -12,7 +12,7 @@ ghost use Rattle.pd_grove.specs.Ports.{port_signal};
 ghost use Rattle.pd_grove.specs.States.{AreSmall, IsFresh};
 ghost use Rattle.pd_tree.specs.Trees.{Cell, Done, Leaf, stand_of, stands_of, stands_in};
 ghost use Rattle.pd_web.specs.Canvases.{keys_at};
-ghost use Rattle.pd_web.specs.Changes.{wires_told};
+ghost use Rattle.pd_web.specs.Changes.{wires_told, Meet};
 ghost use Rattle.pd_boxes.specs.Room.{SameButRoom};
 ghost use Rattle.pd_boxes.specs.Put.{CanPut, IsLeaf, IsNoPort};
 ghost use Rattle.pd_adding.specs.Adding.{IsAdded};
@@ -53,6 +53,7 @@ pub(crate) fn put_grown<L: Ledger>(
     steps: &mut Steps<L>,
 ) -> Result<NewBox, EditRefusal>
     requires can { CanPut patch.old }
+    requires meet { Meet patch.old.web }
     requires here { ContainsKey patch.old.grove.boards grown.canvas }
     requires grown { HasGrown grown symbols.old }
     ensures put { IfOk result (λ b. (a : Added) → IsAdded grown a → a.known.names ≡ symbols.old → HasCome patch.old patch.new now a b.key) }
@@ -60,6 +61,7 @@ pub(crate) fn put_grown<L: Ledger>(
     ensures counts { IfOk result (λ b. b.counts ≡ grown.counts) }
     ensures refused { IfErr result (λ why. (a : Added) → IsAdded grown a → StaysOut patch.old patch.new a why) }
     ensures goes_on { CanPut patch.new }
+    ensures meet { Meet patch.new.web }
     ensures as_many { wires_told patch.new.web ≡ wires_told patch.old.web }
     ensures zero { own_zero patch.new ≡ own_zero patch.old }
     ensures table { symbols.new ≡ symbols.old }

@@ -1,5 +1,5 @@
 -- A box that is to become another one, and one that did.
-use Rattle.std.specs.Prelude.{◌≡◌, ◌⊎◌, ℕ, Bool, false, cond, List, [], Option, Some, None, Err, slice_get}
+use Rattle.std.specs.Prelude.{◌≡◌, ◌⊎◌, ◌≤◌, ◌+◌, ℕ, false, List, [], Some, None, Err, slice_get}
 use Rattle.pd_atom.specs.declared.Atom.{Atom}
 use Rattle.pd_atom.specs.Names.{Names}
 use Rattle.pd_object.specs.declared.kinds.Kind.{Kind}
@@ -8,16 +8,17 @@ use Rattle.pd_gather.specs.Gather.{known}
 use Rattle.pd_grove.specs.declared.nodes.Node.{Node}
 use Rattle.pd_grove.specs.declared.seeds.Seed.{Seed}
 use Rattle.pd_grove.specs.declared.ports.Side.{Side}
-use Rattle.pd_web.specs.declared.jacks.Jack.{Jack}
 use Rattle.pd_web.specs.declared.web.Hop.{Hop}
 use Rattle.pd_web.specs.declared.web.Web.{Web}
-use Rattle.pd_web.specs.Jacks.{plain_jack}
 use Rattle.pd_patch.specs.declared.patch.Patch.{Patch}
 use Rattle.pd_wiring.specs.declared.refusals.EditRefusal.{EditRefusal}
 use Rattle.pd_wiring.specs.declared.refusals.EditRefusal.TheVariants.{NoDocument, NoMemory}
 use Rattle.pd_boxes.specs.Room.{SameButRoom}
-use Rattle.pd_taking.specs.Loosening.{hops_at, line_at}
-use Rattle.pd_refitting.specs.Refits.{IsPlainIn, StaysWire, TakesWires, CanRefit, IsRefitted}
+use Rattle.pd_taking.specs.Loosening.{hops_at, line_at, Loosens}
+use Rattle.pd_refitting.specs.Refits.{IsPlainIn, CanRefit, IsRefitted, refit_looks}
+use Rattle.pd_misfits.specs.declared.wires.BoxWire.{BoxWire}
+use Rattle.pd_misfits.specs.Misfits.{turns, NoneTurns}
+use Rattle.pd_misfits.specs.Shedding.{Sheds}
 use Rattle.pd_adding.specs.declared.adding.Grown.{Grown}
 use Rattle.pd_adding.specs.Growing.{Added}
 use Rattle.pd_adding.specs.Adding.{IsAdded}
@@ -37,27 +38,28 @@ abbrev pub IsUnplanned : Names → Patch → List ℕ → ℕ → List Atom → 
 IsUnplanned names p path number text why =
     (why ≡ NoMemory) ⊎ ((retyping names p path number text ≡ Err why) ⊎ ((why ≡ NoDocument) × IsKept p path number text (known [] names)))
 
--- the wires at a port of the box of the key fit where that is of this kind, and carry what they carry now
-abbrev pub StayAt : Web → ℕ → Kind → Side → ℕ → Type 0
-StayAt w key k side port = (i : ℕ) (h : Hop) → slice_get (hops_at w side key port) i ≡ Some h → StaysWire w key k (line_at side key port h)
-
--- a port that no box is, if it is there
-abbrev pub plain_jack_if : Bool → Bool → Option Jack
-plain_jack_if is_there is_signal = cond is_there (Some (plain_jack is_signal)) None
+-- no wire at a port of the box of the key that fits where that is of this kind turns
+abbrev pub NoneTurnsAt : Web → ℕ → Kind → Side → ℕ → Type 0
+NoneTurnsAt w key k side port = (i : ℕ) (h : Hop) → slice_get (hops_at w side key port) i ≡ Some h → turns w key k (line_at side key port h) ≡ false
 
 -- a box without a canvas can become one of this kind in its place
 pub record IsAlike (p : Patch) (key : ℕ) (n : Node) (k : Kind) : Type 0 where
   pub bare : n.inner ≡ None
-  pub wires : TakesWires p.web key k
+  pub wires : NoneTurns p.web key k
   pub plain : IsPlainIn p n.board n.kind
   pub stays_plain : IsPlainIn p n.board k
 
--- room was set aside, and then the box of a key became that of a seed
-pub record MakesOther (old new : Patch) (table : Names) (key : ℕ) (n : Node) (s : Seed) : Type 0 where
+-- Room was set aside, the wires at the box of a key that don't fit that of a seed went, and then it became that one.
+pub record MakesOther (old new : Patch) (table : Names) (key : ℕ) (n : Node) (s : Seed) (gone : List BoxWire) (steps steps' : ℕ) : Type 0 where
   pub ready : Patch
   pub room : SameButRoom old ready
-  pub could : CanRefit ready key n s
-  pub refit : IsRefitted ready new table key n s
+  pub loose : Patch
+  pub between : ℕ
+  pub loosens : Loosens ready loose key steps between
+  pub sheds : Sheds old.web loose.web gone
+  pub could : CanRefit loose key n s
+  pub refit : IsRefitted loose new table key n s
+  pub looks : steps' ≤ between + refit_looks n.kind s.row.kind
 
 -- The box stays: memory was wanting, and there may be more room; or it can't become what grew yet, and the patch stays.
 abbrev pub StaysItself : Patch → Patch → ℕ → Node → Added → EditRefusal → Type 0

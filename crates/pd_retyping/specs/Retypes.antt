@@ -1,5 +1,5 @@
 -- A box that an edit makes another one in a canvas of a running patch.
-use Rattle.std.specs.Prelude.{◌≡◌, ◌⊎◌, ℕ, true, false, List, Some, None, Result, Ok, Err, slice_get}
+use Rattle.std.specs.Prelude.{◌≡◌, ◌⊎◌, ◌≤◌, ◌+◌, ℕ, true, false, List, Some, None, Result, Ok, Err, slice_get}
 use Rattle.std.specs.List.{All}
 use Rattle.slab.specs.Slab.{get}
 use Rattle.pd_atom.specs.declared.Atom.{Atom}
@@ -17,12 +17,17 @@ use Rattle.pd_grove.specs.declared.seeds.Seed.{Seed}
 use Rattle.pd_grove.specs.OwnPaths.{sub_reached}
 use Rattle.pd_grove.specs.States.{IsFresh}
 use Rattle.pd_web.specs.Canvases.{keys_at}
+use Rattle.pd_web.specs.Changes.{wires_told}
 use Rattle.pd_patch.specs.declared.patch.Patch.{Patch}
 use Rattle.pd_wiring.specs.declared.refusals.EditRefusal.{EditRefusal}
 use Rattle.pd_wiring.specs.declared.refusals.EditRefusal.TheVariants.{NoDocument, ShelfFault, NoMemory}
 use Rattle.pd_boxes.specs.Room.{SameButRoom}
 use Rattle.pd_boxes.specs.Put.{CanPut, IsLeaf}
-use Rattle.pd_refitting.specs.Refits.{IsPlainIn, TakesWires, CanRefit, IsRefitted}
+use Rattle.pd_taking.specs.Loosening.{Loosens}
+use Rattle.pd_refitting.specs.Refits.{IsPlainIn, CanRefit, IsRefitted, refit_looks}
+use Rattle.pd_misfits.specs.declared.wires.BoxWire.{BoxWire}
+use Rattle.pd_misfits.specs.Misfits.{misfits, NoneTurns}
+use Rattle.pd_misfits.specs.Shedding.{Sheds}
 use Rattle.pd_adding.specs.declared.counts.Counts.{Counts}
 use Rattle.pd_adding.specs.Boxes.{CanBeWritten, settled_edit, box_put}
 use Rattle.pd_adding.specs.Growing.{Added}
@@ -52,34 +57,46 @@ pub record RetypesTo (p : Patch) (n : Counts) (name path : List ℕ) (number : �
   pub new : keeps_inside (entry_of node.element) (settled_text k.names text) ≡ false
   pub comes : ComesTo None p (counts_but p.rate node n) name path (put_instead (entry_of node.element) text) k r
 
--- The box of the key holds no canvas, and what grew is one box that holds none. All its wires fit the new box and carry what they carried. Neither is
--- a port of a box around.
+-- The box of the key holds no canvas, and what grew is one box that holds none. Its wires that fit the new box carry what they carried. Neither is a
+-- port of a box around.
 pub record CanBecome (p : Patch) (key : ℕ) (n : Node) (a : Added) : Type 0 where
   pub cell : Cell
   pub single : a.boxes ≡ Leaf cell Done
   pub bare : n.inner ≡ None
-  pub wires : TakesWires p.web key cell.kind
+  pub wires : NoneTurns p.web key cell.kind
   pub plain : IsPlainIn p n.board n.kind
   pub stays_plain : IsPlainIn p n.board cell.kind
 
--- The box of a key became what grew, and keeps what its kind keeps at first. All else of the patch stays, but that there is more room.
-pub record HasBecome (old new : Patch) (now key : ℕ) (n : Node) (a : Added) : Type 0 where
+-- The wires at the box of a key that don't fit what grew went, each with the mend that the order of its canvas needs. Then the box became what grew, with
+-- the others, and keeps what its kind keeps at first. All else of the patch stays, but that there is more room. Signal wires were looked at for these mends, and
+-- for the place of the new box in the order of its canvas.
+pub record HasBecome (old new : Patch) (now key : ℕ) (n : Node) (a : Added) (gone : List BoxWire) (steps steps' : ℕ) : Type 0 where
   pub can : CanBecome old key n a
+  pub gone_are : gone ≡ misfits old n.board key can.cell.kind
   pub ready : Patch
   pub room : SameButRoom old ready
+  pub loose : Patch
+  pub between : ℕ
+  pub loosens : Loosens ready loose key steps between
+  pub sheds : Sheds old.web loose.web gone
   pub seed : Seed
   pub is_row : stand_of seed.row ≡ record { cell = can.cell; sheet = None; boxes = 0 }
   pub suits : RowSuits a.known.names seed.row
   pub leaf : IsLeaf seed
   pub fresh : IsFresh old.rate now seed
-  pub could : CanRefit ready key n seed
-  pub refit : IsRefitted ready new a.known.names key n seed
+  pub could : CanRefit loose key n seed
+  pub refit : IsRefitted loose new a.known.names key n seed
+  pub looks : steps' ≤ between + refit_looks n.kind can.cell.kind
   pub goes_on : CanPut new
+
+-- counts with another number of wires
+abbrev pub with_wires : Counts → ℕ → Counts
+with_wires c wires = record { boxes = c.boxes; wires = wires; sound = c.sound; next_zero = c.next_zero }
 
 -- An edit made a box another one, with this known after it: `k` was known before it, `n` were the counts of the patch, and it is this time. The
 -- documents that were found before it are proper. What the box became grew where the files were known for which it asked, and is what an edit
 -- would have put that puts the box which a document gets.
-pub record RetypesBox (old new : Patch) (n : Counts) (name path : List ℕ) (number : ℕ) (text : List Atom) (now : ℕ) (k after : Known) (b : RetypedBox) : Type 0 where
+pub record RetypesBox (old new : Patch) (n : Counts) (name path : List ℕ) (number : ℕ) (text : List Atom) (now : ℕ) (k after : Known) (steps steps' : ℕ) (b : RetypedBox) : Type 0 where
   pub node : Node
   pub chosen : IsChosen old path number b.canvas b.key node
   pub is : retyping k.names old path number text ≡ Ok (b.canvas, (b.key, retyped (settled_text k.names text) (entry_of node.element)))
@@ -92,9 +109,9 @@ pub record RetypesBox (old new : Patch) (n : Counts) (name path : List ℕ) (num
   pub comes : ComesTo None old (counts_but old.rate node n) name path (put_instead (entry_of node.element) text) k (Ok added)
   pub files : Known
   pub grew : GrewWith old (counts_but old.rate node n) name path (put_instead (entry_of node.element) text) k files added
-  pub became : HasBecome old new now b.key node added
+  pub became : HasBecome old new now b.key node added b.gone.items steps steps'
   pub canvas : b.canvas ≡ added.canvas
-  pub counts : b.counts ≡ added.counts
+  pub counts : b.counts ≡ with_wires added.counts (wires_told new.web)
   pub known_is : after ≡ added.known
   pub table_after : IsTable after.names
 

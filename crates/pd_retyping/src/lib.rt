@@ -1,12 +1,13 @@
 //! An edit that makes a box of a canvas of the patch's own document another one, made on the running patch.
 //!
 //! `retype_box` gives the box of a number in the canvas at a path another text: what it becomes grows aside, asking for the files that are not
-//! known yet, and then stands in its place, under its key and number, with its wires (`RetypesBox`). The new box has the ports of its kind and
-//! keeps what that keeps at first. All else of the patch stays; signal wires are looked at 8 times at most, and only where the new box carries
-//! signals and the old one didn't. Messages, comments, objects and subpatches take a text; an edit of any other box is refused with `NoBox`.
+//! known yet, and then stands in its place, under its key and number (`RetypesBox`). The wires at the box that don't fit the new one go first, each with
+//! the mend that the order of the canvas needs, and are told; the others stay. The new box has the ports of its kind and keeps what that keeps at first.
+//! All else of the patch stays. Beside the mends signal wires are looked at 8 times at most, and only where the new box carries signals and the old one
+//! didn't. Messages, comments, objects and subpatches take a text; an edit of any other box is refused with `NoBox`.
 //!
-//! It makes a box without a canvas inside another one without, where each wire at it fits the new box and carries what it carried, and neither
-//! is a port of a box around. All other boxes it refuses with `NoDocument`, last of all reasons. A refused edit (`IsNotRetyped`) leaves the patch, the names and the files
+//! It makes a box without a canvas inside another one without, where each wire at it that fits the new box carries what it carried, and neither is a port
+//! of a box around. All other boxes it refuses with `NoDocument`, last of all reasons. A refused edit (`IsNotRetyped`) leaves the patch, the names and the files
 //! that are known as they were; where memory ran out there may be more room in the patch, and all that it tells stays.
 //!
 //! The caller keeps the counts of the patch from one edit to the next. What the box becomes is counted, and grows, where the old one is

@@ -7,7 +7,6 @@ ghost use Rattle.pd_gather.specs.Gather.{known, AreProper};
 ghost use Rattle.pd_web.specs.Changes.{wires_told, Meet};
 ghost use Rattle.pd_wiring.specs.declared.refusals.EditRefusal.TheVariants.{ShelfFault};
 ghost use Rattle.pd_boxes.specs.Put.{CanPut};
-ghost use Rattle.pd_refitting.specs.Refits.{refit_looks};
 ghost use Rattle.pd_adding.specs.Coming.{own_zero};
 ghost use Rattle.pd_adding.specs.Counts.{AreWithin};
 ghost use Rattle.pd_retyping.specs.Retypes.{RetypesBox, IsNotRetyped};
@@ -20,6 +19,7 @@ use pd_atom::Symbols;
 use pd_canvas::Atoms;
 use pd_gather::Library;
 use pd_io::Shelf;
+use pd_misfits::BoxWire;
 use pd_order::Steps;
 use pd_patch::Patch;
 use pd_putting::Site;
@@ -27,12 +27,14 @@ use pd_wiring::EditRefusal;
 use std::alloc::Global;
 use std::sync::ledger::Ledger;
 
-/// A box that an edit made another one: its key, the key of its canvas, and the counts of the patch with what it became.
-#[derive(Clone, Copy, Debug, PartialEq, Eq)]
+/// A box that an edit made another one: its key, the key of its canvas, the counts of the patch with what it became, and the wires that didn't fit
+/// any more and went, in the order of the wires of the canvas.
+#[derive(Debug, Drop)]
 pub struct RetypedBox {
     pub key: u32,
     pub canvas: u32,
     pub counts: Counts,
+    pub gone: Vec<BoxWire>,
 }
 
 /// Makes the box of a number in the canvas at a path of the patch's own document what it becomes with another text. `counts` are the counts of
@@ -62,12 +64,12 @@ pub fn retype_box<H: Shelf, L: Ledger>(
     requires within { AreWithin counts }
     requires zero { own_zero patch.old ≤ 1000000000 }
     requires found { AreProper symbols.old library.old }
-    ensures retyped { IfOk result (λ b. RetypesBox patch.old patch.new counts site.entry.name.now site.entry.path.now number text.now site.entry.now (known library.old symbols.old) (known library.new symbols.new) b) }
+    ensures retyped { IfOk result (λ b. RetypesBox patch.old patch.new counts site.entry.name.now site.entry.path.now number text.now site.entry.now (known library.old symbols.old) (known library.new symbols.new) steps.old steps.new b) }
     ensures refused { IfErr result (IsNotRetyped patch.old patch.new counts site.entry.name.now site.entry.path.now number text.now (known library.old symbols.old)) }
     ensures goes_on { CanPut patch.new }
     ensures meet { Meet patch.new.web }
     ensures counted { IfOk result (λ b. b.counts.wires ≡ wires_told patch.new.web) }
-    ensures as_many { wires_told patch.new.web ≡ wires_told patch.old.web }
+    ensures as_many { OnErr result (wires_told patch.new.web ≡ wires_told patch.old.web) }
     ensures within { IfOk result (λ b. AreWithin b.counts) }
     ensures zero { own_zero patch.new ≡ own_zero patch.old }
     ensures library { OnErr result (library.new ≡ library.old) }
@@ -77,8 +79,6 @@ pub fn retype_box<H: Shelf, L: Ledger>(
     ensures kept { H.holds shelf.new ≡ H.holds shelf.old }
     ensures cause { result ≡ Err ShelfFault → Rose (H.faults shelf.old) (H.faults shelf.new) }
     ensures shelf_counted { H.faults shelf.old ≤ H.faults shelf.new }
-    ensures looks { IfOk result (λ b. (r : RetypesBox patch.old patch.new counts site.entry.name.now site.entry.path.now number text.now site.entry.now (known library.old symbols.old) (known library.new symbols.new) b) →
-        steps.new ≤ steps.old + refit_looks r.node.kind r.became.can.cell.kind) }
     ensures no_looks { OnErr result (steps.new ≡ steps.old) }
 {
     if !are_of(symbols, text.as_slice()) {

@@ -1,5 +1,5 @@
 -- What an edit may come to.
-use Rattle.std.specs.Prelude.{◌≡◌, ◌⊎◌, ℕ, ℤ, List, [], ◌∷◌, Some, None, Ok, Err}
+use Rattle.std.specs.Prelude.{◌≡◌, ◌⊎◌, ◌+◌, ℕ, ℤ, List, [], ◌∷◌, Some, None, Ok, Err}
 use Rattle.std.specs.List.{AllByRecursion}
 use Rattle.pd_atom.specs.Names.{IsTable, Extends}
 use Rattle.pd_atom.specs.declared.Atom.{Atom}
@@ -20,6 +20,7 @@ use Rattle.pd_boxes.specs.Put.{CanPut}
 use Rattle.pd_adding.specs.Counts.{AreWithin}
 use Rattle.pd_putting.specs.Adds.{AddsBox, IsNotPut, IsShortOfRoom}
 use Rattle.pd_putting.specs.declared.adding.NewBox.{NewBox}
+use Rattle.pd_taking.specs.Loosening.{looks_for}
 use Rattle.pd_clearing.specs.Losing.{looks_for_all}
 use Rattle.pd_clearing.specs.Clearing.{without_all}
 use Rattle.pd_deleting.specs.Deletes as deleting
@@ -35,7 +36,7 @@ use Rattle.pd_say.specs.declared.refusals.Why.TheVariants as why
 use Rattle.pd_hearing.specs.Worlds.{Net, net_of, states_of}
 use Rattle.pd_stage.specs.Choices.{Base, base_of, Wanted, Edits, Asks, Saves, Undoes, Redoes, Made, Choice, Refuses, Lacks, Makes}
 use Rattle.pd_stage.specs.Stages.{Stage, Taken}
-use Rattle.pd_stage.specs.Lines.{loops_text, put_text}
+use Rattle.pd_stage.specs.Lines.{loops_text, put_text, retyped_text}
 
 -- the reason that a line tells
 abbrev pub why_of : EditRefusal → Why
@@ -111,7 +112,7 @@ IsRewiringLawful s path e (Lacks net) = IsShort s path e net
 IsRewiringLawful s path e (Makes m) = IsMade s path e m
 
 -- An edit put a box: all other boxes keep what they kept, the clocks stay, names and files go on, the counts stay within the limits of a patch, and it
--- is told why the box could not be made, and a loop of its canvas. It looks at no signal wire.
+-- is told why the box could not be made, and loops of its canvas and of the one around where it is a port of that. It looks at no signal wire.
 pub record IsPutIn (s : Stage) (path : List ℕ) (e : Edit) (m : Made) : Type 0 where
   pub old : Patch
   pub new : Patch
@@ -226,15 +227,17 @@ IsMovingLawful s path number x y (Lacks net) = ⊥
 IsMovingLawful s path number x y (Makes m) = IsMovedTo s path number x y m
 
 -- An edit made a box another one: all other boxes keep what they kept, and their clocks; names and files go on, the counts stay within the limits of a
--- patch, and it is told why the box could not be made, and a loop of its canvas. It looks at no more signal wires than a new box in the order of its
--- canvas takes.
+-- patch, and it is told why the box could not be made, which wires didn't fit any more and went, and a loop of its canvas. It looks at no more signal
+-- wires than the mends for the wires that went, and than a new box in the order of its canvas takes.
 pub record IsRetypedTo (s : Stage) (path : List ℕ) (number : ℕ) (text : List Atom) (m : Made) : Type 0 where
   pub old : Patch
   pub new : Patch
   pub after : Known
   pub box : RetypedBox
+  pub steps : ℕ
+  pub steps' : ℕ
   pub stands : StandsAt old s
-  pub retypes : RetypesBox old new s.base.counts s.file path number text s.time (known_at s) after box
+  pub retypes : RetypesBox old new s.base.counts s.file path number text s.time (known_at s) after steps steps' box
   pub net : m.net ≡ net_of new
   pub states : m.states ≡ states_of new
   pub clocks : m.clocks ≡ without box.key s.clocks
@@ -242,9 +245,9 @@ pub record IsRetypedTo (s : Stage) (path : List ℕ) (number : ℕ) (text : List
   pub more : Extends s.names m.names
   pub base : m.base ≡ base_of after.files box.counts
   pub within : AreWithin m.base.counts
-  pub lines : m.lines ≡ put_text m.names new box.key box.canvas
+  pub lines : m.lines ≡ retyped_text m.names new box.key box.canvas box.gone.items
   pub files : m.files ≡ []
-  pub looks : m.looks ≡ refit_looks retypes.node.kind retypes.became.can.cell.kind
+  pub looks : m.looks ≡ looks_for box.canvas retypes.became.loosens.gone retypes.became.loose + refit_looks retypes.node.kind retypes.became.can.cell.kind
 
 -- no box becomes another one, for this reason
 pub record IsUnretyped (s : Stage) (path : List ℕ) (number : ℕ) (text : List Atom) (reason : Why) : Type 0 where

@@ -1,15 +1,20 @@
 -- The lines of edits and of growth: boxes that can't be made, and lines with the numbers of boxes.
-use Rattle.std.specs.Prelude.{ℕ, List, [], ◌∷◌, ◌++◌, codes, map, take, Option, Some, None, if◌then◌else◌}
-use Rattle.std.specs.List.{concat}
+use Rattle.std.specs.Prelude.{ℕ, List, [], ◌∷◌, ◌++◌, codes, cond, decimal, map, take, Option, Some, None, if◌then◌else◌}
+use Rattle.std.specs.List.{concat, flat_map}
 use Rattle.slab.specs.Slab.{get}
 use Rattle.pd_atom.specs.Names.{Names}
 use Rattle.pd_atom.specs.declared.Atom.{Atom}
+use Rattle.pd_canvas.specs.declared.wires.Wire.{Wire}
 use Rattle.pd_tree.specs.declared.rows.Fault.{Fault}
 use Rattle.pd_tree.specs.declared.rows.Fault.TheVariants.{Unknown, InsideItself, BadFile, TooDeep}
+use Rattle.pd_grove.specs.Forest.{holder_in}
+use Rattle.pd_grove.specs.Owning.{board_in}
 use Rattle.pd_patch.specs.declared.patch.Patch.{Patch}
 use Rattle.pd_patch.specs.Paths.{path_told}
 use Rattle.pd_patch.specs.Telling.{order_in, number_in, is_looped, fault_in}
 use Rattle.pd_patch.specs.Values.{stuck_in}
+use Rattle.pd_misfits.specs.declared.wires.BoxWire.{BoxWire}
+use Rattle.pd_deleting.specs.Deletes.{is_port_in}
 use Rattle.pd_say.specs.Lines.{named_error, file_error}
 use Rattle.pd_say.specs.Paths.{path_text, marked}
 use Rattle.pd_hearing.specs.Guards.{is_atom}
@@ -54,6 +59,39 @@ abbrev pub unmade_text : Names → Option (Fault × Atom) → List ℕ
 unmade_text names None = []
 unmade_text names (Some f) = told_fault names f.0 f.1
 
--- the lines of an edit that put a box into a canvas: why it could not be made, and the loop of its canvas
+-- the canvas in which the box lies that holds a canvas, if one does
+abbrev pub canvas_holding : Patch → Option ℕ → Option ℕ
+canvas_holding p None = None
+canvas_holding p (Some holder) = board_in (get p.grove.nodes holder)
+
+abbrev pub canvas_around : Patch → ℕ → Option ℕ
+canvas_around p canvas = canvas_holding p (holder_in (get p.grove.boards canvas))
+
+-- the canvas around, where a box is a port of the box that holds its own canvas
+abbrev pub canvas_of_port : Patch → (key canvas : ℕ) → Option ℕ
+canvas_of_port p key canvas = cond (is_port_in (get p.grove.nodes key)) (canvas_around p canvas) None
+
+-- the loop of a canvas, if there is one
+abbrev pub loops_if : Patch → Option ℕ → List ℕ
+loops_if p None = []
+loops_if p (Some canvas) = loops_text p canvas
+
+-- the lines of an edit that put a box into a canvas: why it could not be made; where it is a port of the box around, the loop of the canvas in which
+-- that lies; and the loop of its canvas
 abbrev pub put_text : Names → Patch → (key canvas : ℕ) → List ℕ
-put_text names p key canvas = unmade_text names (fault_in (get p.grove.nodes key)) ++ loops_text p canvas
+put_text names p key canvas = unmade_text names (fault_in (get p.grove.nodes key)) ++ (loops_if p (canvas_of_port p key canvas) ++ loops_text p canvas)
+
+-- a wire of the canvas at a path doesn't fit
+abbrev pub unfit_text : List ℕ → Wire → List ℕ
+unfit_text path w =
+    concat (codes "error: wire " ∷ decimal w.source ∷ codes " " ∷ decimal w.outlet ∷ codes " " ∷ decimal w.sink ∷ codes " " ∷ decimal w.inlet ∷
+    codes " does not fit at " ∷ path_text path ∷ codes "\n" ∷ [])
+
+-- the lines of wires of a canvas that went
+abbrev pub gone_text : List ℕ → List BoxWire → List ℕ
+gone_text path gone = flat_map (λ m. unfit_text path m.wire) gone
+
+-- the lines of an edit that gave a box another text: why it could not be made, the wires that didn't fit any more, and the loop of its canvas
+abbrev pub retyped_text : Names → Patch → (key canvas : ℕ) → List BoxWire → List ℕ
+retyped_text names p key canvas gone =
+    unmade_text names (fault_in (get p.grove.nodes key)) ++ (gone_text (path_in p canvas) gone ++ loops_text p canvas)
