@@ -1,4 +1,4 @@
--- What the laws of pd_shift_law say of a box that an edit moved.
+-- What the laws of pd_shift_law and pd_shifted_law say of a box that an edit moved.
 use Rattle.std.proofs.Common.{◌≡◌, ℕ, ℤ, List, Option}
 use Rattle.pd_atom.specs.Names.{Names}
 use Rattle.pd_canvas.specs.Proper.{IsProper}
@@ -14,7 +14,7 @@ use Rattle.pd_saved_law.specs.Fitting.{WiresFit}
 use Rattle.pd_inside_law.specs.Inside.{HoldsWires}
 use Rattle.pd_putting_law.specs.Again.{StandsAgain}
 use Rattle.pd_shifting.specs.Moves.{MovesBox}
-use Rattle.pd_shift_law.specs.Shifts.{shifted_at}
+use Rattle.pd_shifted_law.specs.Shifts.{shifted_at}
 use Rattle.pd_again_law.proofs.HeldLemmas.{Settled}
 
 pub record ShiftLaws : Type 0 where

@@ -28,7 +28,7 @@ use Rattle.pd_retyping_law.specs.Retypes.{retyped_at}
 use Rattle.pd_boxes.specs.Put.{CanPut}
 use Rattle.pd_boxes.specs.Room.{SameButRoom}
 use Rattle.pd_putting_law.specs.Puts.{put_at}
-use Rattle.pd_shift_law.specs.Shifts.{shifted_at}
+use Rattle.pd_shifted_law.specs.Shifts.{shifted_at}
 use Rattle.pd_put_law.proofs.OwnerLemmas.{room_own}
 use Rattle.pd_put_law.proofs.RoomLemmas as room
 use Rattle.pd_put_law.proofs.WrittenLemmas.{room_contents}

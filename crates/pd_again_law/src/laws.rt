@@ -21,7 +21,8 @@ pub fn saves_open_again()
     pd_take_law::boxes_go_from_trees();
     pd_take_law::counts_follow_deletes();
     pd_take_law::shorter_documents_can_be_saved();
-    pd_shift_law::trees_follow_moves();
+    pd_shifted_law::trees_follow_moves();
+    pd_shifted_law::names_follow_moves();
     pd_shift_law::wires_follow_moves();
     pd_shift_law::moved_trees_grow_again();
     pd_shift_law::moved_documents_can_be_saved();
@@ -49,7 +50,8 @@ pub fn stages_open_again()
     pd_take_law::boxes_go_from_trees();
     pd_take_law::counts_follow_deletes();
     pd_take_law::shorter_documents_can_be_saved();
-    pd_shift_law::trees_follow_moves();
+    pd_shifted_law::trees_follow_moves();
+    pd_shifted_law::names_follow_moves();
     pd_shift_law::wires_follow_moves();
     pd_shift_law::moved_trees_grow_again();
     pd_shift_law::moved_documents_can_be_saved();

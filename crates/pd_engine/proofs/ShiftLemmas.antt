@@ -5,7 +5,7 @@ use Rattle.pd_tree.specs.Trees.{Cell, Trees, Done, Leaf, Holder, Tree}
 use Rattle.pd_grove.specs.TextOrder.{deep, is_sub, Placed, placed, placed_in_order}
 use Rattle.pd_regrowth_law.specs.Canvases.{canvas_with}
 use Rattle.pd_putting_law.specs.Puts.{change_inside, change_at}
-use Rattle.pd_shift_law.specs.Shifts.{cell_at, boxes_shifted, shifted_box, shifted_at}
+use Rattle.pd_shifted_law.specs.Shifts.{cell_at, boxes_shifted, shifted_box, shifted_at}
 use Rattle.pd_engine.proofs.PutLemmas.{all_append, all_split}
 
 -- ---- canvases lie as deep

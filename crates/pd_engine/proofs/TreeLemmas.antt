@@ -69,10 +69,10 @@ use Rattle.pd_retyping_law.specs.Retypes.{retyped_at}
 use Rattle.pd_retyping_law.specs.Retyping.{RetypesBoxAt, cell_in}
 use Rattle.pd_retyping_law.proofs.CountLemmas.{weight_same as weight_retyped}
 use Rattle.pd_retyping_law.proofs.StandLemmas.{grove_retyped}
-use Rattle.pd_shift_law.specs.Shifts.{cell_at, shifted_at}
-use Rattle.pd_shift_law.proofs.CountLemmas.{weight_same}
-use Rattle.pd_shift_law.proofs.OwnerLemmas.{owned_placed, owners_stay}
-use Rattle.pd_shift_law.proofs.StandLemmas.{grove_shifted}
+use Rattle.pd_shifted_law.specs.Shifts.{cell_at, shifted_at}
+use Rattle.pd_shifted_law.proofs.CountLemmas.{weight_same}
+use Rattle.pd_shifted_law.proofs.OwnerLemmas.{owned_placed, owners_stay}
+use Rattle.pd_shifted_law.proofs.StandLemmas.{grove_shifted}
 use Rattle.pd_engine.proofs.CameLemmas.{CameIn, came_in, leads, low as low_here, own_steady}
 use Rattle.pd_engine.proofs.LessLemmas.{all_taken, box_weight, deep_taken, weight_alone, weight_out, weight_taken}
 use Rattle.pd_engine.proofs.PartLemmas.{part_weight}

@@ -23,7 +23,7 @@ use Rattle.pd_putting_law.proofs.WithinLemmas.{path_within, inside_levels, aroun
 use Rattle.pd_putting_law.proofs.AgainLemmas.{canvas_regrows, change_stands}
 use Rattle.pd_shifting.specs.Moves.{MovesBox}
 use Rattle.pd_shifting.proofs.MoveLemmas.{is_moving}
-use Rattle.pd_shift_law.specs.Shifts.{cell_at, boxes_shifted, shifted_box, shifted_at}
+use Rattle.pd_shifted_law.specs.Shifts.{cell_at, boxes_shifted, shifted_box, shifted_at}
 use Rattle.pd_shift_law.proofs.ProperLemmas.{head_at, AreMoved, CanvasMoved, boxes_moved, nest_moved, moved_proper}
 
 -- the boxes before that of a number, that box as it is and at another place, and those behind

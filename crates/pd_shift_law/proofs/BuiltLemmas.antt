@@ -15,7 +15,7 @@ use Rattle.pd_patch.specs.Built.{IsBuilt}
 use Rattle.pd_boxes.specs.Put.{CanPut}
 use Rattle.pd_shifting.specs.Moves.{MovesBox}
 use Rattle.pd_shifting.proofs.MoveLemmas.{is_moving, no_spot, still_put, told_as}
-use Rattle.pd_shift_law.proofs.OwnerLemmas.{owners_stay}
+use Rattle.pd_shifted_law.proofs.OwnerLemmas.{owners_stay}
 
 board_placed : (x y : ℤ) (o : Option Node) → board_in (option_map (at_place x y) o) ≡ board_in o
 board_placed x y None = refl

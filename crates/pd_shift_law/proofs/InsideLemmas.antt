@@ -33,8 +33,8 @@ use Rattle.pd_proper_law.specs.Saves.{is_written, form_of, IsWritten}
 use Rattle.pd_putting_law.specs.Puts.{change_inside}
 use Rattle.pd_shifting.specs.Moves.{MovesBox}
 use Rattle.pd_shifting.proofs.MoveLemmas.{is_moving}
-use Rattle.pd_shift_law.specs.Shifts.{boxes_shifted, shifted_at}
-use Rattle.pd_shift_law.proofs.OwnerLemmas.{told_as}
+use Rattle.pd_shifted_law.specs.Shifts.{boxes_shifted, shifted_at}
+use Rattle.pd_shifted_law.proofs.OwnerLemmas.{told_as}
 
 -- ---- canvases of a tree to which paths lead through abstractions
 

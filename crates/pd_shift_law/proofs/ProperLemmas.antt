@@ -15,7 +15,7 @@ use Rattle.pd_grove.specs.Standing.{NodeSeen, node_seen, Stands}
 use Rattle.pd_regrowth_law.specs.Canvases.{Nest, Alone, Inside, nested, AreSubpatches}
 use Rattle.pd_regrowth_law.specs.Suits.{TextsOf}
 use Rattle.pd_shifting.specs.Moves.{is_array_in}
-use Rattle.pd_shift_law.specs.Shifts.{boxes_shifted}
+use Rattle.pd_shifted_law.specs.Shifts.{boxes_shifted}
 
 -- ---- one box
 

@@ -2,20 +2,15 @@
 
 ghost use Rattle.std.specs.Prelude.{◌≡◌, ℕ, ℤ, List, Option};
 ghost use Rattle.pd_atom.specs.Names.{Names};
-ghost use Rattle.pd_canvas.specs.Edits.{edited};
-ghost use Rattle.pd_canvas.specs.Paths.{edit_at};
 ghost use Rattle.pd_canvas.specs.Proper.{IsProper};
-ghost use Rattle.pd_canvas.specs.declared.edits.Edit.TheVariants as edit;
 ghost use Rattle.pd_clock.specs.declared.times.Rate.{Rate};
 ghost use Rattle.pd_library.specs.declared.answers.Answer.{Answer};
-ghost use Rattle.pd_tree.specs.Trees.{Tree, weight, zeros_of, document_in};
+ghost use Rattle.pd_tree.specs.Trees.{Tree, document_in};
 ghost use Rattle.pd_web.specs.Changes.{wires_told, Meet};
 ghost use Rattle.pd_patch.specs.declared.patch.Patch.{Patch};
 ghost use Rattle.pd_patch.specs.Built.{IsBuilt};
-ghost use Rattle.pd_patch.specs.Document.{present_document};
-ghost use Rattle.pd_patch.specs.Sounds.{sound_of};
 ghost use Rattle.pd_hearing.specs.Worlds.{states_of};
-ghost use Rattle.pd_boxes.specs.Put.{CanPut, HasOwners};
+ghost use Rattle.pd_boxes.specs.Put.{CanPut};
 ghost use Rattle.pd_adding.specs.Coming.{own_zero};
 ghost use Rattle.pd_reload_law.specs.Reloading.{RunsAs};
 ghost use Rattle.pd_saved_law.specs.Fitting.{WiresFit};
@@ -25,25 +20,9 @@ ghost use Rattle.pd_contents_law.specs.Contents.{HaveContents, counts_of};
 ghost use Rattle.pd_proper_law.specs.Saves.{IsWritten};
 ghost use Rattle.pd_putting_law.specs.Again.{StandsAgain};
 ghost use Rattle.pd_shifting.specs.Moves.{MovesBox};
-ghost use Rattle.pd_shift_law.specs.Shifts.{shifted_at};
+ghost use Rattle.pd_shifted_law.specs.Shifts.{shifted_at};
 
-/// Where an edit moved a box, the document of the patch is the one after the edit.
-pub fn documents_follow_moves()
-    ensures { (old new : Patch) (path : List ℕ) (number : ℕ) (x y : ℤ) (key : ℕ) → MovesBox old new path number x y key → CanPut old →
-        present_document new ≡ edit_at path (edited (edit.Move number x y)) (present_document old) }
-{}
-
-/// The tree that stood stands with the box at its place. It has as many boxes, as many values of tables, arrays and delay lines, and the same
-/// `$0` numbers.
-pub fn trees_follow_moves()
-    ensures runs { (old new : Patch) (path : List ℕ) (number : ℕ) (x y : ℤ) (key : ℕ) (t : Tree) → MovesBox old new path number x y key → CanPut old →
-        RunsAs old.grove t → RunsAs new.grove (shifted_at path number x y t) }
-    ensures boxes { (path : List ℕ) (number : ℕ) (x y : ℤ) (t : Tree) → weight (shifted_at path number x y t).boxes ≡ weight t.boxes }
-    ensures sound { (rate : Rate) (path : List ℕ) (number : ℕ) (x y : ℤ) (t : Tree) → sound_of rate (shifted_at path number x y t).boxes ≡ sound_of rate t.boxes }
-    ensures zeros { (path : List ℕ) (number : ℕ) (x y : ℤ) (t : Tree) → zeros_of (shifted_at path number x y t) ≡ zeros_of t }
-{}
-
-/// The wires are those that there were: they meet and fit. Each name has its owners, and the patch's own document its `$0`.
+/// The wires are those that there were: they meet and fit. The patch's own document has its `$0`.
 pub fn wires_follow_moves()
     ensures wires { (old new : Patch) (path : List ℕ) (number : ℕ) (x y : ℤ) (key : ℕ) → MovesBox old new path number x y key →
         wires_told new.web ≡ wires_told old.web }
@@ -51,8 +30,6 @@ pub fn wires_follow_moves()
         Meet old.web → Meet new.web }
     ensures fit { (old new : Patch) (path : List ℕ) (number : ℕ) (x y : ℤ) (key : ℕ) → MovesBox old new path number x y key →
         WiresFit old → WiresFit new }
-    ensures owners { (old new : Patch) (path : List ℕ) (number : ℕ) (x y : ℤ) (key : ℕ) (table : Names) (file : List ℕ) → MovesBox old new path number x y key →
-        HasOwners old table file → HasOwners new table file }
     ensures zero { (old new : Patch) (path : List ℕ) (number : ℕ) (x y : ℤ) (key : ℕ) → MovesBox old new path number x y key →
         own_zero new ≡ own_zero old }
 {}

@@ -3,7 +3,6 @@ use Rattle.slab.specs.Slab.{Slab, get}
 use Rattle.pd_adding.specs.Coming.{zero_in}
 use Rattle.pd_grove.specs.declared.boards.Board.{Board}
 use Rattle.pd_web.specs.Changes.{wires_told, Meet}
-use Rattle.pd_shift_law.proofs.OwnerLemmas.{owners_stay}
 use Rattle.pd_shift_law.proofs.laws.wires_follow_moves.Goals as goal
 
 pub returns-clause-wires : goal.returns-clause-wires
@@ -14,9 +13,6 @@ returns-clause-meet c = λ old new path number x y key M meet. subst Meet (sym M
 
 pub returns-clause-fit : goal.returns-clause-fit
 returns-clause-fit c = λ old new path number x y key M F. record { all = λ canvas. rw (M.rest.web, M.rest.numbers, M.box.boards) (F.all canvas) }
-
-pub returns-clause-owners : goal.returns-clause-owners
-returns-clause-owners c = λ old new path number x y key table file M H. owners_stay old new path number x y key table file M H
 
 pub returns-clause-zero : goal.returns-clause-zero
 returns-clause-zero c = λ old new path number x y key M.

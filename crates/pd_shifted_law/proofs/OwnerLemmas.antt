@@ -25,7 +25,7 @@ use Rattle.pd_bind.specs.Owning.{is_owned, owned_at, boxes_owning, root_owning, 
 use Rattle.pd_patch.specs.declared.patch.Patch.{Patch}
 use Rattle.pd_boxes.specs.Put.{HasOwners}
 use Rattle.pd_shifting.specs.Moves.{MovesBox}
-use Rattle.pd_shift_law.specs.Shifts.{cell_at}
+use Rattle.pd_shifted_law.specs.Shifts.{cell_at}
 
 spots_placed : (boards : ℕ → Option Board) (inside : Bool → List ℕ → List Spot) (top : Bool) (k : ℕ) (x y : ℤ) (o : Option Node)
     → box_spots boards inside top k (option_map (at_place x y) o) ≡ box_spots boards inside top k o

@@ -5,7 +5,7 @@ use Rattle.pd_tree.specs.Trees.{Trees, Done, Leaf, Holder, Tree, weight, zeros_i
 use Rattle.pd_patch.specs.Sounds.{sound_of}
 use Rattle.pd_regrowth_law.specs.Canvases.{canvas_with}
 use Rattle.pd_putting_law.specs.Puts.{change_inside, change_at}
-use Rattle.pd_shift_law.specs.Shifts.{boxes_shifted, shifted_box, shifted_at}
+use Rattle.pd_shifted_law.specs.Shifts.{boxes_shifted, shifted_box, shifted_at}
 
 -- what is counted of boxes, whatever places they have
 pub record CountsAlike (t u : Trees) : Type 0 where

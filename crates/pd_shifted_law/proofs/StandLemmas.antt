@@ -31,8 +31,8 @@ use Rattle.pd_putting_law.proofs.PathLemmas.{Forest, subs, sub_leads, LeadsNot, 
 use Rattle.pd_putting_law.proofs.StandLemmas.{seen_inner, CanvasAt, keys_are, AreAside, AreBeside, aside_next, beside_first, beside_next, beside_here, aside_inside, aside_here, beside_on, deep_within}
 use Rattle.pd_shifting.specs.Moves.{MovesBox}
 use Rattle.pd_shifting.proofs.MoveLemmas.{forest_as, is_moving, no_spot}
-use Rattle.pd_shift_law.specs.Shifts.{cell_at, boxes_shifted, shifted_box, shifted_at}
-use Rattle.pd_shift_law.proofs.PageLemmas.{elsewhere, beside}
+use Rattle.pd_shifted_law.specs.Shifts.{cell_at, boxes_shifted, shifted_box, shifted_at}
+use Rattle.pd_shifted_law.proofs.PageLemmas.{elsewhere, beside}
 
 seen_moved : (x y : ℤ) (o : Option Node) (z : NodeSeen) → option_map node_seen o ≡ Some z
     → option_map node_seen (option_map (at_place x y) o) ≡ Some (record { board = z.board; cell = cell_at x y z.cell; inner = z.inner })

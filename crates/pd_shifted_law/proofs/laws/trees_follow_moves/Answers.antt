@@ -1,6 +1,6 @@
-use Rattle.pd_shift_law.proofs.CountLemmas.{tree_counts, weight_same, zeros_same}
-use Rattle.pd_shift_law.proofs.StandLemmas.{runs_shifted}
-use Rattle.pd_shift_law.proofs.laws.trees_follow_moves.Goals as goal
+use Rattle.pd_shifted_law.proofs.CountLemmas.{tree_counts, weight_same, zeros_same}
+use Rattle.pd_shifted_law.proofs.StandLemmas.{runs_shifted}
+use Rattle.pd_shifted_law.proofs.laws.trees_follow_moves.Goals as goal
 
 pub returns-clause-runs : goal.returns-clause-runs
 returns-clause-runs c = λ old new path number x y key t M C R. runs_shifted old new path number x y key t M C R

@@ -1,0 +1,4 @@
+pub mod CountLemmas
+pub mod OwnerLemmas
+pub mod PageLemmas
+pub mod StandLemmas
