@@ -1,9 +1,11 @@
 -- A wire that came into a patch with more room, told of the patch as it was.
 use Rattle.std.proofs.Common.{arith, ◌≡◌, ◌+◌, ℕ, List, length, refl, sym, ap, ◌∙◌, subst}
-use Rattle.std.specs.Prelude.{Some}
+use Rattle.std.specs.Prelude.{Option, Some}
+use Rattle.std.specs.declared.vec.Vec.{Vec}
 use Rattle.std.specs.List.{insert}
 use Rattle.std.proofs.lemmas.List.{length-map}
 use Rattle.slab.specs.Slab.{get}
+use Rattle.pd_order.specs.Listing.{Listing}
 use Rattle.pd_grove.specs.declared.grove.Grove.{Grove}
 use Rattle.pd_grove.specs.Owning.{board_in}
 use Rattle.pd_web.specs.declared.lines.Line.{Line}
@@ -13,7 +15,8 @@ use Rattle.pd_web.specs.Changes.{hop_at, IsSame, KeepsRoom, Joins}
 use Rattle.pd_web.specs.Hops.{fan_keys, feed_hops, hop_to}
 use Rattle.pd_seek.specs.Places.{IsPlace}
 use Rattle.pd_patch.specs.declared.patch.Patch.{Patch}
-use Rattle.pd_wiring.specs.Changes.{CanRewire, SameButRoom, StaysButWire, StaysBuilt}
+use Rattle.pd_patch.specs.Telling.{order_in}
+use Rattle.pd_wiring.specs.Changes.{CanRewire, SameButRoom, SamePlaces, StaysButWire, StaysBuilt}
 use Rattle.pd_wiring.specs.Plans.{Attached}
 
 fan_length : (w m : Web) (k o : ℕ) → IsSame w m → length (fan_keys m k o) ≡ length (fan_keys w k o)
@@ -51,6 +54,7 @@ stays_same p m q source S T = record {
   rate = T.rate ∙ S.rate;
   present = T.present ∙ S.present;
   orders = λ c differ. T.orders c (λ e. differ (subst (λ (g : Grove). board_in (get g.nodes source) ≡ Some c) S.grove e)) ∙ rw S.orders refl;
+  places = λ c. subst (λ (v : Vec (Option Listing)). SamePlaces (order_in v.items c) (order_in q.orders.items c)) S.orders (T.places c);
 }
 
 pub attached_same : (p m q : Patch) (l : Line) (key place : ℕ) → SameButRoom p m → KeepsRoom p.web m.web → StaysBuilt p m → IsPlace m.numbers.items l (feed_hops m.web l.sink l.inlet) place

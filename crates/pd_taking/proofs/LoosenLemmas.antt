@@ -27,6 +27,7 @@ use Rattle.pd_patch.specs.Listing.{IsThere}
 use Rattle.pd_patch.specs.Telling.{order_in}
 use Rattle.pd_wiring.specs.Changes.{is_signal_line, graph_in, most_mending, CanRewire, LeadsAlong}
 use Rattle.pd_wiring.specs.Plans.{Detaches, Detached, most_looks}
+use Rattle.pd_wiring.proofs.PlaceLemmas.{places_none, places_on}
 use Rattle.pd_wiring.proofs.WebLemmas.{line_inside}
 use Rattle.pd_taking.specs.Loosening.{hops_at, line_at, AreGone, Gone, IsAt, Loosens, looks_for}
 use Rattle.pd_taking.proofs.LoseLemmas.{IsWeb, cut_loses, loses_none, loses_on}
@@ -94,7 +95,7 @@ loosens_none p box looks R meet = record {
   looks = λ c lies. omega arith;
   count = omega arith;
   web = loses_none p.web box meet;
-  rest = record { grove = refl; names = refl; timers = refl; numbers = refl; values = refl; rate = refl; present = refl; orders = λ c d. refl };
+  rest = record { grove = refl; names = refl; timers = refl; numbers = refl; values = refl; rate = refl; present = refl; orders = λ c d. refl; places = λ c. places_none (order_in p.orders.items c) };
   rewires = R;
   built = λ names file rate b. b;
 }
@@ -147,6 +148,7 @@ module _ (p q r : Patch) (box key : ℕ) (l : Line) (s s' s'' : ℕ) (L : Loosen
           rate = S.rate ∙ L.rest.rate;
           present = S.present ∙ L.rest.present;
           orders = λ c d. S.orders c (λ e. d (ap (λ (g : Grove). board_in (get g.nodes box)) (sym L.rest.grove) ∙ sym (same_canvas q box key l L.rewires at A) ∙ e)) ∙ L.rest.orders c d;
+          places = λ c. places_on (order_in p.orders.items c) (order_in q.orders.items c) (order_in r.orders.items c) (L.rest.places c) (S.places c);
         };
         rewires = D.done.rewires;
         built = λ names file rate b. D.done.built names file rate (L.built names file rate b);
@@ -212,6 +214,7 @@ loosens_on p q r box s s' s'' L M =
         rate = S.rate ∙ L.rest.rate;
         present = S.present ∙ L.rest.present;
         orders = λ c d. S.orders c (λ e. d (ap board_in (sym same) ∙ e)) ∙ L.rest.orders c d;
+        places = λ c. places_on (order_in p.orders.items c) (order_in q.orders.items c) (order_in r.orders.items c) (L.rest.places c) (S.places c);
       };
       rewires = M.rewires;
       built = λ names file rate b. M.built names file rate (L.built names file rate b);

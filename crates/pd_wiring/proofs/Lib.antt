@@ -6,6 +6,7 @@ pub mod WebLemmas
 pub mod BuiltLemmas
 pub mod EditLemmas
 pub mod SlotLemmas
+pub mod PlaceLemmas
 pub mod FeedLemmas
 pub mod AlikeLemmas
 pub mod AskingLemmas

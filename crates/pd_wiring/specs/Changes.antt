@@ -1,5 +1,5 @@
 -- A running patch with one wire more or less.
-use Rattle.std.specs.Prelude.{◌≡◌, ◌≢◌, ◌+◌, ◌*◌, ℕ, Bool, ◌&&◌, List, Option, Some, None, slice_get, option_map}
+use Rattle.std.specs.Prelude.{◌≡◌, ◌≢◌, ◌+◌, ◌*◌, ℕ, Bool, ◌&&◌, List, length, Option, Some, None, slice_get, option_map}
 use Rattle.slab.specs.Slab.{get}
 use Rattle.pd_atom.specs.Names.{Names}
 use Rattle.pd_clock.specs.declared.times.Rate.{Rate}
@@ -76,7 +76,18 @@ pub record SameButRoom (old new : Patch) : Type 0 where
   pub rate : new.rate ≡ old.rate
   pub present : new.present ≡ old.present
 
--- what stays where a wire of this box came or went: all but wires, links and the order of the box's canvas
+-- an order has as many boxes as it had, and room for as many
+pub record HasSamePlaces (old new : Listing) : Type 0 where
+  pub spots : length new.spots ≡ length old.spots
+  pub room : new.room ≡ old.room
+
+abbrev pub SamePlaces : Option Listing → Option Listing → Type 0
+SamePlaces None o = o ≡ None
+SamePlaces (Some old) None = ⊥
+SamePlaces (Some old) (Some new) = HasSamePlaces old new
+
+-- what stays where a wire of this box came or went: all but wires, links and the order of the box's canvas, which keeps
+-- its room
 pub record StaysButWire (old new : Patch) (source : ℕ) : Type 0 where
   pub grove : new.grove ≡ old.grove
   pub names : new.names ≡ old.names
@@ -86,6 +97,7 @@ pub record StaysButWire (old new : Patch) (source : ℕ) : Type 0 where
   pub rate : new.rate ≡ old.rate
   pub present : new.present ≡ old.present
   pub orders : (c : ℕ) → board_in (get old.grove.nodes source) ≢ Some c → order_in new.orders.items c ≡ order_in old.orders.items c
+  pub places : (c : ℕ) → SamePlaces (order_in old.orders.items c) (order_in new.orders.items c)
 
 -- the wire of this key leads along the line
 pub record LeadsAlong (w : Web) (key : ℕ) (l : Line) : Type 0 where

@@ -6,10 +6,10 @@
 //! Neither can fail. They ask of the patch what edits of wires rest on (`CanRewire`) and keep it; neither what boxes
 //! keep nor names, clocks or blocks are part of that (`rewiring_asks_alike`), and a patch that runs has it
 //! (`patches_that_run_rewire`), so that wires can be changed while a message is under way. Every other wire and key,
-//! every box and what it keeps, the names, the clocks, the blocks and the orders of the other canvases stay
-//! (`StaysButWire`), and a patch that runs goes on to be one (`IsBuilt`): the links are the signal wires, and each
-//! canvas has the order that it has from nothing. Where the wire carries no signal no look is taken; else at most as
-//! many as mending the order of its canvas takes (`most_mending`).
+//! every box and what it keeps, the names, the clocks, the blocks and the orders of the other canvases stay, and each
+//! order keeps its room (`StaysButWire`). A patch that runs goes on to be one (`IsBuilt`): the links are the signal
+//! wires, and each canvas has the order that it has from nothing. Where the wire carries no signal no look is taken;
+//! else at most as many as mending the order of its canvas takes (`most_mending`).
 //!
 //! `line_of` gives the line by keys of a wire that is told by numbers of boxes, or the first reason why it can't be
 //! put in; `line_there` does the same whether the wire fits or not. What an edit of wires comes to, which wire comes

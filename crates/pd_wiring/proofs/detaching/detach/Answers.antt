@@ -4,6 +4,8 @@ use Rattle.pd_web.specs.declared.web.Web.{Web}
 use Rattle.pd_web.specs.Changes.{CutsWire}
 use Rattle.pd_wiring.proofs.WebLemmas.{HasLaws, line_here, line_inside}
 use Rattle.pd_wiring.specs.Changes.{CanRewire, StaysButWire}
+use Rattle.pd_patch.specs.Telling.{order_in}
+use Rattle.pd_wiring.proofs.PlaceLemmas.{places_none}
 use Rattle.pd_wiring.proofs.EditLemmas.{orders_linked, stays_built, sink_sounds, linked_from, linked_into, detach_wired, detach_signal, detach_control}
 use Rattle.pd_wiring.proofs.detaching.detach.Goals as goal
 
@@ -45,21 +47,21 @@ pub unlink-requires-clause-orders : goal.unlink-requires-clause-orders
 unlink-requires-clause-orders g c = orders_linked c.args.patch.now c.requires.runs
 
 pub returns-then-not-signal-clause-rest : goal.returns-then-not-signal-clause-rest
-returns-then-not-signal-clause-rest g c = record { grove = refl; names = refl; timers = refl; numbers = refl; values = refl; rate = refl; present = refl; orders = λ k differ. refl }
+returns-then-not-signal-clause-rest g c = record { grove = refl; names = refl; timers = refl; numbers = refl; values = refl; rate = refl; present = refl; orders = λ k differ. refl; places = λ k. places_none (order_in c.args.patch.now.orders.items k) }
 
 pub returns-then-not-signal-clause-rewires : goal.returns-then-not-signal-clause-rewires
 returns-then-not-signal-clause-rewires g c =
     let p = c.args.patch.now in
     let laws : HasLaws p.web = record { fans = c.laws.ensures.fans; once = c.laws.ensures.once } in
     detach_control p c.cut.new.self c.args.line c.args.key laws c.requires.wire c.cut.ensures (record p { web = c.cut.new.self }) (sym c.is_signal_line-signal.ensures ∙ c.if-not-signal.true)
-    (record { grove = refl; names = refl; timers = refl; numbers = refl; values = refl; rate = refl; present = refl; orders = λ k differ. refl }) refl refl refl c.requires.runs
+    (record { grove = refl; names = refl; timers = refl; numbers = refl; values = refl; rate = refl; present = refl; orders = λ k differ. refl; places = λ k. places_none (order_in c.args.patch.now.orders.items k) }) refl refl refl c.requires.runs
 
 pub returns-then-not-signal-clause-built : goal.returns-then-not-signal-clause-built
 returns-then-not-signal-clause-built g c =
     let p = c.args.patch.now in
     let laws : HasLaws p.web = record { fans = c.laws.ensures.fans; once = c.laws.ensures.once } in
     let S : StaysButWire p (record p { web = c.cut.new.self }) c.args.line.source =
-    record { grove = refl; names = refl; timers = refl; numbers = refl; values = refl; rate = refl; present = refl; orders = λ k differ. refl } in
+    record { grove = refl; names = refl; timers = refl; numbers = refl; values = refl; rate = refl; present = refl; orders = λ k differ. refl; places = λ k. places_none (order_in c.args.patch.now.orders.items k) } in
     stays_built p (record p { web = c.cut.new.self }) c.cut.new.self c.args.line.source S refl c.cut.ensures.kept
     (λ (b : CanRewire p). detach_control p c.cut.new.self c.args.line c.args.key laws c.requires.wire c.cut.ensures (record p { web = c.cut.new.self }) (sym c.is_signal_line-signal.ensures ∙ c.if-not-signal.true) S refl refl refl b)
 
@@ -72,7 +74,7 @@ returns-clause-cuts g c = subst (λ (x : Web). CutsWire c.args.patch.now.web x c
 pub returns-clause-rest : goal.returns-clause-rest
 returns-clause-rest g c =
     let r = c.unlink.ensures.rest in
-    record { grove = r.grove; names = r.names; timers = r.timers; numbers = r.numbers; values = r.values; rate = r.rate; present = r.present; orders = r.orders }
+    record { grove = r.grove; names = r.names; timers = r.timers; numbers = r.numbers; values = r.values; rate = r.rate; present = r.present; orders = r.orders; places = r.places }
 
 pub returns-clause-rewires : goal.returns-clause-rewires
 returns-clause-rewires g c =
@@ -80,7 +82,7 @@ returns-clause-rewires g c =
     let laws : HasLaws p.web = record { fans = c.laws.ensures.fans; once = c.laws.ensures.once } in
     let r = c.unlink.ensures.rest in
     detach_signal p c.cut.new.self c.args.line c.args.key laws c.requires.wire c.cut.ensures c.unlink.new.patch (sym c.is_signal_line-signal.ensures ∙ c.if-not-signal.false)
-    (record { grove = r.grove; names = r.names; timers = r.timers; numbers = r.numbers; values = r.values; rate = r.rate; present = r.present; orders = r.orders })
+    (record { grove = r.grove; names = r.names; timers = r.timers; numbers = r.numbers; values = r.values; rate = r.rate; present = r.present; orders = r.orders; places = r.places })
     c.unlink.ensures.web c.unlink.ensures.links c.unlink.ensures.orders c.requires.runs
 
 pub returns-clause-built : goal.returns-clause-built
@@ -88,7 +90,7 @@ returns-clause-built g c =
     let p = c.args.patch.now in
     let laws : HasLaws p.web = record { fans = c.laws.ensures.fans; once = c.laws.ensures.once } in
     let r = c.unlink.ensures.rest in
-    let S : StaysButWire p c.unlink.new.patch c.args.line.source = record { grove = r.grove; names = r.names; timers = r.timers; numbers = r.numbers; values = r.values; rate = r.rate; present = r.present; orders = r.orders } in
+    let S : StaysButWire p c.unlink.new.patch c.args.line.source = record { grove = r.grove; names = r.names; timers = r.timers; numbers = r.numbers; values = r.values; rate = r.rate; present = r.present; orders = r.orders; places = r.places } in
     stays_built p c.unlink.new.patch c.cut.new.self c.args.line.source S c.unlink.ensures.web c.cut.ensures.kept
     (λ (b : CanRewire p). detach_signal p c.cut.new.self c.args.line c.args.key laws c.requires.wire c.cut.ensures c.unlink.new.patch (sym c.is_signal_line-signal.ensures ∙ c.if-not-signal.false) S c.unlink.ensures.web c.unlink.ensures.links c.unlink.ensures.orders b)
 

@@ -23,4 +23,4 @@ returns-clause-links g c =
 pub returns-clause-rest : goal.returns-clause-rest
 returns-clause-rest g c =
     let r = c.mend_canvas.ensures.rest in
-    record { grove = r.grove; names = r.names; timers = r.timers; numbers = r.numbers; values = r.values; rate = r.rate; present = r.present; orders = r.orders }
+    record { grove = r.grove; names = r.names; timers = r.timers; numbers = r.numbers; values = r.values; rate = r.rate; present = r.present; orders = r.orders; places = r.places }

@@ -8,7 +8,7 @@ use Rattle.pd_order.specs.Listing.{Listing}
 use Rattle.pd_grove.specs.Owning.{board_in}
 use Rattle.pd_patch.specs.Telling.{order_in}
 use Rattle.pd_wiring.specs.Graphs.{lies_in, canvas_graph, signal_boxes, graph_before, graph_with, IsOrderIn, AreOrderedBy}
-use Rattle.pd_wiring.specs.Changes.{most_mending}
+use Rattle.pd_wiring.specs.Changes.{most_mending, SamePlaces}
 use Rattle.pd_wiring.proofs.GraphLemmas.{lies_there, signal_there, canvas_lawful}
 use Rattle.pd_wiring.proofs.MendLemmas.{order_before, each_mended, sink_there}
 use Rattle.pd_wiring.proofs.link.mend_canvas.Goals as goal
@@ -69,6 +69,8 @@ returns-clause-rest g c =
       orders = λ k differ. ap (λ (os : List (Option Listing)). order_in os k) same
           ∙ c.mend.ensures.others k (λ e. differ (told ∙ ap (λ (n : ℕ). Some n) (sym e)))
           ∙ ap (λ (os : List (Option Listing)). order_in os k) c.as_mut_slice.ensures.value;
+      places = λ k. subst (λ (os : List (Option Listing)). SamePlaces (order_in F.items k) (order_in os k)) (sym same)
+          (subst (λ (os : List (Option Listing)). SamePlaces (order_in os k) (order_in c.mend.new.orders k)) c.as_mut_slice.ensures.value (c.mend.ensures.places k));
     }
 
 pub returns-clause-looks : goal.returns-clause-looks

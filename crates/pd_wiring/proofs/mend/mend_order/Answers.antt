@@ -6,6 +6,7 @@ use Rattle.pd_wiring.specs.declared.mend.Change.{Change}
 use Rattle.pd_wiring.specs.Graphs.{canvas_graph, signal_boxes, graph_before, graph_with}
 use Rattle.pd_wiring.specs.Changes.{mending}
 use Rattle.pd_wiring.proofs.MendLemmas.{spots_are, lawful_nodes, there_nodes}
+use Rattle.pd_wiring.proofs.PlaceLemmas.{places_of}
 use Rattle.pd_wiring.proofs.mend.mend_order.Goals as goal
 
 pub mend_add-requires-clause-lawful : goal.mend_add-requires-clause-lawful
@@ -64,6 +65,9 @@ returns-in-Came-clause-order g c =
     let n = c.mend_add.new.self in
     order_nodes G (nodes_of o.spots) ns n.chain n.stuck (λ x. sym (spots_are (graph_before c.args.change G c.args.wire) ns o c.requires.order c.laws.ensures.listed x)) c.mend_add.ensures.order
 
+pub returns-in-Came-clause-places : goal.returns-in-Came-clause-places
+returns-in-Came-clause-places g c = places_of c.args.order.now c.mend_add.new.self c.mend_add.ensures.nodes c.mend_add.ensures.room
+
 pub returns-in-Came-clause-looks : goal.returns-in-Came-clause-looks
 returns-in-Came-clause-looks g c =
     let s = c.args.graph.now in
@@ -78,6 +82,9 @@ returns-in-Went-clause-order g c =
     let o = c.args.order.now in
     let n = c.mend_cut.new.self in
     order_nodes G (nodes_of o.spots) ns n.chain n.stuck (λ x. sym (spots_are (graph_before c.args.change G c.args.wire) ns o c.requires.order c.laws.ensures.listed x)) c.mend_cut.ensures.order
+
+pub returns-in-Went-clause-places : goal.returns-in-Went-clause-places
+returns-in-Went-clause-places g c = places_of c.args.order.now c.mend_cut.new.self c.mend_cut.ensures.nodes c.mend_cut.ensures.room
 
 pub returns-in-Went-clause-looks : goal.returns-in-Went-clause-looks
 returns-in-Went-clause-looks g c =

@@ -4,6 +4,8 @@ use Rattle.pd_web.specs.Hops.{fan_keys, feed_hops}
 use Rattle.pd_web.specs.Changes.{Joins}
 use Rattle.pd_seek.specs.Places.{IsPlace}
 use Rattle.pd_wiring.specs.Changes.{CanRewire, StaysButWire}
+use Rattle.pd_patch.specs.Telling.{order_in}
+use Rattle.pd_wiring.proofs.PlaceLemmas.{places_none}
 use Rattle.pd_wiring.proofs.EditLemmas.{orders_linked, stays_built, was_signal, sink_sounds, attach_wired, attach_signal, attach_control}
 use Rattle.pd_wiring.proofs.rejoining.attach_before.Goals as goal
 
@@ -45,7 +47,7 @@ returns-then-is_signal_line-clause-joins g c = λ fan_place stands.
 pub returns-then-is_signal_line-clause-rest : goal.returns-then-is_signal_line-clause-rest
 returns-then-is_signal_line-clause-rest g c =
     let r = c.link.ensures.rest in
-    record { grove = r.grove; names = r.names; timers = r.timers; numbers = r.numbers; values = r.values; rate = r.rate; present = r.present; orders = r.orders }
+    record { grove = r.grove; names = r.names; timers = r.timers; numbers = r.numbers; values = r.values; rate = r.rate; present = r.present; orders = r.orders; places = r.places }
 
 pub returns-then-is_signal_line-clause-rewires : goal.returns-then-is_signal_line-clause-rewires
 returns-then-is_signal_line-clause-rewires g c =
@@ -56,7 +58,7 @@ returns-then-is_signal_line-clause-rewires g c =
     let r = c.link.ensures.rest in
     attach_signal p c.rejoin-key.new.self c.args.line c.rejoin-key.result n.0 at.0 c.requires.route J c.requires.together c.link.new.patch
     (sym c.is_signal_line.ensures ∙ c.if-is_signal_line.true)
-    (record { grove = r.grove; names = r.names; timers = r.timers; numbers = r.numbers; values = r.values; rate = r.rate; present = r.present; orders = r.orders })
+    (record { grove = r.grove; names = r.names; timers = r.timers; numbers = r.numbers; values = r.values; rate = r.rate; present = r.present; orders = r.orders; places = r.places })
     c.link.ensures.web c.link.ensures.links c.link.ensures.orders c.requires.runs
 
 pub returns-then-is_signal_line-clause-built : goal.returns-then-is_signal_line-clause-built
@@ -66,7 +68,7 @@ returns-then-is_signal_line-clause-built g c =
     let n = c.requires.before in
     let J = c.rejoin-key.ensures n.0 at.0 n.1 at.1 in
     let r = c.link.ensures.rest in
-    let S : StaysButWire p c.link.new.patch c.args.line.source = record { grove = r.grove; names = r.names; timers = r.timers; numbers = r.numbers; values = r.values; rate = r.rate; present = r.present; orders = r.orders } in
+    let S : StaysButWire p c.link.new.patch c.args.line.source = record { grove = r.grove; names = r.names; timers = r.timers; numbers = r.numbers; values = r.values; rate = r.rate; present = r.present; orders = r.orders; places = r.places } in
     stays_built p c.link.new.patch c.rejoin-key.new.self c.args.line.source S c.link.ensures.web J.kept
     (λ (b : CanRewire p). attach_signal p c.rejoin-key.new.self c.args.line c.rejoin-key.result n.0 at.0 c.requires.route J c.requires.together c.link.new.patch
     (sym c.is_signal_line.ensures ∙ c.if-is_signal_line.true) S c.link.ensures.web c.link.ensures.links c.link.ensures.orders b)
@@ -92,7 +94,7 @@ returns-clause-joins g c = λ fan_place stands.
     (at.0, subst (λ (ns : List ℕ). IsPlace ns l (feed_hops p.web l.sink l.inlet) at.0) c.as_slice.ensures.value at.2, c.rejoin-key.ensures fan_place at.0 stands at.1)
 
 pub returns-clause-rest : goal.returns-clause-rest
-returns-clause-rest g c = record { grove = refl; names = refl; timers = refl; numbers = refl; values = refl; rate = refl; present = refl; orders = λ k differ. refl }
+returns-clause-rest g c = record { grove = refl; names = refl; timers = refl; numbers = refl; values = refl; rate = refl; present = refl; orders = λ k differ. refl; places = λ k. places_none (order_in c.args.patch.now.orders.items k) }
 
 pub returns-clause-rewires : goal.returns-clause-rewires
 returns-clause-rewires g c =
@@ -102,7 +104,7 @@ returns-clause-rewires g c =
     let J = c.rejoin-key.ensures n.0 at.0 n.1 at.1 in
     attach_control p c.rejoin-key.new.self c.args.line c.rejoin-key.result n.0 at.0 c.requires.route J c.requires.together
     (record p { web = c.rejoin-key.new.self }) (sym c.is_signal_line.ensures ∙ c.if-is_signal_line.false)
-    (record { grove = refl; names = refl; timers = refl; numbers = refl; values = refl; rate = refl; present = refl; orders = λ k differ. refl }) refl refl refl c.requires.runs
+    (record { grove = refl; names = refl; timers = refl; numbers = refl; values = refl; rate = refl; present = refl; orders = λ k differ. refl; places = λ k. places_none (order_in c.args.patch.now.orders.items k) }) refl refl refl c.requires.runs
 
 pub returns-clause-built : goal.returns-clause-built
 returns-clause-built g c =
@@ -111,7 +113,7 @@ returns-clause-built g c =
     let n = c.requires.before in
     let J = c.rejoin-key.ensures n.0 at.0 n.1 at.1 in
     let S : StaysButWire p (record p { web = c.rejoin-key.new.self }) c.args.line.source =
-    record { grove = refl; names = refl; timers = refl; numbers = refl; values = refl; rate = refl; present = refl; orders = λ k differ. refl } in
+    record { grove = refl; names = refl; timers = refl; numbers = refl; values = refl; rate = refl; present = refl; orders = λ k differ. refl; places = λ k. places_none (order_in c.args.patch.now.orders.items k) } in
     stays_built p (record p { web = c.rejoin-key.new.self }) c.rejoin-key.new.self c.args.line.source S refl J.kept
     (λ (b : CanRewire p). attach_control p c.rejoin-key.new.self c.args.line c.rejoin-key.result n.0 at.0 c.requires.route J c.requires.together
     (record p { web = c.rejoin-key.new.self }) (sym c.is_signal_line.ensures ∙ c.if-is_signal_line.false) S refl refl refl b)
