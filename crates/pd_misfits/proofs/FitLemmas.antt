@@ -19,7 +19,7 @@ use Rattle.pd_wiring.specs.Changes.{is_signal_line, CanRewire}
 use Rattle.pd_taking.specs.Loosening.{hops_at, line_at}
 use Rattle.pd_refitting.specs.Refits.{jack_with, made_with, TakesWires}
 use Rattle.pd_misfits.specs.declared.wires.BoxWire.{BoxWire}
-use Rattle.pd_misfits.specs.Misfits.{differ, fits_between, is_fit, is_signal_with, misfits, turning, turns}
+use Rattle.pd_misfits.specs.Misfits.{differ, fits_between, is_fit, is_signal_with, misfits, turning, turns, NoneTurns}
 use Rattle.pd_misfits.specs.Shedding.{is_among, is_left, AllFit, IsWired, KeepsFit, Sheds}
 use Rattle.pd_misfits.specs.declared.wires.Fate.TheVariants.{Goes, Turns}
 use Rattle.pd_misfits.proofs.GatherLemmas.{not_so}
@@ -74,7 +74,7 @@ keeps_fit p v canvas key k R meet W here K S = record {
     none true n = absurd (n refl)
     none false n = refl
 
--- Where those that turn are gone too, what is left stays as it is.
+-- Where none that is left turns, it stays as it is.
 
 with_still : (w v : Web) (key : ℕ) (k : Kind) (l : Line) → KeepsPorts w v → is_signal_with v key k l ≡ is_signal_with w key k l
 with_still w v key k l K =
@@ -91,6 +91,17 @@ turns_still w v key k l K =
     ap (λ b. b && differ (is_signal_with v key k l) (is_signal_line v l)) (fits_still w v key k l K)
     ∙ ap (λ b. is_fit w key k l && differ b (is_signal_line v l)) (with_still w v key k l K)
     ∙ ap (λ b. is_fit w key k l && differ (is_signal_with w key k l) b) (line_still w v l K)
+
+-- what is left stays as it is where none that fits turns
+pub fit_taken : (p : Patch) (v : Web) (canvas key : ℕ) (k : Kind) → CanRewire p → Meet p.web → IsWired p.web → IsThere (keys_at p.grove canvas) key → NoneTurns p.web key k
+    → KeepsPorts p.web v → Sheds p.web v (misfits p canvas key k) → TakesWires v key k
+fit_taken p v canvas key k R meet W here N K S = λ side port i h e.
+    let ms = misfits p canvas key k in
+    let l = line_at side key port h in
+    let f = from_filter (is_left ms) (hops_at p.web side key port) h (subst (λ hs. IsIn h hs) (left_at p.web v ms side key port S) (in_listed h (hops_at v side key port) i e)) in
+    let at = listed_in h (hops_at p.web side key port) f.0 in
+    let F = keeps_fit p v canvas key k R meet W here K S in
+    fit_stays v key k l (F.fit side port i h e) (turns_still p.web v key k l K ∙ N side port at.0 h at.1)
 
 pub left_stay : (p : Patch) (v : Web) (canvas key : ℕ) (k : Kind) → CanRewire p → Meet p.web → IsThere (keys_at p.grove canvas) key → AllFit p.web key k → KeepsPorts p.web v
     → Sheds p.web v (turning p canvas key k) → TakesWires v key k

@@ -8,4 +8,5 @@ pub mod WireLemmas
 pub mod ShedLemmas
 pub mod FitLemmas
 pub mod SameLemmas
+pub mod RoomLemmas
 pub mod CanvasLemmas

@@ -1,5 +1,5 @@
 -- Where only room differs, the same wires go, and turn.
-use Rattle.std.proofs.Common.{◌≡◌, ℕ, not, ◌&&◌, cond, List, [], ◌∷◌, ◌++◌, length, slice_get, refl, ap, ◌∙◌}
+use Rattle.std.proofs.Common.{◌≡◌, ℕ, not, ◌&&◌, cond, List, [], ◌∷◌, ◌++◌, filter, length, slice_get, refl, ap, ◌∙◌}
 use Rattle.std.specs.List.{flat_map, range_with_len}
 use Rattle.pd_object.specs.declared.kinds.Kind.{Kind}
 use Rattle.pd_grove.specs.declared.grove.Grove.{Grove}
@@ -17,7 +17,7 @@ use Rattle.pd_misfits.specs.declared.wires.BoxWire.{BoxWire}
 use Rattle.pd_misfits.specs.declared.wires.Fate.{Fate}
 use Rattle.pd_misfits.specs.declared.wires.Fate.TheVariants.{Goes, Turns}
 use Rattle.pd_misfits.specs.Misfits.{box_wires, is_at, outlet_wires, picked, wants, wire_from, wire_of, wires_among}
-use Rattle.pd_misfits.specs.Shedding.{AreWiresAt}
+use Rattle.pd_misfits.specs.Shedding.{is_left, AreWiresAt, Sheds}
 use Rattle.pd_misfits.proofs.FitLemmas.{fits_still, turns_still}
 
 flat_alike : {X Y : Type 0} (f g : X → List Y) (xs : List X) → ((x : X) → f x ≡ g x) → flat_map f xs ≡ flat_map g xs
@@ -59,4 +59,10 @@ wires_still w v key ms S A = record {
       record { place = a.place; stands = ap (λ (hs : List Hop). slice_get hs a.place) (S.fans m.line.source m.line.outlet) ∙ a.stands };
   at = A.at;
   once = A.once;
+}
+
+pub sheds_since : (w v u : Web) (ms : List BoxWire) → IsSame w v → Sheds v u ms → Sheds w u ms
+sheds_since w v u ms S T = record {
+  fans = λ node outlet. T.fans node outlet ∙ ap (filter (is_left ms)) (S.fans node outlet);
+  feeds = λ node inlet. T.feeds node inlet ∙ ap (filter (is_left ms)) (S.feeds node inlet);
 }

@@ -31,8 +31,8 @@ pub(crate) fn wants(fate: Fate, web: &Web, key: u32, kind: &Kind, line: Line) ->
     }
 }
 
-/// Whether the wire along a line fits, and becomes a signal wire or ceases to be one.
-fn turns(web: &Web, key: u32, kind: &Kind, line: Line) -> bool
+/// Whether the wire along a line fits where the box of the key is of a kind, but becomes a signal wire then or ceases to be one.
+pub fn turns(web: &Web, key: u32, kind: &Kind, line: Line) -> bool
     requires small { IsSmallKind kind.now }
     ensures { result ≡ turns_so web.now key kind.now line }
 {

@@ -1,6 +1,7 @@
 //! Laws over the wires at a box that becomes another one.
 
 ghost use Rattle.std.specs.Prelude.{◌≡◌, ◌≢◌, ℕ, List, filter, true, false};
+ghost use Rattle.pd_atom.specs.Names.{Names};
 ghost use Rattle.pd_object.specs.declared.kinds.Kind.{Kind};
 ghost use Rattle.pd_web.specs.declared.lines.Line.{Line};
 ghost use Rattle.pd_web.specs.declared.web.Web.{Web};
@@ -10,9 +11,12 @@ ghost use Rattle.pd_present.specs.Presents.{wires_among};
 ghost use Rattle.pd_patch.specs.declared.patch.Patch.{Patch};
 ghost use Rattle.pd_patch.specs.Listing.{IsThere};
 ghost use Rattle.pd_wiring.specs.Changes.{CanRewire};
+ghost use Rattle.pd_taking.specs.Loosening.{Loosens};
+ghost use Rattle.pd_refitting.specs.declared.room.RefitRoom.{RefitRoom};
 ghost use Rattle.pd_refitting.specs.Refits.{StaysWire, TakesWires};
+ghost use Rattle.pd_refitting.specs.Room.{TakesRefit};
 ghost use Rattle.pd_misfits.specs.declared.wires.BoxWire.{BoxWire};
-ghost use Rattle.pd_misfits.specs.Misfits.{is_fit, misfits, turning, turns};
+ghost use Rattle.pd_misfits.specs.Misfits.{is_fit, misfits, turning, turns, NoneTurns};
 ghost use Rattle.pd_misfits.specs.Shedding.{stays_among, AllFit, AreWiresAt, IsWired, KeepsFit, Sheds};
 
 /// Where the wires that don't fit are gone, those at the box that fit are there still, and no others.
@@ -32,19 +36,32 @@ pub fn canvases_lose_misfits()
         wires_among w p.numbers.items (keys_at p.grove c) ≡ wires_among p.web p.numbers.items (keys_at p.grove c) }
 {}
 
+/// Where the wires that don't fit are gone and none of the others turns, what is left stays as it is.
+pub fn wires_that_fit_are_taken()
+    ensures { (p : Patch) (w : Web) (canvas key : ℕ) (k : Kind) → CanRewire p → Meet p.web → IsWired p.web → IsThere (keys_at p.grove canvas) key →
+        NoneTurns p.web key k → KeepsPorts p.web w → Sheds p.web w (misfits p canvas key k) → TakesWires w key k }
+{}
+
+/// Room for what a box becomes is there still after wires went.
+pub fn room_lasts()
+    ensures { (p q : Patch) (key steps steps' : ℕ) (room : RefitRoom) (table : Names) → Loosens p q key steps steps' → TakesRefit p room table →
+        TakesRefit q room table }
+{}
+
 /// Where all wires at the box fit and those that turn are gone, what is left stays as it is.
 pub fn wires_left_stay()
     ensures { (p : Patch) (w : Web) (canvas key : ℕ) (k : Kind) → CanRewire p → Meet p.web → IsThere (keys_at p.grove canvas) key →
         AllFit p.web key k → KeepsPorts p.web w → Sheds p.web w (turning p canvas key k) → TakesWires w key k }
 {}
 
-/// Where only room differs, the same wires go and the same turn, and they are wires at the box.
+/// Where only room differs, the same wires go and the same turn, and they are wires at the box. Where they go then, they went.
 pub fn room_changes_no_wires()
     ensures misfits { (p q : Patch) (canvas key : ℕ) (k : Kind) → q.grove ≡ p.grove → q.numbers ≡ p.numbers → IsSame p.web q.web →
         misfits q canvas key k ≡ misfits p canvas key k }
     ensures turning { (p q : Patch) (canvas key : ℕ) (k : Kind) → q.grove ≡ p.grove → q.numbers ≡ p.numbers → IsSame p.web q.web →
         turning q canvas key k ≡ turning p canvas key k }
     ensures wires { (w v : Web) (key : ℕ) (ms : List BoxWire) → IsSame w v → AreWiresAt w key ms → AreWiresAt v key ms }
+    ensures sheds { (w v u : Web) (ms : List BoxWire) → IsSame w v → Sheds v u ms → Sheds w u ms }
 {}
 
 /// A wire that fits and doesn't turn stays as it is, and no other wire does.

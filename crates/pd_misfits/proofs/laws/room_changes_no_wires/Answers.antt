@@ -1,5 +1,5 @@
 use Rattle.pd_misfits.specs.declared.wires.Fate.TheVariants.{Goes, Turns}
-use Rattle.pd_misfits.proofs.SameLemmas.{picked_still, wires_still}
+use Rattle.pd_misfits.proofs.SameLemmas.{picked_still, sheds_since, wires_still}
 use Rattle.pd_misfits.proofs.laws.room_changes_no_wires.Goals as goal
 
 pub returns-clause-misfits : goal.returns-clause-misfits
@@ -10,3 +10,6 @@ returns-clause-turning c = picked_still Turns
 
 pub returns-clause-wires : goal.returns-clause-wires
 returns-clause-wires c = wires_still
+
+pub returns-clause-sheds : goal.returns-clause-sheds
+returns-clause-sheds c = sheds_since
