@@ -15,12 +15,12 @@ use Rattle.pd_following.proofs.ListLemmas.{up_or, up_order}
 use Rattle.pd_following.proofs.RaiseLemmas.{differ_test}
 
 -- an element of a mapped list is that of one of the list
-mapped_from : {X Y : Type 0} (f : X → Y) (xs : List X) (i : ℕ) (y : Y) → slice_get (map f xs) i ≡ Some y → (x : X) × (slice_get xs i ≡ Some x) × (f x ≡ y)
+pub mapped_from : {X Y : Type 0} (f : X → Y) (xs : List X) (i : ℕ) (y : Y) → slice_get (map f xs) i ≡ Some y → (x : X) × (slice_get xs i ≡ Some x) × (f x ≡ y)
 mapped_from f [] i y e = absurd (none-some y e)
 mapped_from f (x ∷ xs) zero y e = (x, refl, same_Some (f x) y e)
 mapped_from f (x ∷ xs) (suc i) y e = mapped_from f xs i y e
 
-none_ordered : (labels : List ℕ) (feeds : List Hop) → feeds ≡ [] → AreInOrder labels feeds
+pub none_ordered : (labels : List ℕ) (feeds : List Hop) → feeds ≡ [] → AreInOrder labels feeds
 none_ordered labels feeds none i j g h l a b = absurd (none-some g (ap (λ (hops : List Hop). slice_get hops i) (sym none) ∙ a))
 
 module _ (w w' : Web) (key at : ℕ) (jack : Jack) (labels : List ℕ) where
@@ -33,7 +33,7 @@ module _ (w w' : Web) (key at : ℕ) (jack : Jack) (labels : List ℕ) where
     ]
   ]
 
-  raised_later : (g h : Hop) → ((label_at labels g.node ≡ label_at labels key → g.node ≡ key)) → ((label_at labels h.node ≡ label_at labels key → h.node ≡ key)) → IsNoLater labels g h
+  pub raised_later : (g h : Hop) → ((label_at labels g.node ≡ label_at labels key → g.node ≡ key)) → ((label_at labels h.node ≡ label_at labels key → h.node ≡ key)) → IsNoLater labels g h
       → IsNoLater labels (raised key at g) (raised key at h)
   raised_later g h own also (inl less) = inl less
   raised_later g h own also (inr same) = inr (

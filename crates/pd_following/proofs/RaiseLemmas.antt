@@ -94,10 +94,10 @@ some_of : {X : Type 0} (o : Option X) → IsSome o → (x : X) × (o ≡ Some x)
 some_of None h = absurd (true≢false (sym h))
 some_of (Some x) h = (x, refl)
 
-abbrev FansTold : Web → Type 0
+abbrev pub FansTold : Web → Type 0
 FansTold w = (node outlet i : ℕ) (h : Hop) → slice_get (fan_hops w node outlet) i ≡ Some h → line_told w h.key ≡ Some (line_by (hop_at h.key node outlet) h)
 
-abbrev FeedsTold : Web → Type 0
+abbrev pub FeedsTold : Web → Type 0
 FeedsTold w = (node inlet i : ℕ) (h : Hop) → slice_get (feed_hops w node inlet) i ≡ Some h → line_told w h.key ≡ Some (line_by h (hop_at h.key node inlet))
 
 -- the line of a wire that stands at a port
@@ -107,7 +107,7 @@ record LineAt (w : Web) (s : Side) (n i k : ℕ) : Type 0 where
   box : box_of s line ≡ n
   port : port_of s line ≡ i
 
-hop_key : (k : ℕ) (o : Option Spot) → (hop_by k o).key ≡ k
+pub hop_key : (k : ℕ) (o : Option Spot) → (hop_by k o).key ≡ k
 hop_key k None = refl
 hop_key k (Some s) = refl
 
@@ -189,10 +189,10 @@ module _ (w w' : Web) (key : ℕ) (side : Side) (g : Grove) (at : ℕ) (jack : J
   side_within Outlets Inlets same n i p k l e told box port = across_within w M Outlets n i p k l e told
 
   -- the line of a wire then
-  abbrev moved : Line → Line
+  abbrev pub moved : Line → Line
   moved l = cond (box_of side l == key) (with_port side (up at (port_of side l)) l) l
 
-  moved_told : (s : Side) (n i p k : ℕ) (l : Line) → slice_get (keys_at w s n i) p ≡ Some k → line_told w k ≡ Some l → box_of s l ≡ n → port_of s l ≡ i → line_told w' k ≡ Some (moved l)
+  pub moved_told : (s : Side) (n i p k : ℕ) (l : Line) → slice_get (keys_at w s n i) p ≡ Some k → line_told w k ≡ Some l → box_of s l ≡ n → port_of s l ≡ i → line_told w' k ≡ Some (moved l)
   moved_told s n i p k l e told box port =
       let stands : StandsOn w s k l = (p, ap (λ x. slice_get (keys_at w s x (port_of s l)) p) box ∙ ap (λ x. slice_get (keys_at w s n x) p) port ∙ e) in
       elim (cases_eq (box_of side l) key) [
