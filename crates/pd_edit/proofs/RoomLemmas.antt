@@ -1,7 +1,6 @@
 -- A wire that came into a patch with more room, told of the patch as it was.
 use Rattle.std.proofs.Common.{arith, ◌≡◌, ◌+◌, ℕ, List, length, refl, sym, ap, ◌∙◌, subst}
 use Rattle.std.specs.Prelude.{Option, Some}
-use Rattle.std.specs.declared.vec.Vec.{Vec}
 use Rattle.std.specs.List.{insert}
 use Rattle.std.proofs.lemmas.List.{length-map}
 use Rattle.slab.specs.Slab.{get}
@@ -54,7 +53,7 @@ stays_same p m q source S T = record {
   rate = T.rate ∙ S.rate;
   present = T.present ∙ S.present;
   orders = λ c differ. T.orders c (λ e. differ (subst (λ (g : Grove). board_in (get g.nodes source) ≡ Some c) S.grove e)) ∙ rw S.orders refl;
-  places = λ c. subst (λ (v : Vec (Option Listing)). SamePlaces (order_in v.items c) (order_in q.orders.items c)) S.orders (T.places c);
+  places = λ c. subst (λ (os : List (Option Listing)). SamePlaces (order_in os c) (order_in q.orders.items c)) (ap (λ v. v.items) S.orders) (T.places c);
 }
 
 pub attached_same : (p m q : Patch) (l : Line) (key place : ℕ) → SameButRoom p m → KeepsRoom p.web m.web → StaysBuilt p m → IsPlace m.numbers.items l (feed_hops m.web l.sink l.inlet) place

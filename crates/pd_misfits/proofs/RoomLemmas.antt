@@ -23,7 +23,7 @@ places_last (Some a) (Some b) boxes S H = let e = S.spots in let r = S.room in r
 
 pub refit_lasts : (p q : Patch) (key steps steps' : ℕ) (room : RefitRoom) (table : Names) → Loosens p q key steps steps' → TakesRefit p room table → TakesRefit q room table
 refit_lasts p q key steps steps' room table L T = record {
-  web = λ k some. L.web.room k (k + 1) 0 (T.web k (subst (λ (g : Grove). IsSome (get g.nodes k)) L.rest.grove some));
+  web = λ k some. L.web.room (k + 1) 0 0 (T.web k (subst (λ (g : Grove). IsSome (get g.nodes k)) L.rest.grove some));
   ports = T.ports;
   order = λ n is. places_last (order_in p.orders.items n.board) (order_in q.orders.items n.board) 1 (L.rest.places n.board) (T.order n (ap (λ (g : Grove). get g.nodes room.key) (sym L.rest.grove) ∙ is));
   owner = rw L.rest.names T.owner;
