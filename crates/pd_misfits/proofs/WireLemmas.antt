@@ -213,18 +213,22 @@ module _ (fate : Fate) (p : Patch) (canvas key : ℕ) (k : Kind) (R : CanRewire 
       step true e = refl
       step false e = e
 
-  pub goes_of : (node outlet place : ℕ) (h : Hop) → slice_get (keys_at p.grove canvas) place ≡ Some node → IsIn h (fan_hops p.web node outlet) → picks fate p.web key k (line_at Outlets node outlet h) ≡ true
-      → is_among (picked fate p canvas key k) h.key ≡ true
-  goes_of node outlet place h at i g =
+  pub picked_of : (node outlet place : ℕ) (h : Hop) → slice_get (keys_at p.grove canvas) place ≡ Some node → IsIn h (fan_hops p.web node outlet) → picks fate p.web key k (line_at Outlets node outlet h) ≡ true
+      → IsIn (wire_of p.numbers.items h.key (line_at Outlets node outlet h)) (picked fate p canvas key k)
+  picked_of node outlet place h at i g =
       let w = p.web in
       let numbers = p.numbers.items in
       let keys = keys_at p.grove canvas in
       let m = wire_of numbers h.key (line_at Outlets node outlet h) in
       let there = port_there w Outlets node outlet h i in
-      among (picked fate p canvas key k) m
-      (in_flat (box_wires fate w numbers key k) keys node m (in_listed node keys place at)
+      in_flat (box_wires fate w numbers key k) keys node m (in_listed node keys place at)
       (in_flat (outlet_wires fate w numbers key k node) (range_with_len 0 (length (ports_told w Outlets node))) outlet m (in_range 0 (length (ports_told w Outlets node)) outlet (omega arith) (omega (arith, there)))
-      (in_flat (wire_from fate w numbers key k node outlet) (fan_hops w node outlet) h m i (choose (picks fate w key k (line_at Outlets node outlet h)) m g))))
+      (in_flat (wire_from fate w numbers key k node outlet) (fan_hops w node outlet) h m i (choose (picks fate w key k (line_at Outlets node outlet h)) m g)))
+
+  pub goes_of : (node outlet place : ℕ) (h : Hop) → slice_get (keys_at p.grove canvas) place ≡ Some node → IsIn h (fan_hops p.web node outlet) → picks fate p.web key k (line_at Outlets node outlet h) ≡ true
+      → is_among (picked fate p canvas key k) h.key ≡ true
+  goes_of node outlet place h at i g =
+      among (picked fate p canvas key k) (wire_of p.numbers.items h.key (line_at Outlets node outlet h)) (picked_of node outlet place h at i g)
 
   pub meant_among : (side : Side) (port : ℕ) (h : Hop) → IsIn h (hops_at p.web side key port) → wants fate p.web key k (line_at side key port h) ≡ true → is_among (picked fate p canvas key k) h.key ≡ true
   meant_among Outlets port h i u =

@@ -1,6 +1,7 @@
 -- The wires at a box that don't fit go.
-use Rattle.std.specs.Prelude.{◌≡◌, ℕ, Bool, true, false, not, ◌==◌, ◌||◌, List, [], ◌∷◌, filter, slice_get, Some}
+use Rattle.std.specs.Prelude.{◌≡◌, ℕ, Bool, true, false, not, ◌==◌, ◌||◌, List, [], ◌∷◌, filter, map, slice_get, Some}
 use Rattle.pd_canvas.specs.declared.wires.Wire.{Wire}
+use Rattle.pd_canvas.specs.Wiring.{is_same}
 use Rattle.pd_object.specs.declared.kinds.Kind.{Kind}
 use Rattle.pd_grove.specs.declared.ports.Side.{Side}
 use Rattle.pd_grove.specs.declared.ports.Side.TheVariants.{Inlets, Outlets}
@@ -57,3 +58,16 @@ line_under keys v = record { source = number_in keys v.source; outlet = v.outlet
 -- the wire is none of those at the box that don't fit where that is of this kind
 abbrev pub stays_among : Web → List ℕ → ℕ → Kind → Wire → Bool
 stays_among w keys key k v = not (picks Goes w key k (line_under keys v))
+
+-- one of these wires is this one
+abbrev pub has_wire : List Wire → Wire → Bool
+has_wire [] v = false
+has_wire (w ∷ ws) v = is_same v w || has_wire ws v
+
+-- the wires of a canvas that are none of these, in their order
+abbrev pub without_wires : List Wire → List Wire → List Wire
+without_wires gone ws = filter (λ v. not (has_wire gone v)) ws
+
+-- wires at a box by the numbers of their boxes
+abbrev pub numbered : List BoxWire → List Wire
+numbered ms = map (λ m. m.wire) ms

@@ -17,7 +17,7 @@ ghost use Rattle.pd_refitting.specs.Refits.{StaysWire, TakesWires};
 ghost use Rattle.pd_refitting.specs.Room.{TakesRefit};
 ghost use Rattle.pd_misfits.specs.declared.wires.BoxWire.{BoxWire};
 ghost use Rattle.pd_misfits.specs.Misfits.{is_fit, misfits, turning, turns, NoneTurns};
-ghost use Rattle.pd_misfits.specs.Shedding.{stays_among, AllFit, AreWiresAt, IsWired, KeepsFit, Sheds};
+ghost use Rattle.pd_misfits.specs.Shedding.{numbered, stays_among, without_wires, AllFit, AreWiresAt, IsWired, KeepsFit, Sheds};
 
 /// Where the wires that don't fit are gone, those at the box that fit are there still, and no others.
 pub fn misfits_leave_what_fits()
@@ -25,12 +25,15 @@ pub fn misfits_leave_what_fits()
         KeepsPorts p.web w → Sheds p.web w (misfits p canvas key k) → KeepsFit p.web w key k }
 {}
 
-/// Where the wires that don't fit are gone, the wires of the canvas are those that there were less these, in their order.
-/// Every other canvas has its wires.
+/// Where the wires that don't fit are gone, the wires of the canvas are those that there were less these, in their order; these are the ones with
+/// the numbers that are told of them. Every other canvas has its wires.
 pub fn canvases_lose_misfits()
     ensures here { (p : Patch) (canvas key : ℕ) (k : Kind) → CanRewire p → Meet p.web → IsWired p.web → IsThere (keys_at p.grove canvas) key →
         (w : Web) → KeepsPorts p.web w → Sheds p.web w (misfits p canvas key k) → wires_among w p.numbers.items (keys_at p.grove canvas)
         ≡ filter (stays_among p.web (keys_at p.grove canvas) key k) (wires_among p.web p.numbers.items (keys_at p.grove canvas)) }
+    ensures less { (p : Patch) (canvas key : ℕ) (k : Kind) → CanRewire p → Meet p.web → IsWired p.web → IsThere (keys_at p.grove canvas) key →
+        (w : Web) → KeepsPorts p.web w → Sheds p.web w (misfits p canvas key k) → wires_among w p.numbers.items (keys_at p.grove canvas)
+        ≡ without_wires (numbered (misfits p canvas key k)) (wires_among p.web p.numbers.items (keys_at p.grove canvas)) }
     ensures others { (p : Patch) (canvas key : ℕ) (k : Kind) → CanRewire p → Meet p.web → IsWired p.web → IsThere (keys_at p.grove canvas) key →
         (w : Web) → KeepsPorts p.web w → Sheds p.web w (misfits p canvas key k) → (c : ℕ) → c ≢ canvas →
         wires_among w p.numbers.items (keys_at p.grove c) ≡ wires_among p.web p.numbers.items (keys_at p.grove c) }
