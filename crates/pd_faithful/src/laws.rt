@@ -1,15 +1,15 @@
 //! Laws of scripts and of whole plays.
-ghost use Rattle.pd_faithful.specs.Laws.{ScriptsAreByEvents, ScriptsAreSteps, ScriptsPassNothingOver, FilesOpenSteadily, RunsPassNothingOver, PlaysPassNothingOver, MadePlaysPassNothingOver};
+ghost use Rattle.pd_faithful.specs.Laws as law;
 
 /// With pd_engine's own events and blocks the run of a script is pd_play's.
 pub fn scripts_are_by_events()
-    ensures { ScriptsAreByEvents }
+    ensures { law.ScriptsAreByEvents }
 {}
 
 /// From a steady point the run of a script in which each edit is lawful is steps, one after another: the names that a record brings, the time
 /// that it comes to, and its command. Each is in order where the run has come to. Then the last block runs, where the run has come to its end.
 pub fn scripts_are_steps()
-    ensures { ScriptsAreSteps }
+    ensures { law.ScriptsAreSteps }
 {
     pd_guards::delivery_passes_nothing_over();
     pd_guards::messages_keep_values();
@@ -23,9 +23,9 @@ pub fn scripts_are_steps()
 /// From a steady point nothing is ever passed over in the run of a script in which each edit is lawful, whatever its bytes are. A patch
 /// opens at a steady point, so nothing is passed over from there to the end.
 pub fn scripts_pass_nothing_over()
-    ensures freely { ScriptsPassNothingOver }
-    ensures opens { FilesOpenSteadily }
-    ensures whole { RunsPassNothingOver }
+    ensures freely { law.ScriptsPassNothingOver }
+    ensures opens { law.FilesOpenSteadily }
+    ensures whole { law.RunsPassNothingOver }
 {
     pd_guards::delivery_passes_nothing_over();
     pd_guards::messages_keep_values();
@@ -40,8 +40,8 @@ pub fn scripts_pass_nothing_over()
 /// What a call of `play` prints, writes and puts into the folder, where the patch opens, is a run in which nothing is ever passed over. So it is
 /// with a made patch.
 pub fn play_passes_nothing_over()
-    ensures opened { PlaysPassNothingOver }
-    ensures made { MadePlaysPassNothingOver }
+    ensures opened { law.PlaysPassNothingOver }
+    ensures made { law.MadePlaysPassNothingOver }
 {
     pd_guards::delivery_passes_nothing_over();
     pd_guards::messages_keep_values();
