@@ -1,5 +1,5 @@
 -- Counts of a patch with boxes that come.
-use Rattle.std.specs.Prelude.{◌≤◌, ◌+◌, ◌-◌, length}
+use Rattle.std.specs.Prelude.{◌≤◌, ◌+◌, ◌-◌, ℕ, length}
 use Rattle.pd_atom.specs.Names.{Names}
 use Rattle.pd_clock.specs.declared.times.Rate.{Rate}
 use Rattle.pd_tree.specs.Trees.{Trees, weight, zeros_in}
@@ -23,6 +23,10 @@ with_boxes rate t n = record {
   sound = n.sound + sound_of rate t;
   next_zero = n.next_zero + length (zeros_in t);
 }
+
+-- with so many boxes less, which keep so many values of tables, arrays and delay lines, and with so many wires
+abbrev pub counts_less : Counts → ℕ → ℕ → ℕ → Counts
+counts_less n boxes values wires = record { boxes = n.boxes - boxes; wires = wires; sound = n.sound - values; next_zero = n.next_zero }
 
 -- what growth has at hand then: these names, each `$0` that is left, and room for the boxes that there may still be
 abbrev pub stock_by : Names → Counts → Stock

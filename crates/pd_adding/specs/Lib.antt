@@ -5,3 +5,4 @@ pub mod Counted
 pub mod Growing
 pub mod Adding
 pub mod Single
+pub mod Standing

@@ -39,11 +39,12 @@ use Rattle.pd_boxes.proofs.AskingLemmas.{put_rewired}
 use Rattle.pd_adding.specs.declared.counts.Counts.{Counts}
 use Rattle.pd_adding.specs.Coming.{own_zero, zero_in}
 use Rattle.pd_adding.specs.Counted.{sound_seen, sound_among, with_wires}
-use Rattle.pd_adding.specs.Counts.{AreWithin}
+use Rattle.pd_adding.specs.Counts.{counts_less, AreWithin}
+use Rattle.pd_adding.specs.Standing.{is_port_in}
 use Rattle.pd_boxes.specs.declared.room.Place.{Place}
 use Rattle.pd_clearing.specs.Clearing.{CanClear, IsCleared}
 use Rattle.pd_clearing.proofs.PartLemmas.{part_live}
-use Rattle.pd_deleting.specs.Deletes.{counts_less, going, going_box, going_in, is_plain, is_port_in, values_of}
+use Rattle.pd_deleting.specs.Deletes.{going, going_box, going_in, is_plain, values_of}
 
 -- Room.
 

@@ -1,14 +1,12 @@
 -- A box that an edit takes out of a canvas of the patch's own document.
-use Rattle.std.specs.Prelude.{◌≡◌, ◌⊎◌, ◌-◌, ℕ, Bool, false, ◌&&◌, ◌||◌, not, is_some, cond, List, length, map, slice_get, Option, Some, None, Result, Ok, Err}
+use Rattle.std.specs.Prelude.{◌≡◌, ◌⊎◌, ℕ, Bool, ◌&&◌, not, is_some, cond, List, length, map, slice_get, Option, Some, None, Result, Ok, Err}
 use Rattle.slab.specs.Slab.{get}
 use Rattle.pd_atom.specs.Names.{Names}
 use Rattle.pd_grove.specs.declared.grove.Grove.{Grove}
 use Rattle.pd_grove.specs.declared.nodes.Node.{Node}
-use Rattle.pd_grove.specs.declared.ports.Side.TheVariants.{Inlets, Outlets}
 use Rattle.pd_grove.specs.Forest.{holder_in}
 use Rattle.pd_clock.specs.declared.times.Rate.{Rate}
 use Rattle.pd_grove.specs.OwnPaths.{sub_reached}
-use Rattle.pd_grove.specs.Ports.{port_signal}
 use Rattle.pd_grove.specs.TextOrder.{cell_under}
 use Rattle.pd_web.specs.Canvases.{keys_at}
 use Rattle.pd_web.specs.Changes.{wires_told}
@@ -18,13 +16,10 @@ use Rattle.pd_wiring.specs.declared.refusals.EditRefusal.TheVariants.{NoDocument
 use Rattle.pd_wiring.specs.Changes.{SameButRoom}
 use Rattle.pd_adding.specs.declared.counts.Counts.{Counts}
 use Rattle.pd_adding.specs.Counted.{sound_among}
+use Rattle.pd_adding.specs.Counts.{counts_less}
+use Rattle.pd_adding.specs.Standing.{is_port_in}
 use Rattle.pd_clearing.specs.Clearing.{IsCleared}
 use Rattle.pd_deleting.specs.declared.deleting.OldBox.{OldBox}
-
--- whether a box is a port of its canvas
-abbrev pub is_port_in : Option Node → Bool
-is_port_in None = false
-is_port_in (Some n) = is_some (port_signal Inlets n.kind) || is_some (port_signal Outlets n.kind)
 
 -- whether a box is no port of a box around; others don't go yet
 abbrev pub is_plain : Grove → ℕ → ℕ → Bool
@@ -41,10 +36,6 @@ going_in g number (Some canvas) = going_box g canvas number (slice_get (keys_at 
 -- the keys of the canvas at a path of the patch's own document and of its box of a number, or the first reason why that can't go
 abbrev pub going : Patch → List ℕ → ℕ → Result (ℕ × ℕ) EditRefusal
 going p path number = going_in p.grove number (sub_reached p.grove (Some p.grove.root) path)
-
--- counts with so many boxes less, which keep so many values of tables, arrays and delay lines, and with so many wires
-abbrev pub counts_less : Counts → ℕ → ℕ → ℕ → Counts
-counts_less n boxes values wires = record { boxes = n.boxes - boxes; wires = wires; sound = n.sound - values; next_zero = n.next_zero }
 
 -- how many values of tables, arrays and delay lines the boxes of these keys keep
 abbrev pub values_of : Rate → Grove → List ℕ → ℕ

@@ -5,7 +5,8 @@ ghost use Rattle.slab.specs.Slab.{get};
 ghost use Rattle.pd_grove.specs.declared.ports.Side.TheVariants.{Inlets, Outlets};
 ghost use Rattle.pd_grove.specs.Forest.{holder_in};
 ghost use Rattle.pd_grove.specs.Ports.{port_signal};
-ghost use Rattle.pd_deleting.specs.Deletes.{going, is_plain as is_plain_so, is_port_in};
+ghost use Rattle.pd_adding.specs.Standing.{is_port_in};
+ghost use Rattle.pd_deleting.specs.Deletes.{going, is_plain as is_plain_so};
 
 use pd_grove::Grove;
 use pd_kind::{Glue, Kind, Signal};

@@ -7,8 +7,8 @@ ghost use Rattle.pd_web.specs.Changes.{wires_told, Meet};
 ghost use Rattle.pd_boxes.specs.Put.{CanPut};
 ghost use Rattle.pd_adding.specs.Coming.{own_zero};
 ghost use Rattle.pd_adding.specs.Counted.{sound_seen, sound_among};
-ghost use Rattle.pd_adding.specs.Counts.{AreWithin};
-ghost use Rattle.pd_deleting.specs.Deletes.{counts_less, values_of as values_so, DeletesBox, IsNotDeleted};
+ghost use Rattle.pd_adding.specs.Counts.{counts_less, AreWithin};
+ghost use Rattle.pd_deleting.specs.Deletes.{values_of as values_so, DeletesBox, IsNotDeleted};
 
 use crate::asking::box_to_go;
 use pd_adding::Counts;

@@ -29,10 +29,10 @@ use Rattle.pd_misfits.specs.declared.wires.BoxWire.{BoxWire}
 use Rattle.pd_misfits.specs.Misfits.{misfits, NoneTurns}
 use Rattle.pd_misfits.specs.Shedding.{Sheds}
 use Rattle.pd_adding.specs.declared.counts.Counts.{Counts}
+use Rattle.pd_adding.specs.Counts.{counts_less}
 use Rattle.pd_adding.specs.Boxes.{CanBeWritten, settled_edit, box_put}
 use Rattle.pd_adding.specs.Growing.{Added}
 use Rattle.pd_adding.specs.Adding.{ComesTo, GrewWith}
-use Rattle.pd_deleting.specs.Deletes.{counts_less}
 use Rattle.pd_retyping.specs.declared.retyping.RetypedBox.{RetypedBox}
 use Rattle.pd_retyping.specs.Asking.{takes_text_so, keeps_inside, settled_text, retyping, IsRetyping, put_instead}
 

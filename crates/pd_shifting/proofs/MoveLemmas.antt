@@ -43,7 +43,7 @@ use Rattle.pd_wiring.specs.declared.refusals.EditRefusal.{EditRefusal}
 use Rattle.pd_wiring.specs.declared.refusals.EditRefusal.TheVariants.{NoBox, NoDocument}
 use Rattle.pd_wiring.specs.Changes.{CanRewire}
 use Rattle.pd_boxes.specs.Put.{CanPut}
-use Rattle.pd_deleting.specs.Deletes.{is_port_in}
+use Rattle.pd_adding.specs.Standing.{is_port_in}
 use Rattle.pd_shifting.specs.Moves.{is_array_in, is_port_around, moving, moving_box, moving_in, MovesBox, StaysButTree}
 
 -- Which box moves.

@@ -13,7 +13,7 @@ use Rattle.pd_web.specs.Canvases.{keys_at}
 use Rattle.pd_patch.specs.declared.patch.Patch.{Patch}
 use Rattle.pd_wiring.specs.declared.refusals.EditRefusal.{EditRefusal}
 use Rattle.pd_wiring.specs.declared.refusals.EditRefusal.TheVariants.{NoDocument, NoCanvas, NoBox}
-use Rattle.pd_deleting.specs.Deletes.{is_port_in}
+use Rattle.pd_adding.specs.Standing.{is_port_in}
 
 -- whether a box is an array, which no edit moves
 abbrev pub is_array_in : Option Node → Bool

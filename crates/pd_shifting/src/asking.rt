@@ -7,7 +7,7 @@ ghost use Rattle.pd_canvas.specs.Views.{shape_of};
 ghost use Rattle.pd_grove.specs.declared.ports.Side.TheVariants.{Inlets, Outlets};
 ghost use Rattle.pd_grove.specs.Forest.{holder_in};
 ghost use Rattle.pd_grove.specs.Ports.{port_signal};
-ghost use Rattle.pd_deleting.specs.Deletes.{is_port_in};
+ghost use Rattle.pd_adding.specs.Standing.{is_port_in};
 ghost use Rattle.pd_shifting.specs.Moves.{is_array_in, is_port_around as is_port_so, moving};
 
 use crate::shifting::MovedBox;

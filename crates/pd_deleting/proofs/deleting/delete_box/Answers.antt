@@ -4,9 +4,9 @@ use Rattle.pd_web.proofs.CountLemmas.{same_are_as_many}
 use Rattle.pd_patch.specs.declared.patch.Patch.{Patch}
 use Rattle.pd_wiring.specs.Changes.{SameButRoom}
 use Rattle.pd_boxes.specs.declared.room.Place.{Place}
-use Rattle.pd_adding.specs.Counts.{AreWithin}
+use Rattle.pd_adding.specs.Counts.{counts_less, AreWithin}
 use Rattle.pd_clearing.specs.Clearing.{CanClear, IsCleared}
-use Rattle.pd_deleting.specs.Deletes.{counts_less, values_of}
+use Rattle.pd_deleting.specs.Deletes.{values_of}
 use Rattle.pd_deleting.proofs.DeleteLemmas.{box_lives, can_clear, counted_so, fewer_wires, part_room, reserved, still_meet, still_put, within_less}
 use Rattle.pd_deleting.proofs.deleting.delete_box.Goals as goal
 

@@ -1,7 +1,7 @@
 use Rattle.std.proofs.Common.{sym, ◌∙◌, subst}
 use Rattle.pd_atom.specs.Names.{Names}
 use Rattle.pd_refitting.specs.Room.{TakesRefit}
-use Rattle.pd_deleting.proofs.DeleteLemmas.{still_meet}
+use Rattle.pd_refitting.proofs.WireLemmas.{meet_by}
 use Rattle.pd_retyping.proofs.BecomeLemmas.{lives_there, ordered_there, for_looks, room_zero, room_wires, refit_zero, refit_wires, for_can, for_made, refits_same}
 use Rattle.pd_retyping.proofs.becoming.make_other.Goals as goal
 
@@ -83,7 +83,9 @@ returns-in_err-room-clause-goes_on g c =
     c.room_changes_nothing.ensures.can c.args.patch.now c.reserve_refit.new.patch c.reserve_refit.ensures.same C.can
 
 pub returns-in_err-room-clause-meet : goal.returns-in_err-room-clause-meet
-returns-in_err-room-clause-meet g c = still_meet c.args.patch.now.web c.reserve_refit.new.patch.web c.reserve_refit.ensures.same.web c.requires.can.1.meet
+returns-in_err-room-clause-meet g c =
+    let S = c.reserve_refit.ensures.same.web in
+    meet_by c.args.patch.now.web c.reserve_refit.new.patch.web S.fans S.feeds c.requires.can.1.meet
 
 pub returns-in_err-room-clause-as_many : goal.returns-in_err-room-clause-as_many
 returns-in_err-room-clause-as_many g c = room_wires c.args.patch.now c.reserve_refit.new.patch c.reserve_refit.ensures.same
