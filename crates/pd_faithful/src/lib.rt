@@ -6,10 +6,11 @@
 //! over the objects' own definitions. Where the words ask for the patch of a file name, its file is read and grows;
 //! then come the lines of opening, the run of the script, whatever its bytes are, and the line of the status, with
 //! lines, samples and files that are put in one list in their order. Edits of wires and edits that put a box without a
-//! canvas inside or a subpatch without boxes, which the script or a message asks for, edits of the script that delete a
-//! box with all that lies in it, make a box without a canvas inside another such one that takes all its wires as they
-//! are, or move a box, and saves of the patch's own document are made, but for ports of a box around: what each came to
-//! stands in the run, and it is lawful (pd_stage's `Lawful`). Each save puts a text that opens again as the patch that
+//! canvas inside, a port of the box around among these, or a subpatch without boxes, which the script or a message asks
+//! for, edits of the script that delete a box with all that lies in it, make a box without a canvas inside another such
+//! one, without the wires that don't fit that, or move a box, and saves of the patch's own document are made, but that
+//! no port of a box around goes, moves or becomes another box: what each came to stands in the run, and it is lawful
+//! (pd_stage's `Lawful`). Each save puts a text that opens again as the patch that
 //! was saved, under the `$0` numbers that it had and with the files that were known by then; and as a file that is
 //! opened does, where these numbers are the first ones from 1001 on, as they are until a box that goes takes one of
 //! them away (pd_again_law's `Again`). All of the list was taken, and the status is the run's; or a sink failed, the
