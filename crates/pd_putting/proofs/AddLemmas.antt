@@ -1,5 +1,5 @@
 -- Why an edit puts no box, and what is counted where it puts one.
-use Rattle.std.proofs.Common.{◌≡◌, ◌≢◌, ◌+◌, ℕ, List, [], ◌∷◌, filter, length, Option, Result, Ok, Err, IfSome, inl, inr, refl, sym, ap, ◌∙◌, subst, arith}
+use Rattle.std.proofs.Common.{◌≡◌, ◌≢◌, ◌⊎◌, ◌+◌, ℕ, List, [], ◌∷◌, filter, length, Option, Result, Ok, Err, IfSome, inl, inr, refl, sym, ap, ◌∙◌, subst, arith}
 use mathlib.Core.Logic.{⊎_elim}
 use Rattle.pd_io.specs.declared.files.FileRow.{FileRow}
 use Rattle.pd_atom.specs.Names.{Names, IsTable}
@@ -23,7 +23,7 @@ use Rattle.pd_adding.specs.Counts.{with_boxes}
 use Rattle.pd_adding.specs.Growing.{Added}
 use Rattle.pd_adding.specs.Adding.{ComesTo, Grows}
 use Rattle.pd_putting.specs.declared.adding.NewBox.{NewBox}
-use Rattle.pd_putting.specs.Adds.{CanCome, IsBoxPut, IsSubPut, HasCome, AddsBox, IsNotPut, IsNotAdded}
+use Rattle.pd_putting.specs.Adds.{CanCome, IsBoxPut, IsSubPut, IsPortBoxPut, HasCome, AddsBox, IsNotPut, IsNotAdded}
 use Rattle.pd_putting.specs.Last.{HasGrown, StaysOut}
 use Rattle.pd_putting.proofs.ComingLemmas.{comes_anyhow, counts_are}
 
@@ -77,7 +77,9 @@ none_fit (w ∷ ws) = none_fit ws
 no_wires : (p q : Patch) (now : ℕ) (a : Added) (key : ℕ) → HasCome p q now a key → wires_inside a.boxes ≡ 0
 no_wires p q now a key put = ⊎_elim
     (λ (P : IsBoxPut p q now a key). ap wires_inside P.plain.single)
-    (λ (S : IsSubPut p q now a key). (let e = ap wires_inside S.sub.single in let z = none_fit S.sub.sheet.wires in omega (arith, e, z))) put
+    (λ (o : IsSubPut p q now a key ⊎ IsPortBoxPut p q now a key). ⊎_elim
+    (λ (S : IsSubPut p q now a key). (let e = ap wires_inside S.sub.single in let z = none_fit S.sub.sheet.wires in omega (arith, e, z)))
+    (λ (P : IsPortBoxPut p q now a key). ap wires_inside P.port.single) o) put
 
 -- wires are as many as were counted
 wires_counted : (p q : Patch) (n m : Counts) (a : Added) → n.wires ≡ wires_told p.web → m ≡ a.counts → a.counts ≡ with_boxes p.rate a.boxes n → wires_inside a.boxes ≡ 0 → wires_told q.web ≡ wires_told p.web → m.wires ≡ wires_told q.web

@@ -2,7 +2,8 @@ mod TextLemmas
 mod ComingLemmas
 mod PlaceLemmas
 mod StayLemmas
-mod PlainLemmas
+mod LeafLemmas
 mod SeedLemmas
+mod PortLemmas
 mod AddLemmas
 pub mod SubLemmas

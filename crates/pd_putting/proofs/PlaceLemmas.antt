@@ -1,7 +1,8 @@
 -- The canvas to which a path leads lives, and which boxes are ports of a box around.
-use Rattle.std.proofs.Common.{◌≡◌, ℕ, Bool, true, false, cond, ◌&&◌, ◌||◌, not, is_some, List, [], ◌∷◌, Option, Some, None, inl, inr, refl, sym, ap, ◌∙◌, subst}
+use Rattle.std.proofs.Common.{◌≡◌, ℕ, Bool, true, false, cond, ◌||◌, is_some, List, [], ◌∷◌, Option, Some, None, inl, inr, refl, subst}
 use Rattle.std.specs.Prelude.{◌⊎◌, IsSome, option_and_then, slice_get}
 use mathlib.Core.Logic.{⊎_elim}
+use Rattle.std.proofs.lemmas.Bool.{cases_Bool}
 use Rattle.std.proofs.lemmas.Option.{none-some, same_Some}
 use Rattle.slab.specs.Slab.{get}
 use Rattle.pd_object.specs.declared.kinds.Kind.{Kind}
@@ -14,6 +15,10 @@ use Rattle.pd_grove.specs.Forest.{IsForest, holder_in}
 use Rattle.pd_grove.specs.OwnPaths.{sub_in, sub_step_in, sub_reached}
 use Rattle.pd_grove.specs.Ports.{port_signal}
 use Rattle.pd_grove.specs.Telling.{keys_in, inner_in}
+use Rattle.pd_patch.specs.declared.patch.Patch.{Patch}
+use Rattle.pd_boxes.specs.Put.{IsNoPort}
+use Rattle.pd_putting.specs.Adds.{last_place}
+use Rattle.pd_putting.specs.Last.{IsPortIn}
 
 -- ---- canvases
 
@@ -56,51 +61,38 @@ both_no true b h = cc
 both_no false true h = cc
 both_no false false h = (refl, refl)
 
-one_no : (a b : Bool) → (a && b) ≡ false → (a ≡ false) ⊎ (b ≡ false)
-one_no true b h = inr h
-one_no false b h = inl refl
+one_yes : (a b : Bool) → (a || b) ≡ true → (a ≡ true) ⊎ (b ≡ true)
+one_yes true b h = inl refl
+one_yes false b h = inr h
 
-no_sides : (k : Kind) → (is_some (port_signal Inlets k) || is_some (port_signal Outlets k)) ≡ false → (side : Side) → port_signal side k ≡ None
+some_of : (o : Option ℕ) → is_some o ≡ true → (n : ℕ) × (o ≡ Some n)
+some_of None h = cc
+some_of (Some n) h = (n, refl)
+
+pub no_sides : (k : Kind) → (is_some (port_signal Inlets k) || is_some (port_signal Outlets k)) ≡ false → (side : Side) → port_signal side k ≡ None
 no_sides k h Inlets = none_of (port_signal Inlets k) (both_no (is_some (port_signal Inlets k)) (is_some (port_signal Outlets k)) h).0
 no_sides k h Outlets = none_of (port_signal Outlets k) (both_no (is_some (port_signal Inlets k)) (is_some (port_signal Outlets k)) h).1
 
--- no box holds the canvas, or the kind is none of a port
-pub no_port : (o : Option ℕ) (k : Kind) → (is_some o && (is_some (port_signal Inlets k) || is_some (port_signal Outlets k))) ≡ false
-    → (o ≡ None) ⊎ ((side : Side) → port_signal side k ≡ None)
-no_port o k h = ⊎_elim
-    (λ a. inl (none_of o a))
-    (λ b. inr (no_sides k b))
-    (one_no (is_some o) (is_some (port_signal Inlets k) || is_some (port_signal Outlets k)) h)
+one_side : (k : Kind) → (is_some (port_signal Inlets k) || is_some (port_signal Outlets k)) ≡ true → (side : Side) × IsSome (port_signal side k)
+one_side k h = ⊎_elim
+    (λ (a : is_some (port_signal Inlets k) ≡ true). (Inlets, a))
+    (λ (b : is_some (port_signal Outlets k) ≡ true). (Outlets, b))
+    (one_yes (is_some (port_signal Inlets k)) (is_some (port_signal Outlets k)) h)
 
-no_side : (k : Kind) → ((side : Side) → port_signal side k ≡ None) → (is_some (port_signal Inlets k) || is_some (port_signal Outlets k)) ≡ false
-no_side k h = λ i. is_some (h Inlets i) || is_some (h Outlets i)
+module _ (p : Patch) (canvas : ℕ) (k : Kind) where
+  -- a port in a canvas that a box holds
+  pub held_port : is_some (holder_in (get p.grove.boards canvas)) ≡ true → (is_some (port_signal Inlets k) || is_some (port_signal Outlets k)) ≡ true → IsPortIn p canvas k
+  held_port held port =
+      let holder = some_of (holder_in (get p.grove.boards canvas)) held in
+      let side = one_side k port in
+      (holder.0, side.0, record { held = holder.1; port = side.1 })
 
-and_false : (a b : Bool) → b ≡ false → (a && b) ≡ false
-and_false true b h = h
-and_false false b h = refl
-
-pub port_none : (o : Option ℕ) (k : Kind) → (o ≡ None) ⊎ ((side : Side) → port_signal side k ≡ None)
-    → (is_some o && (is_some (port_signal Inlets k) || is_some (port_signal Outlets k))) ≡ false
-port_none o k h = ⊎_elim
-    (λ (a : o ≡ None). ap (λ (x : Option ℕ). is_some x && (is_some (port_signal Inlets k) || is_some (port_signal Outlets k))) a)
-    (λ (b : (side : Side) → port_signal side k ≡ None). and_false (is_some o) (is_some (port_signal Inlets k) || is_some (port_signal Outlets k)) (no_side k b)) h
-
-not_true : (b : Bool) → not b ≡ true → b ≡ false
-not_true true h = cc
-not_true false h = refl
-
-not_false : (b : Bool) → not b ≡ false → b ≡ true
-not_false true h = refl
-not_false false h = cc
-
--- no box holds the canvas
-pub no_holder : (held x y : Bool) → held ≡ x → held ≡ false → (x && y) ≡ false
-no_holder held x y is h = ap (λ (b : Bool). b && y) (sym is ∙ h)
-
--- the box is no port
-pub none_port : (port x y : Bool) → port ≡ y → not port ≡ true → (x && y) ≡ false
-none_port port x y is h = and_false x y (sym is ∙ not_true port h)
-
--- a port in a canvas that a box holds
-pub held_port : (held port x y : Bool) → held ≡ x → held ≡ true → port ≡ y → not port ≡ false → (x && y) ≡ true
-held_port held port x y is h same other = ap (λ (b : Bool). b && y) (sym is ∙ h) ∙ (sym same ∙ not_false port other)
+  -- a box is a port of the box around, or it is none
+  pub port_or_not : IsNoPort p (last_place p canvas) k ⊎ IsPortIn p canvas k
+  port_or_not = elim (cases_Bool (is_some (holder_in (get p.grove.boards canvas)))) [
+    | inr free ↦ inl (inl (none_of (holder_in (get p.grove.boards canvas)) free))
+    | inl held ↦ elim (cases_Bool (is_some (port_signal Inlets k) || is_some (port_signal Outlets k))) [
+      | inl port ↦ inr (held_port held port)
+      | inr none ↦ inl (inr (no_sides k none))
+    ]
+  ]

@@ -21,7 +21,7 @@ use Rattle.pd_tree.specs.declared.rows.Sheet.{Sheet}
 use Rattle.pd_web.specs.declared.jacks.Jack.{Jack}
 use Rattle.pd_web.specs.declared.web.Web.{Web}
 use Rattle.pd_web.specs.Canvases.{keys_at}
-use Rattle.pd_web.specs.Changes.{line_told, wires_told}
+use Rattle.pd_web.specs.Changes.{line_told, wires_told, Meet}
 use Rattle.pd_web.proofs.CountLemmas.{held_alike, holds, same_are_as_many}
 use Rattle.pd_ports.specs.Boxes.{HasPorts}
 use Rattle.pd_patch.specs.declared.patch.Patch.{Patch}
@@ -35,6 +35,7 @@ use Rattle.pd_boxes.specs.Room.{SameButRoom, IsFor}
 use Rattle.pd_boxes.specs.Put.{CanPut, ComesIn, IsPut, IsNoPort}
 use Rattle.pd_boxes.proofs.ReserveLemmas.{same_grove, same_web, same_order, longer_self}
 use Rattle.pd_boxes.proofs.RoomLemmas.{keys_same}
+use Rattle.pd_following.proofs.ReserveLemmas.{meet_same, holder_same}
 use Rattle.pd_subpatches.specs.Shell.{ShellComesIn}
 use Rattle.pd_adding.specs.Coming.{zero_in, own_zero}
 use Rattle.pd_putting.specs.Adds.{last_place}
@@ -64,12 +65,6 @@ live_seen (Some b) None e h = absurd (none-some (board_seen b) e)
 live_seen None (Some b') e h = refl
 live_seen (Some b) (Some b') e h = refl
 
-holder_seen : (o o' : Option Board) → option_map board_seen o' ≡ option_map board_seen o → holder_in o' ≡ holder_in o
-holder_seen None None e = refl
-holder_seen None (Some b') e = absurd (none-some (board_seen b') (sym e))
-holder_seen (Some b) None e = absurd (none-some (board_seen b) e)
-holder_seen (Some b) (Some b') e = ap (λ (s : BoardSeen). s.holder) (same_Some (board_seen b') (board_seen b) e)
-
 zero_seen : (o o' : Option Board) → option_map board_seen o' ≡ option_map board_seen o → zero_in o' ≡ zero_in o
 zero_seen None None e = refl
 zero_seen None (Some b') e = absurd (none-some (board_seen b') (sym e))
@@ -86,12 +81,15 @@ module _ (p q : Patch) (S : SameButRoom p q) where
   pub room_wires : wires_told q.web ≡ wires_told p.web
   room_wires = same_are_as_many p.web q.web S.web
 
+  pub room_meets : Meet p.web → Meet q.web
+  room_meets meet = meet_same p.web q.web S.web meet
+
   pub room_last : (c : ℕ) → length (keys_at q.grove c) ≡ length (keys_at p.grove c)
   room_last c = ap (λ (ks : List ℕ). length ks) (keys_same p.grove q.grove S.grove c)
 
   pub room_no_port : (at : Place) (k : Kind) → IsNoPort p at k → IsNoPort q at k
   room_no_port at k h = ⊎_elim
-      (λ (a : holder_in (get p.grove.boards at.canvas) ≡ None). inl (holder_seen (get p.grove.boards at.canvas) (get q.grove.boards at.canvas) (S.grove.boards at.canvas) ∙ a))
+      (λ (a : holder_in (get p.grove.boards at.canvas) ≡ None). inl (holder_same (get p.grove.boards at.canvas) (get q.grove.boards at.canvas) (S.grove.boards at.canvas) ∙ a))
       (λ (b : (side : Side) → port_signal side k ≡ None). inr b) h
 
 -- a canvas that lives has its order

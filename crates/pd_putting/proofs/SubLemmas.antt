@@ -16,14 +16,15 @@ use Rattle.pd_grove.specs.declared.seeds.Seed.{Seed}
 use Rattle.pd_grove.specs.Standing.{depth_of}
 use Rattle.pd_grove.specs.States.{IsFresh}
 use Rattle.pd_patch.specs.declared.patch.Patch.{Patch}
-use Rattle.pd_boxes.specs.Put.{CanPut, IsLeaf, IsNoPort}
+use Rattle.pd_boxes.specs.Put.{CanPut, IsLeaf}
 use Rattle.pd_subpatches.specs.Shell.{IsShallow, IsShell, IsShellPut}
 use Rattle.pd_adding.specs.declared.adding.Grown.{Grown}
 use Rattle.pd_adding.specs.Growing.{Added}
 use Rattle.pd_adding.specs.Adding.{IsAdded}
-use Rattle.pd_putting.specs.Adds.{last_place, IsPlain, IsSub, CanCome, IsSubPut}
+use Rattle.pd_adding.specs.Single.{IsSingle}
+use Rattle.pd_putting.specs.Adds.{last_place, IsSub, CanCome, IsSubPut}
 use Rattle.pd_putting.specs.Last.{PutsSubLast, IsReady}
-use Rattle.pd_putting.proofs.PlainLemmas.{rows_one, seed_leaf, seed_no_port, seed_suits}
+use Rattle.pd_putting.proofs.LeafLemmas.{rows_one, single_or_sub, seed_leaf, seed_suits}
 
 abbrev holding : Cell → Sheet → Stand
 holding cell sheet = record { cell = cell; sheet = Some sheet; boxes = 0 }
@@ -100,7 +101,7 @@ module _ (p : Patch) (g : Grown) (a : Added) (A : IsAdded g a) where
   sub_shallow S = subst (λ (c : ℕ). IsShallow p (last_place p c)) (sym A.canvas) S.shallow
 
   pub one_box : CanCome p a → length g.rows.items ≡ 1
-  one_box C = ⊎_elim (λ (P : IsPlain p a). rows_one p g a A P) (λ (S : IsSub p a). sub_one S) C
+  one_box C = ⊎_elim (λ (S : IsSingle a.boxes). rows_one g a A S) (λ (S : IsSub p a). sub_one S) (single_or_sub p a C)
 
   module _ (seed : Seed) (is : stand_of seed.row ∷ [] ≡ stands_in g.rows.items) where
     pub sub_seed : (S : IsSub p a) → stand_of seed.row ≡ holding S.cell S.sheet
@@ -116,8 +117,8 @@ module _ (p : Patch) (g : Grown) (a : Added) (A : IsAdded g a) where
     pub seed_ready : (seed.row.sheet ≡ None → seed.row.boxes ≡ 0 → IsLeaf seed) → (IsSome seed.row.sheet → seed.row.boxes ≡ 0 → seed.row.kind ≡ kind.Canvas → IsShell seed)
         → CanCome p a → IsReady p g.canvas seed
     seed_ready leaf shell C = ⊎_elim
-        (λ (P : IsPlain p a). inl (seed_leaf p g a A P seed is leaf, seed_no_port p g a A P seed is))
-        (λ (S : IsSub p a). inr (seed_shell shell S, sub_shallow S)) C
+        (λ (S : IsSingle a.boxes). inl (seed_leaf g a A S seed is leaf))
+        (λ (S : IsSub p a). inr (seed_shell shell S, sub_shallow S)) (single_or_sub p a C)
 
     -- what came in is the box that grew
     pub sub_put : (q : Patch) (now : ℕ) (table : Names) (key : ℕ) → (S : IsSub p a) → a.known.names ≡ table → IsShell seed → IsFresh p.rate now seed → CanPut q
@@ -128,7 +129,7 @@ module _ (p : Patch) (g : Grown) (a : Added) (A : IsAdded g a) where
       room = L.room;
       seed = seed;
       is_row = sub_seed S;
-      suits = seed_suits p g a A seed is;
+      suits = seed_suits g a A seed is;
       shell = shell;
       fresh = fresh;
       put = subst (λ (t : Names). IsShellPut L.ready q t (last_place p a.canvas) seed key) (sym names)
@@ -146,10 +147,10 @@ no_shell o some none = true≢false (sym some ∙ none)
 
 pub ready_shell : (p : Patch) (canvas : ℕ) (s : Seed) → IsReady p canvas s → is_some s.row.sheet ≡ true → IsShell s × IsShallow p (last_place p canvas)
 ready_shell p canvas s R some = ⊎_elim
-    (λ (L : IsLeaf s × IsNoPort p (last_place p canvas) s.row.kind). absurd (no_leaf s L.0 some))
+    (λ (L : IsLeaf s). absurd (no_leaf s L some))
     (λ (S : IsShell s × IsShallow p (last_place p canvas)). S) R
 
-pub ready_leaf : (p : Patch) (canvas : ℕ) (s : Seed) → IsReady p canvas s → is_some s.row.sheet ≡ false → IsLeaf s × IsNoPort p (last_place p canvas) s.row.kind
+pub ready_leaf : (p : Patch) (canvas : ℕ) (s : Seed) → IsReady p canvas s → is_some s.row.sheet ≡ false → IsLeaf s
 ready_leaf p canvas s R none = ⊎_elim
-    (λ (L : IsLeaf s × IsNoPort p (last_place p canvas) s.row.kind). L)
+    (λ (L : IsLeaf s). L)
     (λ (S : IsShell s × IsShallow p (last_place p canvas)). absurd (no_shell s.row.sheet S.0.sheet none)) R

@@ -1,12 +1,15 @@
 -- A box that comes in as the last one of its canvas, and one that doesn't.
 use Rattle.std.specs.Prelude.{◌≡◌, ◌⊎◌, ℕ}
 use Rattle.pd_atom.specs.Names.{Names}
+use Rattle.pd_object.specs.declared.kinds.Kind.{Kind}
+use Rattle.pd_grove.specs.declared.ports.Side.{Side}
 use Rattle.pd_grove.specs.declared.seeds.Seed.{Seed}
 use Rattle.pd_patch.specs.declared.patch.Patch.{Patch}
 use Rattle.pd_wiring.specs.declared.refusals.EditRefusal.{EditRefusal}
 use Rattle.pd_wiring.specs.declared.refusals.EditRefusal.TheVariants.{NoDocument, NoMemory}
 use Rattle.pd_boxes.specs.Room.{SameButRoom}
 use Rattle.pd_boxes.specs.Put.{IsLeaf, IsNoPort, IsPut}
+use Rattle.pd_following.specs.Ports.{CanPutPort, IsPortAt, IsPortPut}
 use Rattle.pd_subpatches.specs.Shell.{AddsShell, IsShallow, IsShell}
 use Rattle.pd_adding.specs.declared.adding.Grown.{Grown}
 use Rattle.pd_adding.specs.Growing.{Added}
@@ -19,13 +22,32 @@ pub record PutsLast (old new : Patch) (table : Names) (canvas : ℕ) (s : Seed) 
   pub room : SameButRoom old ready
   pub put : IsPut ready new table (last_place old canvas) s key
 
+-- the last box of a canvas is a port of the box around, where it is of this kind
+abbrev pub IsPortIn : Patch → ℕ → Kind → Type 0
+IsPortIn p canvas k = (holder : ℕ) × (side : Side) × IsPortAt p.grove (last_place p canvas) k holder side
+
+-- the same of a port box, which gives the box around a port
+pub record PutsPortLast (old new : Patch) (table : Names) (canvas : ℕ) (s : Seed) (key : ℕ) : Type 0 where
+  pub holder : ℕ
+  pub side : Side
+  pub at : IsPortAt old.grove (last_place old canvas) s.row.kind holder side
+  pub ready : Patch
+  pub room : SameButRoom old ready
+  pub could : CanPutPort ready (last_place old canvas) s holder side
+  pub put : IsPortPut ready new table (last_place old canvas) s key holder side
+
+-- a box without a canvas came in last: one that is no port of a box around, or one that is
+abbrev pub PutsLeafLast : Patch → Patch → Names → ℕ → Seed → ℕ → Type 0
+PutsLeafLast old new table canvas s key =
+    (IsNoPort old (last_place old canvas) s.row.kind × PutsLast old new table canvas s key) ⊎ PutsPortLast old new table canvas s key
+
 -- the same of a box that holds a canvas without boxes
 abbrev pub PutsSubLast : Patch → Patch → Names → ℕ → Seed → ℕ → Type 0
 PutsSubLast old new table canvas s key = AddsShell old new table (last_place old canvas) s key
 
 -- a seed whose box can come in last
 abbrev pub IsReady : Patch → ℕ → Seed → Type 0
-IsReady p canvas s = (IsLeaf s × IsNoPort p (last_place p canvas) s.row.kind) ⊎ (IsShell s × IsShallow p (last_place p canvas))
+IsReady p canvas s = IsLeaf s ⊎ (IsShell s × IsShallow p (last_place p canvas))
 
 -- what grew aside is this, with these names
 pub record HasGrown (g : Grown) (names : Names) : Type 0 where

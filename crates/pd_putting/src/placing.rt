@@ -1,6 +1,6 @@
 //! What grew aside, put into its canvas as the last box.
 
-ghost use Rattle.std.specs.Prelude.{◌≡◌, ◌||◌, ◌⊎◌, ◌∷◌, [], true, false, nat_lt, length, is_some, None, IsSome, IfOk, IfErr, OnErr};
+ghost use Rattle.std.specs.Prelude.{◌≡◌, ◌||◌, ◌∷◌, [], true, false, nat_lt, length, is_some, None, IsSome, IfOk, IfErr, OnErr};
 ghost use Rattle.slab.specs.Slab.{get, ContainsKey};
 ghost use Rattle.pd_canvas.specs.Pages.{Sub};
 ghost use Rattle.pd_canvas.specs.Views.{shape_of};
@@ -10,7 +10,7 @@ ghost use Rattle.pd_grove.specs.Forest.{holder_in};
 ghost use Rattle.pd_grove.specs.Standing.{depth_of};
 ghost use Rattle.pd_grove.specs.Ports.{port_signal};
 ghost use Rattle.pd_grove.specs.States.{AreSmall, IsFresh};
-ghost use Rattle.pd_tree.specs.Trees.{Cell, Done, Leaf, stand_of, stands_of, stands_in};
+ghost use Rattle.pd_tree.specs.Trees.{stand_of, stands_in};
 ghost use Rattle.pd_web.specs.Canvases.{keys_at};
 ghost use Rattle.pd_web.specs.Changes.{wires_told, Meet};
 ghost use Rattle.pd_boxes.specs.Room.{SameButRoom};
@@ -18,9 +18,10 @@ ghost use Rattle.pd_boxes.specs.Put.{CanPut, IsLeaf, IsNoPort};
 ghost use Rattle.pd_adding.specs.Adding.{IsAdded};
 ghost use Rattle.pd_adding.specs.Coming.{own_zero};
 ghost use Rattle.pd_adding.specs.Growing.{Added};
+ghost use Rattle.pd_adding.specs.Single.{IsSingle};
 ghost use Rattle.pd_subpatches.specs.Shell.{IsShallow, IsShell};
-ghost use Rattle.pd_putting.specs.Adds.{last_place, CanCome, HasCome, IsPlain, IsSub};
-ghost use Rattle.pd_putting.specs.Last.{HasGrown, IsReady, PutsLast, PutsSubLast, StaysOut};
+ghost use Rattle.pd_putting.specs.Adds.{last_place, CanCome, HasCome, IsSub};
+ghost use Rattle.pd_putting.specs.Last.{HasGrown, IsPortIn, IsReady, PutsLast, PutsLeafLast, PutsPortLast, PutsSubLast, StaysOut};
 
 use crate::adding::NewBox;
 use pd_adding::{Grown, single_boxes};
@@ -28,18 +29,19 @@ use pd_atom::Symbols;
 use pd_boxes::{Place, patches_run_on, put, reserve_box, room_changes_nothing};
 use pd_canvas::Form;
 use pd_clock::{Rate, Time};
+use pd_following::{patches_run_on_with_ports, put_port, reserve_port};
 use pd_grove::{Seed, Seeds};
 use pd_kind::{Glue, Kind, Signal};
 use pd_order::Steps;
 use pd_patch::Patch;
+use pd_ports::wires_still_meet;
 use pd_subpatches::add_shell;
 use pd_tree::Row;
 use pd_wiring::EditRefusal;
 use std::alloc::{AllocError, Global};
 use std::sync::ledger::Ledger;
 
-/// Puts what grew aside into its canvas as the last box, where it is one box, which has no canvas inside and is no port of a box around, or is a
-/// subpatch without boxes.
+/// Puts what grew aside into its canvas as the last box, where it is one box, which has no canvas inside or is a subpatch without boxes.
 ///
 /// # Errors
 ///
@@ -90,7 +92,20 @@ fn can_come(patch: &Patch, grown: &Grown) -> bool
     ensures yes { result ≡ true → (a : Added) → IsAdded grown.now a → CanCome patch.now a }
     ensures no { result ≡ false → (a : Added) → IsAdded grown.now a → CanCome patch.now a → ⊥ }
 {
-    is_plain(patch, grown) || is_sub(patch, grown)
+    is_single(grown) || is_sub(patch, grown)
+}
+
+/// Whether what grew is one box without a canvas inside.
+fn is_single(grown: &Grown) -> bool
+    ensures yes { result ≡ true → (a : Added) → IsAdded grown.now a → IsSingle a.boxes }
+    ensures no { result ≡ false → (a : Added) → IsAdded grown.now a → IsSingle a.boxes → ⊥ }
+{
+    single_boxes();
+    let rows = grown.rows.as_slice();
+    if rows.len() != 1 {
+        return false;
+    }
+    !rows[0].sheet.is_some()
 }
 
 /// Whether what grew is one subpatch without boxes, which isn't too deep.
@@ -141,24 +156,15 @@ fn is_shallow(patch: &Patch, canvas: u32) -> bool
     }
 }
 
-/// Whether what grew is one box without a canvas inside, and no port of a box around.
-fn is_plain(patch: &Patch, grown: &Grown) -> bool
-    ensures yes { result ≡ true → (a : Added) → IsAdded grown.now a → IsPlain patch.now a }
-    ensures no { result ≡ false → (a : Added) → IsAdded grown.now a → IsPlain patch.now a → ⊥ }
+/// Whether a box of a kind is a port of the box around, if it comes last into the canvas of a key.
+fn is_port_in(patch: &Patch, canvas: u32, kind: &Kind) -> bool
+    ensures yes { result ≡ true → IsPortIn patch.now canvas kind.now }
+    ensures no { result ≡ false → IsNoPort patch.now (last_place patch.now canvas) kind.now }
 {
-    single_boxes();
-    let rows = grown.rows.as_slice();
-    if rows.len() != 1 {
-        return false;
+    if is_held(patch, canvas) {
+        return is_port(kind);
     }
-    let row = &rows[0];
-    if row.sheet.is_some() {
-        return false;
-    }
-    if !is_held(patch, grown.canvas) {
-        return true;
-    }
-    !is_port(&row.kind)
+    false
 }
 
 /// Whether a box holds the canvas of a key.
@@ -215,12 +221,14 @@ fn put_seed<L: Ledger>(
     steps: &mut Steps<L>,
 ) -> Result<u32, AllocError>
     requires can { CanPut patch.old }
+    requires meet { Meet patch.old.web }
     requires here { ContainsKey patch.old.grove.boards canvas }
     requires ready { IsReady patch.old canvas seed }
-    ensures put { seed.row.sheet ≡ None → IfOk result (PutsLast patch.old patch.new symbols.old canvas seed) }
+    ensures put { seed.row.sheet ≡ None → IfOk result (PutsLeafLast patch.old patch.new symbols.old canvas seed) }
     ensures sub { IsSome seed.row.sheet → IfOk result (PutsSubLast patch.old patch.new symbols.old canvas seed) }
     ensures short { OnErr result (SameButRoom patch.old patch.new) }
     ensures goes_on { CanPut patch.new }
+    ensures meet { Meet patch.new.web }
     ensures as_many { wires_told patch.new.web ≡ wires_told patch.old.web }
     ensures zero { own_zero patch.new ≡ own_zero patch.old }
     ensures table { symbols.new ≡ symbols.old }
@@ -228,6 +236,8 @@ fn put_seed<L: Ledger>(
 {
     if seed.row.sheet.is_some() {
         put_sub_last(alloc, patch, canvas, seed, symbols, steps)
+    } else if is_port_in(patch, canvas, &seed.row.kind) {
+        put_port_last(alloc, patch, canvas, seed, symbols, steps)
     } else {
         put_last(alloc, patch, canvas, seed, symbols, steps)
     }
@@ -247,24 +257,27 @@ fn put_sub_last<L: Ledger>(
     steps: &mut Steps<L>,
 ) -> Result<u32, AllocError>
     requires can { CanPut patch.old }
+    requires meet { Meet patch.old.web }
     requires here { ContainsKey patch.old.grove.boards canvas }
     requires shell { IsShell seed }
     requires shallow { IsShallow patch.old (last_place patch.old canvas) }
     ensures put { IfOk result (PutsSubLast patch.old patch.new symbols.old canvas seed) }
     ensures short { OnErr result (SameButRoom patch.old patch.new) }
     ensures goes_on { CanPut patch.new }
+    ensures meet { Meet patch.new.web }
     ensures as_many { wires_told patch.new.web ≡ wires_told patch.old.web }
     ensures zero { own_zero patch.new ≡ own_zero patch.old }
     ensures table { symbols.new ≡ symbols.old }
     ensures looks { steps.new ≡ steps.old }
 {
+    wires_still_meet();
     let number = next_number(patch, canvas)?;
     let place = Place { canvas, number };
     let key = add_shell(alloc, patch, place, seed, symbols, steps)?;
     Ok(key)
 }
 
-/// Sets room aside for a box that comes last in a live canvas, puts it in, and gives its key.
+/// Sets room aside for a box that comes last in a live canvas and is no port of a box around, puts it in, and gives its key.
 ///
 /// # Errors
 ///
@@ -278,12 +291,14 @@ fn put_last<L: Ledger>(
     steps: &mut Steps<L>,
 ) -> Result<u32, AllocError>
     requires can { CanPut patch.old }
+    requires meet { Meet patch.old.web }
     requires here { ContainsKey patch.old.grove.boards canvas }
     requires leaf { IsLeaf seed }
     requires plain { IsNoPort patch.old (last_place patch.old canvas) seed.row.kind }
     ensures put { IfOk result (PutsLast patch.old patch.new symbols.old canvas seed) }
     ensures short { OnErr result (SameButRoom patch.old patch.new) }
     ensures goes_on { CanPut patch.new }
+    ensures meet { Meet patch.new.web }
     ensures as_many { wires_told patch.new.web ≡ wires_told patch.old.web }
     ensures zero { own_zero patch.new ≡ own_zero patch.old }
     ensures table { symbols.new ≡ symbols.old }
@@ -291,10 +306,46 @@ fn put_last<L: Ledger>(
 {
     patches_run_on();
     room_changes_nothing();
+    wires_still_meet();
     let number = next_number(patch, canvas)?;
     let place = Place { canvas, number };
     let room = reserve_box(alloc, patch, place, seed, symbols)?;
     Ok(put(patch, room, symbols, steps))
+}
+
+/// Sets room aside for a port box that comes last in a live canvas in a box, puts it in, so that the box around has the port that it is, and
+/// gives its key.
+///
+/// # Errors
+///
+/// `AllocError` where memory ran out, or where the canvas has as many boxes, or the box around as many ports, as can be counted.
+fn put_port_last<L: Ledger>(
+    alloc: Global,
+    patch: &mut Patch,
+    canvas: u32,
+    seed: Seed,
+    symbols: &mut Symbols,
+    steps: &mut Steps<L>,
+) -> Result<u32, AllocError>
+    requires can { CanPut patch.old }
+    requires meet { Meet patch.old.web }
+    requires here { ContainsKey patch.old.grove.boards canvas }
+    requires leaf { IsLeaf seed }
+    requires port { IsPortIn patch.old canvas seed.row.kind }
+    ensures put { IfOk result (PutsPortLast patch.old patch.new symbols.old canvas seed) }
+    ensures short { OnErr result (SameButRoom patch.old patch.new) }
+    ensures goes_on { CanPut patch.new }
+    ensures meet { Meet patch.new.web }
+    ensures as_many { wires_told patch.new.web ≡ wires_told patch.old.web }
+    ensures zero { own_zero patch.new ≡ own_zero patch.old }
+    ensures table { symbols.new ≡ symbols.old }
+    ensures looks { steps.new ≡ steps.old }
+{
+    patches_run_on_with_ports();
+    let number = next_number(patch, canvas)?;
+    let place = Place { canvas, number };
+    let room = reserve_port(alloc, patch, place, seed, symbols)?;
+    Ok(put_port(patch, room, symbols, steps))
 }
 
 /// The number of the box that comes next in the canvas of a key: how many boxes it has.

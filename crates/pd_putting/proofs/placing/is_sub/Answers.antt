@@ -1,5 +1,5 @@
 use Rattle.std.proofs.Common.{sym, ◌∙◌}
-use Rattle.pd_putting.proofs.PlainLemmas.{one_row}
+use Rattle.pd_putting.proofs.LeafLemmas.{one_row}
 use Rattle.pd_putting.proofs.SubLemmas.{sub_is}
 use Rattle.pd_putting.proofs.placing.is_sub.Goals as goal
 

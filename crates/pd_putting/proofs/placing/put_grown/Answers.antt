@@ -1,8 +1,9 @@
 use Rattle.std.proofs.Common.{inl, inr, refl, ap}
 use mathlib.Core.Logic.{⊎_elim}
 use Rattle.pd_tree.specs.Trees.{Stand}
-use Rattle.pd_putting.specs.Adds.{IsPlain, IsSub}
-use Rattle.pd_putting.proofs.PlainLemmas.{rows_small, seed_stand, seed_leaf, box_put}
+use Rattle.pd_adding.specs.Single.{IsSingle}
+use Rattle.pd_putting.specs.Adds.{IsSub}
+use Rattle.pd_putting.proofs.LeafLemmas.{rows_small, seed_stand, seed_leaf, single_or_sub, leaf_put}
 use Rattle.pd_putting.proofs.SubLemmas.{one_box, seed_ready, seed_shell, seed_sheet, sub_put}
 use Rattle.pd_putting.proofs.StayLemmas.{same_patch}
 use Rattle.pd_putting.proofs.placing.put_grown.Goals as goal
@@ -30,13 +31,13 @@ returns-clause-put g c = λ a A names.
     let seed = c.in-Ok.seed in
     let stand = c.in-Ok.ensures.stand in
     ⊎_elim
-    (λ (P : IsPlain p a). inl (box_put p c.args.grown a A P seed stand c.put_seed.new.patch c.args.now c.args.symbols.now c.in-Ok-put_seed.key names
-    (seed_leaf p c.args.grown a A P seed stand c.in-Ok.ensures.leaf) c.in-Ok.ensures.fresh c.put_seed.ensures.goes_on
-    (c.in-Ok-put_seed.ensures.put (ap (λ (s : Stand). s.sheet) (seed_stand p c.args.grown a A P seed stand)))))
-    (λ (S : IsSub p a). inr (sub_put p c.args.grown a A seed stand c.put_seed.new.patch c.args.now c.args.symbols.now c.in-Ok-put_seed.key S names
+    (λ (S : IsSingle a.boxes). leaf_put c.args.grown a A S seed stand p c.put_seed.new.patch c.args.now c.args.symbols.now c.in-Ok-put_seed.key names
+    (seed_leaf c.args.grown a A S seed stand c.in-Ok.ensures.leaf) c.in-Ok.ensures.fresh c.put_seed.ensures.goes_on
+    (c.in-Ok-put_seed.ensures.put (ap (λ (s : Stand). s.sheet) (seed_stand c.args.grown a A S seed stand))))
+    (λ (S : IsSub p a). inr (inl (sub_put p c.args.grown a A seed stand c.put_seed.new.patch c.args.now c.args.symbols.now c.in-Ok-put_seed.key S names
     (seed_shell p c.args.grown a A seed stand c.in-Ok.ensures.shell S) c.in-Ok.ensures.fresh c.put_seed.ensures.goes_on
-    (c.in-Ok-put_seed.ensures.sub (seed_sheet p c.args.grown a A seed stand S))))
-    (c.can_come.ensures.yes c.if-not-can_come.false a A)
+    (c.in-Ok-put_seed.ensures.sub (seed_sheet p c.args.grown a A seed stand S)))))
+    (single_or_sub p a (c.can_come.ensures.yes c.if-not-can_come.false a A))
 
 pub returns-in_default-clause-refused : goal.returns-in_default-clause-refused
 returns-in_default-clause-refused g c = λ a A. inl (refl, (c.can_come.ensures.yes c.if-not-can_come.false a A, same_patch c.args.patch.now))

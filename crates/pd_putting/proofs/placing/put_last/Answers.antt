@@ -7,7 +7,7 @@ use Rattle.pd_web.specs.Canvases.{keys_at}
 use Rattle.pd_boxes.specs.declared.room.Place.{Place}
 use Rattle.pd_boxes.specs.Put.{IsLeaf, IsNoPort}
 use Rattle.pd_putting.specs.Adds.{last_place}
-use Rattle.pd_putting.proofs.StayLemmas.{same_patch, room_lives, room_zero, room_wires, room_last, room_no_port, is_ordered, more_zero, more_wires, last_is, puts_last}
+use Rattle.pd_putting.proofs.StayLemmas.{same_patch, room_lives, room_zero, room_wires, room_last, room_no_port, room_meets, is_ordered, more_zero, more_wires, last_is, puts_last}
 use Rattle.pd_putting.proofs.placing.put_last.Goals as goal
 
 pub reserve_box-requires-clause-ordered : goal.reserve_box-requires-clause-ordered
@@ -20,6 +20,9 @@ returns-in_err-number-clause-short g c =
 
 pub returns-in_err-room-clause-goes_on : goal.returns-in_err-room-clause-goes_on
 returns-in_err-room-clause-goes_on g c = c.room_changes_nothing.ensures.can c.args.patch.now c.reserve_box.new.patch c.reserve_box.ensures.same c.requires.can
+
+pub returns-in_err-room-clause-meet : goal.returns-in_err-room-clause-meet
+returns-in_err-room-clause-meet g c = room_meets c.args.patch.now c.reserve_box.new.patch c.reserve_box.ensures.same c.requires.meet
 
 pub returns-in_err-room-clause-as_many : goal.returns-in_err-room-clause-as_many
 returns-in_err-room-clause-as_many g c = room_wires c.args.patch.now c.reserve_box.new.patch c.reserve_box.ensures.same
@@ -73,6 +76,11 @@ returns-clause-goes_on g c =
     (subst (λ (at : Place). IsNoPort q at c.args.seed.row.kind) (sym last)
     (room_no_port p q c.reserve_box.ensures.same (last_place p c.args.canvas) c.args.seed.row.kind c.requires.plain)) in
     c.patches_run_on.ensures.can q c.put.new.patch c.reserve_box.new.symbols room.place room.seed c.put.result can leaf c.put.ensures.put plain
+
+pub returns-clause-meet : goal.returns-clause-meet
+returns-clause-meet g c =
+    c.wires_still_meet.ensures c.reserve_box.new.patch.web c.put.new.patch.web c.put.result _ _ c.put.ensures.put.comes.ports
+    (room_meets c.args.patch.now c.reserve_box.new.patch c.reserve_box.ensures.same c.requires.meet)
 
 pub returns-clause-as_many : goal.returns-clause-as_many
 returns-clause-as_many g c =

@@ -1,7 +1,7 @@
 use Rattle.std.proofs.Common.{◌∙◌}
 use Rattle.std.proofs.lemmas.Result.{err_from_is_err_and}
 use Rattle.pd_boxes.proofs.RoomLemmas.{room_put}
-use Rattle.pd_putting.proofs.StayLemmas.{same_patch, room_wires, room_zero, shell_wires, shell_zero}
+use Rattle.pd_putting.proofs.StayLemmas.{same_patch, room_wires, room_zero, room_meets, shell_wires, shell_zero}
 use Rattle.pd_putting.proofs.placing.put_sub_last.Goals as goal
 
 pub returns-in_err-number-clause-short : goal.returns-in_err-number-clause-short
@@ -11,6 +11,14 @@ returns-in_err-number-clause-short g c =
 
 pub returns-in_err-key-clause-as_many : goal.returns-in_err-key-clause-as_many
 returns-in_err-key-clause-as_many g c = room_wires c.args.patch.now c.add_shell.new.patch c.in_err-key.ensures.short
+
+pub returns-in_err-key-clause-meet : goal.returns-in_err-key-clause-meet
+returns-in_err-key-clause-meet g c = room_meets c.args.patch.now c.add_shell.new.patch c.in_err-key.ensures.short c.requires.meet
+
+pub returns-clause-meet : goal.returns-clause-meet
+returns-clause-meet g c =
+    let L = c.in_ok-key.ensures.put in
+    c.wires_still_meet.ensures L.ready.web c.add_shell.new.patch.web c.in_ok-key.key _ _ L.put.comes.ports (room_meets c.args.patch.now L.ready L.room c.requires.meet)
 
 pub returns-clause-as_many : goal.returns-clause-as_many
 returns-clause-as_many g c =
