@@ -21,6 +21,7 @@ use Rattle.pd_growth.specs.Growing.{inside_grown}
 use Rattle.pd_growth.specs.Growth.{Inner, around_root, box_grown, without_ending}
 use Rattle.pd_grove.specs.declared.boards.Board.{Board}
 use Rattle.pd_grove.specs.declared.nodes.Node.{Node}
+use Rattle.pd_grove.specs.Room.{IsSameButRoom}
 use Rattle.pd_grove.specs.Standing.{BoardSeen, board_seen}
 use Rattle.pd_grove.specs.TextOrder.{is_sub}
 use Rattle.pd_patch.specs.declared.patch.Patch.{Patch}
@@ -144,8 +145,8 @@ same_head c e h = ap (head_or c.head) h
 
 -- ---- an edit that made a box another one
 
-module _ (old new : Patch) (n : Counts) (name path : List ℕ) (number : ℕ) (text : List Atom) (now : ℕ) (k after : Known) (b : RetypedBox)
-    (X : RetypesBox old new n name path number text now k after b) where
+module _ (old new : Patch) (n : Counts) (name path : List ℕ) (number : ℕ) (text : List Atom) (now : ℕ) (k after : Known) (steps steps' : ℕ) (b : RetypedBox)
+    (X : RetypesBox old new n name path number text now k after steps steps' b) where
   abbrev pub was : Node
   was = X.node
 
@@ -155,8 +156,13 @@ module _ (old new : Patch) (n : Counts) (name path : List ℕ) (number : ℕ) (t
   abbrev pub cell : Cell
   cell = X.became.can.cell
 
+  -- the patch from which the wires went that don't fit
   abbrev pub mid : Patch
-  mid = X.became.ready
+  mid = X.became.loose
+
+  -- its boxes are those that there were
+  pub same_boxes : IsSameButRoom old.grove mid.grove
+  same_boxes = subst (IsSameButRoom old.grove) (sym X.became.loosens.rest.grove) X.became.room.grove
 
   abbrev pub written_as : List Atom
   written_as = settled_text k.names text
@@ -210,7 +216,7 @@ module _ (old new : Patch) (n : Counts) (name path : List ℕ) (number : ℕ) (t
 
   pub box : RetypesBoxAt mid.grove new.grove path b.canvas b.key number was is_now
   box =
-      let S = X.became.room.grove in
+      let S = same_boxes in
       let G = X.became.refit.grove in
       record {
         forest = X.became.could.can.forest;
@@ -237,14 +243,14 @@ module _ (old new : Patch) (n : Counts) (name path : List ℕ) (number : ℕ) (t
     from = stock_by X.files.names without_it
 
     pub runs_ready : RunsAs mid.grove t
-    runs_ready = room_runs old.grove mid.grove X.became.room.grove t R
+    runs_ready = room_runs old.grove mid.grove same_boxes t R
 
     pub again_then : StandsAgain lib name X.files.names t
     again_then =
         stands_on (answer_in k.files) lib name k.names X.files.names t A (goes_alike k.files X.files.files grew_so.behind) grew_so.extends
         (library_of X.files.names X.files.files grew_so.found)
 
-    long : length path ≤ 255
+    pub long : length path ≤ 255
     long =
         let at = path_along old.grove path b.canvas t can.forest R.stands X.chosen.leads in
         path_short path t at.0 (path_within path t at.0 at.1) A.shallow

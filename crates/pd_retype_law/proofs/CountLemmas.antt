@@ -12,6 +12,7 @@ use Rattle.pd_grove.specs.declared.nodes.Node.{Node}
 use Rattle.pd_grove.specs.declared.grove.Grove.{Grove}
 use Rattle.pd_grove.specs.Standing.{NodeSeen, node_seen, Stands}
 use Rattle.pd_grove.proofs.PlaceLemmas.{seen_keys}
+use Rattle.pd_web.specs.Changes.{wires_told}
 use Rattle.pd_patch.specs.declared.patch.Patch.{Patch}
 use Rattle.pd_patch.specs.Sounds.{sound_of}
 use Rattle.pd_gather.specs.Gather.{Known}
@@ -24,10 +25,10 @@ use Rattle.pd_adding.specs.declared.counts.Counts.{Counts}
 use Rattle.pd_adding.specs.Counts.{with_boxes}
 use Rattle.pd_put_law.proofs.RoomLemmas.{room_runs}
 use Rattle.pd_retyping.specs.declared.retyping.RetypedBox.{RetypedBox}
-use Rattle.pd_retyping.specs.Retypes.{counts_but, RetypesBox}
+use Rattle.pd_retyping.specs.Retypes.{counts_but, with_wires, RetypesBox}
 use Rattle.pd_retyping_law.specs.Retypes.{retyped_at}
 use Rattle.pd_retyping_law.proofs.CountLemmas.{tree_trades, weight_same, zeros_same}
-use Rattle.pd_retype_law.proofs.BecomeLemmas.{mid, is_now, box, cell_is, grew_so}
+use Rattle.pd_retype_law.proofs.BecomeLemmas.{mid, is_now, box, cell_is, grew_so, same_boxes}
 
 -- ---- what the box that was there counts
 
@@ -122,21 +123,22 @@ module _ (rate : Rate) (g : Grove) (key : ℕ) (n : Node) (is : get g.nodes key 
 
 -- ---- an edit that made a box another one
 
-module _ (old new : Patch) (n : Counts) (name path : List ℕ) (number : ℕ) (text : List Atom) (now : ℕ) (k after : Known) (b : RetypedBox)
-    (X : RetypesBox old new n name path number text now k after b) where
+module _ (old new : Patch) (n : Counts) (name path : List ℕ) (number : ℕ) (text : List Atom) (now : ℕ) (k after : Known) (steps steps' : ℕ) (b : RetypedBox)
+    (X : RetypesBox old new n name path number text now k after steps steps' b) where
   abbrev cell : Cell
   cell = X.became.can.cell
 
-  counted : b.counts ≡ with_boxes old.rate (Leaf cell Done) (counts_but old.rate X.node n)
+  counted : b.counts ≡ with_wires (with_boxes old.rate (Leaf cell Done) (counts_but old.rate X.node n)) (wires_told new.web)
   counted =
-      X.counts ∙ (grew_so old new n name path number text now k after b X).counts
-      ∙ ap (λ (t : Trees). with_boxes old.rate t (counts_but old.rate X.node n)) X.became.can.single
+      X.counts
+      ∙ ap (λ (c : Counts). with_wires c (wires_told new.web)) ((grew_so old new n name path number text now k after steps steps' b X).counts
+      ∙ ap (λ (t : Trees). with_boxes old.rate t (counts_but old.rate X.node n)) X.became.can.single)
 
   none_more : (a x : ℕ) → x ≡ a + 0 → x ≡ a
   none_more a x h = omega (arith, h)
 
-  pub as_many_wires : b.counts.wires ≡ n.wires
-  as_many_wires = none_more n.wires b.counts.wires (ap (λ (x : Counts). x.wires) counted)
+  pub as_many_wires : b.counts.wires ≡ wires_told new.web
+  as_many_wires = ap (λ (x : Counts). x.wires) counted
 
   pub same_next : b.counts.next_zero ≡ n.next_zero
   same_next = none_more n.next_zero b.counts.next_zero (ap (λ (x : Counts). x.next_zero) counted)
@@ -165,11 +167,11 @@ module _ (old new : Patch) (n : Counts) (name path : List ℕ) (number : ℕ) (t
 
     traded : sound_of old.rate (retyped_at path number cell t).boxes + size_of X.node.kind old.rate ≡ sound_of old.rate t.boxes + size_of cell.kind old.rate
     traded =
-        let p = mid old new n name path number text now k after b X in
+        let p = mid old new n name path number text now k after steps steps' b X in
         subst (λ (c : Cell). sound_of old.rate (retyped_at path number c t).boxes + size_of X.node.kind old.rate ≡ sound_of old.rate t.boxes + size_of c.kind old.rate)
-        (cell_is old new n name path number text now k after b X)
-        (tree_trades old.rate p.grove new.grove path b.canvas b.key number X.node (is_now old new n name path number text now k after b X)
-        (box old new n name path number text now k after b X) t (room_runs old.grove p.grove X.became.room.grove t R).stands)
+        (cell_is old new n name path number text now k after steps steps' b X)
+        (tree_trades old.rate p.grove new.grove path b.canvas b.key number X.node (is_now old new n name path number text now k after steps steps' b X)
+        (box old new n name path number text now k after steps steps' b X) t (room_runs old.grove p.grove (same_boxes old new n name path number text now k after steps steps' b X) t R).stands)
 
     pub as_much_sound : n.sound ≡ sound_of old.rate t.boxes → b.counts.sound ≡ sound_of old.rate (retyped_at path number cell t).boxes
     as_much_sound h =

@@ -67,11 +67,11 @@ module _ (w v : Web) (numbers : List ℕ) (fans : (k o : ℕ) → fan_hops v k o
 
 -- ---- what holds of each of them
 
-first_all : {X : Type 0} (P : X → Type 0) (xs ys : List X) → AllByRecursion P (xs ++ ys) → AllByRecursion P xs
+pub first_all : {X : Type 0} (P : X → Type 0) (xs ys : List X) → AllByRecursion P (xs ++ ys) → AllByRecursion P xs
 first_all P [] ys h = tt
 first_all P (x ∷ xs) ys h = (h.0, first_all P xs ys h.1)
 
-last_all : {X : Type 0} (P : X → Type 0) (xs ys : List X) → AllByRecursion P (xs ++ ys) → AllByRecursion P ys
+pub last_all : {X : Type 0} (P : X → Type 0) (xs ys : List X) → AllByRecursion P (xs ++ ys) → AllByRecursion P ys
 last_all P [] ys h = h
 last_all P (x ∷ xs) ys h = last_all P xs ys h.1
 

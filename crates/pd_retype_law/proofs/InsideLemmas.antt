@@ -1,5 +1,5 @@
 -- A box that became another one: the wires hold and fit, and each name has its owners.
-use Rattle.std.proofs.Common.{◌≡◌, ◌≢◌, ℕ, zero, suc, Bool, true, false, cond, List, [], ◌∷◌, slice_get, Option, Some, None, refl, sym, ap, ◌∙◌, subst}
+use Rattle.std.proofs.Common.{◌≡◌, ◌≢◌, ◌+◌, ℕ, zero, suc, Bool, true, false, cond, List, [], ◌∷◌, filter, length, slice_get, Option, Some, None, refl, sym, ap, ◌∙◌, subst, arith}
 use Rattle.std.specs.Prelude.{option_map, option_and_then}
 use Rattle.std.proofs.lemmas.Option.{none-some, same_Some}
 use mathlib.Core.Logic.{⊎_elim}
@@ -18,6 +18,7 @@ use Rattle.pd_grove.specs.declared.ports.Side.{Side}
 use Rattle.pd_grove.specs.declared.ports.Side.TheVariants.{Inlets, Outlets}
 use Rattle.pd_grove.specs.OwnPaths.{sub_in, sub_step_in, sub_reached, sub_in_box, sub_along}
 use Rattle.pd_grove.specs.Places.{CanvasStands, LeadsTo, canvas_in_box, canvas_along}
+use Rattle.pd_grove.specs.Room.{IsSameButRoom}
 use Rattle.pd_grove.specs.TextOrder.{is_sub}
 use Rattle.pd_grove.specs.Telling.{inner_in, keys_in, step_in, reached}
 use Rattle.pd_grove.proofs.SubLemmas.{sub_path_leads}
@@ -29,7 +30,9 @@ use Rattle.pd_ports.specs.Boxes.{HasPorts}
 use Rattle.pd_seek.specs.Places.{AreInOrder}
 use Rattle.pd_patch.specs.declared.patch.Patch.{Patch}
 use Rattle.pd_gather.specs.Gather.{Known}
-use Rattle.pd_boxes.specs.Put.{HasOwners}
+use Rattle.pd_boxes.specs.Put.{CanPut, HasOwners}
+use Rattle.pd_boxes.proofs.RoomLemmas.{keys_same, room_put}
+use Rattle.pd_misfits.specs.Shedding.{is_left, Sheds}
 use Rattle.pd_inside_law.specs.Inside.{HasWiresOf, HoldsWires}
 use Rattle.pd_reload_law.specs.Reloading.{RunsAs}
 use Rattle.pd_saved_law.specs.Fitting.{WiresFit}
@@ -38,13 +41,14 @@ use Rattle.pd_putting_law.specs.Puts.{change_inside}
 use Rattle.pd_putting_law.proofs.PathLemmas.{paths_once, sub_leads}
 use Rattle.pd_adding.specs.declared.counts.Counts.{Counts}
 use Rattle.pd_put_law.proofs.OwnerLemmas.{own_more, room_own}
-use Rattle.pd_put_law.proofs.RoomLemmas.{same_canvas, lists_fed, lists_meet, told_same, laid_same, room_runs, room_holds, room_fits, room_wires}
+use Rattle.pd_put_law.proofs.RoomLemmas.{same_canvas, lists_fed, lists_meet, told_same, laid_same, room_subs, room_runs, room_holds, room_fits, room_wires}
 use Rattle.pd_retyping.specs.declared.retyping.RetypedBox.{RetypedBox}
 use Rattle.pd_retyping.specs.Retypes.{RetypesBox}
 use Rattle.pd_retyping_law.specs.Retypes.{boxes_with, retyped_at}
 use Rattle.pd_retyping_law.specs.Retyping.{RetypesBoxAt, cell_in}
-use Rattle.pd_retype_law.proofs.BecomeLemmas.{mid, is_now, box, cell_is, goes_on}
+use Rattle.pd_retype_law.proofs.BecomeLemmas.{mid, is_now, box, cell_is, goes_on, same_boxes}
 use Rattle.pd_retype_law.proofs.FitLemmas.{ports_fit, ports_wires}
+use Rattle.pd_retype_law.proofs.LooseLemmas.{loose_fits, loose_holds}
 
 -- ---- canvases of a tree to which paths lead through abstractions
 
@@ -95,8 +99,8 @@ record StepsIn (m : ℕ) (path : List ℕ) (t v : Tree) : Type 0 where
   is : sub_in_box m t.boxes ≡ Some inner
   on : sub_along path inner ≡ Some v
 
-steps : (m : ℕ) (path : List ℕ) (t v : Tree) → sub_along (m ∷ path) t ≡ Some v → StepsIn m path t v
-steps m path t v e = by (sub_in_box m t.boxes) refl e
+stepped : (m : ℕ) (path : List ℕ) (t v : Tree) → sub_along (m ∷ path) t ≡ Some v → StepsIn m path t v
+stepped m path t v e = by (sub_in_box m t.boxes) refl e
   where
     by : (o : Option Tree) → sub_in_box m t.boxes ≡ o → option_and_then (sub_along path) o ≡ Some v → StepsIn m path t v
     by None at e = absurd (none-some v e)
@@ -109,7 +113,7 @@ inside_same path [] n c t v own off = absurd (none-some t (sym off))
 inside_same [] (i ∷ way) n c t v own off = ap (option_and_then (canvas_along way)) (same_inside i n c t.boxes)
 inside_same (m ∷ path) (i ∷ way) n c t v own off = ⊎_elim
     (λ (same : i ≡ m).
-    let s = steps m path t v own in
+    let s = stepped m path t v own in
     let f : Tree → Tree = retyped_at path n c in
     let is : canvas_in_box m t.boxes ≡ Some s.inner = sub_canvas m t.boxes s.inner s.is in
     let further : sub_along way s.inner ≡ None =
@@ -235,35 +239,68 @@ module _ (p q : Patch) (path : List ℕ) (canvas key number : ℕ) (n n' : Node)
             };
       }
 
-module _ (old new : Patch) (n : Counts) (name path : List ℕ) (number : ℕ) (text : List Atom) (now : ℕ) (k after : Known) (b : RetypedBox)
-    (X : RetypesBox old new n name path number text now k after b) where
-  abbrev ready : Patch
-  ready = mid old new n name path number text now k after b X
+module _ (old new : Patch) (n : Counts) (name path : List ℕ) (number : ℕ) (text : List Atom) (now : ℕ) (k after : Known) (steps steps' : ℕ) (b : RetypedBox)
+    (X : RetypesBox old new n name path number text now k after steps steps' b) where
+  abbrev loose : Patch
+  loose = mid old new n name path number text now k after steps steps' b X
 
   abbrev new_node : Node
-  new_node = is_now old new n name path number text now k after b X
+  new_node = is_now old new n name path number text now k after steps steps' b X
 
-  abbrev there : RetypesBoxAt ready.grove new.grove path b.canvas b.key number X.node new_node
-  there = box old new n name path number text now k after b X
+  abbrev there : RetypesBoxAt loose.grove new.grove path b.canvas b.key number X.node new_node
+  there = box old new n name path number text now k after steps steps' b X
 
-  pub box_holds : (t : Tree) → RunsAs old.grove t → HoldsWires old t → HoldsWires new (retyped_at path number X.became.can.cell t)
-  box_holds t R H =
-      subst (λ (c : Cell). HoldsWires new (retyped_at path number c t)) (cell_is old new n name path number text now k after b X)
-      (held_on ready new path b.canvas b.key number X.node new_node there (λ side. kind_jacks side X.became.seed.row.kind) (is_made X.became.seed.row.kind)
-      X.became.refit.ports X.became.refit.numbers t (room_runs old.grove ready.grove X.became.room.grove t R) (room_holds old ready X.became.room t H))
+  boxes_same : IsSameButRoom old.grove loose.grove
+  boxes_same = same_boxes old new n name path number text now k after steps steps' b X
+
+  -- the patch in which room was set aside, and from which nothing went yet
+  abbrev ready : Patch
+  ready = X.became.ready
+
+  shed : Sheds ready.web loose.web b.gone.items
+  shed =
+      let S = X.became.sheds in
+      let W = X.became.room.web in
+      record {
+        fans = λ node outlet. S.fans node outlet ∙ ap (filter (is_left b.gone.items)) (sym (W.fans node outlet));
+        feeds = λ node inlet. S.feeds node inlet ∙ ap (filter (is_left b.gone.items)) (sym (W.feeds node inlet));
+      }
+
+  loose_held : CanPut old → (t : Tree) → HoldsWires old t → HoldsWires loose t
+  loose_held can t H =
+      let g = ready.grove in
+      let S = X.became.room.grove in
+      let held = room_holds old ready X.became.room t H in
+      loose_holds ready loose b.key steps X.became.between X.became.loosens b.gone.items shed (room_put old ready X.became.room can) held.meet path b.canvas number
+      (room_subs old.grove g S path ∙ X.chosen.leads) (ap (λ (ks : List ℕ). slice_get ks number) (keys_same old.grove g S b.canvas) ∙ X.chosen.at) t held
+
+  pub box_holds : CanPut old → (t : Tree) → RunsAs old.grove t → HoldsWires old t → HoldsWires new (retyped_at path number X.became.can.cell t)
+  box_holds can t R H =
+      subst (λ (c : Cell). HoldsWires new (retyped_at path number c t)) (cell_is old new n name path number text now k after steps steps' b X)
+      (held_on loose new path b.canvas b.key number X.node new_node there (λ side. kind_jacks side X.became.seed.row.kind) (is_made X.became.seed.row.kind)
+      X.became.refit.ports X.became.refit.numbers t (room_runs old.grove loose.grove boxes_same t R) (loose_held can t H))
 
   pub box_fits : WiresFit old → WiresFit new
   box_fits F =
-      ports_fit ready new b.key X.became.seed.row.kind X.became.refit.ports X.became.could.wires X.became.could.meet X.became.could.can.runs
-      X.became.refit.grove.boards X.became.refit.numbers (room_fits old ready X.became.room F)
+      ports_fit loose new b.key X.became.seed.row.kind X.became.refit.ports X.became.could.wires X.became.could.meet X.became.could.can.runs
+      X.became.refit.grove.boards X.became.refit.numbers
+      (loose_fits ready loose b.key steps X.became.between X.became.loosens b.gone.items shed (room_fits old ready X.became.room F))
 
-  pub box_wires : wires_told new.web ≡ wires_told old.web
-  box_wires = ports_wires ready new b.key X.became.seed.row.kind X.became.refit.ports ∙ room_wires old ready X.became.room
+  -- as many fewer as went
+  pub box_wires : wires_told new.web + length X.became.loosens.gone ≡ wires_told old.web
+  box_wires =
+      let a = ports_wires loose new b.key X.became.seed.row.kind X.became.refit.ports in
+      let c = X.became.loosens.count in
+      let d = room_wires old ready X.became.room in
+      omega (arith, a, c, d)
 
   pub box_owners : (t : Tree) → RunsAs old.grove t → StandsAgain (answer_in k.files) name k.names t → HasOwners old k.names name → HasOwners new after.names name
   box_owners t R A h =
       let is : after.names ≡ X.added.known.names = ap (λ (x : Known). x.names) X.known_is in
       let more : HasOwners old after.names name =
-      own_more (answer_in k.files) name old k.names after.names t R.stands R.shallow A (goes_on old new n name path number text now k after b X) h in
+      own_more (answer_in k.files) name old k.names after.names t R.stands R.shallow A (goes_on old new n name path number text now k after steps steps' b X) h in
       let again : HasOwners old X.added.known.names name = subst (λ (ns : Names). HasOwners old ns name) is more in
-      subst (λ (ns : Names). HasOwners new ns name) (sym is) (X.became.refit.owners name (room_own old ready X.added.known.names name X.became.room again))
+      subst (λ (ns : Names). HasOwners new ns name) (sym is) (X.became.refit.owners name (own_loose X.added.known.names (room_own old ready X.added.known.names name X.became.room again)))
+    where
+      own_loose : (ns : Names) → HasOwners ready ns name → HasOwners loose ns name
+      own_loose ns h class x = rw (X.became.loosens.rest.names, X.became.loosens.rest.grove) (h class x)

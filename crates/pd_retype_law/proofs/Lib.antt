@@ -1,5 +1,7 @@
 pub mod BecomeLemmas
 pub mod FitLemmas
+pub mod KeptLemmas
+pub mod LooseLemmas
 pub mod InsideLemmas
 pub mod CountLemmas
 pub mod ProperLemmas

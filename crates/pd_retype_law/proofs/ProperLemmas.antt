@@ -139,26 +139,26 @@ module _ (names : Names) where
 
 -- ---- an edit that made a box another one
 
-module _ (old new : Patch) (n : Counts) (name path : List ℕ) (number : ℕ) (text : List Atom) (now : ℕ) (k after : Known) (b : RetypedBox)
-    (X : RetypesBox old new n name path number text now k after b) (can : CanPut old) (t : Tree) (R : RunsAs old.grove t)
+module _ (old new : Patch) (n : Counts) (name path : List ℕ) (number : ℕ) (text : List Atom) (now : ℕ) (k after : Known) (steps steps' : ℕ) (b : RetypedBox)
+    (X : RetypesBox old new n name path number text now k after steps steps' b) (can : CanPut old) (t : Tree) (R : RunsAs old.grove t)
     (A : StandsAgain (answer_in k.files) name k.names t) where
   abbrev cell : Cell
   cell = X.became.can.cell
 
   abbrev element : Entry
-  element = drawn old new n name path number text now k after b X
+  element = drawn old new n name path number text now k after steps steps' b X
 
   pub text_later : (later : Names) → Extends k.names later → IsTable later → AreReady later element.head.text
-  text_later later on table = ready_later k.names later on (six old new n name path number text now k after b X) table element.head.text X.written.text
+  text_later later on table = ready_later k.names later on (six old new n name path number text now k after steps steps' b X) table element.head.text X.written.text
 
   head_proper : (later : Names) → Extends k.names later → IsTable later → IsHead later element.head
   head_proper later on table =
       let p : IsPlainHead element.head =
-      put_plain (settled_edit k.names (put_instead (entry_of X.node.element) text)) element (puts old new n name path number text now k after b X) in
+      put_plain (settled_edit k.names (put_instead (entry_of X.node.element) text)) element (puts old new n name path number text now k after steps steps' b X) in
       record {
         x = X.written.x;
         y = X.written.y;
-        text = (text_later later on table, (may old new n name path number text now k after b X).short);
+        text = (text_later later on table, (may old new n name path number text now k after steps steps' b X).short);
         width = subst IsWidth (sym p.width) tt;
         tail = subst (AllByRecursion (AreReady later)) (sym p.tail) tt;
         form = p.form later;
@@ -166,11 +166,11 @@ module _ (old new : Patch) (n : Counts) (name path : List ℕ) (number : ℕ) (t
 
   box_well : (later : Names) → Extends k.names later → IsTable later → AreBoxes later (document_boxes (Leaf cell Done))
   box_well later on table =
-      let B = bare old new n name path number text now k after b X in
+      let B = bare old new n name path number text now k after steps steps' b X in
       let f : IsFrame later (frame_of element.page) =
-      put_frame later table (settled_edit k.names (put_instead (entry_of X.node.element) text)) element (puts old new n name path number text now k after b X)
+      put_frame later table (settled_edit k.names (put_instead (entry_of X.node.element) text)) element (puts old new n name path number text now k after steps steps' b X)
       (text_later later on table) in
-      subst (AreBoxes later) (sym (document old new n name path number text now k after b X can t R A))
+      subst (AreBoxes later) (sym (document old new n name path number text now k after steps steps' b X can t R A))
       (entry_boxes later element (head_proper later on table) B.holds f B.boxes)
 
   tree_stays : (later : Names) → Extends k.names later → IsTable later → CanvasStays later t (retyped_at path number cell t)
@@ -186,5 +186,5 @@ module _ (old new : Patch) (n : Counts) (name path : List ℕ) (number : ℕ) (t
   pub box_proper : (later : Names) → Extends after.names later → IsTable later → IsProper later (document_in t) → IsProper later (document_in (retyped_at path number cell t))
   box_proper later on table h =
       stays_proper later t (retyped_at path number cell t)
-      (tree_stays later (onward k.names after.names later (goes_on old new n name path number text now k after b X) on) table)
-      (box_again old new n name path number text now k after b X can t R A).shallow h
+      (tree_stays later (onward k.names after.names later (goes_on old new n name path number text now k after steps steps' b X) on) table)
+      (box_again old new n name path number text now k after steps steps' b X can t R A).shallow h

@@ -15,6 +15,7 @@ use Rattle.pd_canvas.specs.Proper.{AreReady}
 use Rattle.pd_library.specs.Files.{answer_in}
 use Rattle.pd_tree.specs.Trees.{Cell, Tree}
 use Rattle.pd_grove.specs.declared.nodes.Node.{Node}
+use Rattle.pd_grove.specs.Room.{IsSameButRoom}
 use Rattle.pd_grove.specs.Telling.{kind_in, state_in}
 use Rattle.pd_hearing.specs.Worlds.{states_of}
 use Rattle.pd_patch.specs.declared.patch.Patch.{Patch}
@@ -34,7 +35,7 @@ use Rattle.pd_put_law.proofs.RoomLemmas.{room_subs}
 use Rattle.pd_retyping.specs.declared.retyping.RetypedBox.{RetypedBox}
 use Rattle.pd_retyping.specs.Retypes.{RetypesBox}
 use Rattle.pd_retyping_law.specs.Retyping.{RetypesBoxAt, cell_in}
-use Rattle.pd_retype_law.proofs.BecomeLemmas.{mid, is_now, box, cell_is, head_is, made, six, goes_on}
+use Rattle.pd_retype_law.proofs.BecomeLemmas.{mid, is_now, box, cell_is, head_is, made, six, goes_on, same_boxes}
 use Rattle.pd_retype_law.proofs.InsideLemmas.{sub_from_root, number_stays}
 use Rattle.pd_retype_law.proofs.ProperLemmas.{stays_settled}
 
@@ -56,33 +57,36 @@ more_state old new n x (Some s) h = contents_more n old new x s h
 
 -- ---- an edit that made a box another one
 
-module _ (old new : Patch) (n : Counts) (name path : List ℕ) (number : ℕ) (text : List Atom) (now : ℕ) (k after : Known) (b : RetypedBox)
-    (X : RetypesBox old new n name path number text now k after b) (can : CanPut old) (t : Tree) (R : RunsAs old.grove t)
+module _ (old new : Patch) (n : Counts) (name path : List ℕ) (number : ℕ) (text : List Atom) (now : ℕ) (k after : Known) (steps steps' : ℕ) (b : RetypedBox)
+    (X : RetypesBox old new n name path number text now k after steps steps' b) (can : CanPut old) (t : Tree) (R : RunsAs old.grove t)
     (A : StandsAgain (answer_in k.files) name k.names t) where
   abbrev c : Cell
   c = X.became.can.cell
 
   abbrev x : Node
-  x = is_now old new n name path number text now k after b X
+  x = is_now old new n name path number text now k after steps steps' b X
 
-  abbrev ready : Patch
-  ready = mid old new n name path number text now k after b X
+  abbrev loose : Patch
+  loose = mid old new n name path number text now k after steps steps' b X
 
-  abbrev there : RetypesBoxAt ready.grove new.grove path b.canvas b.key number X.node x
-  there = box old new n name path number text now k after b X
+  boxes_same : IsSameButRoom old.grove loose.grove
+  boxes_same = same_boxes old new n name path number text now k after steps steps' b X
+
+  abbrev there : RetypesBoxAt loose.grove new.grove path b.canvas b.key number X.node x
+  there = box old new n name path number text now k after steps steps' b X
 
   more : Extends k.names after.names
-  more = goes_on old new n name path number text now k after b X
+  more = goes_on old new n name path number text now k after steps steps' b X
 
   cell_kept : cell_in x ≡ c
-  cell_kept = cell_is old new n name path number text now k after b X
+  cell_kept = cell_is old new n name path number text now k after steps steps' b X
 
   settled : is_written c.head.form ≡ true → IsKindSettled after.names c.kind
   settled w =
       let text_ready : AreReady k.names c.head.text =
-      subst (λ (h : Head). AreReady k.names h.text) (sym (head_is old new n name path number text now k after b X can t R A)) X.written.text in
-      kind_stays k.names after.names more (six old new n name path number text now k after b X) c.head.form c refl
-      (made old new n name path number text now k after b X can t R A) text_ready w
+      subst (λ (h : Head). AreReady k.names h.text) (sym (head_is old new n name path number text now k after steps steps' b X can t R A)) X.written.text in
+      kind_stays k.names after.names more (six old new n name path number text now k after steps steps' b X) c.head.form c refl
+      (made old new n name path number text now k after steps steps' b X can t R A) text_ready w
 
   -- a box of the document was one
   was_own : (j : ℕ) → IsOwnBox new.grove j → IsOwnBox old.grove j
@@ -90,14 +94,14 @@ module _ (old new : Patch) (n : Counts) (name path : List ℕ) (number : ℕ) (t
     path = w.path;
     canvas = w.canvas;
     place = w.place;
-    leads = sym (room_subs old.grove ready.grove X.became.room.grove w.path)
-        ∙ sub_from_root ready.grove new.grove path b.canvas b.key number X.node x there w.path ∙ w.leads;
-    at = ap (λ (ks : List ℕ). slice_get ks w.place) (sym (keys_same old.grove ready.grove X.became.room.grove w.canvas))
-        ∙ number_stays ready.grove new.grove path b.canvas b.key number X.node x there w.canvas w.place j w.at;
+    leads = sym (room_subs old.grove loose.grove boxes_same w.path)
+        ∙ sub_from_root loose.grove new.grove path b.canvas b.key number X.node x there w.path ∙ w.leads;
+    at = ap (λ (ks : List ℕ). slice_get ks w.place) (sym (keys_same old.grove loose.grove boxes_same w.canvas))
+        ∙ number_stays loose.grove new.grove path b.canvas b.key number X.node x there w.canvas w.place j w.at;
   }
 
   same_node : (j : ℕ) → j ≢ b.key → get new.grove.nodes j ≡ get old.grove.nodes j
-  same_node j d = there.others j d ∙ X.became.room.grove.nodes j
+  same_node j d = there.others j d ∙ boxes_same.nodes j
 
   new_contents : IsWritten new.grove b.key → IfSome (states_of new b.key) (HasContents (counts_of (kinds_of new) b.key) after.names)
   new_contents w =

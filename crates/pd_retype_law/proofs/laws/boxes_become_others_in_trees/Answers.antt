@@ -7,22 +7,22 @@ pub returns-clause-names : goal.returns-clause-names
 returns-clause-names c = goes_on
 
 pub returns-clause-runs : goal.returns-clause-runs
-returns-clause-runs c = λ old new n name path number text now k after b t x can r a. box_runs old new n name path number text now k after b x can t r a
+returns-clause-runs c = λ old new n name path number text now k after steps steps' b t x can r a. box_runs old new n name path number text now k after steps steps' b x can t r a
 
 pub returns-clause-again : goal.returns-clause-again
-returns-clause-again c = λ old new n name path number text now k after b t x can r a. box_again old new n name path number text now k after b x can t r a
+returns-clause-again c = λ old new n name path number text now k after steps steps' b t x can r a. box_again old new n name path number text now k after steps steps' b x can t r a
 
 pub returns-clause-zeros : goal.returns-clause-zeros
-returns-clause-zeros c = λ old new n name path number text now k after b t x can r. tree_zeros old new n name path number text now k after b x t
+returns-clause-zeros c = λ old new n name path number text now k after steps steps' b t x can r. tree_zeros old new n name path number text now k after steps steps' b x t
 
 pub returns-clause-holds : goal.returns-clause-holds
-returns-clause-holds c = λ old new n name path number text now k after b t x can r h. box_holds old new n name path number text now k after b x t r h
+returns-clause-holds c = λ old new n name path number text now k after steps steps' b t x can r h. box_holds old new n name path number text now k after steps steps' b x can t r h
 
 pub returns-clause-fit : goal.returns-clause-fit
-returns-clause-fit c = λ old new n name path number text now k after b x can f. box_fits old new n name path number text now k after b x f
+returns-clause-fit c = λ old new n name path number text now k after steps steps' b x can f. box_fits old new n name path number text now k after steps steps' b x f
 
 pub returns-clause-wires : goal.returns-clause-wires
 returns-clause-wires c = box_wires
 
 pub returns-clause-owners : goal.returns-clause-owners
-returns-clause-owners c = λ old new n name path number text now k after b t x can r a h. box_owners old new n name path number text now k after b x t r a h
+returns-clause-owners c = λ old new n name path number text now k after steps steps' b t x can r a h. box_owners old new n name path number text now k after steps steps' b x t r a h
