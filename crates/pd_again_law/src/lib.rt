@@ -20,3 +20,12 @@
 mod laws;
 
 pub use laws::{bare_boxes_leave_numbers, saves_open_again, stages_open_again};
+// The laws of edits and of documents on which these stand.
+pub use pd_put_law::{boxes_can_be_saved, boxes_come_into_trees, counts_follow_boxes};
+pub use pd_reload_law::documents_tell_trees;
+pub use pd_retype_law::{
+    boxes_become_others_in_trees, counts_follow_retypes, retyped_boxes_can_be_saved,
+};
+pub use pd_shift_law::{moved_documents_can_be_saved, moved_trees_grow_again, wires_follow_moves};
+pub use pd_shifted_law::{names_follow_moves, trees_follow_moves};
+pub use pd_take_law::{boxes_go_from_trees, counts_follow_deletes, shorter_documents_can_be_saved};
