@@ -19,6 +19,8 @@ use Rattle.pd_adding.specs.Counted.{sound_among}
 use Rattle.pd_adding.specs.Counts.{counts_less}
 use Rattle.pd_adding.specs.Standing.{is_port_in}
 use Rattle.pd_clearing.specs.Clearing.{IsCleared}
+pub use Rattle.pd_clearing.specs.Clearing.{without_all}
+pub use Rattle.pd_clearing.specs.Losing.{looks_for_all}
 use Rattle.pd_deleting.specs.declared.deleting.OldBox.{OldBox}
 
 -- whether a box is no port of a box around; others don't go yet

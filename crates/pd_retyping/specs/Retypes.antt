@@ -24,8 +24,10 @@ use Rattle.pd_wiring.specs.declared.refusals.EditRefusal.TheVariants.{NoDocument
 use Rattle.pd_boxes.specs.Room.{SameButRoom}
 use Rattle.pd_boxes.specs.Put.{CanPut, IsLeaf}
 use Rattle.pd_taking.specs.Loosening.{Loosens}
-use Rattle.pd_refitting.specs.Refits.{IsPlainIn, CanRefit, IsRefitted, refit_looks}
-use Rattle.pd_misfits.specs.declared.wires.BoxWire.{BoxWire}
+pub use Rattle.pd_taking.specs.Loosening.{looks_for}
+use Rattle.pd_refitting.specs.Refits.{IsPlainIn, CanRefit, IsRefitted}
+pub use Rattle.pd_refitting.specs.Refits.{refit_looks}
+pub use Rattle.pd_misfits.specs.declared.wires.BoxWire.{BoxWire}
 use Rattle.pd_misfits.specs.Misfits.{misfits, NoneTurns}
 use Rattle.pd_misfits.specs.Shedding.{Sheds}
 use Rattle.pd_adding.specs.declared.counts.Counts.{Counts}

@@ -20,17 +20,13 @@ use Rattle.pd_boxes.specs.Put.{CanPut}
 use Rattle.pd_adding.specs.Counts.{AreWithin}
 use Rattle.pd_putting.specs.Adds.{AddsBox, IsNotPut, IsShortOfRoom}
 use Rattle.pd_putting.specs.declared.adding.NewBox.{NewBox}
-use Rattle.pd_taking.specs.Loosening.{looks_for}
-use Rattle.pd_clearing.specs.Losing.{looks_for_all}
-use Rattle.pd_clearing.specs.Clearing.{without_all}
 use Rattle.pd_deleting.specs.Deletes as deleting
-use Rattle.pd_deleting.specs.Deletes.{going, DeletesBox}
+use Rattle.pd_deleting.specs.Deletes.{going, without_all, looks_for_all, DeletesBox}
 use Rattle.pd_deleting.specs.declared.deleting.OldBox.{OldBox}
 use Rattle.pd_shifting.specs.Moves.{moving, MovesBox}
 use Rattle.pd_retyping.specs.Retypes as retyping
-use Rattle.pd_retyping.specs.Retypes.{RetypesBox}
+use Rattle.pd_retyping.specs.Retypes.{looks_for, refit_looks, RetypesBox}
 use Rattle.pd_retyping.specs.declared.retyping.RetypedBox.{RetypedBox}
-use Rattle.pd_refitting.specs.Refits.{refit_looks}
 use Rattle.pd_say.specs.declared.refusals.Why.{Why}
 use Rattle.pd_say.specs.declared.refusals.Why.TheVariants as why
 use Rattle.pd_hearing.specs.Worlds.{Net, net_of, states_of}

@@ -13,7 +13,7 @@ use Rattle.pd_patch.specs.declared.patch.Patch.{Patch}
 use Rattle.pd_patch.specs.Paths.{path_told}
 use Rattle.pd_patch.specs.Telling.{order_in, number_in, is_looped, fault_in}
 use Rattle.pd_patch.specs.Values.{stuck_in}
-use Rattle.pd_misfits.specs.declared.wires.BoxWire.{BoxWire}
+use Rattle.pd_retyping.specs.Retypes.{BoxWire}
 use Rattle.pd_adding.specs.Standing.{is_port_in}
 use Rattle.pd_say.specs.Lines.{named_error, file_error}
 use Rattle.pd_say.specs.Paths.{path_text, marked}
