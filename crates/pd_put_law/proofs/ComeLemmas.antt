@@ -21,16 +21,21 @@ use Rattle.pd_tree.specs.Trees.{Cell, Stand, Trees, Done, Leaf, Holder, Tree, st
 use Rattle.pd_growth.specs.Steps.{gives}
 use Rattle.pd_growth.specs.Growth.{Inner, around_root, box_grown, without_ending}
 use Rattle.pd_grove.specs.declared.boards.Board.{Board}
+use Rattle.pd_grove.specs.declared.grove.Grove.{Grove}
 use Rattle.pd_grove.specs.declared.nodes.Node.{Node}
+use Rattle.pd_grove.specs.declared.seeds.Seed.{Seed}
 use Rattle.pd_grove.specs.OwnPaths.{sub_reached}
 use Rattle.pd_grove.specs.Standing.{BoardSeen, board_seen, node_seen, with_inner, depth_of, Stands}
+use Rattle.pd_grove.specs.States.{IsFresh}
 use Rattle.pd_grove.specs.TextOrder.{is_sub}
+use Rattle.pd_web.specs.declared.jacks.Jack.{Jack}
+use Rattle.pd_web.specs.Changes.{wires_told}
 use Rattle.pd_patch.specs.declared.patch.Patch.{Patch}
 use Rattle.pd_wiring.specs.declared.refusals.EditRefusal.{EditRefusal}
 use Rattle.pd_wiring.specs.declared.refusals.EditRefusal.TheVariants.{TextTooLong, TooDeep}
 use Rattle.pd_gather.specs.Gather.{Known, known, GoesOn}
 use Rattle.pd_gather.proofs.KnownLemmas.{library_of}
-use Rattle.pd_boxes.specs.Put.{node_of, keys_before, keys_behind, CanPut}
+use Rattle.pd_boxes.specs.Put.{node_of, keys_before, keys_behind, CanPut, ComesIn}
 use Rattle.pd_boxes.specs.Room.{SameButRoom}
 use Rattle.pd_subpatches.proofs.PartLemmas.{stands_as_box}
 use Rattle.pd_regrowth_law.specs.Canvases.{Nest, Alone, Inside, nested, AreSubpatches, left_outside}
@@ -39,6 +44,8 @@ use Rattle.pd_regrowth_law.specs.Suits.{AnswersAlike, AreOf, IsEntryOf, TextsOf}
 use Rattle.pd_regrowth_law.proofs.ExpandLemmas.{are_of_more}
 use Rattle.pd_regrowth_law.proofs.StepLemmas.{extends_on}
 use Rattle.pd_reload_law.specs.Reloading.{RunsAs}
+use Rattle.pd_saved_law.specs.Fitting.{WiresFit}
+use Rattle.pd_inside_law.specs.Inside.{HoldsWires}
 use Rattle.pd_putting_law.specs.Again.{StandsAgain}
 use Rattle.pd_putting_law.specs.Edits.{PutsBox}
 use Rattle.pd_putting_law.specs.Puts.{put_at}
@@ -47,6 +54,7 @@ use Rattle.pd_putting_law.proofs.AgainLemmas.{stands_on}
 use Rattle.pd_putting_law.proofs.GrownLemmas.{put_bare, put_runs, put_again}
 use Rattle.pd_putting_law.proofs.StandLemmas.{path_along}
 use Rattle.pd_putting_law.proofs.WithinLemmas.{ChangesWithin, path_within, around_levels}
+use Rattle.pd_following.specs.Ports.{port_jack}
 use Rattle.pd_adding.specs.declared.counts.Counts.{Counts}
 use Rattle.pd_adding.specs.Boxes.{settled_edit, box_put, CanBeWritten}
 use Rattle.pd_adding.specs.Coming.{coming_in, coming_by, zero_in, own_zero}
@@ -56,9 +64,12 @@ use Rattle.pd_adding.specs.Adding.{GrewWith}
 use Rattle.pd_adding.proofs.GrowLemmas.{growth_is}
 use Rattle.pd_adding.proofs.SingleLemmas.{same_inner}
 use Rattle.pd_putting.specs.declared.adding.NewBox.{NewBox}
-use Rattle.pd_putting.specs.Adds.{last_place, IsBoxPut, IsSubPut, HasCome, AddsBox}
+use Rattle.pd_putting.specs.Adds.{last_place, IsBoxPut, IsSubPut, IsPortBoxPut, HasCome, AddsBox}
 use Rattle.pd_put_law.proofs.RoomLemmas.{room_runs}
 use Rattle.pd_put_law.proofs.LastLemmas.{ComesLast, keeps, last, come_fresh, leaf_last, shell_last}
+use Rattle.pd_put_law.proofs.InsideLemmas.{come_wires}
+use Rattle.pd_put_law.proofs.AroundLemmas.{fits_followed, holds_followed}
+use Rattle.pd_put_law.proofs.PortLemmas.{port_last, port_followed}
 
 -- ---- the element of the edit
 
@@ -190,39 +201,74 @@ if_some P (Some y) x e h = subst P (same_Some y x e) h
 
 -- ---- the box that came
 
--- What came in, by this node, is a box of a cell: one without a canvas, or a subpatch, which has no boxes. Room was set aside for it.
+-- The boxes and their numbers stay, and wires that hold and fit do so still.
+pub record StaysWired (p q : Patch) : Type 0 where
+  pub grove : q.grove ≡ p.grove
+  pub holds : (t : Tree) → HoldsWires p t → HoldsWires q t
+  pub fits : WiresFit p → WiresFit q
+
+all_stays : (p : Patch) → StaysWired p p
+all_stays p = record { grove = refl; holds = λ t h. h; fits = λ f. f }
+
+-- What came in, by this node, is a box of a cell: one without a canvas, or a subpatch, which has no boxes. Room was set aside for it; and the box around
+-- may have got a port after that.
 pub record HasComeIn (old new : Patch) (now : ℕ) (a : Added) (path : List ℕ) (key : ℕ) : Type 0 where
   pub ready : Patch
   pub room : SameButRoom old ready
-  pub last : ComesLast ready new path a.canvas key
+  pub done : Patch
+  pub last : ComesLast ready done path a.canvas key
+  pub around : StaysWired done new
+  pub wires : wires_told new.web ≡ wires_told ready.web
   pub node : Node
-  pub is : get new.grove.nodes key ≡ Some node
+  pub is : get done.grove.nodes key ≡ Some node
   pub state : node.state ≡ Some (started (start_of node.kind old.rate) now)
-  pub stands : Stands (get new.grove.nodes) (get new.grove.boards) a.canvas (depth_of (get ready.grove.boards a.canvas)) (key ∷ []) a.boxes
+  pub stands : Stands (get done.grove.nodes) (get done.grove.boards) a.canvas (depth_of (get ready.grove.boards a.canvas)) (key ∷ []) a.boxes
   pub cell : Cell
   pub is_cell : (node_seen node).cell ≡ cell
   pub sort : (a.boxes ≡ Leaf cell Done) ⊎ (cell.head.form ≡ Sub)
 
 module _ (old new : Patch) (now : ℕ) (a : Added) (path : List ℕ) (key : ℕ) (can : CanPut old) (leads : sub_reached old.grove (Some old.grove.root) path ≡ Some a.canvas) where
-  leaf_in : IsBoxPut old new now a key → HasComeIn old new now a path key
-  leaf_in P =
-      let n : Node = node_of a.canvas P.seed in
-      let C = leaf_last old P.ready new a.known.names path a.canvas key P.seed P.room can P.goes_on leads P.put in
-      let is : get new.grove.nodes key ≡ Some n = P.put.comes.grove.is in
-      let same : (node_seen n).cell ≡ P.plain.cell = ap (λ (x : Stand). x.cell) P.is_row in
+  -- a box without a canvas
+  leaf_by : (ready done : Patch) (seed : Seed) (cell : Cell) → SameButRoom old ready → a.boxes ≡ Leaf cell Done → stand_of seed.row ≡ record { cell = cell; sheet = None; boxes = 0 }
+      → IsFresh old.rate now seed → ComesIn ready done a.known.names (last_place old a.canvas) seed key → ComesLast ready done path a.canvas key → StaysWired done new
+      → wires_told new.web ≡ wires_told ready.web → HasComeIn old new now a path key
+  leaf_by ready done seed cell room single is_row fresh comes last around wires =
+      let n : Node = node_of a.canvas seed in
+      let is : get done.grove.nodes key ≡ Some n = comes.grove.is in
+      let same : (node_seen n).cell ≡ cell = ap (λ (x : Stand). x.cell) is_row in
       record {
-        ready = P.ready;
-        room = P.room;
-        last = C;
+        ready = ready;
+        room = room;
+        done = done;
+        last = last;
+        around = around;
+        wires = wires;
         node = n;
         is = is;
-        state = ap (λ x. Some x) P.fresh;
-        stands = subst (Stands (get new.grove.nodes) (get new.grove.boards) a.canvas (depth_of (get P.ready.grove.boards a.canvas)) (key ∷ [])) (sym P.plain.single)
+        state = ap (λ x. Some x) fresh;
+        stands = subst (Stands (get done.grove.nodes) (get done.grove.boards) a.canvas (depth_of (get ready.grove.boards a.canvas)) (key ∷ [])) (sym single)
             (ap (option_map node_seen) is ∙ ap (λ (x : Cell). Some (record { board = a.canvas; cell = x; inner = None })) same, tt);
-        cell = P.plain.cell;
+        cell = cell;
         is_cell = same;
-        sort = inl P.plain.single;
+        sort = inl single;
       }
+
+  leaf_in : IsBoxPut old new now a key → HasComeIn old new now a path key
+  leaf_in P =
+      let C = leaf_last old P.ready new a.known.names path a.canvas key P.seed P.room can P.goes_on.forest P.goes_on.runs.numbers leads P.put.comes in
+      leaf_by P.ready new P.seed P.plain.cell P.room P.plain.single P.is_row P.fresh P.put.comes C (all_stays new) (come_wires P.ready new path a.canvas key C)
+
+  port_in : IsPortBoxPut old new now a key → HasComeIn old new now a path key
+  port_in P =
+      let done : Patch = P.put.ready in
+      let jack : Jack = port_jack P.port.side P.seed.row.kind key in
+      let F = port_followed old new now a path key can leads P in
+      let around : StaysWired done new = record {
+        grove = F.grove;
+        holds = holds_followed done new P.port.holder P.port.side P.put.number jack F;
+        fits = fits_followed done new P.port.holder P.port.side P.put.number jack F;
+      } in
+      leaf_by P.ready done P.seed P.port.cell P.room P.port.single P.is_row P.fresh P.put.comes (port_last old new now a path key can leads P) around P.put.wires
 
   sub_in_it : IsSubPut old new now a key → HasComeIn old new now a path key
   sub_in_it P =
@@ -233,11 +279,15 @@ module _ (old new : Patch) (now : ℕ) (a : Added) (path : List ℕ) (key : ℕ)
       same_Some P.put.comes.board.sheet P.sub.sheet (sym P.put.comes.sheet ∙ ap (λ (x : Stand). x.sheet) P.is_row) in
       let boxes : Holder (stand_of P.seed.row).cell P.put.comes.board.sheet Done Done ≡ a.boxes =
       ap (λ (x : Cell). Holder x P.put.comes.board.sheet Done Done) same ∙ ap (λ (s : Sheet). Holder P.sub.cell s Done Done) sheet ∙ sym P.sub.single in
+      let C = shell_last old P.ready new a.known.names path a.canvas key P.seed P.room can P.goes_on.forest P.goes_on.runs.numbers leads
+      (ap (λ (x : Cell). x.head.form) same ∙ P.sub.form) P.put in
       record {
         ready = P.ready;
         room = P.room;
-        last = shell_last old P.ready new a.known.names path a.canvas key P.seed P.room can P.goes_on leads
-            (ap (λ (x : Cell). x.head.form) same ∙ P.sub.form) P.put;
+        done = new;
+        last = C;
+        around = all_stays new;
+        wires = come_wires P.ready new path a.canvas key C;
         node = n;
         is = G.canvas.is;
         state = ap (λ x. Some x) P.fresh;
@@ -250,7 +300,7 @@ module _ (old new : Patch) (now : ℕ) (a : Added) (path : List ℕ) (key : ℕ)
       }
 
   pub come_in : HasCome old new now a key → HasComeIn old new now a path key
-  come_in put = ⊎_elim leaf_in sub_in_it put
+  come_in put = ⊎_elim leaf_in (λ (other : IsSubPut old new now a key ⊎ IsPortBoxPut old new now a key). ⊎_elim sub_in_it port_in other) put
 
 -- ---- an edit that put a box
 
@@ -306,6 +356,9 @@ module _ (old new : Patch) (n : Counts) (name path : List ℕ) (now : ℕ) (e : 
     abbrev ready : Patch
     ready = in_it.ready
 
+    abbrev done : Patch
+    done = in_it.done
+
     abbrev lib : ℕ → Option Answer
     lib = answer_in files.files
 
@@ -341,7 +394,7 @@ module _ (old new : Patch) (n : Counts) (name path : List ℕ) (now : ℕ) (e : 
       inner = subst (TextsOf files.names) (sym bare.boxes) tt;
     }
 
-    pub puts_box : PutsBox ready.grove new.grove ready.web new.web ready.numbers.items new.numbers.items path X.added.canvas b.key lib name t (settled_edit k.names e)
+    pub puts_box : PutsBox ready.grove done.grove ready.web done.web ready.numbers.items done.numbers.items path X.added.canvas b.key lib name t (settled_edit k.names e)
         (stock_by files.names n) grew_so.after box
     puts_box = record {
       element = element;
@@ -351,22 +404,23 @@ module _ (old new : Patch) (n : Counts) (name path : List ℕ) (now : ℕ) (e : 
       deep = all_in (length path) long;
       room = low;
       grew = grew;
-      box = last ready new path X.added.canvas b.key in_it.last;
+      box = last ready done path X.added.canvas b.key in_it.last;
       stands = in_it.stands;
       rate = old.rate;
       now = now;
-      fresh = come_fresh ready new path X.added.canvas b.key in_it.last old.rate now in_it.node in_it.is in_it.state;
-      wires = keeps ready new path X.added.canvas b.key in_it.last;
+      fresh = come_fresh ready done path X.added.canvas b.key in_it.last old.rate now in_it.node in_it.is in_it.state;
+      wires = keeps ready done path X.added.canvas b.key in_it.last;
     }
 
     pub box_runs : RunsAs new.grove (put_at path box t)
     box_runs =
-        put_runs ready.grove new.grove ready.web new.web ready.numbers.items new.numbers.items path X.added.canvas b.key lib name t (settled_edit k.names e)
-        (stock_by files.names n) grew_so.after box runs_ready again_then puts_box
+        subst (λ (g : Grove). RunsAs g (put_at path box t)) (sym in_it.around.grove)
+        (put_runs ready.grove done.grove ready.web done.web ready.numbers.items done.numbers.items path X.added.canvas b.key lib name t (settled_edit k.names e)
+        (stock_by files.names n) grew_so.after box runs_ready again_then puts_box)
 
     pub box_again : StandsAgain (answer_in after.files) name after.names (put_at path box t)
     box_again =
         subst (λ (fs : List (ℕ × Answer)). StandsAgain (answer_in fs) name after.names (put_at path box t)) (sym known_files)
         (subst (λ (ns : Names). StandsAgain lib name ns (put_at path box t)) (sym known_names)
-        (put_again ready.grove new.grove ready.web new.web ready.numbers.items new.numbers.items path X.added.canvas b.key lib name t (settled_edit k.names e)
+        (put_again ready.grove done.grove ready.web done.web ready.numbers.items done.numbers.items path X.added.canvas b.key lib name t (settled_edit k.names e)
         (stock_by files.names n) grew_so.after box runs_ready again_then puts_box))

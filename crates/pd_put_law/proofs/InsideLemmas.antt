@@ -222,7 +222,7 @@ module _ (p q : Patch) (path : List ℕ) (c key : ℕ) (C : ComesLast p q path c
 
   -- the new one lies in its canvas alone
   new_at : (d i : ℕ) → slice_get (keys_at q.grove d) i ≡ Some key → d ≡ c
-  new_at d i e = same_Some d c (sym (C.after.forest.own.home d i key e) ∙ C.part.lies)
+  new_at d i e = same_Some d c (sym (C.forest.own.home d i key e) ∙ C.part.lies)
 
   -- from a canvas that came no path leads on
   no_box : (j i k : ℕ) → get p.grove.boards j ≡ None → slice_get (keys_at q.grove j) i ≡ Some k → ⊥
@@ -291,7 +291,7 @@ module _ (p q : Patch) (path : List ℕ) (c key : ℕ) (C : ComesLast p q path c
         }))
         (led_back way s.inner d s.on)) (cases_eq s.key key)
 
-  subs_more : (way : List ℕ) (e d : ℕ) → sub_reached p.grove (Some e) way ≡ Some d → sub_reached q.grove (Some e) way ≡ Some d
+  pub subs_more : (way : List ℕ) (e d : ℕ) → sub_reached p.grove (Some e) way ≡ Some d → sub_reached q.grove (Some e) way ≡ Some d
   subs_more way e d h = sym (led_subs q.grove (Some e) way) ∙ led_more sub_in sub_inner way e d (led_subs p.grove (Some e) way ∙ h)
 
   -- a path through subpatches to a canvas with a box led there
@@ -363,7 +363,7 @@ module _ (p q : Patch) (path : List ℕ) (c key : ℕ) (C : ComesLast p q path c
 
   same_label : (d i k : ℕ) → slice_get (keys_at p.grove d) i ≡ Some k → label_at q.numbers.items k ≡ label_at p.numbers.items k
   same_label d i k e =
-      at_index q.numbers.items k i (C.after.runs.numbers d i k (stays_at d i k e)) ∙ sym (at_index p.numbers.items k i (C.can.runs.numbers d i k e))
+      at_index q.numbers.items k i (C.numbered d i k (stays_at d i k e)) ∙ sym (at_index p.numbers.items k i (C.can.runs.numbers d i k e))
 
   -- a wire comes from a box of a canvas
   from_there : (hops : List Hop) (i : ℕ) (h : Hop) (k : ℕ) → AllByRecursion (λ (x : Hop). ShareCanvas p.grove k x.node) hops → slice_get hops i ≡ Some h

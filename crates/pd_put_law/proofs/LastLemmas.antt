@@ -1,4 +1,5 @@
--- A box that comes last into a canvas of the patch's own document, and has no wires: one without a canvas, or a subpatch without boxes.
+-- A box that comes last into a canvas of the patch's own document, and has no wires: one without a canvas, be it a port of the box around or not, or a
+-- subpatch without boxes.
 use Rattle.std.proofs.Common.{◌≡◌, ◌≢◌, ℕ, Bool, true, cond, List, [], ◌∷◌, ◌++◌, length, map, slice_get, Option, Some, None, IsSome, refl, sym, ap, ◌∙◌, subst, arith}
 use Rattle.std.specs.Prelude.{option_and_then, take, drop}
 use mathlib.Core.Logic.{⊎_elim}
@@ -33,14 +34,16 @@ use Rattle.pd_web.specs.Jacks.{jacks_in, kind_jacks}
 use Rattle.pd_web.specs.Sockets.{ports_at, jacks_of}
 use Rattle.pd_ports.specs.Boxes.{HasPorts}
 use Rattle.pd_patch.specs.declared.patch.Patch.{Patch}
-use Rattle.pd_boxes.specs.Put.{node_of, keys_before, keys_behind, CanPut, IsPut}
+use Rattle.pd_boxes.specs.Put.{node_of, keys_before, keys_behind, CanPut, ComesIn}
 use Rattle.pd_boxes.specs.Room.{SameButRoom}
 use Rattle.pd_boxes.proofs.RoomLemmas.{keys_same, room_put}
 use Rattle.pd_boxes.proofs.WireLemmas.{no_fans}
 use Rattle.pd_subpatches.specs.Shell.{IsShellPut}
 use Rattle.pd_subpatches.proofs.PartLemmas.{comes_as_part}
 use Rattle.pd_saved_law.proofs.EditLemmas.{stays_among}
+use Rattle.pd_reload_law.specs.Wires.{AreNumbered}
 use Rattle.pd_putting_law.specs.Putting.{HasBoxLast, KeepsWires, ComeFresh}
+use Rattle.pd_putting_law.proofs.PathLemmas.{Forest}
 use Rattle.pd_putting.specs.Adds.{last_place}
 use Rattle.pd_put_law.proofs.RoomLemmas.{room_subs}
 
@@ -56,7 +59,8 @@ drop_all (x ∷ xs) = drop_all xs
 -- subpatch; no other box came, and no canvas that came has boxes.
 pub record ComesLast (p q : Patch) (path : List ℕ) (c key : ℕ) : Type 0 where
   pub can : CanPut p
-  pub after : CanPut q
+  pub forest : Forest q.grove
+  pub numbered : (d : ℕ) → AreNumbered q.numbers.items (keys_at q.grove d)
   pub leads : sub_reached p.grove (Some p.grove.root) path ≡ Some c
   pub part : HasPartMore (get p.grove.nodes) (get q.grove.nodes) (get p.grove.boards) (get q.grove.boards) c key (keys_at p.grove c) []
   pub alone : (l : ℕ) → l ≢ key → get q.grove.nodes l ≡ get p.grove.nodes l
@@ -103,7 +107,7 @@ module _ (p q : Patch) (path : List ℕ) (c key : ℕ) (C : ComesLast p q path c
     fans = λ k o live. C.ports.fans k o;
     bare = no_fan;
     numbered = C.can.runs.numbers;
-    renumbered = C.after.runs.numbers;
+    renumbered = C.numbered;
   }
 
   pub last : HasBoxLast p.grove q.grove path c key
@@ -127,7 +131,8 @@ none_either b = refl
 sub_holds : (f : Shape) (o : Option ℕ) → f ≡ Sub → cond (is_sub f) o None ≡ o
 sub_holds f o e = ap (λ (y : Shape). cond (is_sub y) o None) e
 
-module _ (old p q : Patch) (table : Names) (path : List ℕ) (c key : ℕ) (s : Seed) (room : SameButRoom old p) (can : CanPut old) (after : CanPut q)
+module _ (old p q : Patch) (table : Names) (path : List ℕ) (c key : ℕ) (s : Seed) (room : SameButRoom old p) (can : CanPut old)
+    (forest : Forest q.grove) (numbered : (d : ℕ) → AreNumbered q.numbers.items (keys_at q.grove d))
     (leads : sub_reached old.grove (Some old.grove.root) path ≡ Some c) where
   abbrev ks : List ℕ
   ks = keys_at p.grove c
@@ -164,12 +169,13 @@ module _ (old p q : Patch) (table : Names) (path : List ℕ) (c key : ℕ) (s : 
   apart x b none is e = none-some b (sym none ∙ ap (get p.grove.boards) e ∙ is)
 
   -- where a box without a canvas was put last, it comes so
-  pub leaf_last : IsPut p q table (last_place old c) s key → ComesLast p q path c key
-  leaf_last put =
-      let B = put.comes.grove in
+  pub leaf_last : ComesIn p q table (last_place old c) s key → ComesLast p q path c key
+  leaf_last comes =
+      let B = comes.grove in
       record {
         can = can_room;
-        after = after;
+        forest = forest;
+        numbered = numbered;
         leads = leads_room;
         part = at_end (part_more (get p.grove.nodes) (get q.grove.nodes) (get q.grove.nodes) (get p.grove.boards) (get q.grove.boards) (get q.grove.boards) p.grove.root c key (node_of c s) front back B
             (λ l d live. refl) (λ x live. refl) refl can_room.forest
@@ -177,10 +183,10 @@ module _ (old p q : Patch) (table : Names) (path : List ℕ) (c key : ℕ) (s : 
         alone = B.others;
         empty = λ x none. ap keys_in (B.keys.others x (apart x B.keys.before none B.keys.was) ∙ none);
         own = ap sub_in B.is ∙ none_either (is_sub (entry_of s.row.element).head.form) ∙ sym (ap inner_in B.is);
-        root = put.comes.root;
+        root = comes.root;
         jacks = λ side. kind_jacks side s.row.kind;
         made = is_made s.row.kind;
-        ports = put.comes.ports;
+        ports = comes.ports;
       }
 
   -- and so does a subpatch without boxes
@@ -191,7 +197,8 @@ module _ (old p q : Patch) (table : Names) (path : List ℕ) (c key : ℕ) (s : 
       let I = C.grove.canvas in
       record {
         can = can_room;
-        after = after;
+        forest = forest;
+        numbered = numbered;
         leads = leads_room;
         part = at_end (comes_as_part (get p.grove.nodes) (get q.grove.nodes) (get p.grove.boards) (get q.grove.boards) p.grove.root c key C.canvas s C.board front back C.grove can_room.forest);
         alone = λ l d. I.others l d ∙ B.others l d;

@@ -1,7 +1,10 @@
 pub mod RoomLemmas
 pub mod LastLemmas
-pub mod ComeLemmas
 pub mod InsideLemmas
+pub mod FollowLemmas
+pub mod AroundLemmas
+pub mod PortLemmas
+pub mod ComeLemmas
 pub mod CountLemmas
 pub mod HeadLemmas
 pub mod WrittenLemmas

@@ -1,5 +1,5 @@
 -- Under each name stand its owners, where room was set aside, where a box came, and where the names go on.
-use Rattle.std.proofs.Common.{◌≡◌, ◌≤◌, ◌+◌, ◌&&◌, ℕ, zero, suc, Bool, true, cond, List, [], ◌∷◌, ◌++◌, map, Option, Some, None, refl, sym, ap, ◌∙◌, subst}
+use Rattle.std.proofs.Common.{◌≡◌, ◌≤◌, ◌+◌, ◌⊎◌, ◌&&◌, ℕ, zero, suc, Bool, true, cond, List, [], ◌∷◌, ◌++◌, map, Option, Some, None, refl, sym, ap, ◌∙◌, subst}
 use Rattle.std.specs.Prelude.{option_map, option_and_then}
 use Rattle.std.specs.List.{AllByRecursion, filter, flat_map}
 use mathlib.Core.Logic.{⊎_elim}
@@ -21,6 +21,7 @@ use Rattle.pd_grove.specs.Standing.{GroveStands}
 use Rattle.pd_grove.specs.Telling.{keys_in}
 use Rattle.pd_grove.specs.TextOrder.{deep, Placed, placed, placed_in_order, placed_at, is_sub, spot, keys_inside, box_spots, spots_among, spots_in_order, keys_of_spots, cell_under}
 use Rattle.pd_grove.proofs.SpotLemmas.{grove_spots, placed_stand, spots_none, spots_suc}
+use Rattle.pd_name.specs.Rows.{owners_of}
 use Rattle.pd_bind.specs.Naming.{owned, owned_by}
 use Rattle.pd_bind.specs.Owning.{is_owned, owned_at, boxes_owning, root_owning, owner_if, root_owner, owners_in}
 use Rattle.pd_web.specs.Canvases.{keys_at}
@@ -29,6 +30,7 @@ use Rattle.pd_gather.specs.Gather.{Known}
 use Rattle.pd_boxes.specs.Put.{HasOwners}
 use Rattle.pd_boxes.specs.Room.{SameButRoom}
 use Rattle.pd_boxes.proofs.RoomLemmas.{keys_same}
+use Rattle.pd_following.specs.Ports.{RestStays}
 use Rattle.pd_regrowth_law.specs.Regrowth.{stock}
 use Rattle.pd_regrowth_law.proofs.StepLemmas.{extends_same}
 use Rattle.pd_reload_law.specs.Reloading.{RunsAs}
@@ -38,7 +40,7 @@ use Rattle.pd_putting_law.specs.Again.{StandsAgain}
 use Rattle.pd_adding.specs.declared.counts.Counts.{Counts}
 use Rattle.pd_putting.specs.declared.adding.NewBox.{NewBox}
 use Rattle.pd_canvas.specs.declared.edits.Edit.{Edit}
-use Rattle.pd_putting.specs.Adds.{IsBoxPut, IsSubPut, AddsBox}
+use Rattle.pd_putting.specs.Adds.{IsBoxPut, IsSubPut, IsPortBoxPut, AddsBox}
 use Rattle.pd_put_law.proofs.ComeLemmas.{goes_on}
 
 -- ---- the same boxes in text order
@@ -124,6 +126,12 @@ pub own_more : (lib : ℕ → Option Answer) (file : List ℕ) (p : Patch) (name
 own_more lib file p names more t G low A on h class name =
     h class name ∙ sym (owners_more names more file p.grove t class name G low (again_alike lib file names more t A on))
 
+-- ---- ports that follow
+
+own_same : (p q : Patch) (names : Names) (file : List ℕ) → RestStays p q → HasOwners p names file → HasOwners q names file
+own_same p q names file r h class name =
+    ap (λ ns. owners_of ns class name) r.names ∙ h class name ∙ sym (ap (λ (g : Grove). owners_in names file g class name) r.grove)
+
 -- ---- an edit that put a box
 
 pub box_owners : (old new : Patch) (n : Counts) (name path : List ℕ) (now : ℕ) (e : Edit) (k after : Known) (b : NewBox) (t : Tree) → AddsBox old new n name path now e k after b
@@ -134,4 +142,7 @@ box_owners old new n name path now e k after b t X R A h =
     let again : HasOwners old X.added.known.names name = subst (λ (ns : Names). HasOwners old ns name) is more in
     subst (λ (ns : Names). HasOwners new ns name) (sym is) (⊎_elim
     (λ (P : IsBoxPut old new now X.added b.key). P.put.comes.owners name (room_own old P.ready X.added.known.names name P.room again))
-    (λ (P : IsSubPut old new now X.added b.key). P.put.comes.owners name (room_own old P.ready X.added.known.names name P.room again)) X.put)
+    (λ (other : IsSubPut old new now X.added b.key ⊎ IsPortBoxPut old new now X.added b.key). ⊎_elim
+    (λ (P : IsSubPut old new now X.added b.key). P.put.comes.owners name (room_own old P.ready X.added.known.names name P.room again))
+    (λ (P : IsPortBoxPut old new now X.added b.key).
+    own_same P.put.ready new X.added.known.names name P.put.rest (P.put.comes.owners name (room_own old P.ready X.added.known.names name P.room again))) other) X.put)

@@ -1,5 +1,5 @@
 -- The wires of a patch into which an edit put a box, and how much its tree counts.
-use Rattle.std.proofs.Common.{◌≡◌, ◌+◌, ℕ, List, [], ◌∷◌, length, filter, Some, refl, ap, ◌∙◌, arith}
+use Rattle.std.proofs.Common.{◌≡◌, ◌+◌, ◌⊎◌, ℕ, List, [], ◌∷◌, length, filter, Some, refl, ap, ◌∙◌, arith}
 use mathlib.Core.Logic.{⊎_elim}
 use Rattle.slab.specs.Slab.{get}
 use Rattle.pd_canvas.specs.declared.edits.Edit.{Edit}
@@ -25,10 +25,10 @@ use Rattle.pd_adding.specs.declared.counts.Counts.{Counts}
 use Rattle.pd_adding.specs.Counts.{with_boxes}
 use Rattle.pd_adding.specs.Growing.{Added}
 use Rattle.pd_putting.specs.declared.adding.NewBox.{NewBox}
-use Rattle.pd_putting.specs.Adds.{IsBoxPut, IsSubPut, HasCome, AddsBox}
+use Rattle.pd_putting.specs.Adds.{IsBoxPut, IsSubPut, IsPortBoxPut, HasCome, AddsBox}
 use Rattle.pd_put_law.proofs.RoomLemmas.{room_runs, room_holds, room_fits, room_wires}
 use Rattle.pd_put_law.proofs.ComeLemmas.{HasComeIn, box, may, grew_so, came}
-use Rattle.pd_put_law.proofs.InsideLemmas.{come_holds, come_fits, come_wires}
+use Rattle.pd_put_law.proofs.InsideLemmas.{come_holds, come_fits}
 use Rattle.pd_put_law.proofs.CountLemmas.{put_weight, put_sound}
 
 -- no wire of a canvas without boxes fits
@@ -40,7 +40,9 @@ none_fit (w ∷ ws) = none_fit ws
 none_inside : (p q : Patch) (now : ℕ) (a : Added) (key : ℕ) → HasCome p q now a key → wires_inside a.boxes ≡ 0
 none_inside p q now a key put = ⊎_elim
     (λ (P : IsBoxPut p q now a key). ap wires_inside P.plain.single)
-    (λ (P : IsSubPut p q now a key). (let e = ap wires_inside P.sub.single in let z = none_fit P.sub.sheet.wires in omega (arith, e, z))) put
+    (λ (other : IsSubPut p q now a key ⊎ IsPortBoxPut p q now a key). ⊎_elim
+    (λ (P : IsSubPut p q now a key). (let e = ap wires_inside P.sub.single in let z = none_fit P.sub.sheet.wires in omega (arith, e, z)))
+    (λ (P : IsPortBoxPut p q now a key). ap wires_inside P.port.single) other) put
 
 module _ (old new : Patch) (n : Counts) (name path : List ℕ) (now : ℕ) (e : Edit) (k after : Known) (b : NewBox) (X : AddsBox old new n name path now e k after b) where
   -- ---- counts
@@ -62,15 +64,19 @@ module _ (old new : Patch) (n : Counts) (name path : List ℕ) (now : ℕ) (e : 
     abbrev mid : Patch
     mid = in_it.ready
 
+    abbrev done : Patch
+    done = in_it.done
+
     pub box_holds : (t : Tree) → RunsAs old.grove t → HoldsWires old t → HoldsWires new (put_at path X.added.boxes t)
     box_holds t r h =
-        come_holds mid new path X.added.canvas b.key in_it.last X.added.boxes t (room_runs old.grove mid.grove in_it.room.grove t r).stands (room_holds old mid in_it.room t h)
+        in_it.around.holds (put_at path X.added.boxes t)
+        (come_holds mid done path X.added.canvas b.key in_it.last X.added.boxes t (room_runs old.grove mid.grove in_it.room.grove t r).stands (room_holds old mid in_it.room t h))
 
     pub box_fits : WiresFit old → WiresFit new
-    box_fits f = come_fits mid new path X.added.canvas b.key in_it.last (room_fits old mid in_it.room f)
+    box_fits f = in_it.around.fits (come_fits mid done path X.added.canvas b.key in_it.last (room_fits old mid in_it.room f))
 
     pub box_wires : wires_told new.web ≡ wires_told old.web
-    box_wires = come_wires mid new path X.added.canvas b.key in_it.last ∙ room_wires old mid in_it.room
+    box_wires = in_it.wires ∙ room_wires old mid in_it.room
 
     module _ (t : Tree) (R : RunsAs old.grove t) where
       along : (u : Tree) × (own_along path t ≡ Some u) × CanvasStands old.grove X.added.canvas u × (depth_of (get old.grove.boards X.added.canvas) ≡ length path)

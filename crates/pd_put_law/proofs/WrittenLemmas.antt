@@ -18,6 +18,7 @@ use Rattle.pd_canvas.specs.Proper.{AreReady, AreBoxes, IsFrame, IsHead, IsWidth,
 use Rattle.pd_doc.proofs.GrowLaws.{are_ready_grows}
 use Rattle.pd_library.specs.Files.{answer_in}
 use Rattle.pd_tree.specs.Trees.{Cell, Trees, Done, Leaf, Tree, weight, document_boxes, document_in}
+use Rattle.pd_grove.specs.declared.grove.Grove.{Grove}
 use Rattle.pd_grove.specs.declared.nodes.Node.{Node}
 use Rattle.pd_grove.specs.Places.{CanvasStands}
 use Rattle.pd_grove.specs.Standing.{depth_of}
@@ -130,6 +131,9 @@ module _ (old new : Patch) (n : Counts) (name path : List ℕ) (now : ℕ) (e : 
   abbrev mid : Patch
   mid = in_it.ready
 
+  abbrev done : Patch
+  done = in_it.done
+
   abbrev here : ℕ
   here = X.added.canvas
 
@@ -211,22 +215,22 @@ module _ (old new : Patch) (n : Counts) (name path : List ℕ) (now : ℕ) (e : 
   new_kind = ap (λ (y : Cell). y.kind) in_it.is_cell
 
   -- a box that is written and isn't the new one was so
-  was_own : (j : ℕ) → j ≢ b.key → IsOwnBox new.grove j → IsOwnBox old.grove j
+  was_own : (j : ℕ) → j ≢ b.key → IsOwnBox done.grove j → IsOwnBox old.grove j
   was_own j d w = record {
     path = w.path;
     canvas = w.canvas;
     place = w.place;
-    leads = sym (room_subs old.grove mid.grove in_it.room.grove w.path) ∙ subs_back mid new path here b.key in_it.last w.path w.canvas w.place j w.leads w.at;
+    leads = sym (room_subs old.grove mid.grove in_it.room.grove w.path) ∙ subs_back mid done path here b.key in_it.last w.path w.canvas w.place j w.leads w.at;
     at = ap (λ (ks : List ℕ). slice_get ks w.place) (sym (keys_same old.grove mid.grove in_it.room.grove w.canvas))
-        ∙ was_at mid new path here b.key in_it.last w.canvas w.place j d w.at;
+        ∙ was_at mid done path here b.key in_it.last w.canvas w.place j d w.at;
   }
 
   same_node : (j : ℕ) → j ≢ b.key → get new.grove.nodes j ≡ get old.grove.nodes j
-  same_node j d = in_it.last.alone j d ∙ in_it.room.grove.nodes j
+  same_node j d = ap (λ (g : Grove). get g.nodes j) in_it.around.grove ∙ in_it.last.alone j d ∙ in_it.room.grove.nodes j
 
   new_contents : IsWritten new.grove b.key → IfSome (states_of new b.key) (HasContents (counts_of (kinds_of new) b.key) after.names)
   new_contents w =
-      let is : get new.grove.nodes b.key ≡ Some x = in_it.is in
+      let is : get new.grove.nodes b.key ≡ Some x = ap (λ (g : Grove). get g.nodes b.key) in_it.around.grove ∙ in_it.is in
       let state : states_of new b.key ≡ Some (started (start_of x.kind old.rate) now) = ap state_in is ∙ in_it.state in
       let form : is_written (form_of x) ≡ true = subst (λ (o : Option Node). IfSome o (λ y. is_written (form_of y) ≡ true)) is w.form in
       let kind_is : IsKindSettled after.names x.kind =
@@ -241,6 +245,6 @@ module _ (old new : Patch) (n : Counts) (name path : List ℕ) (now : ℕ) (e : 
       subst (λ (y : ℕ). IfSome (states_of new y) (HasContents (counts_of (kinds_of new) y) after.names)) (sym s) (new_contents (subst (IsWritten new.grove) s w)))
       (λ (d : j ≢ b.key).
       let same : get new.grove.nodes j ≡ get old.grove.nodes j = same_node j d in
-      let was : IsWritten old.grove j = record { own = was_own j d w.own; form = subst (λ (o : Option Node). IfSome o (λ y. is_written (form_of y) ≡ true)) same w.form } in
+      let was : IsWritten old.grove j = record { own = was_own j d (subst (λ (g : Grove). IsOwnBox g j) in_it.around.grove w.own); form = subst (λ (o : Option Node). IfSome o (λ y. is_written (form_of y) ≡ true)) same w.form } in
       subst (λ (o : Option Node). IfSome (state_in o) (HasContents (option_map_or count_of (kind_in o) 0) after.names)) (sym same)
       (more_state k.names after.names (counts_of (kinds_of old) j) more (states_of old j) (h j was))) (cases_eq j b.key)
