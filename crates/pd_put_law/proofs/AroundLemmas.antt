@@ -1,5 +1,5 @@
 -- Where the box around a canvas has a port more, the wires of the patch hold and fit.
-use Rattle.std.proofs.Common.{◌≡◌, ◌≢◌, ◌==◌, ℕ, zero, suc, Bool, true, cond, List, [], ◌∷◌, map, slice_get, Option, Some, None, inl, inr, eq-eqb, refl, sym, ap, ◌∙◌, subst}
+use Rattle.std.proofs.Common.{◌≡◌, ◌≢◌, ◌==◌, ℕ, zero, suc, Bool, true, cond, List, [], ◌∷◌, map, slice_get, Option, Some, inl, inr, eq-eqb, refl, sym, ap, ◌∙◌, subst}
 use Rattle.std.specs.Prelude.{option_and_then}
 use Rattle.std.specs.List.{AllByRecursion}
 use Rattle.std.proofs.lemmas.Bool.{cases_eq}

@@ -27,7 +27,7 @@ use Rattle.pd_adding.specs.Growing.{Added}
 use Rattle.pd_putting.specs.declared.adding.NewBox.{NewBox}
 use Rattle.pd_putting.specs.Adds.{IsBoxPut, IsSubPut, IsPortBoxPut, HasCome, AddsBox}
 use Rattle.pd_put_law.proofs.RoomLemmas.{room_runs, room_holds, room_fits, room_wires}
-use Rattle.pd_put_law.proofs.ComeLemmas.{HasComeIn, box, may, grew_so, came}
+use Rattle.pd_put_law.proofs.ComeLemmas.{HasComeIn, may, grew_so, came}
 use Rattle.pd_put_law.proofs.InsideLemmas.{come_holds, come_fits}
 use Rattle.pd_put_law.proofs.CountLemmas.{put_weight, put_sound}
 
