@@ -1,8 +1,8 @@
--- A box that an edit put, without a canvas or as a subpatch without boxes.
+-- A box that an edit put: without a canvas, as a subpatch without boxes, or as a port of the box around.
 use Rattle.std.proofs.Common.{◌≡◌, ◌≤◌, ◌+◌, ℕ, zero, suc, Bool, true, List, [], ◌∷◌, drop, take, length, Option, Some, None, inl, inr, refl, sym, ap, ◌∙◌, subst, arith}
 use Rattle.std.proofs.Math.Seq.{take-length, drop-length}
 use Rattle.std.proofs.lemmas.Option.{same_Some}
-use Rattle.std.specs.Prelude.{◌-◌, option_map, IfSome, filter}
+use Rattle.std.specs.Prelude.{◌-◌, is_some, option_map, IfSome, filter}
 use Rattle.std.specs.List.{All, AllByRecursion}
 use Rattle.slab.specs.Slab.{get}
 use Rattle.pd_atom.specs.declared.Atom.{Atom}
@@ -17,20 +17,25 @@ use Rattle.pd_library.specs.Files.{answer_in}
 use Rattle.pd_fit.specs.Fitting.{wires_inside}
 use Rattle.pd_tree.specs.declared.rows.Sheet.{Sheet}
 use Rattle.pd_tree.specs.Ports.{fits}
-use Rattle.pd_tree.specs.Trees.{Cell, Trees, Done, Holder, Stand, stand_of}
+use Rattle.pd_tree.specs.Trees.{Cell, Trees, Done, Leaf, Holder, Stand, stand_of}
 use Rattle.pd_growth.specs.Growth.{around_root, box_grown, without_ending}
 use Rattle.pd_growth.specs.Growing.{inside_grown}
 use Rattle.pd_growth.specs.Steps.{gives}
+use Rattle.pd_growth.specs.Suits.{RowSuits}
+use Rattle.pd_grove.specs.declared.grove.Grove.{Grove}
+use Rattle.pd_grove.specs.declared.seeds.Seed.{Seed}
 use Rattle.pd_grove.specs.Forest.{IsForest}
-use Rattle.pd_grove.specs.Grafts.{HasPartMore}
+use Rattle.pd_grove.specs.Grafts.{HasBoxMore, HasPartMore}
 use Rattle.pd_grove.specs.OwnPaths.{sub_reached}
 use Rattle.pd_grove.specs.Standing.{node_seen, Stands, depth_of}
 use Rattle.pd_grove.specs.TextOrder.{deep, Placed, placed_in_order}
 use Rattle.pd_grove.proofs.ComeLemmas.{part_more}
 use Rattle.pd_grove.proofs.GraftLemmas.{forest_more}
 use Rattle.pd_bind.specs.Naming.{owned_by}
+use Rattle.pd_web.specs.declared.web.Web.{Web}
 use Rattle.pd_web.specs.Canvases.{keys_at}
-use Rattle.pd_web.specs.Changes.{line_told, Meet}
+use Rattle.pd_web.specs.Changes.{line_told, wires_told}
+use Rattle.pd_web.proofs.CountLemmas.{held_alike}
 use Rattle.pd_patch.specs.declared.patch.Patch.{Patch}
 use Rattle.pd_regrowth_law.specs.Suits.{AreOf}
 use Rattle.pd_regrowth_law.proofs.ExpandLemmas.{are_of_more}
@@ -49,11 +54,11 @@ use Rattle.pd_adding.specs.Counts.{stock_by}
 use Rattle.pd_adding.specs.Growing.{Added}
 use Rattle.pd_adding.proofs.GrowLemmas.{growth_is}
 use Rattle.pd_alike_law.proofs.NameLemmas.{leaf_steady}
-use Rattle.pd_putting.specs.Adds.{last_place, IsSub, IsBoxPut, IsSubPut, HasCome, AddsBox}
+use Rattle.pd_putting.specs.Adds.{last_place, IsSub, IsBoxPut, IsSubPut, IsPortBoxPut, HasCome, AddsBox}
 use Rattle.pd_putting.specs.declared.adding.NewBox.{NewBox}
+use Rattle.pd_stage.proofs.FedLemmas.{told_some}
 use Rattle.pd_engine.proofs.ComingLemmas.{ComesFrom, comes_from, low_path}
 use Rattle.pd_engine.proofs.PutLemmas.{owned_anywhere}
-use Rattle.pd_engine.proofs.RewireLemmas.{lists_meet}
 use Rattle.pd_engine.proofs.SubLemmas.{form_same, holder_steady}
 
 -- What came into a patch in which room was set aside: the last box of a canvas, with what lies in it, but no wire.
@@ -63,10 +68,18 @@ pub record CameIn (old new : Patch) (a : Added) (key : ℕ) : Type 0 where
   pub part : HasPartMore (get ready.grove.nodes) (get new.grove.nodes) (get ready.grove.boards) (get new.grove.boards) a.canvas key (keys_at ready.grove a.canvas) []
   pub root : new.grove.root ≡ ready.grove.root
   pub stands : Stands (get new.grove.nodes) (get new.grove.boards) a.canvas (depth_of (get ready.grove.boards a.canvas)) (key ∷ []) a.boxes
-  pub lines : (k : ℕ) → line_told new.web k ≡ line_told ready.web k
+  pub wires : wires_told new.web ≡ wires_told ready.web
   pub owners : (file : List ℕ) → HasOwners ready a.known.names file → HasOwners new a.known.names file
   pub no_wires : wires_inside a.boxes ≡ 0
   pub goes_on : CanPut new
+
+-- as many wires
+pub lines_as_many : (w w' : Web) → ((k : ℕ) → line_told w' k ≡ line_told w k) → wires_told w' ≡ wires_told w
+lines_as_many w w' same = held_alike w.book.wires w'.book.wires (λ k. sym (told_some w' k) ∙ ap is_some (same k) ∙ told_some w k)
+
+-- owners stay with names and boxes
+pub owners_kept : (p q : Patch) (table : Names) (file : List ℕ) → q.names ≡ p.names → q.grove ≡ p.grove → HasOwners p table file → HasOwners q table file
+owners_kept p q table file names grove o = λ class name. rw (names, grove) (o class name)
 
 -- no wire of a canvas without boxes fits
 none_fit : (ws : List Wire) → length (filter (fits []) ws) ≡ 0
@@ -95,34 +108,51 @@ module _ (old new : Patch) (now : ℕ) (a : Added) (key : ℕ) where
     last_part p = subst (λ (ks : List ℕ). PartIn ks []) before_is (subst (λ (ks : List ℕ). PartIn (keys_before ready place) ks) behind_is p)
 
   -- a box without a canvas
-  module _ (can : CanPut old) (b : IsBoxPut old new now a key) where
-    abbrev C : ComesIn b.ready new a.known.names place b.seed key
-    C = b.put.comes
-
-    plain_part : HasPartMore (get b.ready.grove.nodes) (get new.grove.nodes) (get b.ready.grove.boards) (get new.grove.boards) a.canvas key (keys_before b.ready place) (keys_behind b.ready place)
-    plain_part =
-        let g = b.ready.grove in
-        let F : IsForest (get g.nodes) (get g.boards) g.root = (room_put old b.ready b.room can).forest in
+  module _ (can : CanPut old) (ready : Patch) (R : SameButRoom old ready) (cell : Cell) (single : a.boxes ≡ Leaf cell Done) (seed : Seed)
+      (is_row : stand_of seed.row ≡ record { cell = cell; sheet = None; boxes = 0 })
+      (more : HasBoxMore (get ready.grove.nodes) (get new.grove.nodes) (get ready.grove.boards) (get new.grove.boards) a.canvas key (node_of a.canvas seed) (keys_before ready place) (keys_behind ready place))
+      (root : new.grove.root ≡ ready.grove.root) (wires : wires_told new.web ≡ wires_told ready.web) (owners : (file : List ℕ) → HasOwners ready a.known.names file → HasOwners new a.known.names file)
+      (goes_on : CanPut new) where
+    leaf_part : HasPartMore (get ready.grove.nodes) (get new.grove.nodes) (get ready.grove.boards) (get new.grove.boards) a.canvas key (keys_before ready place) (keys_behind ready place)
+    leaf_part =
+        let g = ready.grove in
+        let F : IsForest (get g.nodes) (get g.boards) g.root = (room_put old ready R can).forest in
         let G : IsForest (get new.grove.nodes) (get new.grove.boards) g.root =
-        forest_more (get g.nodes) (get new.grove.nodes) (get g.boards) (get new.grove.boards) g.root a.canvas key (node_of a.canvas b.seed) (keys_before b.ready place) (keys_behind b.ready place) C.grove F in
+        forest_more (get g.nodes) (get new.grove.nodes) (get g.boards) (get new.grove.boards) g.root a.canvas key (node_of a.canvas seed) (keys_before ready place) (keys_behind ready place) more F in
         part_more (get g.nodes) (get new.grove.nodes) (get new.grove.nodes) (get g.boards) (get new.grove.boards) (get new.grove.boards) g.root a.canvas key
-        (node_of a.canvas b.seed) (keys_before b.ready place) (keys_behind b.ready place) C.grove (λ l d live. refl) (λ x live. refl) refl F G
+        (node_of a.canvas seed) (keys_before ready place) (keys_behind ready place) more (λ l d live. refl) (λ x live. refl) refl F G
 
-    plain_seen : option_map node_seen (get new.grove.nodes key) ≡ Some (record { board = a.canvas; cell = b.plain.cell; inner = None })
-    plain_seen = ap (option_map node_seen) C.grove.is ∙ ap (λ (x : Stand). Some (record { board = a.canvas; cell = x.cell; inner = None })) b.is_row
+    leaf_seen : option_map node_seen (get new.grove.nodes key) ≡ Some (record { board = a.canvas; cell = cell; inner = None })
+    leaf_seen = ap (option_map node_seen) more.is ∙ ap (λ (x : Stand). Some (record { board = a.canvas; cell = x.cell; inner = None })) is_row
 
-    plain_in : CameIn old new a key
-    plain_in = record {
-      ready = b.ready;
-      room = b.room;
-      part = last_part b.ready b.room plain_part;
-      root = C.root;
-      stands = subst (λ (x : Trees). Stands (get new.grove.nodes) (get new.grove.boards) a.canvas (depth_of (get b.ready.grove.boards a.canvas)) (key ∷ []) x) (sym b.plain.single) (plain_seen, tt);
-      lines = C.ports.lines;
-      owners = C.owners;
-      no_wires = ap wires_inside b.plain.single;
-      goes_on = b.goes_on;
+    leaf_in : CameIn old new a key
+    leaf_in = record {
+      ready = ready;
+      room = R;
+      part = last_part ready R leaf_part;
+      root = root;
+      stands = subst (λ (x : Trees). Stands (get new.grove.nodes) (get new.grove.boards) a.canvas (depth_of (get ready.grove.boards a.canvas)) (key ∷ []) x) (sym single) (leaf_seen, tt);
+      wires = wires;
+      owners = owners;
+      no_wires = ap wires_inside single;
+      goes_on = goes_on;
     }
+
+  plain_in : CanPut old → IsBoxPut old new now a key → CameIn old new a key
+  plain_in can b =
+      let c : ComesIn b.ready new a.known.names place b.seed key = b.put.comes in
+      leaf_in can b.ready b.room b.plain.cell b.plain.single b.seed b.is_row c.grove c.root (lines_as_many b.ready.web new.web c.ports.lines) c.owners b.goes_on
+
+  -- a port of the box around: where it came in, only wires, blocks and orders changed
+  port_in : CanPut old → IsPortBoxPut old new now a key → CameIn old new a key
+  port_in can b =
+      let g : Grove = b.ready.grove in
+      let mid : Patch = b.put.ready in
+      let c : ComesIn b.ready mid a.known.names place b.seed key = b.put.comes in
+      let same : new.grove ≡ mid.grove = b.put.rest.grove in
+      leaf_in can b.ready b.room b.port.cell b.port.single b.seed b.is_row
+      (subst (λ (x : Grove). HasBoxMore (get g.nodes) (get x.nodes) (get g.boards) (get x.boards) a.canvas key (node_of a.canvas b.seed) (keys_before b.ready place) (keys_behind b.ready place)) (sym same) c.grove)
+      (ap (λ (x : Grove). x.root) same ∙ c.root) b.put.wires (λ file o. owners_kept mid new a.known.names file b.put.rest.names same (c.owners file o)) b.goes_on
 
   -- a subpatch without boxes
   module _ (can : CanPut old) (b : IsSubPut old new now a key) where
@@ -147,7 +177,7 @@ module _ (old new : Patch) (now : ℕ) (a : Added) (key : ℕ) where
           root = D.root;
           stands = subst (λ (x : Trees). Stands (get new.grove.nodes) (get new.grove.boards) a.canvas (depth_of (get g.boards a.canvas)) (key ∷ []) x) sub_is
               (stands_as_box (get g.nodes) (get new.grove.nodes) (get g.boards) (get new.grove.boards) g.root a.canvas key D.canvas b.seed D.board (keys_before b.ready place) (keys_behind b.ready place) D.grove);
-          lines = D.ports.lines;
+          wires = lines_as_many b.ready.web new.web D.ports.lines;
           owners = D.owners;
           no_wires = (let e = ap wires_inside b.sub.single in let z = none_fit b.sub.sheet.wires in omega (arith, e, z));
           goes_on = b.goes_on;
@@ -155,17 +185,14 @@ module _ (old new : Patch) (now : ℕ) (a : Added) (key : ℕ) where
 
   pub came_in : CanPut old → HasCome old new now a key → CameIn old new a key
   came_in can (inl b) = plain_in can b
-  came_in can (inr b) = sub_in can b
+  came_in can (inr (inl b)) = sub_in can b
+  came_in can (inr (inr b)) = port_in can b
 
   -- a box more leaves the clocks of messages
   pub came_clocks : HasCome old new now a key → new.timers.clocks.clocks ≡ old.timers.clocks.clocks
   came_clocks (inl b) = ap (λ x. x.clocks.clocks) b.put.comes.clocks ∙ b.room.clocks
-  came_clocks (inr b) = ap (λ x. x.clocks.clocks) b.put.comes.clocks ∙ b.room.clocks
-
-  -- wires still stand at both of their ports
-  pub came_meet : HasCome old new now a key → Meet old.web → Meet new.web
-  came_meet (inl b) m = lists_meet b.ready.web new.web b.put.comes.ports.fans b.put.comes.ports.feeds (lists_meet old.web b.ready.web b.room.web.fans b.room.web.feeds m)
-  came_meet (inr b) m = lists_meet b.ready.web new.web b.put.comes.ports.fans b.put.comes.ports.feeds (lists_meet old.web b.ready.web b.room.web.fans b.room.web.feeds m)
+  came_clocks (inr (inl b)) = ap (λ x. x.clocks.clocks) b.put.comes.clocks ∙ b.room.clocks
+  came_clocks (inr (inr b)) = ap (λ x. x.clocks.clocks) (b.put.rest.clocks ∙ b.put.comes.clocks) ∙ b.room.clocks
 
 -- ---- the box that grew
 
@@ -217,7 +244,8 @@ module _ (old new : Patch) (n : Counts) (name path : List ℕ) (now : ℕ) (e : 
 
   low_by : HasCome old new now a b.key → length path ≤ 255 → length path + deep a.boxes ≤ 255
   low_by (inl p) short = let none : deep a.boxes ≡ 0 = ap deep p.plain.single in omega (arith, none, short)
-  low_by (inr s) short = let one : deep a.boxes ≡ 1 = ap deep s.sub.single in let l = sub_low s.sub in omega (arith, one, l)
+  low_by (inr (inr p)) short = let none : deep a.boxes ≡ 0 = ap deep p.port.single in omega (arith, none, short)
+  low_by (inr (inl s)) short = let one : deep a.boxes ≡ 1 = ap deep s.sub.single in let l = sub_low s.sub in omega (arith, one, l)
 
   pub low : length path ≤ 255 → length path + deep a.boxes ≤ 255
   low short = low_by X.put short
@@ -229,12 +257,11 @@ module _ (old new : Patch) (n : Counts) (name path : List ℕ) (now : ℕ) (e : 
   abbrev Steady : Cell → Type 0
   Steady c = (more : Names) → Extends a.known.names more → owned_by more true c ≡ owned_by a.known.names true c
 
-  leaf_own : (p : IsBoxPut old new now a b.key) → Steady p.plain.cell
-  leaf_own p =
-      let c : Cell = p.plain.cell in
-      let leaf = grew ∙ ap (λ (t : Trees). gives t X.grew.after) p.plain.single in
-      let row : AreOf a.known.names p.seed.row.text = all_by (IsOf a.known.names) p.seed.row.text p.suits.0.0 in
-      let text : AreOf a.known.names c.text = subst (λ (x : Stand). AreOf a.known.names x.cell.text) p.is_row row in
+  leaf_own : (c : Cell) → a.boxes ≡ Leaf c Done → (seed : Seed) → stand_of seed.row ≡ record { cell = c; sheet = None; boxes = 0 } → RowSuits a.known.names seed.row → Steady c
+  leaf_own c single seed is_row suits =
+      let leaf = grew ∙ ap (λ (t : Trees). gives t X.grew.after) single in
+      let row : AreOf a.known.names seed.row.text = all_by (IsOf a.known.names) seed.row.text suits.0.0 in
+      let text : AreOf a.known.names c.text = subst (λ (x : Stand). AreOf a.known.names x.cell.text) is_row row in
       let own : AreOf X.grew.after.names c.text = subst (λ (m : Names). AreOf m c.text) (sym names_are) text in
       subst (λ (m : Names). (more : Names) → Extends m more → owned_by more true c ≡ owned_by m true c) names_are
       (leaf_steady (answer_in X.files.files) (without_ending name) left (inside_grown (answer_in X.files.files) (without_ending name) left) (around_root (own_zero old)) entry
@@ -251,11 +278,15 @@ module _ (old new : Patch) (n : Counts) (name path : List ℕ) (now : ℕ) (e : 
       (stock_by X.files.names n) X.grew.after S.cell S.sheet Done Done (held S) (inner_takes_here (answer_in X.files.files) (without_ending name) left) refl
       (record { arguments = tt; inside = tt }) text S.form)
 
+  single_own : (c : Cell) → a.boxes ≡ Leaf c Done → Steady c → (more : Names) → Extends a.known.names more → (top : Bool) → AllByRecursion (Same more) (placed_in_order top a.boxes)
+  single_own c single own more x top =
+      subst (λ (t : Trees). AllByRecursion (Same more) (placed_in_order top t)) (sym single) (owned_anywhere a.known.names more c (own more x) top, tt)
+
   own_by : HasCome old new now a b.key → (more : Names) → Extends a.known.names more → (top : Bool) → AllByRecursion (Same more) (placed_in_order top a.boxes)
-  own_by (inl p) more x top =
-      subst (λ (t : Trees). AllByRecursion (Same more) (placed_in_order top t)) (sym p.plain.single) (owned_anywhere a.known.names more p.plain.cell (leaf_own p more x) top, tt)
-  own_by (inr s) more x top =
+  own_by (inl p) more x top = single_own p.plain.cell p.plain.single (leaf_own p.plain.cell p.plain.single p.seed p.is_row p.suits) more x top
+  own_by (inr (inl s)) more x top =
       subst (λ (t : Trees). AllByRecursion (Same more) (placed_in_order top t)) (sym s.sub.single) (owned_anywhere a.known.names more s.sub.cell (sub_own s.sub more x) top, tt)
+  own_by (inr (inr p)) more x top = single_own p.port.cell p.port.single (leaf_own p.port.cell p.port.single p.seed p.is_row p.suits) more x top
 
   pub own_steady : (more : Names) → Extends a.known.names more → (top : Bool) → AllByRecursion (Same more) (placed_in_order top a.boxes)
   own_steady more x top = own_by X.put more x top

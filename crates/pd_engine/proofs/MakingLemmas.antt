@@ -18,16 +18,16 @@ use Rattle.pd_web.specs.Changes.{wires_told, Meet}
 use Rattle.pd_web.proofs.CountLemmas.{same_are_as_many}
 use Rattle.pd_made.specs.declared.tally.Tally.{Tally}
 use Rattle.pd_patch.specs.declared.patch.Patch.{Patch}
-use Rattle.pd_say.proofs.GatheringLemmas.{grown-grown}
+use Rattle.pd_say.proofs.GatheringLemmas.{grown-grown, took_more}
 use Rattle.pd_say.specs.Lines.{refusal_text}
 use Rattle.pd_say.specs.declared.refusals.Request.{Request}
 use Rattle.pd_say.specs.declared.refusals.Request.TheVariants as request
 use Rattle.pd_say.specs.declared.refusals.Why.{Why}
 use Rattle.pd_wiring.specs.Changes.{CanRewire, SameButRoom, StaysButWire}
 use Rattle.pd_boxes.specs.Room.{SameButRoom as RoomSet}
-use Rattle.pd_putting.specs.Adds.{AddsBox, IsNotPut, IsShortOfRoom, IsNotAdded}
+use Rattle.pd_putting.specs.Adds.{AddsBox, IsNotPut, IsShortOfRoom}
 use Rattle.pd_putting.specs.declared.adding.NewBox.{NewBox}
-use Rattle.pd_gather.specs.Gather.{Known, known}
+use Rattle.pd_gather.specs.Gather.{known}
 use Rattle.pd_library.specs.declared.answers.Answer.{Answer}
 use Rattle.pd_clock.specs.Queue.{Clock}
 use Rattle.pd_kind.specs.declared.states.State.{State}
@@ -54,9 +54,9 @@ use Rattle.pd_adding.specs.declared.counts.Counts.{Counts}
 use Rattle.pd_adding.specs.Counts.{AreWithin}
 use Rattle.pd_alike_law.proofs.MeetLemmas.{edits_meet as rewired_meet, room_meet}
 use Rattle.pd_stage.proofs.CountedLemmas.{edit_few}
-use Rattle.pd_engine.proofs.RewireLemmas.{IsKept, IsReady, wired_kept, lists_meet}
+use Rattle.pd_engine.proofs.RewireLemmas.{IsKept, IsReady, wired_kept}
 use Rattle.pd_engine.proofs.ClockLemmas.{stage_with}
-use Rattle.pd_engine.proofs.CameLemmas.{came_clocks, came_meet}
+use Rattle.pd_engine.proofs.CameLemmas.{came_clocks}
 
 -- ---- one choice, and where it leads
 
@@ -571,20 +571,10 @@ module _ (wanted : Wanted) (path : List ℕ) (e : Edit) (is : IsBoxEdit wanted p
     answer = ap (λ (c : EditRefusal). edit_outcome (Err c)) (sym short);
   }
 
--- ---- wires still stand at both of their ports where a box came, or could have come
-
-pub put_meet : (old new : Patch) (n : Counts) (name path : List ℕ) (now : ℕ) (e : Edit) (k after : Known) (b : NewBox) → AddsBox old new n name path now e k after b → ∥ Meet old.web ∥₁ → ∥ Meet new.web ∥₁
-put_meet old new n name path now e k after b d t = ∥∥₁_map t (came_meet old new now d.added b.key d.put)
-
-unput_by : (old new : Patch) (n : Counts) (name path : List ℕ) (e : Edit) (k : Known) (why : EditRefusal) → IsNotAdded old new n name path e k why → Meet old.web → Meet new.web
-unput_by old new n name path e k why (inl d) m = subst (λ (p : Patch). Meet p.web) (sym d.0) m
-unput_by old new n name path e k why (inr d) m = lists_meet old.web new.web d.1.room.web.fans d.1.room.web.feeds m
-
-pub unput_meet : (old new : Patch) (n : Counts) (name path : List ℕ) (e : Edit) (k : Known) (why : EditRefusal) → IsNotAdded old new n name path e k why → ∥ Meet old.web ∥₁ → ∥ Meet new.web ∥₁
-unput_meet old new n name path e k why d t = ∥∥₁_map t (unput_by old new n name path e k why d)
+-- ---- one line and then others
 
 -- a line was said, and a part of another
-pub took_behind : (t u v : Option (List ℕ)) (a b : List ℕ) → u ≡ grown t a → TookPart u v b → TookPart t v (a ++ b)
+took_behind : (t u v : Option (List ℕ)) (a b : List ℕ) → u ≡ grown t a → TookPart u v b → TookPart t v (a ++ b)
 took_behind t u v a b said part = record {
   part = a ++ part.part;
   begins = record { rest = part.begins.rest; is = ap (λ (x : List ℕ). a ++ x) part.begins.is ∙ sym (append_assoc a part.part part.begins.rest) };
@@ -592,5 +582,17 @@ took_behind t u v a b said part = record {
 }
 
 -- both were said
-pub said_behind : (t u v : Option (List ℕ)) (a b : List ℕ) → u ≡ grown t a → v ≡ grown u b → v ≡ grown t (a ++ b)
+said_behind : (t u v : Option (List ℕ)) (a b : List ℕ) → u ≡ grown t a → v ≡ grown u b → v ≡ grown t (a ++ b)
 said_behind t u v a b first second = second ∙ ap (λ (x : Option (List ℕ)). grown x b) first ∙ grown-grown t a b
+
+-- a line was said, and then no more than a part of two others
+pub took_first : (t u v : Option (List ℕ)) (a b c : List ℕ) → u ≡ grown t a → TookPart u v b → TookPart t v (a ++ (b ++ c))
+took_first t u v a b c said part = took_behind t u v a (b ++ c) said (took_more u v b c part)
+
+-- two were said, and a part of a third
+pub took_last : (t u v w : Option (List ℕ)) (a b c : List ℕ) → u ≡ grown t a → v ≡ grown u b → TookPart v w c → TookPart t w (a ++ (b ++ c))
+took_last t u v w a b c first second part = took_behind t u w a (b ++ c) first (took_behind u v w b c second part)
+
+-- all three were said
+pub said_all : (t u v w : Option (List ℕ)) (a b c : List ℕ) → u ≡ grown t a → v ≡ grown u b → w ≡ grown v c → w ≡ grown t (a ++ (b ++ c))
+said_all t u v w a b c first second third = said_behind t u w a (b ++ c) first (said_behind u v w b c second third)

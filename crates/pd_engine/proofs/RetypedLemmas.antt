@@ -66,8 +66,8 @@ module _ (P : Placed → Type 0) (c : Cell) (own : (top : Bool) → P (placed to
 
 -- ---- the new box owns the same in each table that goes on
 
-module _ (old new : Patch) (n : Counts) (name path : List ℕ) (number : ℕ) (text : List Atom) (now : ℕ) (k after : Known) (b : RetypedBox)
-    (X : RetypesBox old new n name path number text now k after b) where
+module _ (old new : Patch) (n : Counts) (name path : List ℕ) (number : ℕ) (text : List Atom) (now : ℕ) (k after : Known) (steps steps' : ℕ) (b : RetypedBox)
+    (X : RetypesBox old new n name path number text now k after steps steps' b) where
   abbrev a : Added
   a = X.added
 

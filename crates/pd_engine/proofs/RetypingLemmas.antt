@@ -1,5 +1,5 @@
 -- What is told of a box that an edit gives another text, or of why none becomes another one.
-use Rattle.std.proofs.Common.{◌≡◌, ◌≤◌, ◌+◌, arith, false, ℕ, List, [], ◌∷◌, refl, sym, ap, subst, inl, inr, Option, None, Result, Err, OnErr, OnOk, IfOk, ◌∙◌}
+use Rattle.std.proofs.Common.{◌≡◌, ◌≤◌, ◌+◌, arith, false, ℕ, List, [], ◌∷◌, refl, sym, ap, subst, inl, inr, Option, Some, None, Result, Err, OnErr, OnOk, IfOk, ◌∙◌}
 use Rattle.std.proofs.lemmas.Result.{on_err_weaker}
 use Rattle.pd_io.specs.Faults.{Rose}
 use Rattle.pd_io.specs.Stream.{grown, TookPart}
@@ -15,21 +15,25 @@ use Rattle.pd_queue.specs.Entries.{wire_edit}
 use Rattle.pd_script.specs.Edits.{puts_box, deleted, moved}
 use Rattle.pd_say.specs.Lines.{refusal_text}
 use Rattle.pd_say.specs.declared.refusals.Request.TheVariants as request
+use Rattle.slab.specs.Slab.{get}
+use Rattle.pd_grove.specs.Owning.{board_in}
 use Rattle.pd_patch.specs.declared.patch.Patch.{Patch}
 use Rattle.pd_wiring.specs.declared.refusals.EditRefusal.{EditRefusal}
 use Rattle.pd_wiring.specs.declared.refusals.EditRefusal.TheVariants as refusal
+use Rattle.pd_boxes.specs.Put.{CanPut}
 use Rattle.pd_adding.specs.declared.counts.Counts.{Counts}
 use Rattle.pd_adding.specs.Counts.{AreWithin}
 use Rattle.pd_gather.specs.Gather.{Known, known}
 use Rattle.pd_retyping.specs.declared.retyping.RetypedBox.{RetypedBox}
 use Rattle.pd_retyping.specs.Retypes.{RetypesBox, IsNotRetyped}
 use Rattle.pd_refitting.specs.Refits.{refit_looks}
+use Rattle.pd_taking.specs.Loosening.{looks_for}
 use Rattle.pd_hearing.specs.Worlds.{net_of, states_of}
 use Rattle.pd_stage.specs.Choices.{base_of, Wanted, Edits, Made, Choice}
 use Rattle.pd_stage.specs.Choices as stage
 use Rattle.pd_stage.specs.Stages.{Stage}
 use Rattle.pd_stage.specs.Lawful.{why_of, StandsAt, IsRetypedTo}
-use Rattle.pd_stage.specs.Lines.{put_text}
+use Rattle.pd_stage.specs.Lines.{retyped_text}
 use Rattle.pd_stage.specs.Leads.{sinks, Took, Stops}
 use Rattle.pd_stage.specs.Events.{edit_taken, files_put}
 use Rattle.pd_stage.proofs.EditLemmas.{taken_at}
@@ -55,12 +59,16 @@ rest_retypes (edit.FloatBox x y text) none stays rests other = cc
 rest_retypes (edit.SymbolBox x y text) none stays rests other = cc
 rest_retypes (edit.Sub x y name) none stays rests other = cc
 
--- there are no more looks than it may take, by whichever name its file has
-pub few_by : (old new : Patch) (n : Counts) (file name path : List ℕ) (number : ℕ) (text : List Atom) (now : ℕ) (before after : Known) (b : RetypedBox) (k k' : ℕ) → file ≡ name
-    → ((r : RetypesBox old new n file path number text now before after b) → k' ≤ k + refit_looks r.node.kind r.became.can.cell.kind)
-    → (r : RetypesBox old new n name path number text now before after b) → k' ≤ k + refit_looks r.node.kind r.became.can.cell.kind
-few_by old new n file name path number text now before after b k k' same few =
-    subst (λ (x : List ℕ). (r : RetypesBox old new n x path number text now before after b) → k' ≤ k + refit_looks r.node.kind r.became.can.cell.kind) same few
+-- there are no more looks than it may take
+few_looks : (old new : Patch) (n : Counts) (name path : List ℕ) (number : ℕ) (text : List Atom) (now : ℕ) (before after : Known) (k k' : ℕ) (b : RetypedBox) → CanPut old
+    → (r : RetypesBox old new n name path number text now before after k k' b)
+    → k' ≤ k + (looks_for b.canvas r.became.loosens.gone r.became.loose + refit_looks r.node.kind r.became.can.cell.kind)
+few_looks old new n name path number text now before after k k' b can r =
+    let there : board_in (get r.became.ready.grove.nodes b.key) ≡ Some b.canvas =
+    ap board_in (r.became.room.grove.nodes b.key) ∙ can.forest.own.home b.canvas number b.key r.chosen.at in
+    let loosened = r.became.loosens.looks b.canvas there in
+    let placed = r.became.looks in
+    omega (arith, loosened, placed)
 
 module _ (path : List ℕ) (number : ℕ) (text : List Atom) (file : List ℕ) (names : Names) (files : List (ℕ × Answer)) (counts : Counts) (time block_end fired : ℕ) (tally : Tally) (old new : Patch)
     (ready : IsReady old) where
@@ -74,8 +82,11 @@ module _ (path : List ℕ) (number : ℕ) (text : List Atom) (file : List ℕ) (
   stands = record { net = refl; states = refl; puts = ready.puts; meet = ready.meet }
 
   -- it became another one
-  module _ (more : Names) (learned : List (ℕ × Answer)) (b : RetypedBox) (d : RetypesBox old new counts file path number text time (known files names) (known learned more) b) (onward : Extends names more)
-      (within : AreWithin b.counts) where
+  module _ (more : Names) (learned : List (ℕ × Answer)) (b : RetypedBox) (k k' : ℕ)
+      (d : RetypesBox old new counts file path number text time (known files names) (known learned more) k k' b) (onward : Extends names more) (within : AreWithin b.counts) where
+    abbrev pub told : List ℕ
+    told = retyped_text more new b.key b.canvas b.gone.items
+
     abbrev other : Made
     other = record {
       net = net_of new;
@@ -83,9 +94,9 @@ module _ (path : List ℕ) (number : ℕ) (text : List Atom) (file : List ℕ) (
       clocks = new.timers.clocks.clocks;
       names = more;
       base = base_of learned b.counts;
-      lines = put_text more new b.key b.canvas;
+      lines = told;
       files = [];
-      looks = refit_looks d.node.kind d.became.can.cell.kind;
+      looks = looks_for b.canvas d.became.loosens.gone d.became.loose + refit_looks d.node.kind d.became.can.cell.kind;
     }
 
     pub other_is : IsRetypedTo (from []) path number text other
@@ -94,11 +105,13 @@ module _ (path : List ℕ) (number : ℕ) (text : List Atom) (file : List ℕ) (
       new = new;
       after = known learned more;
       box = b;
+      steps = k;
+      steps' = k';
       stands = stands;
       retypes = d;
       net = refl;
       states = refl;
-      clocks = d.became.refit.clocks ∙ ap (λ (c : List Clock). without b.key c) d.became.room.clocks;
+      clocks = d.became.refit.clocks ∙ ap (λ (c : List Clock). without b.key c) (ap (λ x. x.clocks.clocks) d.became.loosens.rest.timers ∙ d.became.room.clocks);
       names = refl;
       more = onward;
       base = refl;
@@ -108,7 +121,7 @@ module _ (path : List ℕ) (number : ℕ) (text : List Atom) (file : List ℕ) (
       looks = refl;
     }
 
-    abbrev pub other_came : Came wanted (from []) (stage_with file new more (base_of learned b.counts) time block_end fired tally) (put_text more new b.key b.canvas) Done
+    abbrev pub other_came : Came wanted (from []) (stage_with file new more (base_of learned b.counts) time block_end fired tally) told Done
     other_came = record { choice = stage.Makes other; may = other_is; text_is = refl; stage = λ m. refl; answer = refl }
 
   -- it was refused
@@ -167,25 +180,29 @@ module _ (path : List ℕ) (number : ℕ) (text : List Atom) (file : List ℕ) (
       by_part part = on_err_weaker r (λ a samples. let x = came samples in came_part wanted (from []) to said outcome x.0 (sinks t samples k h f) t t' samples k' h' f' x.1 a) part
 
     -- it became another one
-    module _ (more : Names) (learned : List (ℕ × Answer)) (b : RetypedBox) (d : RetypesBox old new counts file path number text time (known files names) (known learned more) b) (onward : Extends names more)
-        (within : AreWithin b.counts) (few : k' ≤ k + refit_looks d.node.kind d.became.can.cell.kind) where
+    module _ (more : Names) (learned : List (ℕ × Answer)) (b : RetypedBox) (d : RetypesBox old new counts file path number text time (known files names) (known learned more) k k' b)
+        (onward : Extends names more) (within : AreWithin b.counts) where
       abbrev to : List Choice → Stage
       to = stage_with file new more (base_of learned b.counts) time block_end fired tally
 
+      abbrev said : List ℕ
+      said = retyped_text more new b.key b.canvas b.gone.items
+
       abbrev IsOther : Option (List ℕ) → Type 0
-      IsOther u = (c : Came wanted (from []) to (put_text more new b.key b.canvas) Done) × Took (sinks t u k h f) (sinks t u k' h' f') (files_put c.choice) (taken_at wanted (from []) c.choice ∷ [])
+      IsOther u = (c : Came wanted (from []) to said Done) × Took (sinks t u k h f) (sinks t u k' h' f') (files_put c.choice) (taken_at wanted (from []) c.choice ∷ [])
 
       other_by : (u : Option (List ℕ)) → IsOther u
       other_by u = (
-        other_came more learned b d onward within,
-        looking_took wanted (from []) (stage.Makes (other more learned b d onward within)) t u k k' h h' f f' refl few same (inl (omega (arith, low))),
+        other_came more learned b k k' d onward within,
+        looking_took wanted (from []) (stage.Makes (other more learned b k k' d onward within)) t u k k' h h' f f' refl
+            (few_looks old new counts file path number text time (known files names) (known learned more) k k' b ready.puts d) same (inl (omega (arith, low))),
       )
 
-      pub retyped_answered : there ≡ to → OnOk r (t' ≡ grown t (put_text more new b.key b.canvas)) → IfOk r (λ o. o ≡ Done) → IfOk r Answered
-      retyped_answered leads is answer = by_all to (put_text more new b.key b.canvas) Done other_by leads is answer
+      pub retyped_answered : there ≡ to → OnOk r (t' ≡ grown t said) → IfOk r (λ o. o ≡ Done) → IfOk r Answered
+      retyped_answered leads is answer = by_all to said Done other_by leads is answer
 
-      pub retyped_torn : OnErr r (TookPart t t' (put_text more new b.key b.canvas)) → OnErr r Torn
-      retyped_torn part = by_part to (put_text more new b.key b.canvas) Done other_by part
+      pub retyped_torn : OnErr r (TookPart t t' said) → OnErr r Torn
+      retyped_torn part = by_part to said Done other_by part
 
     -- it was refused, and names and files are as before
     module _ (looks : k' ≡ k) (cause : EditRefusal) (rose : cause ≡ refusal.ShelfFault → Rose f f') (d : IsNotRetyped old new counts file path number text (known files names) cause) where

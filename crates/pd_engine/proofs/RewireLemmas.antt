@@ -35,7 +35,7 @@ use Rattle.pd_web.specs.declared.jacks.Jack.{Jack}
 use Rattle.pd_web.specs.declared.web.Hop.{Hop}
 use Rattle.pd_web.specs.declared.web.Web.{Web}
 use Rattle.pd_web.specs.Canvases.{keys_at}
-use Rattle.pd_web.specs.Hops.{fan_hops, feed_hops}
+use Rattle.pd_web.specs.Hops.{fan_hops}
 use Rattle.pd_web.specs.Homes.{IsPortOf, inner_in}
 use Rattle.pd_web.specs.Jacks.{jacks_at}
 use Rattle.pd_patch.specs.declared.patch.Patch.{Patch}
@@ -302,15 +302,6 @@ pub record IsReady (p : Patch) : Type 0 where
 
 pub ready_sure : (p : Patch) → ∥ CanPut p ∥₁ → ∥ Meet p.web ∥₁ → IsReady p
 ready_sure p puts meet = record { puts = puts_sure p puts; meet = meet_sure p.web meet }
-
--- each wire stands at both of its ports where the lists of wires are the same
-pub lists_meet : (w v : Web) → ((node outlet : ℕ) → fan_hops v node outlet ≡ fan_hops w node outlet) → ((node inlet : ℕ) → feed_hops v node inlet ≡ feed_hops w node inlet) → Meet w → Meet v
-lists_meet w v fans feeds m = record {
-  fed = λ node outlet i h e. subst (λ (hs : List Hop). IsListed hs (hop_at h.key node outlet)) (sym (feeds h.node h.port))
-      (m.fed node outlet i h (ap (λ (hs : List Hop). slice_get hs i) (sym (fans node outlet)) ∙ e));
-  fanned = λ node inlet i h e. subst (λ (hs : List Hop). IsListed hs (hop_at h.key node inlet)) (sym (fans h.node h.port))
-      (m.fanned node inlet i h (ap (λ (hs : List Hop). slice_get hs i) (sym (feeds node inlet)) ∙ e));
-}
 
 pub within_sure : (n : Counts) → ∥ AreWithin n ∥₁ → AreWithin n
 within_sure n t = record {

@@ -1,6 +1,6 @@
 -- The tree that stands at a stage goes on to stand, and each name keeps its owners in text order.
 use Rattle.std.proofs.Common.{◌≡◌, ◌≤◌, ◌+◌, ℕ, ℤ, max, Bool, true, List, [], ◌∷◌, drop, take, length, slice_get, Option, Some, None, inl, inr, refl, sym, ap, ◌∙◌, subst, arith}
-use Rattle.std.specs.Prelude.{◌-◌, is_some, option_map, option_and_then}
+use Rattle.std.specs.Prelude.{◌-◌, option_map, option_and_then}
 use Rattle.std.specs.List.{AllByRecursion}
 use Rattle.slab.specs.Slab.{get}
 use Rattle.pd_atom.specs.Names.{Names, Extends}
@@ -26,8 +26,8 @@ use Rattle.pd_bind.specs.Naming.{owned_by}
 use Rattle.pd_bind.specs.Owning.{owners_in}
 use Rattle.pd_web.specs.declared.web.Web.{Web}
 use Rattle.pd_web.specs.Canvases.{keys_at}
-use Rattle.pd_web.specs.Changes.{line_told, wires_told}
-use Rattle.pd_web.proofs.CountLemmas.{held_alike, same_are_as_many}
+use Rattle.pd_web.specs.Changes.{wires_told}
+use Rattle.pd_web.proofs.CountLemmas.{same_are_as_many}
 use Rattle.pd_patch.specs.declared.patch.Patch.{Patch}
 use Rattle.pd_patch.proofs.WayLemmas.{path_short}
 use Rattle.pd_reload_law.proofs.StayLemmas.{grove_stays}
@@ -57,14 +57,13 @@ use Rattle.pd_stage.specs.Lawful.{StandsAt, known_at, IsPutIn, IsTakenOut, IsMov
 use Rattle.pd_stage.specs.Events.{stage_by, with_net}
 use Rattle.pd_stage.specs.Times.{IsStageOf}
 use Rattle.pd_stage.specs.Trees.{HasTree, HasOwners}
-use Rattle.pd_stage.proofs.FedLemmas.{told_some}
 use Rattle.pd_stage.proofs.EditLemmas.{Changes, ButWires, but_wires, changed_stands, HasMoreRoom, Alters}
 use Rattle.pd_taking_law.specs.Takes.{taken_at}
 use Rattle.pd_taking_law.specs.Taking.{TakesBoxAt}
 use Rattle.pd_taking_law.proofs.StandLemmas.{grove_less}
 use Rattle.pd_deleting.proofs.DeleteLemmas.{found_there, leads_there, box_lives}
 use Rattle.pd_shifting.proofs.MoveLemmas.{is_moving, still_put}
-use Rattle.pd_retyping.specs.Retypes.{counts_but, HasBecome}
+use Rattle.pd_retyping.specs.Retypes.{counts_but, with_wires, HasBecome}
 use Rattle.pd_retyping_law.specs.Retypes.{retyped_at}
 use Rattle.pd_retyping_law.specs.Retyping.{RetypesBoxAt, cell_in}
 use Rattle.pd_retyping_law.proofs.CountLemmas.{weight_same as weight_retyped}
@@ -73,7 +72,7 @@ use Rattle.pd_shifted_law.specs.Shifts.{cell_at, shifted_at}
 use Rattle.pd_shifted_law.proofs.CountLemmas.{weight_same}
 use Rattle.pd_shifted_law.proofs.OwnerLemmas.{owned_placed, owners_stay}
 use Rattle.pd_shifted_law.proofs.StandLemmas.{grove_shifted}
-use Rattle.pd_engine.proofs.CameLemmas.{CameIn, came_in, leads, low as low_here, own_steady}
+use Rattle.pd_engine.proofs.CameLemmas.{CameIn, came_in, leads, low as low_here, own_steady, owners_kept}
 use Rattle.pd_engine.proofs.LessLemmas.{all_taken, box_weight, deep_taken, weight_alone, weight_out, weight_taken}
 use Rattle.pd_engine.proofs.PartLemmas.{part_weight}
 use Rattle.pd_engine.proofs.PutLemmas.{deep_put, weight_put, all_both, all_put}
@@ -110,11 +109,6 @@ module _ (g h : Grove) (S : IsSameButRoom g h) where
   sub_stays : (path : List ℕ) (o : Option ℕ) → sub_reached h o path ≡ sub_reached g o path
   sub_stays [] o = refl
   sub_stays (n ∷ path) o = ap (λ (x : Option ℕ). sub_reached h x path) (sub_step n o) ∙ sub_stays path (option_and_then (λ c. sub_step_in g c n) o)
-
--- ---- as many wires
-
-lines_as_many : (w w' : Web) → ((k : ℕ) → line_told w' k ≡ line_told w k) → wires_told w' ≡ wires_told w
-lines_as_many w w' same = held_alike w.book.wires w'.book.wires (λ k. sym (told_some w' k) ∙ ap is_some (same k) ∙ told_some w k)
 
 -- ---- what a block finds
 
@@ -306,7 +300,7 @@ module _ (s : Stage) (t : HasTree s) (path : List ℕ) (e : Edit) (m : Made) (ah
   wires_more : m.base.counts.wires ≡ wires_told m.net.web
   wires_more =
       let was : s.base.counts.wires ≡ wires_told ready.web = room_wires s t h.old stands_at ready came.room in
-      let same : wires_told h.new.web ≡ wires_told ready.web = lines_as_many ready.web h.new.web came.lines in
+      let same : wires_told h.new.web ≡ wires_told ready.web = came.wires in
       let sum : m.base.counts.wires ≡ s.base.counts.wires + wires_inside a.boxes = ap (λ (n : Counts). n.wires) counted_more in
       let none : wires_inside a.boxes ≡ 0 = came.no_wires in
       let net : wires_told m.net.web ≡ wires_told h.new.web = ap (λ (n : Net). wires_told n.web) h.net in
@@ -371,9 +365,6 @@ module _ (s : Stage) (t : HasTree s) (path : List ℕ) (e : Edit) (m : Made) (ah
       }
 
 -- ---- a box went
-
-owners_kept : (p q : Patch) (table : Names) (file : List ℕ) → q.names ≡ p.names → q.grove ≡ p.grove → OwnersStand p table file → OwnersStand q table file
-owners_kept p q table file names grove o = λ class name. rw (names, grove) (o class name)
 
 module _ (s : Stage) (t : HasTree s) (path : List ℕ) (number : ℕ) (m : Made) (ahead : List Choice) (h : IsTakenOut (with_ahead s []) path number m) where
   abbrev key : ℕ
@@ -541,11 +532,15 @@ module _ (s : Stage) (t : HasTree s) (path : List ℕ) (number : ℕ) (x y : ℤ
 -- ---- a box became another one
 
 module _ (s : Stage) (t : HasTree s) (path : List ℕ) (number : ℕ) (text : List Atom) (m : Made) (ahead : List Choice) (h : IsRetypedTo (with_ahead s []) path number text m) where
-  abbrev became : HasBecome h.old h.new s.time h.box.key h.retypes.node h.retypes.added
+  abbrev became : HasBecome h.old h.new s.time h.box.key h.retypes.node h.retypes.added h.box.gone.items h.steps h.steps'
   became = h.retypes.became
 
   abbrev room_made : Patch
   room_made = became.ready
+
+  -- it has the boxes of the one in which room was made
+  abbrev loosened : Patch
+  loosened = became.loose
 
   abbrev new_cell : Cell
   new_cell = became.can.cell
@@ -553,15 +548,25 @@ module _ (s : Stage) (t : HasTree s) (path : List ℕ) (number : ℕ) (text : Li
   stands_before : StandsAt h.old s
   stands_before = record { net = h.stands.net; states = h.stands.states; puts = h.stands.puts; meet = h.stands.meet }
 
-  stood : GroveStands room_made.grove t.tree.sheet t.tree.boxes
-  stood = room_stands s t h.old stands_before room_made became.room
+  same_boxes : loosened.grove ≡ room_made.grove
+  same_boxes = became.loosens.rest.grove
 
-  becomes : RetypesBoxAt room_made.grove h.new.grove path h.box.canvas h.box.key number h.retypes.node (node_of h.retypes.node.board became.seed)
+  stood : GroveStands loosened.grove t.tree.sheet t.tree.boxes
+  stood = subst (λ (g : Grove). GroveStands g t.tree.sheet t.tree.boxes) (sym same_boxes) (room_stands s t h.old stands_before room_made became.room)
+
+  led_there : sub_reached room_made.grove (Some room_made.grove.root) path ≡ Some h.box.canvas
+  led_there =
+      sub_stays h.old.grove room_made.grove became.room.grove path (Some room_made.grove.root)
+      ∙ ap (λ (r : ℕ). sub_reached h.old.grove (Some r) path) became.room.grove.root ∙ h.retypes.chosen.leads
+
+  is_there : slice_get (keys_at room_made.grove h.box.canvas) number ≡ Some h.box.key
+  is_there = ap (λ (ks : List ℕ). slice_get ks number) (keys_same h.old.grove room_made.grove became.room.grove h.box.canvas) ∙ h.retypes.chosen.at
+
+  becomes : RetypesBoxAt loosened.grove h.new.grove path h.box.canvas h.box.key number h.retypes.node (node_of h.retypes.node.board became.seed)
   becomes = record {
     forest = became.could.can.forest;
-    leads = sub_stays h.old.grove room_made.grove became.room.grove path (Some room_made.grove.root)
-        ∙ ap (λ (r : ℕ). sub_reached h.old.grove (Some r) path) became.room.grove.root ∙ h.retypes.chosen.leads;
-    is = ap (λ (ks : List ℕ). slice_get ks number) (keys_same h.old.grove room_made.grove became.room.grove h.box.canvas) ∙ h.retypes.chosen.at;
+    leads = subst (λ (g : Grove). sub_reached g (Some g.root) path ≡ Some h.box.canvas) (sym same_boxes) led_there;
+    is = subst (λ (g : Grove). slice_get (keys_at g h.box.canvas) number ≡ Some h.box.key) (sym same_boxes) is_there;
     was = became.could.is;
     bare = became.can.bare;
     becomes = became.refit.grove.is;
@@ -582,14 +587,14 @@ module _ (s : Stage) (t : HasTree s) (path : List ℕ) (number : ℕ) (text : Li
   stands_renewed : GroveStands h.new.grove renewed_tree.sheet renewed_tree.boxes
   stands_renewed =
       subst (λ (c : Cell). GroveStands h.new.grove (retyped_at path number c t.tree).sheet (retyped_at path number c t.tree).boxes) cell_is
-      (grove_retyped room_made.grove h.new.grove path h.box.canvas h.box.key number h.retypes.node (node_of h.retypes.node.board became.seed) becomes t.tree stood)
+      (grove_retyped loosened.grove h.new.grove path h.box.canvas h.box.key number h.retypes.node (node_of h.retypes.node.board became.seed) becomes t.tree stood)
 
-  counted_renewed : m.base.counts ≡ with_boxes h.old.rate h.retypes.added.boxes (counts_but h.old.rate h.retypes.node s.base.counts)
-  counted_renewed = ap (λ (x : Base). x.counts) h.base ∙ h.retypes.counts ∙ h.retypes.grew.counts
+  counted_renewed : m.base.counts ≡ with_wires (with_boxes h.old.rate h.retypes.added.boxes (counts_but h.old.rate h.retypes.node s.base.counts)) (wires_told h.new.web)
+  counted_renewed = ap (λ (x : Base). x.counts) h.base ∙ h.retypes.counts ∙ ap (λ (n : Counts). with_wires n (wires_told h.new.web)) h.retypes.grew.counts
 
   boxes_renewed : m.base.counts.boxes ≡ weight renewed_tree.boxes
   boxes_renewed =
-      let g : Grove = room_made.grove in
+      let g : Grove = loosened.grove in
       let along = path_along g path h.box.canvas t.tree becomes.forest stood becomes.leads in
       let u : Tree = along.0 in
       let C : CanvasStands g h.box.canvas u = along.2 in
@@ -605,13 +610,7 @@ module _ (s : Stage) (t : HasTree s) (path : List ℕ) (number : ℕ) (text : Li
       omega (arith, some, alone, one, single, same, was)
 
   wires_renewed : m.base.counts.wires ≡ wires_told m.net.web
-  wires_renewed =
-      let was : s.base.counts.wires ≡ wires_told room_made.web = room_wires s t h.old stands_before room_made became.room in
-      let same : wires_told h.new.web ≡ wires_told room_made.web = lines_as_many room_made.web h.new.web became.refit.ports.lines in
-      let sum : m.base.counts.wires ≡ s.base.counts.wires + wires_inside h.retypes.added.boxes = ap (λ (n : Counts). n.wires) counted_renewed in
-      let none : wires_inside h.retypes.added.boxes ≡ 0 = ap wires_inside became.can.single in
-      let net : wires_told m.net.web ≡ wires_told h.new.web = ap (λ (n : Net). wires_told n.web) h.net in
-      omega (arith, was, same, sum, none, net)
+  wires_renewed = ap (λ (n : Counts). n.wires) counted_renewed ∙ sym (ap (λ (n : Net). wires_told n.web) h.net)
 
   pub retyped_tree : HasTree (stage_by (with_ahead s ahead) (Makes m))
   retyped_tree = record {
@@ -638,7 +637,7 @@ module _ (s : Stage) (t : HasTree s) (path : List ℕ) (number : ℕ) (text : Li
   Steady names more p = owned_by more p.is_top p.cell ≡ owned_by names p.is_top p.cell
 
   own_on : (more : Names) → Extends later_names more → (top : Bool) → Steady later_names more (placed top new_cell)
-  own_on more x top = retyped_own h.old h.new s.base.counts s.file path number text s.time (known_at s) h.after h.box h.retypes more x top
+  own_on more x top = retyped_own h.old h.new s.base.counts s.file path number text s.time (known_at s) h.after h.steps h.steps' h.box h.retypes more x top
 
   pub retyped_owners : HasOwners s t.patch t.tree → HasOwners (stage_by (with_ahead s ahead) (Makes m)) h.new renewed_tree
   retyped_owners o =
@@ -646,8 +645,9 @@ module _ (s : Stage) (t : HasTree s) (path : List ℕ) (number : ℕ) (text : Li
       let on : Extends q.table m.names = extends_on q.table s.names m.names q.goes_on h.more in
       let onward : Extends q.table later_names = subst (λ (n : Names). Extends q.table n) later_are on in
       let low : deep t.tree.boxes ≤ 256 = (let l = t.shallow in omega (arith, l)) in
-      let before : OwnersStand room_made later_names s.file = λ class name.
-      q.owners class name ∙ sym (owners_alike q.table later_names s.file room_made.grove t.tree.sheet t.tree.boxes class name stood low (q.alike later_names onward)) in
+      let first : OwnersStand loosened q.table s.file = owners_kept room_made loosened q.table s.file became.loosens.rest.names same_boxes q.owners in
+      let before : OwnersStand loosened later_names s.file = λ class name.
+      first class name ∙ sym (owners_alike q.table later_names s.file loosened.grove t.tree.sheet t.tree.boxes class name stood low (q.alike later_names onward)) in
       let after : OwnersStand h.new later_names s.file = became.refit.owners s.file before in
       record {
         table = m.names;

@@ -10,7 +10,7 @@ ghost use Rattle.pd_stage.specs.Events.{edit_taken};
 ghost use Rattle.pd_stage.specs.Leads.{sinks, Comes, Stops, Says, SaysPart};
 ghost use Rattle.pd_engine.specs.Stages.{stage_at};
 ghost use Rattle.pd_engine.specs.Edits.{IsTakenSo, IsAlwaysRefused};
-ghost use Rattle.pd_engine.specs.Commands.{commanded, sent, shown, cut_line, refused_as, IsCarriedOut};
+ghost use Rattle.pd_engine.specs.Commands as commands;
 
 use crate::engine::Engine;
 use crate::messages::{message_of, one_atom};
@@ -37,8 +37,8 @@ impl Engine {
         lines: &mut L,
         steps: &mut Steps<K>,
     ) -> Result<Outcome, SinkFailed>
-        ensures ok { IfOk result (λ outcome. (samples : Option (List ℕ)) → IsCarriedOut cmd.now outcome (stage_at self.old) (stage_at self.new) (sinks (L.taken lines.old) samples steps.old (H.holds shelf.old) (H.faults shelf.old)) (sinks (L.taken lines.new) samples steps.new (H.holds shelf.new) (H.faults shelf.new))) }
-        ensures err { OnErr result ((samples : Option (List ℕ)) → Stops (commanded cmd.now) (stage_at self.old) (sinks (L.taken lines.old) samples steps.old (H.holds shelf.old) (H.faults shelf.old)) (sinks (L.taken lines.new) samples steps.new (H.holds shelf.new) (H.faults shelf.new))) }
+        ensures ok { IfOk result (λ outcome. (samples : Option (List ℕ)) → commands.IsCarriedOut cmd.now outcome (stage_at self.old) (stage_at self.new) (sinks (L.taken lines.old) samples steps.old (H.holds shelf.old) (H.faults shelf.old)) (sinks (L.taken lines.new) samples steps.new (H.holds shelf.new) (H.faults shelf.new))) }
+        ensures err { OnErr result ((samples : Option (List ℕ)) → Stops (commands.commanded cmd.now) (stage_at self.old) (sinks (L.taken lines.old) samples steps.old (H.holds shelf.old) (H.faults shelf.old)) (sinks (L.taken lines.new) samples steps.new (H.holds shelf.new) (H.faults shelf.new))) }
         ensures cause { HasCause (L.faults lines.old) (L.faults lines.new) result }
         ensures counted { H.faults shelf.old ≤ H.faults shelf.new }
         ensures stays { self.new.stopped ≡ self.old.stopped }
@@ -123,9 +123,9 @@ impl Engine {
         lines: &mut L,
         steps: &mut Steps<K>,
     ) -> Result<Outcome, SinkFailed>
-        ensures ok { OnOk result ((samples : Option (List ℕ)) → Comes (sent name atoms.now) (stage_at self.old) (stage_at self.new) (sinks (L.taken lines.old) samples steps.old (H.holds shelf.old) (H.faults shelf.old)) (sinks (L.taken lines.new) samples steps.new (H.holds shelf.new) (H.faults shelf.new))) }
+        ensures ok { OnOk result ((samples : Option (List ℕ)) → Comes (commands.sent name atoms.now) (stage_at self.old) (stage_at self.new) (sinks (L.taken lines.old) samples steps.old (H.holds shelf.old) (H.faults shelf.old)) (sinks (L.taken lines.new) samples steps.new (H.holds shelf.new) (H.faults shelf.new))) }
         ensures answer { IfOk result (λ outcome. outcome ≡ Outcome.Done) }
-        ensures err { OnErr result ((samples : Option (List ℕ)) → Stops (sent name atoms.now) (stage_at self.old) (sinks (L.taken lines.old) samples steps.old (H.holds shelf.old) (H.faults shelf.old)) (sinks (L.taken lines.new) samples steps.new (H.holds shelf.new) (H.faults shelf.new))) }
+        ensures err { OnErr result ((samples : Option (List ℕ)) → Stops (commands.sent name atoms.now) (stage_at self.old) (sinks (L.taken lines.old) samples steps.old (H.holds shelf.old) (H.faults shelf.old)) (sinks (L.taken lines.new) samples steps.new (H.holds shelf.new) (H.faults shelf.new))) }
         ensures cause { HasCause (L.faults lines.old) (L.faults lines.new) result }
         ensures counted { H.faults shelf.old ≤ H.faults shelf.new }
         ensures kept { H.holds shelf.new ≡ H.holds shelf.old }
@@ -146,8 +146,8 @@ impl Engine {
     #[tactic(auto, unfolding(pd_say::specs::Lines::text_of))]
     fn say_cut<L: Sink>(&mut self, is_cut: bool, lines: &mut L) -> Result<(), SinkFailed>
         ensures stage { stage_at self.new ≡ stage_at self.old }
-        ensures ok { OnOk result (L.taken lines.new ≡ grown (L.taken lines.old) (cut_line is_cut)) }
-        ensures err { OnErr result (TookPart (L.taken lines.old) (L.taken lines.new) (cut_line is_cut)) }
+        ensures ok { OnOk result (L.taken lines.new ≡ grown (L.taken lines.old) (commands.cut_line is_cut)) }
+        ensures err { OnErr result (TookPart (L.taken lines.old) (L.taken lines.new) (commands.cut_line is_cut)) }
         ensures cause { HasCause (L.faults lines.old) (L.faults lines.new) result }
         ensures stays { self.new.stopped ≡ self.old.stopped }
         ensures library { self.new.library ≡ self.old.library }
@@ -160,9 +160,9 @@ impl Engine {
 
     /// Prints the signal order of the canvas at a path.
     fn show_at<L: Sink>(&mut self, path: &[u32], lines: &mut L) -> Result<Outcome, SinkFailed>
-        ensures ok { OnOk result ((looks : ℕ) → Says (λ s. saying s (shown s.net path.now)) (stage_at self.old) (stage_at self.new) (L.taken lines.old) (L.taken lines.new) looks looks) }
+        ensures ok { OnOk result ((looks : ℕ) → Says (λ s. saying s (commands.shown s.net path.now)) (stage_at self.old) (stage_at self.new) (L.taken lines.old) (L.taken lines.new) looks looks) }
         ensures answer { IfOk result (λ outcome. outcome ≡ Outcome.Done) }
-        ensures err { OnErr result ((looks : ℕ) → SaysPart (λ s. saying s (shown s.net path.now)) (stage_at self.old) (L.taken lines.old) (L.taken lines.new) looks looks) }
+        ensures err { OnErr result ((looks : ℕ) → SaysPart (λ s. saying s (commands.shown s.net path.now)) (stage_at self.old) (L.taken lines.old) (L.taken lines.new) looks looks) }
         ensures cause { HasCause (L.faults lines.old) (L.faults lines.new) result }
         ensures stays { self.new.stopped ≡ self.old.stopped }
         ensures library { self.new.library ≡ self.old.library }
@@ -186,7 +186,7 @@ impl Engine {
         outcome: Outcome,
         lines: &mut L,
     ) -> Result<Outcome, SinkFailed>
-        requires { outcome ≡ refused_as why }
+        requires { outcome ≡ commands.refused_as why }
         ensures ok { IfOk result (λ outcome. (wanted : Wanted) → request ≡ request_of wanted → IsAlwaysRefused wanted why → (samples : Option (List ℕ)) (looks : ℕ) (held : Option (List FileRow)) (faults : ℕ) →
             IsTakenSo wanted outcome (stage_at self.old) (stage_at self.new) (sinks (L.taken lines.old) samples looks held faults) (sinks (L.taken lines.new) samples looks held faults)) }
         ensures err { OnErr result ((wanted : Wanted) → request ≡ request_of wanted → IsAlwaysRefused wanted why → (looks : ℕ) → SaysPart (edit_taken wanted) (stage_at self.old) (L.taken lines.old) (L.taken lines.new) looks looks) }

@@ -14,14 +14,15 @@ ghost use Rattle.pd_stage.specs.Choices.{Wanted, Edits, Asks, Saves};
 ghost use Rattle.pd_stage.specs.Events.{edit_asked, edit_taken};
 ghost use Rattle.pd_stage.specs.Lawful.{why_of as why_so};
 ghost use Rattle.pd_stage.specs.Leads.{sinks, Comes, Stops, SaysPart};
-ghost use Rattle.pd_stage.specs.Lines.{put_text};
+ghost use Rattle.pd_stage.specs.Lines.{put_text, retyped_text};
 ghost use Rattle.pd_engine.specs.Stages.{stage_at};
-ghost use Rattle.pd_engine.specs.Edits.{EditsTo, edit_text, edit_outcome, IsTakenSo, IsEdited, IsSavedSo, IsOwn, IsRetype, AreAskedFor};
+ghost use Rattle.pd_engine.specs.Edits as edits;
 
 use crate::engine::Engine;
+use crate::ports::canvas_of_port;
 use crate::printing::print_refusal;
 use crate::refusals::{Outcome, unsaved};
-use crate::remarks::{print_loop, print_unmade};
+use crate::remarks::{print_gone, print_loop, print_loop_around, print_unmade};
 use pd_canvas::{Atoms, Edit, Place};
 use pd_deleting::delete_box;
 use pd_edit::{EditRefusal, rewire};
@@ -30,7 +31,7 @@ use pd_num::Num;
 use pd_order::Steps;
 use pd_patch::Patch;
 use pd_putting::{Site, add_box};
-use pd_retyping::retype_box;
+use pd_retyping::{RetypedBox, retype_box};
 use pd_save::put_document;
 use pd_say::{Request, Why};
 use pd_script::CommandEdit;
@@ -48,7 +49,7 @@ impl Engine {
         steps: &mut Steps<K>,
     ) -> Result<(), SinkFailed>
         requires place { i < length self.old.queue }
-        requires asked { AreAskedFor self.old.queue }
+        requires asked { edits.AreAskedFor self.old.queue }
         ensures ok { OnOk result ((d : List ℕ × EditSeen) (samples : Option (List ℕ)) → Comes (edit_asked (slice_index_or self.old.queue i d)) (stage_at self.old) (stage_at self.new) (sinks (L.taken lines.old) samples steps.old (H.holds shelf.old) (H.faults shelf.old)) (sinks (L.taken lines.new) samples steps.new (H.holds shelf.new) (H.faults shelf.new))) }
         ensures err { OnErr result ((d : List ℕ × EditSeen) (samples : Option (List ℕ)) → Stops (edit_asked (slice_index_or self.old.queue i d)) (stage_at self.old) (sinks (L.taken lines.old) samples steps.old (H.holds shelf.old) (H.faults shelf.old)) (sinks (L.taken lines.new) samples steps.new (H.holds shelf.new) (H.faults shelf.new))) }
         ensures cause { HasCause (L.faults lines.old) (L.faults lines.new) result }
@@ -111,7 +112,7 @@ impl Engine {
         lines: &mut L,
         steps: &mut Steps<K>,
     ) -> Result<Outcome, SinkFailed>
-        ensures ok { IfOk result (λ outcome. (samples : Option (List ℕ)) → IsEdited path.now edit.now outcome (stage_at self.old) (stage_at self.new) (sinks (L.taken lines.old) samples steps.old (H.holds shelf.old) (H.faults shelf.old)) (sinks (L.taken lines.new) samples steps.new (H.holds shelf.new) (H.faults shelf.new))) }
+        ensures ok { IfOk result (λ outcome. (samples : Option (List ℕ)) → edits.IsEdited path.now edit.now outcome (stage_at self.old) (stage_at self.new) (sinks (L.taken lines.old) samples steps.old (H.holds shelf.old) (H.faults shelf.old)) (sinks (L.taken lines.new) samples steps.new (H.holds shelf.new) (H.faults shelf.new))) }
         ensures err { OnErr result ((samples : Option (List ℕ)) → Stops (edit_taken (Edits None path.now edit.now)) (stage_at self.old) (sinks (L.taken lines.old) samples steps.old (H.holds shelf.old) (H.faults shelf.old)) (sinks (L.taken lines.new) samples steps.new (H.holds shelf.new) (H.faults shelf.new))) }
         ensures cause { HasCause (L.faults lines.old) (L.faults lines.new) result }
         ensures counted { H.faults shelf.old ≤ H.faults shelf.new }
@@ -148,7 +149,7 @@ impl Engine {
         lines: &mut L,
         steps: &mut Steps<K>,
     ) -> Result<Outcome, SinkFailed>
-        ensures ok { IfOk result (λ outcome. (samples : Option (List ℕ)) (held : Option (List FileRow)) (faults : ℕ) → IsEdited path.now (edit.Delete number) outcome (stage_at self.old) (stage_at self.new) (sinks (L.taken lines.old) samples steps.old held faults) (sinks (L.taken lines.new) samples steps.new held faults)) }
+        ensures ok { IfOk result (λ outcome. (samples : Option (List ℕ)) (held : Option (List FileRow)) (faults : ℕ) → edits.IsEdited path.now (edit.Delete number) outcome (stage_at self.old) (stage_at self.new) (sinks (L.taken lines.old) samples steps.old held faults) (sinks (L.taken lines.new) samples steps.new held faults)) }
         ensures err { OnErr result (SaysPart (edit_taken (Edits None path.now (edit.Delete number))) (stage_at self.old) (L.taken lines.old) (L.taken lines.new) steps.old steps.new) }
         ensures cause { HasCause (L.faults lines.old) (L.faults lines.new) result }
         ensures stays { self.new.stopped ≡ self.old.stopped }
@@ -180,7 +181,7 @@ impl Engine {
         y: Num,
         lines: &mut L,
     ) -> Result<Outcome, SinkFailed>
-        ensures ok { IfOk result (λ outcome. (samples : Option (List ℕ)) (looks : ℕ) (held : Option (List FileRow)) (faults : ℕ) → IsEdited path.now (edit.Move number x y) outcome (stage_at self.old) (stage_at self.new) (sinks (L.taken lines.old) samples looks held faults) (sinks (L.taken lines.new) samples looks held faults)) }
+        ensures ok { IfOk result (λ outcome. (samples : Option (List ℕ)) (looks : ℕ) (held : Option (List FileRow)) (faults : ℕ) → edits.IsEdited path.now (edit.Move number x y) outcome (stage_at self.old) (stage_at self.new) (sinks (L.taken lines.old) samples looks held faults) (sinks (L.taken lines.new) samples looks held faults)) }
         ensures err { OnErr result ((looks : ℕ) → SaysPart (edit_taken (Edits None path.now (edit.Move number x y))) (stage_at self.old) (L.taken lines.old) (L.taken lines.new) looks looks) }
         ensures cause { HasCause (L.faults lines.old) (L.faults lines.new) result }
         ensures stays { self.new.stopped ≡ self.old.stopped }
@@ -201,8 +202,8 @@ impl Engine {
         lines: &mut L,
         steps: &mut Steps<K>,
     ) -> Result<Outcome, SinkFailed>
-        requires { IsRetype edit.now }
-        ensures ok { IfOk result (λ outcome. (samples : Option (List ℕ)) → IsEdited path.now edit.now outcome (stage_at self.old) (stage_at self.new) (sinks (L.taken lines.old) samples steps.old (H.holds shelf.old) (H.faults shelf.old)) (sinks (L.taken lines.new) samples steps.new (H.holds shelf.new) (H.faults shelf.new))) }
+        requires { edits.IsRetype edit.now }
+        ensures ok { IfOk result (λ outcome. (samples : Option (List ℕ)) → edits.IsEdited path.now edit.now outcome (stage_at self.old) (stage_at self.new) (sinks (L.taken lines.old) samples steps.old (H.holds shelf.old) (H.faults shelf.old)) (sinks (L.taken lines.new) samples steps.new (H.holds shelf.new) (H.faults shelf.new))) }
         ensures err { OnErr result ((samples : Option (List ℕ)) → Stops (edit_taken (Edits None path.now edit.now)) (stage_at self.old) (sinks (L.taken lines.old) samples steps.old (H.holds shelf.old) (H.faults shelf.old)) (sinks (L.taken lines.new) samples steps.new (H.holds shelf.new) (H.faults shelf.new))) }
         ensures cause { HasCause (L.faults lines.old) (L.faults lines.new) result }
         ensures counted { H.faults shelf.old ≤ H.faults shelf.new }
@@ -225,7 +226,7 @@ impl Engine {
         lines: &mut L,
         steps: &mut Steps<K>,
     ) -> Result<Outcome, SinkFailed>
-        ensures ok { IfOk result (λ outcome. (samples : Option (List ℕ)) → IsEdited path.now (edit.Retype number text.now) outcome (stage_at self.old) (stage_at self.new) (sinks (L.taken lines.old) samples steps.old (H.holds shelf.old) (H.faults shelf.old)) (sinks (L.taken lines.new) samples steps.new (H.holds shelf.new) (H.faults shelf.new))) }
+        ensures ok { IfOk result (λ outcome. (samples : Option (List ℕ)) → edits.IsEdited path.now (edit.Retype number text.now) outcome (stage_at self.old) (stage_at self.new) (sinks (L.taken lines.old) samples steps.old (H.holds shelf.old) (H.faults shelf.old)) (sinks (L.taken lines.new) samples steps.new (H.holds shelf.new) (H.faults shelf.new))) }
         ensures err { OnErr result ((samples : Option (List ℕ)) → Stops (edit_taken (Edits None path.now (edit.Retype number text.now))) (stage_at self.old) (sinks (L.taken lines.old) samples steps.old (H.holds shelf.old) (H.faults shelf.old)) (sinks (L.taken lines.new) samples steps.new (H.holds shelf.new) (H.faults shelf.new))) }
         ensures cause { HasCause (L.faults lines.old) (L.faults lines.new) result }
         ensures counted { H.faults shelf.old ≤ H.faults shelf.new }
@@ -251,7 +252,7 @@ impl Engine {
         match done {
             Ok(retyped) => {
                 self.counts = retyped.counts;
-                self.tell_put(retyped.key, retyped.canvas, lines)
+                self.tell_retyped(&retyped, lines)
             }
             Err(why) => self.tell(Err(why), lines),
         }
@@ -267,7 +268,7 @@ impl Engine {
         steps: &mut Steps<K>,
     ) -> Result<Outcome, SinkFailed>
         requires { puts_box edit.now ≡ true }
-        ensures ok { IfOk result (λ outcome. (samples : Option (List ℕ)) → IsEdited path.now edit.now outcome (stage_at self.old) (stage_at self.new) (sinks (L.taken lines.old) samples steps.old (H.holds shelf.old) (H.faults shelf.old)) (sinks (L.taken lines.new) samples steps.new (H.holds shelf.new) (H.faults shelf.new))) }
+        ensures ok { IfOk result (λ outcome. (samples : Option (List ℕ)) → edits.IsEdited path.now edit.now outcome (stage_at self.old) (stage_at self.new) (sinks (L.taken lines.old) samples steps.old (H.holds shelf.old) (H.faults shelf.old)) (sinks (L.taken lines.new) samples steps.new (H.holds shelf.new) (H.faults shelf.new))) }
         ensures err { OnErr result ((samples : Option (List ℕ)) → Stops (edit_taken (Edits None path.now edit.now)) (stage_at self.old) (sinks (L.taken lines.old) samples steps.old (H.holds shelf.old) (H.faults shelf.old)) (sinks (L.taken lines.new) samples steps.new (H.holds shelf.new) (H.faults shelf.new))) }
         ensures cause { HasCause (L.faults lines.old) (L.faults lines.new) result }
         ensures counted { H.faults shelf.old ≤ H.faults shelf.new }
@@ -289,8 +290,8 @@ impl Engine {
         steps: &mut Steps<K>,
     ) -> Result<Outcome, SinkFailed>
         requires { puts_box edit.now ≡ true }
-        ensures ok { IfOk result (λ outcome. (wanted : Wanted) → IsOwn wanted path.now edit.now → (samples : Option (List ℕ)) → IsTakenSo wanted outcome (stage_at self.old) (stage_at self.new) (sinks (L.taken lines.old) samples steps.old (H.holds shelf.old) (H.faults shelf.old)) (sinks (L.taken lines.new) samples steps.new (H.holds shelf.new) (H.faults shelf.new))) }
-        ensures err { OnErr result ((wanted : Wanted) → IsOwn wanted path.now edit.now → (samples : Option (List ℕ)) → Stops (edit_taken wanted) (stage_at self.old) (sinks (L.taken lines.old) samples steps.old (H.holds shelf.old) (H.faults shelf.old)) (sinks (L.taken lines.new) samples steps.new (H.holds shelf.new) (H.faults shelf.new))) }
+        ensures ok { IfOk result (λ outcome. (wanted : Wanted) → edits.IsOwn wanted path.now edit.now → (samples : Option (List ℕ)) → edits.IsTakenSo wanted outcome (stage_at self.old) (stage_at self.new) (sinks (L.taken lines.old) samples steps.old (H.holds shelf.old) (H.faults shelf.old)) (sinks (L.taken lines.new) samples steps.new (H.holds shelf.new) (H.faults shelf.new))) }
+        ensures err { OnErr result ((wanted : Wanted) → edits.IsOwn wanted path.now edit.now → (samples : Option (List ℕ)) → Stops (edit_taken wanted) (stage_at self.old) (sinks (L.taken lines.old) samples steps.old (H.holds shelf.old) (H.faults shelf.old)) (sinks (L.taken lines.new) samples steps.new (H.holds shelf.new) (H.faults shelf.new))) }
         ensures cause { HasCause (L.faults lines.old) (L.faults lines.new) result }
         ensures counted { H.faults shelf.old ≤ H.faults shelf.new }
         ensures kept { H.holds shelf.new ≡ H.holds shelf.old }
@@ -322,7 +323,8 @@ impl Engine {
         }
     }
 
-    /// Tells of a box that an edit put or gave another text: why it could not be made, and a loop of its canvas.
+    /// Tells of a box that an edit put: why it could not be made, a loop of the canvas around where it is a port of the box that lies in that,
+    /// and a loop of its canvas.
     fn tell_put<L: Sink>(
         &mut self,
         key: u32,
@@ -338,6 +340,54 @@ impl Engine {
         ensures queue { self.new.queue ≡ self.old.queue }
     {
         print_unmade(&self.patch, key, &self.symbols, &mut self.held, lines)?;
+        print_loop_around(
+            &self.patch,
+            canvas_of_port(&self.patch, key, canvas),
+            &mut self.numbers,
+            &self.symbols,
+            &mut self.held,
+            lines,
+        )?;
+        print_loop(
+            &self.patch,
+            canvas,
+            &mut self.numbers,
+            &self.symbols,
+            &mut self.held,
+            lines,
+        )?;
+        Ok(Outcome::Done)
+    }
+
+    /// Tells of a box that an edit gave another text: why it could not be made, the wires that went, and a loop of its canvas.
+    fn tell_retyped<L: Sink>(
+        &mut self,
+        retyped: &RetypedBox,
+        lines: &mut L,
+    ) -> Result<Outcome, SinkFailed>
+        ensures stage { stage_at self.new ≡ stage_at self.old }
+        ensures ok { OnOk result (L.taken lines.new ≡ grown (L.taken lines.old) (retyped_text self.old.symbols self.old.patch retyped.now.key retyped.now.canvas retyped.now.gone.items)) }
+        ensures answer { IfOk result (λ outcome. outcome ≡ Outcome.Done) }
+        ensures err { OnErr result (TookPart (L.taken lines.old) (L.taken lines.new) (retyped_text self.old.symbols self.old.patch retyped.now.key retyped.now.canvas retyped.now.gone.items)) }
+        ensures cause { HasCause (L.faults lines.old) (L.faults lines.new) result }
+        ensures stays { self.new.stopped ≡ self.old.stopped }
+    {
+        let canvas = retyped.canvas;
+        print_unmade(
+            &self.patch,
+            retyped.key,
+            &self.symbols,
+            &mut self.held,
+            lines,
+        )?;
+        print_gone(
+            &self.patch,
+            canvas,
+            retyped.gone.as_slice(),
+            &self.symbols,
+            &mut self.held,
+            lines,
+        )?;
         print_loop(
             &self.patch,
             canvas,
@@ -356,9 +406,9 @@ impl Engine {
         lines: &mut L,
     ) -> Result<Outcome, SinkFailed>
         ensures stage { stage_at self.new ≡ stage_at self.old }
-        ensures ok { OnOk result (L.taken lines.new ≡ grown (L.taken lines.old) (edit_text self.old.patch done)) }
-        ensures answer { IfOk result (λ outcome. outcome ≡ edit_outcome done) }
-        ensures err { OnErr result (TookPart (L.taken lines.old) (L.taken lines.new) (edit_text self.old.patch done)) }
+        ensures ok { OnOk result (L.taken lines.new ≡ grown (L.taken lines.old) (edits.edit_text self.old.patch done)) }
+        ensures answer { IfOk result (λ outcome. outcome ≡ edits.edit_outcome done) }
+        ensures err { OnErr result (TookPart (L.taken lines.old) (L.taken lines.new) (edits.edit_text self.old.patch done)) }
         ensures cause { HasCause (L.faults lines.old) (L.faults lines.new) result }
         ensures stays { self.new.stopped ≡ self.old.stopped }
         ensures library { self.new.library ≡ self.old.library }
@@ -395,7 +445,7 @@ impl Engine {
         shelf: &mut H,
         lines: &mut L,
     ) -> Result<Outcome, SinkFailed>
-        ensures ok { IfOk result (λ outcome. (samples : Option (List ℕ)) (looks : ℕ) → IsSavedSo outcome (stage_at self.old) (stage_at self.new) (sinks (L.taken lines.old) samples looks (H.holds shelf.old) (H.faults shelf.old)) (sinks (L.taken lines.new) samples looks (H.holds shelf.new) (H.faults shelf.new))) }
+        ensures ok { IfOk result (λ outcome. (samples : Option (List ℕ)) (looks : ℕ) → edits.IsSavedSo outcome (stage_at self.old) (stage_at self.new) (sinks (L.taken lines.old) samples looks (H.holds shelf.old) (H.faults shelf.old)) (sinks (L.taken lines.new) samples looks (H.holds shelf.new) (H.faults shelf.new))) }
         ensures err { OnErr result ((samples : Option (List ℕ)) (looks : ℕ) → Stops (edit_taken (Saves None)) (stage_at self.old) (sinks (L.taken lines.old) samples looks (H.holds shelf.old) (H.faults shelf.old)) (sinks (L.taken lines.new) samples looks (H.holds shelf.new) (H.faults shelf.new))) }
         ensures cause { HasCause (L.faults lines.old) (L.faults lines.new) result }
         ensures counted { H.faults shelf.old ≤ H.faults shelf.new }
@@ -433,7 +483,7 @@ fn make<K: Ledger>(
 ) -> Result<u32, EditRefusal>
     requires rewires { CanRewire patch.old }
     requires counted { wires.old ≡ wires_told patch.old.web }
-    ensures edits { (e : EditSeen) → wire_edit e ≡ Some edit → EditsTo patch.old patch.new path.now e result steps.old steps.new }
+    ensures edits { (e : EditSeen) → wire_edit e ≡ Some edit → edits.EditsTo patch.old patch.new path.now e result steps.old steps.new }
     ensures rewires { CanRewire patch.new }
     ensures counted { wires.new ≡ wires_told patch.new.web }
 {

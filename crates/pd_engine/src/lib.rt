@@ -5,14 +5,16 @@
 //! and the code does exactly that: for what these edits came to, whatever the edits after them lead to. Each is
 //! lawful (pd_stage's `IsLawful`): an edit of wires of the patch's own document is made, or refused as it is
 //! planned to be or for want of memory; one that puts a box grows it, with the files for which it asks, and puts it
-//! last into its canvas where it is one box without a canvas and no port of a box around, or a subpatch without boxes,
-//! and tells why it could not be made; one that deletes a box that is no port of a box around takes it out with all
-//! that lies in it, and with the wires and the clocks of these boxes; one that moves a box gives it another place in its
-//! window; one that gives a box another text grows what it becomes, puts that in its place where both are boxes without
-//! a canvas, no ports of a box around, and all wires fit the new one and carry what they carried, and tells why it could
-//! not be made; a save puts the document's text under the name of its file; every other edit or save is refused, and
-//! there is nothing to undo or redo. It makes no difference whether a command or a message asks for an edit. Looks at
-//! signal wires are at most those of the edits.
+//! last into its canvas where it is one box without a canvas or a subpatch without boxes, gives the box around the port
+//! that it is, if it is one, and tells why it could not be made; one that deletes a box that is no port of a box around
+//! takes it out with all that lies in it, and with the wires and the clocks of these boxes; one that moves a box gives
+//! it another place in its window; one that gives a box another text grows what it becomes, takes out the wires at it
+//! that don't fit that, and puts that in its place where both are boxes without a canvas, no ports of a box around, and
+//! the wires that fit carry what they carried, and tells why it could not be made and which wires went; after each of
+//! these a loop of its canvas is told, and after a port that came first one of the canvas around; a save puts the
+//! document's text under the name of its file; every other edit or save is refused, and there is nothing to undo or
+//! redo. It makes no difference whether a command or a message asks for an edit. Looks at signal wires are at most
+//! those of the edits.
 //!
 //! `command` does what its command says: a `send` is its event, that is pd_walk's deliveries under 1,000,000, and
 //! then each edit that was asked for is taken; `show` prints the order of the canvas that its path leads to; an edit,
@@ -39,8 +41,8 @@
 //!
 //! Law: from where a patch opens on, through commands and through time, a tree stands (pd_stage's `HasTree`): it stays
 //! as it grew but for its clocks, what its boxes keep, the blocks of their outlets, its wires with their links and
-//! orders, which stay sound, and the boxes that edits put, delete, move or make others; and so each block that sounds is
-//! the whole one, however deep its canvases lie (`blocks_are_whole`).
+//! orders, which stay sound, the boxes that edits put, delete, move or make others, and the ports that come with them; and
+//! so each block that sounds is the whole one, however deep its canvases lie (`blocks_are_whole`).
 //!
 //! Free: want of memory, in opening, and of an edit or a save. A line tells the numbers of at most 16,384 boxes,
 //! which is as many as a patch may have: the lines of `show` tell all boxes of an order, and the line of a signal
@@ -59,6 +61,7 @@ mod events;
 mod laws;
 mod messages;
 mod opening;
+mod ports;
 mod printing;
 mod refusals;
 mod remarks;

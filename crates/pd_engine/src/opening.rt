@@ -20,7 +20,7 @@ ghost use Rattle.pd_adding.specs.Counts.{AreWithin};
 ghost use Rattle.pd_adding.specs.Counted.{AreCounted};
 ghost use Rattle.pd_stage.specs.Choices.{base_of};
 ghost use Rattle.pd_engine.specs.Stages.{stage_at};
-ghost use Rattle.pd_engine.specs.Opening.{first_stage, loaded, growth_of, GathersAll, Opens, IsUngathered, IsUngrown, IsRefused, Reads, IsUnread, IsUnreadText, OpensFile, IsFileRefused};
+ghost use Rattle.pd_engine.specs.Opening as opening;
 ghost use Rattle.pd_engine.specs.Remarks.{remarks_text};
 
 use crate::engine::Engine;
@@ -85,8 +85,8 @@ impl Engine {
         lines: &mut L,
     ) -> Result<Engine, OpenRefusal>
         ensures running { IfOk result (λ e. e.stopped ≡ false) }
-        ensures opens { IfOk result (λ e. OpensFile (H.holds shelf.old) name.now rate (stage_at e) (L.taken lines.old) (L.taken lines.new) (H.faults shelf.old) (H.faults shelf.new)) }
-        ensures refused { IfErr result (IsFileRefused (H.holds shelf.old) name.now rate (L.taken lines.old) (L.taken lines.new) (H.faults shelf.old) (H.faults shelf.new)) }
+        ensures opens { IfOk result (λ e. opening.OpensFile (H.holds shelf.old) name.now rate (stage_at e) (L.taken lines.old) (L.taken lines.new) (H.faults shelf.old) (H.faults shelf.new)) }
+        ensures refused { IfErr result (opening.IsFileRefused (H.holds shelf.old) name.now rate (L.taken lines.old) (L.taken lines.new) (H.faults shelf.old) (H.faults shelf.new)) }
         ensures quiet { IfErr result (λ e. e ≢ OpenRefusal.WriteFault → L.taken lines.new ≡ L.taken lines.old) }
         ensures kept { H.holds shelf.new ≡ H.holds shelf.old }
         ensures causes { HasOpeningCauses (H.faults shelf.old) (H.faults shelf.new) (L.faults lines.old) (L.faults lines.new) result }
@@ -113,8 +113,8 @@ impl Engine {
     ) -> Result<Engine, OpenRefusal>
         requires { IsProper symbols doc.root }
         ensures running { IfOk result (λ e. e.stopped ≡ false) }
-        ensures opens { IfOk result (λ e. Opens (H.holds shelf.old) name.now rate doc.root symbols (stage_at e) (L.taken lines.old) (L.taken lines.new) (H.faults shelf.old) (H.faults shelf.new)) }
-        ensures refused { IfErr result (IsRefused (H.holds shelf.old) name.now rate doc.root symbols (L.taken lines.old) (L.taken lines.new) (H.faults shelf.old) (H.faults shelf.new)) }
+        ensures opens { IfOk result (λ e. opening.Opens (H.holds shelf.old) name.now rate doc.root symbols (stage_at e) (L.taken lines.old) (L.taken lines.new) (H.faults shelf.old) (H.faults shelf.new)) }
+        ensures refused { IfErr result (opening.IsRefused (H.holds shelf.old) name.now rate doc.root symbols (L.taken lines.old) (L.taken lines.new) (H.faults shelf.old) (H.faults shelf.new)) }
         ensures quiet { IfErr result (λ e. e ≢ OpenRefusal.WriteFault → L.taken lines.new ≡ L.taken lines.old) }
         ensures kept { H.holds shelf.new ≡ H.holds shelf.old }
         ensures causes { HasOpeningCauses (H.faults shelf.old) (H.faults shelf.new) (L.faults lines.old) (L.faults lines.new) result }
@@ -132,8 +132,8 @@ fn fetch_document<H: Shelf>(
     symbols: &mut Symbols,
 ) -> Result<Doc, OpenRefusal>
     ensures proper { IfOk result (λ doc. IsProper symbols.new doc.root) }
-    ensures reads { IfOk result (λ doc. Reads (H.holds shelf.old) name.now symbols.old (Ok (doc.root, symbols.new))) }
-    ensures refused { IfErr result (IsUnread (H.holds shelf.old) name.now symbols.old) }
+    ensures reads { IfOk result (λ doc. opening.Reads (H.holds shelf.old) name.now symbols.old (Ok (doc.root, symbols.new))) }
+    ensures refused { IfErr result (opening.IsUnread (H.holds shelf.old) name.now symbols.old) }
     ensures kept { H.holds shelf.new ≡ H.holds shelf.old }
     ensures causes { HasOpeningCauses (H.faults shelf.old) (H.faults shelf.new) 0 0 result }
 {
@@ -155,7 +155,7 @@ fn read_document(alloc: Global, text: &[u8], symbols: &mut Symbols) -> Result<Do
     requires { length text.now ≤ MAX_FILE }
     ensures proper { IfOk result (λ doc. IsProper symbols.new doc.root) }
     ensures reads { IfOk result (λ doc. document_of symbols.old text.now ≡ Ok (doc.root, symbols.new)) }
-    ensures refused { IfErr result (IsUnreadText (document_of symbols.old text.now)) }
+    ensures refused { IfErr result (opening.IsUnreadText (document_of symbols.old text.now)) }
     ensures causes { HasOpeningCauses 0 0 0 0 result }
 {
     match read(alloc, text, symbols) {
@@ -174,9 +174,9 @@ fn gather_all<H: Shelf>(
 ) -> Result<(), OpenRefusal>
     requires proper { IsProper symbols.old doc.now.root }
     requires empty { library.old ≡ [] }
-    ensures gathers { OnOk result (GathersAll (H.holds shelf.old) name.now doc.now.root symbols.old (known library.new symbols.new)) }
+    ensures gathers { OnOk result (opening.GathersAll (H.holds shelf.old) name.now doc.now.root symbols.old (known library.new symbols.new)) }
     ensures all { OnOk result (AnswersAll name.now doc.now.root (known library.new symbols.new)) }
-    ensures refused { IfErr result (IsUngathered (H.holds shelf.old) name.now doc.now.root symbols.old) }
+    ensures refused { IfErr result (opening.IsUngathered (H.holds shelf.old) name.now doc.now.root symbols.old) }
     ensures kept { H.holds shelf.new ≡ H.holds shelf.old }
     ensures causes { HasOpeningCauses (H.faults shelf.old) (H.faults shelf.new) 0 0 result }
     ensures found { AreProper symbols.new library.new }
@@ -200,12 +200,12 @@ fn grow_all(
     requires proper { IsProper symbols.old doc.root }
     requires found { AreProper symbols.old library.now }
     requires all { AnswersAll name.now doc.root (known library.now symbols.old) }
-    ensures tree { IfOk result (λ r. IsTree r.0 symbols.new rate (growth_of name.now doc.root (known library.now symbols.old))) }
+    ensures tree { IfOk result (λ r. IsTree r.0 symbols.new rate (opening.growth_of name.now doc.root (known library.now symbols.old))) }
     ensures fresh { IfOk result (λ r. IsFresh r.0 symbols.new name.now rate) }
     ensures notices { IfOk result (λ r. r.1.notices.items ≡ notices_in r.0.grove r.0.web r.0.orders.items) }
     ensures loads { IfOk result (λ r. r.1.fresh.items ≡ loads_among r.0.grove (keys_in_order r.0.grove)) }
     ensures extends { Extends symbols.old symbols.new }
-    ensures refused { IfErr result (IsUngrown (growth_of name.now doc.root (known library.now symbols.old)) rate) }
+    ensures refused { IfErr result (opening.IsUngrown (opening.growth_of name.now doc.root (known library.now symbols.old)) rate) }
     ensures causes { HasOpeningCauses 0 0 0 0 result }
 {
     match Patch::grow(alloc, doc, name, rate, library, FIRST_ZERO, symbols) {
@@ -226,15 +226,15 @@ fn grow_counted(
     requires proper { IsProper symbols.old doc.root }
     requires found { AreProper symbols.old library.now }
     requires all { AnswersAll name.now doc.root (known library.now symbols.old) }
-    ensures tree { IfOk result (λ r. IsTree r.0 symbols.new rate (growth_of name.now doc.root (known library.now symbols.old))) }
+    ensures tree { IfOk result (λ r. IsTree r.0 symbols.new rate (opening.growth_of name.now doc.root (known library.now symbols.old))) }
     ensures fresh { IfOk result (λ r. IsFresh r.0 symbols.new name.now rate) }
-    ensures counted { IfOk result (λ r. (t : IsTree r.0 symbols.new rate (growth_of name.now doc.root (known library.now symbols.old))) → (a : AreCounted r.1 r.0) × (a.tree ≡ t.tree)) }
+    ensures counted { IfOk result (λ r. (t : IsTree r.0 symbols.new rate (opening.growth_of name.now doc.root (known library.now symbols.old))) → (a : AreCounted r.1 r.0) × (a.tree ≡ t.tree)) }
     ensures within { IfOk result (λ r. AreWithin r.1) }
     ensures zero { IfOk result (λ r. own_zero r.0 ≤ 1000000000) }
     ensures notices { IfOk result (λ r. r.2.notices.items ≡ notices_in r.0.grove r.0.web r.0.orders.items) }
     ensures loads { IfOk result (λ r. r.2.fresh.items ≡ loads_among r.0.grove (keys_in_order r.0.grove)) }
     ensures extends { Extends symbols.old symbols.new }
-    ensures refused { IfErr result (IsUngrown (growth_of name.now doc.root (known library.now symbols.old)) rate) }
+    ensures refused { IfErr result (opening.IsUngrown (opening.growth_of name.now doc.root (known library.now symbols.old)) rate) }
     ensures causes { HasOpeningCauses 0 0 0 0 result }
 {
     let (patch, report) = grow_all(alloc, doc, name, rate, library, symbols)?;
@@ -257,8 +257,8 @@ fn open_document<H: Shelf, L: Sink>(
     requires proper { IsProper symbols doc.root }
     requires file { room.file.items ≡ name.now }
     ensures running { IfOk result (λ e. e.stopped ≡ false) }
-    ensures opens { IfOk result (λ e. Opens (H.holds shelf.old) name.now rate doc.root symbols (stage_at e) (L.taken lines.old) (L.taken lines.new) (H.faults shelf.old) (H.faults shelf.new)) }
-    ensures refused { IfErr result (IsRefused (H.holds shelf.old) name.now rate doc.root symbols (L.taken lines.old) (L.taken lines.new) (H.faults shelf.old) (H.faults shelf.new)) }
+    ensures opens { IfOk result (λ e. opening.Opens (H.holds shelf.old) name.now rate doc.root symbols (stage_at e) (L.taken lines.old) (L.taken lines.new) (H.faults shelf.old) (H.faults shelf.new)) }
+    ensures refused { IfErr result (opening.IsRefused (H.holds shelf.old) name.now rate doc.root symbols (L.taken lines.old) (L.taken lines.new) (H.faults shelf.old) (H.faults shelf.new)) }
     ensures quiet { IfErr result (λ e. e ≢ OpenRefusal.WriteFault → L.taken lines.new ≡ L.taken lines.old) }
     ensures kept { H.holds shelf.new ≡ H.holds shelf.old }
     ensures causes { HasOpeningCauses (H.faults shelf.old) (H.faults shelf.new) (L.faults lines.old) (L.faults lines.new) result }
@@ -297,8 +297,8 @@ fn begin<H: Shelf, L: Sink>(
     requires zero { own_zero patch ≤ 1000000000 }
     requires found { AreProper symbols library }
     ensures running { IfOk result (λ e. e.stopped ≡ false) }
-    ensures ok { IfOk result (λ e. (looks : ℕ) (samples : Option (List ℕ)) → Comes (λ s. loaded s (remarks_text symbols patch report.notices.items) report.fresh.items) (first_stage room.file.items patch symbols (base_of library counts)) (stage_at e) (sinks (L.taken lines.old) samples looks (H.holds shelf.old) (H.faults shelf.old)) (sinks (L.taken lines.new) samples looks (H.holds shelf.new) (H.faults shelf.new))) }
-    ensures err { OnErr result ((looks : ℕ) (samples : Option (List ℕ)) → Stops (λ s. loaded s (remarks_text symbols patch report.notices.items) report.fresh.items) (first_stage room.file.items patch symbols (base_of library counts)) (sinks (L.taken lines.old) samples looks (H.holds shelf.old) (H.faults shelf.old)) (sinks (L.taken lines.new) samples looks (H.holds shelf.new) (H.faults shelf.new))) }
+    ensures ok { IfOk result (λ e. (looks : ℕ) (samples : Option (List ℕ)) → Comes (λ s. opening.loaded s (remarks_text symbols patch report.notices.items) report.fresh.items) (opening.first_stage room.file.items patch symbols (base_of library counts)) (stage_at e) (sinks (L.taken lines.old) samples looks (H.holds shelf.old) (H.faults shelf.old)) (sinks (L.taken lines.new) samples looks (H.holds shelf.new) (H.faults shelf.new))) }
+    ensures err { OnErr result ((looks : ℕ) (samples : Option (List ℕ)) → Stops (λ s. opening.loaded s (remarks_text symbols patch report.notices.items) report.fresh.items) (opening.first_stage room.file.items patch symbols (base_of library counts)) (sinks (L.taken lines.old) samples looks (H.holds shelf.old) (H.faults shelf.old)) (sinks (L.taken lines.new) samples looks (H.holds shelf.new) (H.faults shelf.new))) }
     ensures fault { IfErr result (λ e. e ≡ OpenRefusal.WriteFault) }
     ensures kept { H.holds shelf.new ≡ H.holds shelf.old }
     ensures causes { HasOpeningCauses (H.faults shelf.old) (H.faults shelf.new) (L.faults lines.old) (L.faults lines.new) result }
@@ -341,8 +341,8 @@ impl Engine {
         shelf: &mut H,
         lines: &mut L,
     ) -> Result<(), SinkFailed>
-        ensures ok { OnOk result ((looks : ℕ) (samples : Option (List ℕ)) → Comes (λ s. loaded s (remarks_text self.old.symbols self.old.patch report.now.notices.items) report.now.fresh.items) (stage_at self.old) (stage_at self.new) (sinks (L.taken lines.old) samples looks (H.holds shelf.old) (H.faults shelf.old)) (sinks (L.taken lines.new) samples looks (H.holds shelf.new) (H.faults shelf.new))) }
-        ensures err { OnErr result ((looks : ℕ) (samples : Option (List ℕ)) → Stops (λ s. loaded s (remarks_text self.old.symbols self.old.patch report.now.notices.items) report.now.fresh.items) (stage_at self.old) (sinks (L.taken lines.old) samples looks (H.holds shelf.old) (H.faults shelf.old)) (sinks (L.taken lines.new) samples looks (H.holds shelf.new) (H.faults shelf.new))) }
+        ensures ok { OnOk result ((looks : ℕ) (samples : Option (List ℕ)) → Comes (λ s. opening.loaded s (remarks_text self.old.symbols self.old.patch report.now.notices.items) report.now.fresh.items) (stage_at self.old) (stage_at self.new) (sinks (L.taken lines.old) samples looks (H.holds shelf.old) (H.faults shelf.old)) (sinks (L.taken lines.new) samples looks (H.holds shelf.new) (H.faults shelf.new))) }
+        ensures err { OnErr result ((looks : ℕ) (samples : Option (List ℕ)) → Stops (λ s. opening.loaded s (remarks_text self.old.symbols self.old.patch report.now.notices.items) report.now.fresh.items) (stage_at self.old) (sinks (L.taken lines.old) samples looks (H.holds shelf.old) (H.faults shelf.old)) (sinks (L.taken lines.new) samples looks (H.holds shelf.new) (H.faults shelf.new))) }
         ensures cause { HasCause (L.faults lines.old) (L.faults lines.new) result }
         ensures counted { H.faults shelf.old ≤ H.faults shelf.new }
         ensures kept { H.holds shelf.new ≡ H.holds shelf.old }

@@ -1,4 +1,4 @@
-//! The lines of growth, and of loops.
+//! The lines of growth, of wires that went, and of loops.
 
 ghost use Rattle.std.specs.Prelude.{◌≡◌, ◌≤◌, OnOk, OnErr};
 ghost use Rattle.slab.specs.Slab.{get};
@@ -7,7 +7,7 @@ ghost use Rattle.pd_say.specs.Gathering.{Says, Fails, HasCause};
 ghost use Rattle.pd_patch.specs.Telling.{fault_in};
 ghost use Rattle.pd_patch.specs.Values.{stuck_in};
 ghost use Rattle.pd_hearing.specs.Worlds.{net_of};
-ghost use Rattle.pd_stage.specs.Lines.{numbers_told, path_in, loop_text, loops_text, told_fault, unmade_text};
+ghost use Rattle.pd_stage.specs.Lines as texts;
 ghost use Rattle.pd_engine.specs.Remarks.{remark_text, remarks_text};
 
 use crate::room::BoxNumbers;
@@ -15,6 +15,7 @@ use crate::showing::fill_numbers;
 use pd_atom::{Atom, Symbols};
 use pd_canvas::Wire;
 use pd_io::{Sink, SinkFailed};
+use pd_misfits::BoxWire;
 use pd_patch::{Patch, Remark};
 use pd_say::{CanvasPath, Ends, Held, Line, flush, say};
 use pd_tree::Fault;
@@ -45,8 +46,8 @@ pub(crate) fn print_unmade<L: Sink>(
     held: &mut Held,
     lines: &mut L,
 ) -> Result<(), SinkFailed>
-    ensures ok { OnOk result (L.taken lines.new ≡ grown (L.taken lines.old) (unmade_text symbols.now (fault_in (get patch.now.grove.nodes node)))) }
-    ensures err { OnErr result (TookPart (L.taken lines.old) (L.taken lines.new) (unmade_text symbols.now (fault_in (get patch.now.grove.nodes node)))) }
+    ensures ok { OnOk result (L.taken lines.new ≡ grown (L.taken lines.old) (texts.unmade_text symbols.now (fault_in (get patch.now.grove.nodes node)))) }
+    ensures err { OnErr result (TookPart (L.taken lines.old) (L.taken lines.new) (texts.unmade_text symbols.now (fault_in (get patch.now.grove.nodes node)))) }
     ensures cause { HasCause (L.faults lines.old) (L.faults lines.new) result }
 {
     held.clear();
@@ -63,8 +64,8 @@ pub(crate) fn print_loop<L: Sink>(
     held: &mut Held,
     lines: &mut L,
 ) -> Result<(), SinkFailed>
-    ensures ok { OnOk result (L.taken lines.new ≡ grown (L.taken lines.old) (loops_text patch.now canvas)) }
-    ensures err { OnErr result (TookPart (L.taken lines.old) (L.taken lines.new) (loops_text patch.now canvas)) }
+    ensures ok { OnOk result (L.taken lines.new ≡ grown (L.taken lines.old) (texts.loops_text patch.now canvas)) }
+    ensures err { OnErr result (TookPart (L.taken lines.old) (L.taken lines.new) (texts.loops_text patch.now canvas)) }
     ensures cause { HasCause (L.faults lines.old) (L.faults lines.new) result }
 {
     if !patch.has_loop(canvas) {
@@ -72,6 +73,43 @@ pub(crate) fn print_loop<L: Sink>(
     }
     held.clear();
     say_loop(patch, canvas, numbers, symbols, held, lines)?;
+    flush(held, lines)
+}
+
+/// Prints the loop of a canvas around, if there is one.
+pub(crate) fn print_loop_around<L: Sink>(
+    patch: &Patch,
+    canvas: Option<u32>,
+    numbers: &mut BoxNumbers,
+    symbols: &Symbols,
+    held: &mut Held,
+    lines: &mut L,
+) -> Result<(), SinkFailed>
+    ensures ok { OnOk result (L.taken lines.new ≡ grown (L.taken lines.old) (texts.loops_if patch.now canvas)) }
+    ensures err { OnErr result (TookPart (L.taken lines.old) (L.taken lines.new) (texts.loops_if patch.now canvas)) }
+    ensures cause { HasCause (L.faults lines.old) (L.faults lines.new) result }
+{
+    match canvas {
+        Some(canvas) => print_loop(patch, canvas, numbers, symbols, held, lines),
+        None => Ok(()),
+    }
+}
+
+/// Prints which wires of a canvas don't fit any more and went, in order.
+pub(crate) fn print_gone<L: Sink>(
+    patch: &Patch,
+    canvas: u32,
+    gone: &[BoxWire],
+    symbols: &Symbols,
+    held: &mut Held,
+    lines: &mut L,
+) -> Result<(), SinkFailed>
+    ensures ok { OnOk result (L.taken lines.new ≡ grown (L.taken lines.old) (texts.gone_text (texts.path_in patch.now canvas) gone.now)) }
+    ensures err { OnErr result (TookPart (L.taken lines.old) (L.taken lines.new) (texts.gone_text (texts.path_in patch.now canvas) gone.now)) }
+    ensures cause { HasCause (L.faults lines.old) (L.faults lines.new) result }
+{
+    held.clear();
+    say_gone(patch, canvas, gone, symbols, held, lines)?;
     flush(held, lines)
 }
 
@@ -122,8 +160,8 @@ fn say_unmade<L: Sink>(
     held: &mut Held,
     lines: &mut L,
 ) -> Result<(), SinkFailed>
-    ensures ok { OnOk result (Says (L.taken lines.old) held.old.items (L.taken lines.new) held.new.items (unmade_text symbols.now (fault_in (get patch.now.grove.nodes node)))) }
-    ensures err { OnErr result (Fails (L.taken lines.old) held.old.items (L.taken lines.new) (unmade_text symbols.now (fault_in (get patch.now.grove.nodes node)))) }
+    ensures ok { OnOk result (Says (L.taken lines.old) held.old.items (L.taken lines.new) held.new.items (texts.unmade_text symbols.now (fault_in (get patch.now.grove.nodes node)))) }
+    ensures err { OnErr result (Fails (L.taken lines.old) held.old.items (L.taken lines.new) (texts.unmade_text symbols.now (fault_in (get patch.now.grove.nodes node)))) }
     ensures cause { HasCause (L.faults lines.old) (L.faults lines.new) result }
 {
     match patch.fault_at(node) {
@@ -141,8 +179,8 @@ fn say_fault<L: Sink>(
     held: &mut Held,
     lines: &mut L,
 ) -> Result<(), SinkFailed>
-    ensures ok { OnOk result (Says (L.taken lines.old) held.old.items (L.taken lines.new) held.new.items (told_fault symbols.now fault name)) }
-    ensures err { OnErr result (Fails (L.taken lines.old) held.old.items (L.taken lines.new) (told_fault symbols.now fault name)) }
+    ensures ok { OnOk result (Says (L.taken lines.old) held.old.items (L.taken lines.new) held.new.items (texts.told_fault symbols.now fault name)) }
+    ensures err { OnErr result (Fails (L.taken lines.old) held.old.items (L.taken lines.new) (texts.told_fault symbols.now fault name)) }
     ensures cause { HasCause (L.faults lines.old) (L.faults lines.new) result }
 {
     if !pd_hearing::is_known(symbols, &name) {
@@ -166,8 +204,8 @@ fn say_unfit<L: Sink>(
     held: &mut Held,
     lines: &mut L,
 ) -> Result<(), SinkFailed>
-    ensures ok { OnOk result (Says (L.taken lines.old) held.old.items (L.taken lines.new) held.new.items (unfit_text (path_in patch.now canvas) wire)) }
-    ensures err { OnErr result (Fails (L.taken lines.old) held.old.items (L.taken lines.new) (unfit_text (path_in patch.now canvas) wire)) }
+    ensures ok { OnOk result (Says (L.taken lines.old) held.old.items (L.taken lines.new) held.new.items (texts.unfit_text (texts.path_in patch.now canvas) wire)) }
+    ensures err { OnErr result (Fails (L.taken lines.old) held.old.items (L.taken lines.new) (texts.unfit_text (texts.path_in patch.now canvas) wire)) }
     ensures cause { HasCause (L.faults lines.old) (L.faults lines.new) result }
 {
     let path = patch.path_of(canvas);
@@ -186,9 +224,28 @@ fn say_unfit<L: Sink>(
     say(&line, symbols, held, lines)
 }
 
+/// Says which wires of a canvas don't fit any more, in order.
+fn say_gone<L: Sink>(
+    patch: &Patch,
+    canvas: u32,
+    gone: &[BoxWire],
+    symbols: &Symbols,
+    held: &mut Held,
+    lines: &mut L,
+) -> Result<(), SinkFailed>
+    ensures ok { OnOk result (Says (L.taken lines.old) held.old.items (L.taken lines.new) held.new.items (texts.gone_text (texts.path_in patch.now canvas) gone.now)) }
+    ensures err { OnErr result (Fails (L.taken lines.old) held.old.items (L.taken lines.new) (texts.gone_text (texts.path_in patch.now canvas) gone.now)) }
+    ensures cause { HasCause (L.faults lines.old) (L.faults lines.new) result }
+{
+    for wire in gone {
+        say_unfit(patch, canvas, wire.wire, symbols, held, lines)?;
+    }
+    Ok(())
+}
+
 /// Makes `numbers` the numbers of the boxes of a canvas that feed one another in a loop.
 fn fill_stuck(patch: &Patch, canvas: u32, numbers: &mut BoxNumbers)
-    ensures { numbers.new.numbers.items ≡ numbers_told (net_of patch.now) (stuck_in patch.now canvas) }
+    ensures { numbers.new.numbers.items ≡ texts.numbers_told (net_of patch.now) (stuck_in patch.now canvas) }
 {
     match patch.order_at(canvas) {
         Some(order) => fill_numbers(patch, order.stuck(), numbers),
@@ -206,8 +263,8 @@ fn say_loop<L: Sink>(
     held: &mut Held,
     lines: &mut L,
 ) -> Result<(), SinkFailed>
-    ensures ok { OnOk result (Says (L.taken lines.old) held.old.items (L.taken lines.new) held.new.items (loop_text patch.now canvas)) }
-    ensures err { OnErr result (Fails (L.taken lines.old) held.old.items (L.taken lines.new) (loop_text patch.now canvas)) }
+    ensures ok { OnOk result (Says (L.taken lines.old) held.old.items (L.taken lines.new) held.new.items (texts.loop_text patch.now canvas)) }
+    ensures err { OnErr result (Fails (L.taken lines.old) held.old.items (L.taken lines.new) (texts.loop_text patch.now canvas)) }
     ensures cause { HasCause (L.faults lines.old) (L.faults lines.new) result }
 {
     fill_stuck(patch, canvas, numbers);

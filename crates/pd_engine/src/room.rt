@@ -1,6 +1,6 @@
 //! The room for the numbers of boxes in a line.
 
-ghost use Rattle.std.specs.Prelude.{◌≡◌, ◌≤◌, vec_capacity, IfOk};
+ghost use Rattle.std.specs.Prelude.{◌≤◌, vec_capacity};
 
 use std::alloc::{AllocError, Global};
 

@@ -6,7 +6,7 @@ ghost use Rattle.pd_clock.specs.Queue.{Clock};
 ghost use Rattle.pd_engine.specs.Causes.{HasCauses};
 ghost use Rattle.pd_stage.specs.Leads.{sinks, Comes, Stops, Sounds, SoundsPart};
 ghost use Rattle.pd_engine.specs.Stages.{stage_at};
-ghost use Rattle.pd_stage.specs.Times.{fires_at, clocks_fire, block_sounds, block_runs, with_time, advanced, finished};
+ghost use Rattle.pd_stage.specs.Times as times;
 
 use crate::engine::Engine;
 use pd_block::run_block;
@@ -35,8 +35,8 @@ impl Engine {
         steps: &mut Steps<K>,
     ) -> Result<(), SinkFailed>
         requires { to ≤ 2 ^ 100 }
-        ensures ok { OnOk result (Comes (advanced to) (stage_at self.old) (stage_at self.new) (sinks (L.taken lines.old) (P.taken pcm.old) steps.old (H.holds shelf.old) (H.faults shelf.old)) (sinks (L.taken lines.new) (P.taken pcm.new) steps.new (H.holds shelf.new) (H.faults shelf.new))) }
-        ensures err { OnErr result (Stops (advanced to) (stage_at self.old) (sinks (L.taken lines.old) (P.taken pcm.old) steps.old (H.holds shelf.old) (H.faults shelf.old)) (sinks (L.taken lines.new) (P.taken pcm.new) steps.new (H.holds shelf.new) (H.faults shelf.new))) }
+        ensures ok { OnOk result (Comes (times.advanced to) (stage_at self.old) (stage_at self.new) (sinks (L.taken lines.old) (P.taken pcm.old) steps.old (H.holds shelf.old) (H.faults shelf.old)) (sinks (L.taken lines.new) (P.taken pcm.new) steps.new (H.holds shelf.new) (H.faults shelf.new))) }
+        ensures err { OnErr result (Stops (times.advanced to) (stage_at self.old) (sinks (L.taken lines.old) (P.taken pcm.old) steps.old (H.holds shelf.old) (H.faults shelf.old)) (sinks (L.taken lines.new) (P.taken pcm.new) steps.new (H.holds shelf.new) (H.faults shelf.new))) }
         ensures cause { HasCauses (L.faults lines.old) (L.faults lines.new) (P.faults pcm.old) (P.faults pcm.new) result }
         ensures counted { H.faults shelf.old ≤ H.faults shelf.new }
         ensures kept { H.holds shelf.new ≡ H.holds shelf.old }
@@ -58,8 +58,8 @@ impl Engine {
         pcm: &mut P,
         steps: &mut Steps<K>,
     ) -> Result<(), SinkFailed>
-        ensures ok { OnOk result (Comes finished (stage_at self.old) (stage_at self.new) (sinks (L.taken lines.old) (P.taken pcm.old) steps.old (H.holds shelf.old) (H.faults shelf.old)) (sinks (L.taken lines.new) (P.taken pcm.new) steps.new (H.holds shelf.new) (H.faults shelf.new))) }
-        ensures err { OnErr result (Stops finished (stage_at self.old) (sinks (L.taken lines.old) (P.taken pcm.old) steps.old (H.holds shelf.old) (H.faults shelf.old)) (sinks (L.taken lines.new) (P.taken pcm.new) steps.new (H.holds shelf.new) (H.faults shelf.new))) }
+        ensures ok { OnOk result (Comes times.finished (stage_at self.old) (stage_at self.new) (sinks (L.taken lines.old) (P.taken pcm.old) steps.old (H.holds shelf.old) (H.faults shelf.old)) (sinks (L.taken lines.new) (P.taken pcm.new) steps.new (H.holds shelf.new) (H.faults shelf.new))) }
+        ensures err { OnErr result (Stops times.finished (stage_at self.old) (sinks (L.taken lines.old) (P.taken pcm.old) steps.old (H.holds shelf.old) (H.faults shelf.old)) (sinks (L.taken lines.new) (P.taken pcm.new) steps.new (H.holds shelf.new) (H.faults shelf.new))) }
         ensures cause { HasCauses (L.faults lines.old) (L.faults lines.new) (P.faults pcm.old) (P.faults pcm.new) result }
         ensures counted { H.faults shelf.old ≤ H.faults shelf.new }
         ensures kept { H.holds shelf.new ≡ H.holds shelf.old }
@@ -80,8 +80,8 @@ impl Engine {
         pcm: &mut P,
         steps: &mut Steps<K>,
     ) -> Result<(), SinkFailed>
-        ensures ok { OnOk result (Comes block_runs (stage_at self.old) (stage_at self.new) (sinks (L.taken lines.old) (P.taken pcm.old) steps.old (H.holds shelf.old) (H.faults shelf.old)) (sinks (L.taken lines.new) (P.taken pcm.new) steps.new (H.holds shelf.new) (H.faults shelf.new))) }
-        ensures err { OnErr result (Stops block_runs (stage_at self.old) (sinks (L.taken lines.old) (P.taken pcm.old) steps.old (H.holds shelf.old) (H.faults shelf.old)) (sinks (L.taken lines.new) (P.taken pcm.new) steps.new (H.holds shelf.new) (H.faults shelf.new))) }
+        ensures ok { OnOk result (Comes times.block_runs (stage_at self.old) (stage_at self.new) (sinks (L.taken lines.old) (P.taken pcm.old) steps.old (H.holds shelf.old) (H.faults shelf.old)) (sinks (L.taken lines.new) (P.taken pcm.new) steps.new (H.holds shelf.new) (H.faults shelf.new))) }
+        ensures err { OnErr result (Stops times.block_runs (stage_at self.old) (sinks (L.taken lines.old) (P.taken pcm.old) steps.old (H.holds shelf.old) (H.faults shelf.old)) (sinks (L.taken lines.new) (P.taken pcm.new) steps.new (H.holds shelf.new) (H.faults shelf.new))) }
         ensures cause { HasCauses (L.faults lines.old) (L.faults lines.new) (P.faults pcm.old) (P.faults pcm.new) result }
         ensures counted { H.faults shelf.old ≤ H.faults shelf.new }
         ensures kept { H.holds shelf.new ≡ H.holds shelf.old }
@@ -93,8 +93,8 @@ impl Engine {
 
     /// Runs the boxes for the next block, adds up its samples, and writes them.
     fn sound_block<P: Sink>(&mut self, pcm: &mut P) -> Result<(), SinkFailed>
-        ensures ok { OnOk result ((lines : Option (List ℕ)) (looks : ℕ) → Sounds block_sounds (stage_at self.old) (stage_at self.new) lines lines (P.taken pcm.old) (P.taken pcm.new) looks looks) }
-        ensures err { OnErr result ((lines : Option (List ℕ)) (looks : ℕ) → SoundsPart block_sounds (stage_at self.old) lines lines (P.taken pcm.old) (P.taken pcm.new) looks looks) }
+        ensures ok { OnOk result ((lines : Option (List ℕ)) (looks : ℕ) → Sounds times.block_sounds (stage_at self.old) (stage_at self.new) lines lines (P.taken pcm.old) (P.taken pcm.new) looks looks) }
+        ensures err { OnErr result ((lines : Option (List ℕ)) (looks : ℕ) → SoundsPart times.block_sounds (stage_at self.old) lines lines (P.taken pcm.old) (P.taken pcm.new) looks looks) }
         ensures cause { HasCause (P.faults pcm.old) (P.faults pcm.new) result }
         ensures stays { self.new.stopped ≡ self.old.stopped }
         ensures library { self.new.library ≡ self.old.library }
@@ -120,8 +120,8 @@ impl Engine {
         lines: &mut L,
         steps: &mut Steps<K>,
     ) -> Result<(), SinkFailed>
-        ensures ok { OnOk result ((samples : Option (List ℕ)) → Comes (clocks_fire limit) (stage_at self.old) (stage_at self.new) (sinks (L.taken lines.old) samples steps.old (H.holds shelf.old) (H.faults shelf.old)) (sinks (L.taken lines.new) samples steps.new (H.holds shelf.new) (H.faults shelf.new))) }
-        ensures err { OnErr result ((samples : Option (List ℕ)) → Stops (clocks_fire limit) (stage_at self.old) (sinks (L.taken lines.old) samples steps.old (H.holds shelf.old) (H.faults shelf.old)) (sinks (L.taken lines.new) samples steps.new (H.holds shelf.new) (H.faults shelf.new))) }
+        ensures ok { OnOk result ((samples : Option (List ℕ)) → Comes (times.clocks_fire limit) (stage_at self.old) (stage_at self.new) (sinks (L.taken lines.old) samples steps.old (H.holds shelf.old) (H.faults shelf.old)) (sinks (L.taken lines.new) samples steps.new (H.holds shelf.new) (H.faults shelf.new))) }
+        ensures err { OnErr result ((samples : Option (List ℕ)) → Stops (times.clocks_fire limit) (stage_at self.old) (sinks (L.taken lines.old) samples steps.old (H.holds shelf.old) (H.faults shelf.old)) (sinks (L.taken lines.new) samples steps.new (H.holds shelf.new) (H.faults shelf.new))) }
         ensures cause { HasCause (L.faults lines.old) (L.faults lines.new) result }
         ensures counted { H.faults shelf.old ≤ H.faults shelf.new }
         ensures kept { H.holds shelf.new ≡ H.holds shelf.old }
@@ -146,8 +146,8 @@ impl Engine {
         steps: &mut Steps<K>,
     ) -> Result<(), SinkFailed>
         requires { self.old.fired ≤ 10000 }
-        ensures ok { OnOk result ((samples : Option (List ℕ)) → Comes (λ s. fires_at s time owner) (stage_at self.old) (stage_at self.new) (sinks (L.taken lines.old) samples steps.old (H.holds shelf.old) (H.faults shelf.old)) (sinks (L.taken lines.new) samples steps.new (H.holds shelf.new) (H.faults shelf.new))) }
-        ensures err { OnErr result ((samples : Option (List ℕ)) → Stops (λ s. fires_at s time owner) (stage_at self.old) (sinks (L.taken lines.old) samples steps.old (H.holds shelf.old) (H.faults shelf.old)) (sinks (L.taken lines.new) samples steps.new (H.holds shelf.new) (H.faults shelf.new))) }
+        ensures ok { OnOk result ((samples : Option (List ℕ)) → Comes (λ s. times.fires_at s time owner) (stage_at self.old) (stage_at self.new) (sinks (L.taken lines.old) samples steps.old (H.holds shelf.old) (H.faults shelf.old)) (sinks (L.taken lines.new) samples steps.new (H.holds shelf.new) (H.faults shelf.new))) }
+        ensures err { OnErr result ((samples : Option (List ℕ)) → Stops (λ s. times.fires_at s time owner) (stage_at self.old) (sinks (L.taken lines.old) samples steps.old (H.holds shelf.old) (H.faults shelf.old)) (sinks (L.taken lines.new) samples steps.new (H.holds shelf.new) (H.faults shelf.new))) }
         ensures cause { HasCause (L.faults lines.old) (L.faults lines.new) result }
         ensures counted { H.faults shelf.old ≤ H.faults shelf.new }
         ensures kept { H.holds shelf.new ≡ H.holds shelf.old }

@@ -1,6 +1,6 @@
 -- The wires to inlets, and the ports, where an edit of wires was made.
 use Rattle.std.proofs.Common.{arith, ◌≡◌, ◌≢◌, ◌<◌, ◌≤◌, ◌+◌, ℕ, zero, suc, ◌==◌, Bool, true, false, cond, List, [], ◌∷◌, length, refl, sym, ap, subst, ◌∙◌}
-use Rattle.std.specs.Prelude.{Option, Some, None, IsSome, is_some, option_map, nat_lt, not, filter, slice_index_or, slice_set, Result, Ok, Err}
+use Rattle.std.specs.Prelude.{Option, Some, None, IsSome, is_some, option_map, nat_lt, slice_set, Result, Ok, Err}
 use Rattle.std.specs.List.{insert}
 use Rattle.std.proofs.lemmas.Bool.{ltb-true}
 use Rattle.std.proofs.lemmas.List.{length-map}

@@ -1,5 +1,5 @@
 -- The samples of a part of a run are added up.
-use Rattle.std.proofs.Common.{◌≡◌, ◌+◌, ◌-◌, ℕ, zero, suc, Bool, true, false, List, [], ◌∷◌, ◌++◌, map, Option, Some, None, refl, sym, ap, ◌∙◌, subst, append_assoc}
+use Rattle.std.proofs.Common.{◌≡◌, ◌+◌, ◌-◌, ℕ, zero, suc, Bool, true, false, List, [], ◌∷◌, ◌++◌, map, Option, Some, None, refl, sym, ap, ◌∙◌, append_assoc}
 use Rattle.std.proofs.lemmas.List.{append-nil}
 use Rattle.std.specs.Prelude.{nat_le, nat_lt, if◌then◌else◌}
 use Rattle.pd_clock.specs.Queue.{Clock}
@@ -9,11 +9,11 @@ use Rattle.pd_hearing.specs.Worlds.{Kept}
 use Rattle.pd_mix.specs.Samples.{block_bytes}
 use Rattle.pd_made.specs.Tallies.{nothing, tallied}
 use Rattle.pd_made.proofs.TallyLemmas.{tallied_join}
-use Rattle.pd_stage.specs.Items.{Item, Put, said, heard, samples_of}
+use Rattle.pd_stage.specs.Items.{said, samples_of}
 use Rattle.pd_stage.specs.Choices.{Wanted, Choice, Refuses, Lacks, Makes, first_choice, later, text_of_choice}
 use Rattle.pd_stage.specs.Stages.{Stage, Passage, with_ahead, still, saying, joined, followed_by}
-use Rattle.pd_stage.specs.Events.{Beginning, with_kept, after_deliveries, stage_by, put_of, files_put, edit_by, edit_taken, edit_asked, edits_taken, event, event_after, delivered}
-use Rattle.pd_stage.specs.Times.{block_units, most_fired, taken_off, with_taken, with_fired, fires, fires_or_not, fires_below, next_clock, clocks_fire, played_at, with_played, sounding, block_sounds, block_runs, blocks_run, with_time, time_is, comes_to, advanced, finished}
+use Rattle.pd_stage.specs.Events.{Beginning, after_deliveries, stage_by, put_of, files_put, edit_by, edit_taken, edit_asked, edits_taken, event, delivered}
+use Rattle.pd_stage.specs.Times.{block_units, most_fired, taken_off, with_taken, with_fired, fires, fires_or_not, fires_below, next_clock, clocks_fire, played_at, block_sounds, block_runs, blocks_run, with_time, time_is, comes_to, advanced, finished}
 use Rattle.pd_stage.specs.Sums.{AddsUp}
 use Rattle.pd_stage.proofs.ItemLemmas.{samples-append, samples-none, samples-said, samples-heard, samples-put}
 

@@ -1,7 +1,7 @@
 use Rattle.std.proofs.Common.{ℕ, List, ◌∙◌, subst, OnOk, OnErr}
 use Rattle.pd_say.specs.Gathering.{Says, Fails}
 use Rattle.pd_say.specs.Lines.{text_of}
-use Rattle.pd_engine.specs.Remarks.{unfit_text}
+use Rattle.pd_stage.specs.Lines.{unfit_text}
 use Rattle.pd_engine.proofs.remarks.say_unfit.Goals as goal
 
 pub returns-clause-ok : goal.returns-clause-ok

@@ -3,14 +3,16 @@ use Rattle.pd_gather.specs.Gather.{known}
 use Rattle.pd_wiring.specs.declared.refusals.EditRefusal.{EditRefusal}
 use Rattle.pd_putting.specs.Adds.{AddsBox, IsNotAdded}
 use Rattle.pd_engine.specs.Stages.{stage_at}
-use Rattle.pd_engine.proofs.RewireLemmas.{puts_sure, ready_sure, within_sure}
-use Rattle.pd_engine.proofs.MakingLemmas.{put_meet, unput_meet}
+use Rattle.pd_engine.proofs.RewireLemmas.{puts_sure, meet_sure, ready_sure, within_sure}
 use Rattle.pd_engine.proofs.ProperLemmas.{found_sure}
 use Rattle.pd_engine.proofs.PuttingLemmas.{put_answered, put_torn, unput_answered, unput_torn}
 use Rattle.pd_engine.proofs.engine.Engine.put_copied.Goals as goal
 
 pub add_box-done-requires-clause-can : goal.add_box-done-requires-clause-can
 add_box-done-requires-clause-can g c = puts_sure c.args.self.now.patch c.args.self.now.puts
+
+pub add_box-done-requires-clause-meet : goal.add_box-done-requires-clause-meet
+add_box-done-requires-clause-meet g c = meet_sure c.args.self.now.patch.web c.args.self.now.meet
 
 pub add_box-done-requires-clause-within : goal.add_box-done-requires-clause-within
 add_box-done-requires-clause-within g c = within_sure c.args.self.now.counts c.args.self.now.within
@@ -21,8 +23,7 @@ add_box-done-requires-clause-found g c = found_sure c.args.self.now.symbols c.ar
 pub invariant_of-self : goal.invariant_of-self
 invariant_of-self g c = record {
   puts = ∣ c.add_box-done.ensures.goes_on ∣₁;
-  meet = put_meet c.args.self.now.patch c.add_box-done.new.patch c.args.self.now.counts _ c.args.path.now c.args.self.now.time c.args.edit.now (known c.args.self.now.library c.args.self.now.symbols)
-      (known c.add_box-done.new.library c.add_box-done.new.symbols) c.in-Ok.added c.in-Ok.ensures.added c.args.self.now.meet;
+  meet = ∣ c.add_box-done.ensures.meet ∣₁;
   counted = c.in-Ok.ensures.counted;
   within = ∣ c.in-Ok.ensures.within ∣₁;
   zero = subst (λ (n : ℕ). n ≤ 1000000000) (sym c.add_box-done.ensures.zero) c.args.self.now.zero;
@@ -32,8 +33,7 @@ invariant_of-self g c = record {
 pub invariant_of-self-in-Err-1 : goal.invariant_of-self-in-Err-1
 invariant_of-self-in-Err-1 g c = record {
   puts = ∣ c.add_box-done.ensures.goes_on ∣₁;
-  meet = unput_meet c.args.self.now.patch c.add_box-done.new.patch c.args.self.now.counts _ c.args.path.now c.args.edit.now (known c.args.self.now.library c.args.self.now.symbols)
-      c.in-Err.why c.in-Err.ensures.refused c.args.self.now.meet;
+  meet = ∣ c.add_box-done.ensures.meet ∣₁;
   counted = c.args.self.now.counted ∙ sym c.in-Err.ensures.as_many;
   within = c.args.self.now.within;
   zero = subst (λ (n : ℕ). n ≤ 1000000000) (sym c.add_box-done.ensures.zero) c.args.self.now.zero;

@@ -1,12 +1,11 @@
-use Rattle.std.proofs.Common.{◌+◌, sym, ap, ◌∙◌, ◌≤◌, subst, List, ℕ, Err}
+use Rattle.std.proofs.Common.{sym, ap, ◌∙◌, ◌≤◌, subst, List, ℕ, Err}
 use Rattle.pd_gather.specs.Gather.{known}
 use Rattle.pd_wiring.specs.declared.refusals.EditRefusal.{EditRefusal}
 use Rattle.pd_retyping.specs.Retypes.{RetypesBox, IsNotRetyped}
-use Rattle.pd_refitting.specs.Refits.{refit_looks}
 use Rattle.pd_engine.specs.Stages.{stage_at}
 use Rattle.pd_engine.proofs.RewireLemmas.{puts_sure, meet_sure, ready_sure, within_sure}
 use Rattle.pd_engine.proofs.ProperLemmas.{found_sure}
-use Rattle.pd_engine.proofs.RetypingLemmas.{few_by, retyped_answered, retyped_torn, still_answered, still_torn}
+use Rattle.pd_engine.proofs.RetypingLemmas.{retyped_answered, retyped_torn, still_answered, still_torn}
 use Rattle.pd_engine.proofs.engine.Engine.retype_copied.Goals as goal
 
 pub retype_box-done-requires-clause-can : goal.retype_box-done-requires-clause-can
@@ -35,7 +34,7 @@ pub invariant_of-self-in-Err-1 : goal.invariant_of-self-in-Err-1
 invariant_of-self-in-Err-1 g c = record {
   puts = ∣ c.retype_box-done.ensures.goes_on ∣₁;
   meet = ∣ c.retype_box-done.ensures.meet ∣₁;
-  counted = c.args.self.now.counted ∙ sym c.retype_box-done.ensures.as_many;
+  counted = c.args.self.now.counted ∙ sym c.in-Err.ensures.as_many;
   within = c.args.self.now.within;
   zero = subst (λ (n : ℕ). n ≤ 1000000000) (sym c.retype_box-done.ensures.zero) c.args.self.now.zero;
   found = ∣ c.retype_box-done.ensures.found ∣₁;
@@ -45,31 +44,25 @@ pub returns-in-Ok-clause-ok : goal.returns-in-Ok-clause-ok
 returns-in-Ok-clause-ok g c =
     let e = c.args.self.now in
     let d : RetypesBox e.patch c.retype_box-done.new.patch e.counts e.file.items c.args.path.now c.args.number c.args.text.now e.time (known e.library e.symbols)
-    (known c.retype_box-done.new.library c.retype_box-done.new.symbols) c.in-Ok.retyped =
+    (known c.retype_box-done.new.library c.retype_box-done.new.symbols) c.args.steps.now c.retype_box-done.new.steps c.in-Ok.retyped =
     subst (λ (n : List ℕ). RetypesBox e.patch c.retype_box-done.new.patch e.counts n c.args.path.now c.args.number c.args.text.now e.time (known e.library e.symbols)
-    (known c.retype_box-done.new.library c.retype_box-done.new.symbols) c.in-Ok.retyped) c.as_slice.ensures.value c.in-Ok.ensures.retyped in
-    let few : c.retype_box-done.new.steps ≤ c.args.steps.now + refit_looks d.node.kind d.became.can.cell.kind =
-    few_by e.patch c.retype_box-done.new.patch e.counts c.as_slice.result.now e.file.items c.args.path.now c.args.number c.args.text.now e.time (known e.library e.symbols)
-    (known c.retype_box-done.new.library c.retype_box-done.new.symbols) c.in-Ok.retyped c.args.steps.now c.retype_box-done.new.steps c.as_slice.ensures.value c.in-Ok.ensures.looks d in
+    (known c.retype_box-done.new.library c.retype_box-done.new.symbols) c.args.steps.now c.retype_box-done.new.steps c.in-Ok.retyped) c.as_slice.ensures.value c.in-Ok.ensures.retyped in
     retyped_answered c.args.path.now c.args.number c.args.text.now e.file.items e.symbols e.library e.counts e.time e.block_end e.fired e.tally e.patch c.retype_box-done.new.patch (ready_sure e.patch e.puts e.meet)
-    c.tell_put.result (g.L.Sink.taken c.args.lines.now) (g.L.Sink.taken c.tell_put.new.lines) c.args.steps.now c.retype_box-done.new.steps (g.H.Shelf.holds c.args.shelf.now) (g.H.Shelf.holds c.retype_box-done.new.shelf)
-    (g.H.Shelf.faults c.args.shelf.now) (g.H.Shelf.faults c.retype_box-done.new.shelf) c.retype_box-done.ensures.kept c.retype_box-done.ensures.shelf_counted (stage_at c.tell_put.new.self)
-    c.retype_box-done.new.symbols c.retype_box-done.new.library c.in-Ok.retyped d c.retype_box-done.ensures.extends c.in-Ok.ensures.within few c.tell_put.ensures.stage c.tell_put.ensures.ok c.tell_put.ensures.answer
+    c.tell_retyped.result (g.L.Sink.taken c.args.lines.now) (g.L.Sink.taken c.tell_retyped.new.lines) c.args.steps.now c.retype_box-done.new.steps (g.H.Shelf.holds c.args.shelf.now) (g.H.Shelf.holds c.retype_box-done.new.shelf)
+    (g.H.Shelf.faults c.args.shelf.now) (g.H.Shelf.faults c.retype_box-done.new.shelf) c.retype_box-done.ensures.kept c.retype_box-done.ensures.shelf_counted (stage_at c.tell_retyped.new.self)
+    c.retype_box-done.new.symbols c.retype_box-done.new.library c.in-Ok.retyped d c.retype_box-done.ensures.extends c.in-Ok.ensures.within c.tell_retyped.ensures.stage c.tell_retyped.ensures.ok c.tell_retyped.ensures.answer
 
 pub returns-in-Ok-clause-err : goal.returns-in-Ok-clause-err
 returns-in-Ok-clause-err g c =
     let e = c.args.self.now in
     let d : RetypesBox e.patch c.retype_box-done.new.patch e.counts e.file.items c.args.path.now c.args.number c.args.text.now e.time (known e.library e.symbols)
-    (known c.retype_box-done.new.library c.retype_box-done.new.symbols) c.in-Ok.retyped =
+    (known c.retype_box-done.new.library c.retype_box-done.new.symbols) c.args.steps.now c.retype_box-done.new.steps c.in-Ok.retyped =
     subst (λ (n : List ℕ). RetypesBox e.patch c.retype_box-done.new.patch e.counts n c.args.path.now c.args.number c.args.text.now e.time (known e.library e.symbols)
-    (known c.retype_box-done.new.library c.retype_box-done.new.symbols) c.in-Ok.retyped) c.as_slice.ensures.value c.in-Ok.ensures.retyped in
-    let few : c.retype_box-done.new.steps ≤ c.args.steps.now + refit_looks d.node.kind d.became.can.cell.kind =
-    few_by e.patch c.retype_box-done.new.patch e.counts c.as_slice.result.now e.file.items c.args.path.now c.args.number c.args.text.now e.time (known e.library e.symbols)
-    (known c.retype_box-done.new.library c.retype_box-done.new.symbols) c.in-Ok.retyped c.args.steps.now c.retype_box-done.new.steps c.as_slice.ensures.value c.in-Ok.ensures.looks d in
+    (known c.retype_box-done.new.library c.retype_box-done.new.symbols) c.args.steps.now c.retype_box-done.new.steps c.in-Ok.retyped) c.as_slice.ensures.value c.in-Ok.ensures.retyped in
     retyped_torn c.args.path.now c.args.number c.args.text.now e.file.items e.symbols e.library e.counts e.time e.block_end e.fired e.tally e.patch c.retype_box-done.new.patch (ready_sure e.patch e.puts e.meet)
-    c.tell_put.result (g.L.Sink.taken c.args.lines.now) (g.L.Sink.taken c.tell_put.new.lines) c.args.steps.now c.retype_box-done.new.steps (g.H.Shelf.holds c.args.shelf.now) (g.H.Shelf.holds c.retype_box-done.new.shelf)
-    (g.H.Shelf.faults c.args.shelf.now) (g.H.Shelf.faults c.retype_box-done.new.shelf) c.retype_box-done.ensures.kept c.retype_box-done.ensures.shelf_counted (stage_at c.tell_put.new.self)
-    c.retype_box-done.new.symbols c.retype_box-done.new.library c.in-Ok.retyped d c.retype_box-done.ensures.extends c.in-Ok.ensures.within few c.tell_put.ensures.err
+    c.tell_retyped.result (g.L.Sink.taken c.args.lines.now) (g.L.Sink.taken c.tell_retyped.new.lines) c.args.steps.now c.retype_box-done.new.steps (g.H.Shelf.holds c.args.shelf.now) (g.H.Shelf.holds c.retype_box-done.new.shelf)
+    (g.H.Shelf.faults c.args.shelf.now) (g.H.Shelf.faults c.retype_box-done.new.shelf) c.retype_box-done.ensures.kept c.retype_box-done.ensures.shelf_counted (stage_at c.tell_retyped.new.self)
+    c.retype_box-done.new.symbols c.retype_box-done.new.library c.in-Ok.retyped d c.retype_box-done.ensures.extends c.in-Ok.ensures.within c.tell_retyped.ensures.err
 
 pub returns-in-Err-clause-ok : goal.returns-in-Err-clause-ok
 returns-in-Err-clause-ok g c =
