@@ -99,6 +99,11 @@ module _ (path : List ℕ) (number : ℕ) (text : List Atom) (file : List ℕ) (
       looks = looks_for b.canvas d.became.loosens.gone d.became.loose + refit_looks d.node.kind d.became.can.cell.kind;
     }
 
+    clocks_are : new.timers.clocks.clocks ≡ without b.key old.timers.clocks.clocks
+    clocks_are =
+        let same : d.became.loose.timers.clocks.clocks ≡ old.timers.clocks.clocks = ap (λ x. x.clocks.clocks) d.became.loosens.rest.timers ∙ d.became.room.clocks in
+        d.became.refit.clocks ∙ ap (λ (c : List Clock). without b.key c) same
+
     pub other_is : IsRetypedTo (from []) path number text other
     other_is = record {
       old = old;
@@ -111,7 +116,7 @@ module _ (path : List ℕ) (number : ℕ) (text : List Atom) (file : List ℕ) (
       retypes = d;
       net = refl;
       states = refl;
-      clocks = d.became.refit.clocks ∙ ap (λ (c : List Clock). without b.key c) (ap (λ x. x.clocks.clocks) d.became.loosens.rest.timers ∙ d.became.room.clocks);
+      clocks = clocks_are;
       names = refl;
       more = onward;
       base = refl;
