@@ -44,7 +44,7 @@ place_found (x ∷ hops) (suc i) h e =
 place_is : (hops : List Hop) (i : ℕ) (h : Hop) → AreOnce hops → slice_get hops i ≡ Some h → place_of hops h.key ≡ i
 place_is hops i h once e = let f = place_found hops i h e in once (place_of hops h.key) i f.0 h f.1.0 e f.1.1
 
-none_then : (hops : List Hop) (i : ℕ) → None ≡ slice_get hops i → length hops ≤ i
+pub none_then : (hops : List Hop) (i : ℕ) → None ≡ slice_get hops i → length hops ≤ i
 none_then hops i e = ⊎_elim
     (λ (l : i < length hops). let x = there hops i l in absurd (none-some x.0 (e ∙ x.1)))
     (λ (l : length hops ≤ i). l) (cases_lt i (length hops))
@@ -54,7 +54,7 @@ none_then hops i e = ⊎_elim
     there (h ∷ hops) zero l = (h, refl)
     there (h ∷ hops) (suc i) l = there hops i (omega (arith, l))
 
-passed_is : (hops : List Hop) (next : Option Hop) (i : ℕ) → AreOnce hops → next ≡ slice_get hops i → i ≤ length hops → passed hops next ≡ i
+pub passed_is : (hops : List Hop) (next : Option Hop) (i : ℕ) → AreOnce hops → next ≡ slice_get hops i → i ≤ length hops → passed hops next ≡ i
 passed_is hops None i once e l = let m = none_then hops i e in omega (arith, m, l)
 passed_is hops (Some h) i once e l = place_is hops i h once (sym e)
 

@@ -49,7 +49,7 @@ holder_seen None (Some y) e = absurd (none-some (board_seen y) (sym e))
 holder_seen (Some x) None e = absurd (none-some (board_seen x) e)
 holder_seen (Some x) (Some y) e = ap (λ (s : BoardSeen). s.holder) (same_Some (board_seen y) (board_seen x) e)
 
-plain_still : (p q : Patch) (c : ℕ) (k : Kind) → SameButRoom p q → IsPlainIn p c k → IsPlainIn q c k
+pub plain_still : (p q : Patch) (c : ℕ) (k : Kind) → SameButRoom p q → IsPlainIn p c k → IsPlainIn q c k
 plain_still p q c k S h = ⊎_elim
     (λ (e : holder_in (get p.grove.boards c) ≡ None). inl (holder_seen (get p.grove.boards c) (get q.grove.boards c) (S.grove.boards c) ∙ e))
     (λ (e : (side : Side) → port_signal side k ≡ None). inr e)

@@ -18,6 +18,8 @@ use Rattle.pd_grove.specs.declared.nodes.Node.{Node}
 use Rattle.pd_grove.specs.Owning.{board_in}
 use Rattle.pd_grove.proofs.NestLemmas.{board_there}
 use Rattle.pd_web.specs.declared.web.Web.{Web}
+use Rattle.pd_web.specs.Canvases.{keys_at}
+use Rattle.pd_patch.specs.Listing.{IsThere}
 use Rattle.pd_patch.specs.Orders.{HasOrder}
 use Rattle.pd_grove.specs.declared.seeds.Seed.{Seed}
 use Rattle.pd_grove.specs.Standing.{BoardSeen, board_seen}
@@ -30,17 +32,18 @@ use Rattle.pd_patch.specs.Telling.{order_in}
 use Rattle.pd_patch.specs.Values.{blocks_told}
 use Rattle.pd_wiring.proofs.BuiltLemmas.{same_links}
 use Rattle.pd_boxes.specs.Room.{SameButRoom}
-use Rattle.pd_boxes.specs.Put.{node_of, CanPut, IsLeaf}
+use Rattle.pd_boxes.specs.Put.{CanPut, IsLeaf}
 use Rattle.pd_boxes.proofs.ReserveLemmas.{same_grove, same_web, same_order, longer_self}
-use Rattle.pd_refitting.specs.declared.room.RefitRoom.{RefitRoom}
-use Rattle.pd_refitting.specs.Refits.{IsPlainIn, TakesWires, CanRefit, IsRefitted, refit_looks}
-use Rattle.pd_refitting.specs.Room.{IsFor}
+use Rattle.pd_refitting.specs.Refits.{IsRefitted, refit_looks}
+use Rattle.pd_misfits.specs.declared.wires.BoxWire.{BoxWire}
+use Rattle.pd_misfits.specs.Misfits.{misfits}
+use Rattle.pd_misfits.specs.Shedding.{AreWiresAt}
 use Rattle.pd_adding.specs.declared.adding.Grown.{Grown}
 use Rattle.pd_adding.specs.Coming.{zero_in, own_zero}
 use Rattle.pd_adding.specs.Growing.{Added}
 use Rattle.pd_adding.specs.Adding.{IsAdded}
 use Rattle.pd_retyping.specs.Retypes.{CanBecome, HasBecome}
-use Rattle.pd_retyping.specs.Becoming.{IsAlike, MakesOther}
+use Rattle.pd_retyping.specs.Becoming.{CanMake, IsAlike, MakesOther}
 use Rattle.pd_retyping.proofs.AlikeLemmas.{not_none}
 
 -- the box of a cell that holds no canvas
@@ -110,19 +113,17 @@ module _ (p : Patch) (key : ℕ) (n : Node) (g : Grown) (a : Added) (A : IsAdded
     pub seed_kind : P.cell.kind ≡ seed.row.kind
     seed_kind = sym (ap (λ (s : Stand). s.cell.kind) seed_stand)
 
-    pub seed_refits : CanPut p → Meet p.web → get p.grove.nodes key ≡ Some n → IsLeaf seed → CanRefit p key n seed
-    seed_refits can meet here leaf =
-        let kind : P.cell.kind ≡ seed.row.kind = seed_kind in
-        record {
-          can = can;
-          is = here;
-          bare = P.bare;
-          leaf = leaf;
-          wires = subst (λ (k : Kind). TakesWires p.web key k) kind P.wires;
-          meet = meet;
-          plain = P.plain;
-          stays_plain = subst (λ (k : Kind). IsPlainIn p n.board k) kind P.stays_plain;
-        }
+    pub seed_makes : (gone : List BoxWire) → CanPut p → Meet p.web → get p.grove.nodes key ≡ Some n → IsLeaf seed → gone ≡ misfits p n.board key seed.row.kind → AreWiresAt p.web key gone
+        → CanMake p key n seed gone
+    seed_makes gone can meet here leaf are wires = record {
+      can = can;
+      meet = meet;
+      is = here;
+      alike = subst (λ (k : Kind). IsAlike p key n k) seed_kind (record { bare = P.bare; wires = P.wires; plain = P.plain; stays_plain = P.stays_plain });
+      leaf = leaf;
+      gone_are = are;
+      wires = wires;
+    }
 
     suits_by : (names : Names) (rows : List Row) → stand_of seed.row ∷ [] ≡ stands_in rows → AllByRecursion (RowSuits names) rows → RowSuits names seed.row
     unfolding first
@@ -132,19 +133,25 @@ module _ (p : Patch) (key : ℕ) (n : Node) (g : Grown) (a : Added) (A : IsAdded
         subst (λ (x : Stand). TextSuits names x.cell.text × IsSmallKind x.cell.kind) (sym same) s.0
 
     -- the box became what grew
-    pub has_become : (q : Patch) (now : ℕ) (table : Names) → a.known.names ≡ table → IsLeaf seed → IsFresh p.rate now seed → CanPut q → MakesOther p q table key n seed
-        → HasBecome p q now key n a
-    has_become q now table names leaf fresh can M = record {
+    pub has_become : (q : Patch) (now : ℕ) (table : Names) (gone : List BoxWire) (steps steps' : ℕ) → a.known.names ≡ table → IsLeaf seed → IsFresh p.rate now seed → CanPut q
+        → gone ≡ misfits p n.board key seed.row.kind → MakesOther p q table key n seed gone steps steps' → HasBecome p q now key n a gone steps steps'
+    has_become q now table gone steps steps' names leaf fresh can are M = record {
       can = P;
+      gone_are = are ∙ ap (misfits p n.board key) (sym seed_kind);
       ready = M.ready;
       room = M.room;
+      loose = M.loose;
+      between = M.between;
+      loosens = M.loosens;
+      sheds = M.sheds;
       seed = seed;
       is_row = seed_stand;
       suits = suits_by a.known.names g.rows.items is A.suit;
       leaf = leaf;
       fresh = fresh;
       could = M.could;
-      refit = subst (λ (t : Names). IsRefitted M.ready q t key n seed) (sym names) M.refit;
+      refit = subst (λ (t : Names). IsRefitted M.loose q t key n seed) (sym names) M.refit;
+      looks = subst (λ (k : Kind). steps' ≤ M.between + refit_looks n.kind k) (sym seed_kind) M.looks;
       goes_on = can;
     }
 
@@ -197,42 +204,17 @@ module _ (p q : Patch) (table : Names) (key : ℕ) (n : Node) (s : Seed) (I : Is
   pub refit_wires : wires_told q.web ≡ wires_told p.web
   refit_wires = as_many p.web q.web I.ports.lines
 
-  -- looks at signal wires, by the kinds of the box that was and of the one that is
-  pub refit_seen : (m : Node) (steps steps' : ℕ) → get q.grove.nodes key ≡ Some m → steps' ≤ steps + refit_looks n.kind s.row.kind → steps' ≤ steps + refit_looks n.kind m.kind
-  refit_seen m steps steps' is few =
-      let same : s.row.kind ≡ m.kind = ap (λ (x : Node). x.kind) (same_Some (node_of n.board s) m (sym I.grove.is ∙ is)) in
-      subst (λ (k : Kind). steps' ≤ steps + refit_looks n.kind k) same few
-
--- the room is for this box and this seed
-
 lives : (o : Option Node) (n : Node) → o ≡ Some n → IsSome o
 lives o n e = subst (λ (x : Option Node). IsSome x) (sym e) refl
-
-module _ (p q : Patch) (key : ℕ) (n : Node) (s : Seed) (room : RefitRoom) (F : IsFor room key s) where
-  pub for_can : CanRefit q key n s → CanRefit q room.key n room.seed
-  for_can C = subst (λ (k : ℕ). CanRefit q k n room.seed) (sym F.key) (subst (λ (x : Seed). CanRefit q key n x) (sym F.seed) C)
-
-  pub for_made : (r : Patch) (names table : Names) → names ≡ table → SameButRoom p q → CanRefit q key n s
-      → ((m : Node) → get q.grove.nodes room.key ≡ Some m → IsRefitted q r names room.key m room.seed) → MakesOther p r table key n s
-  for_made r names table e S C made = record {
-    ready = q;
-    room = S;
-    could = C;
-    refit = subst (λ (t : Names). IsRefitted q r t key n s) e
-        (subst (λ (x : Seed). IsRefitted q r names key n x) F.seed
-        (subst (λ (k : ℕ). IsRefitted q r names k n room.seed) F.key
-        (made n (ap (λ (k : ℕ). get q.grove.nodes k) F.key ∙ C.is))));
-  }
-
-  -- looks at signal wires, where the box of the room becomes another one
-  pub for_looks : (steps steps' : ℕ) → SameButRoom p q → get p.grove.nodes key ≡ Some n → ((m : Node) → get q.grove.nodes room.key ≡ Some m → steps' ≤ steps + refit_looks m.kind room.seed.row.kind) → steps' ≤ steps + refit_looks n.kind s.row.kind
-  for_looks steps steps' S is few =
-      subst (λ (x : Seed). steps' ≤ steps + refit_looks n.kind x.row.kind) F.seed (few n (ap (λ (k : ℕ). get q.grove.nodes k) F.key ∙ S.grove.nodes key ∙ is))
 
 order_there : (g : Grove) (w : Web) (b : Option Board) (o : Option Listing) → IsSome b → HasOrder g w b o → IsSome o
 order_there g w None o live h = cc
 order_there g w (Some b) None live h = absurd h
 order_there g w (Some b) (Some o) live h = refl
+
+-- a box of a patch that runs lies in the canvas that it names
+pub lies_there : (p : Patch) (key : ℕ) (n : Node) → CanPut p → get p.grove.nodes key ≡ Some n → IsThere (keys_at p.grove n.board) key
+lies_there p key n C is = C.forest.placed key n.board (ap board_in is)
 
 -- a box of a patch that runs lies in a canvas that has an order
 pub ordered_there : (p : Patch) (key : ℕ) (n : Node) → CanPut p → get p.grove.nodes key ≡ Some n → IsSome (order_in p.orders.items n.board)
@@ -243,9 +225,6 @@ ordered_there p key n C is =
 
 pub lives_there : (p : Patch) (key : ℕ) (n : Node) → get p.grove.nodes key ≡ Some n → IsSome (get p.grove.nodes key)
 lives_there p key n e = lives (get p.grove.nodes key) n e
-
-pub refits_same : (p : Patch) (key : ℕ) (m n : Node) (s : Seed) → CanRefit p key m s → get p.grove.nodes key ≡ Some n → CanRefit p key n s
-refits_same p key m n s C is = subst (λ (x : Node). CanRefit p key x s) (same_Some m n (sym C.is ∙ is)) C
 
 pub some_there : (o : Option Node) → IsSome o → (n : Node) × (o ≡ Some n)
 some_there None h = cc

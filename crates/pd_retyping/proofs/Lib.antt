@@ -1,7 +1,8 @@
 mod TextLemmas
 pub mod AskLemmas
 mod AlikeLemmas
-mod StayLemmas
+mod TurnLemmas
 mod SeedLemmas
 mod BecomeLemmas
+mod MakeLemmas
 pub mod RetypeLemmas

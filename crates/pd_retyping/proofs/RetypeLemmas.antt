@@ -12,10 +12,7 @@ use Rattle.pd_canvas.specs.declared.edits.Edit.{Edit}
 use Rattle.pd_canvas.specs.Pages.{Entry}
 use Rattle.pd_canvas.specs.Edits.{retyped}
 use Rattle.pd_canvas.specs.Views.{entry_of}
-use Rattle.pd_object.specs.declared.kinds.Kind.{Kind}
-use Rattle.pd_tree.specs.Trees.{Stand}
 use Rattle.pd_library.specs.declared.answers.Answer.{Answer}
-use Rattle.pd_fit.specs.Fitting.{wires_inside}
 use Rattle.pd_gather.specs.Gather.{Known, known, AreProper}
 use Rattle.pd_grove.specs.declared.nodes.Node.{Node}
 use Rattle.pd_web.specs.Canvases.{keys_at}
@@ -24,18 +21,18 @@ use Rattle.pd_patch.specs.declared.patch.Patch.{Patch}
 use Rattle.pd_wiring.specs.declared.refusals.EditRefusal.{EditRefusal}
 use Rattle.pd_wiring.specs.declared.refusals.EditRefusal.TheVariants.{NoDocument, ShelfFault, NoMemory}
 use Rattle.pd_boxes.specs.Room.{SameButRoom}
-use Rattle.pd_boxes.specs.Put.{node_of, CanPut}
-use Rattle.pd_refitting.specs.Refits.{refit_looks}
+use Rattle.pd_boxes.specs.Put.{CanPut}
 use Rattle.pd_adding.specs.declared.adding.Grown.{Grown}
 use Rattle.pd_adding.specs.declared.counts.Counts.{Counts}
 use Rattle.pd_adding.specs.Boxes.{CanBeWritten, settled_edit, box_put}
+use Rattle.pd_adding.specs.Counts.{AreWithin}
 use Rattle.pd_adding.specs.Coming.{coming, IsComing}
 use Rattle.pd_adding.specs.Growing.{Added}
 use Rattle.pd_adding.specs.Adding.{ComesTo, GrewWith, Grows}
 use Rattle.pd_retyping.specs.declared.asking.Plan.{Plan}
 use Rattle.pd_retyping.specs.declared.retyping.RetypedBox.{RetypedBox}
 use Rattle.pd_retyping.specs.Asking.{settled_text, retyping, put_instead}
-use Rattle.pd_retyping.specs.Retypes.{counts_but, RetypesTo, CanBecome, HasBecome, RetypesBox, IsKept, IsRefused, IsNotRetyped}
+use Rattle.pd_retyping.specs.Retypes.{counts_but, with_wires, RetypesTo, CanBecome, HasBecome, RetypesBox, IsKept, IsRefused, IsNotRetyped}
 use Rattle.pd_retyping.specs.Becoming.{IsPlanned, IsUnplanned, HasGrown, StaysItself}
 use Rattle.pd_retyping.proofs.AskLemmas.{new_entry, comes_ok, comes_asks}
 
@@ -86,13 +83,12 @@ document_no_fault why a b = cc
 pub no_fault : (old new : Patch) (key : ℕ) (n : Node) (a : Added) (why : EditRefusal) → StaysItself old new key n a why → why ≡ ShelfFault → ⊥
 no_fault old new key n a why out f = ⊎_elim (λ s. memory_no_fault why s.0 f) (λ o. document_no_fault why o.0 f) out
 
--- looks at signal wires, by the kind of what the box became
-pub kind_looks : (p q : Patch) (key now : ℕ) (n : Node) (a : Added) (H : HasBecome p q now key n a) (steps steps' : ℕ)
-    → ((n m : Node) → get p.grove.nodes key ≡ Some n → get q.grove.nodes key ≡ Some m → steps' ≤ steps + refit_looks n.kind m.kind) → steps' ≤ steps + refit_looks n.kind H.can.cell.kind
-kind_looks p q key now n a H steps steps' few =
-    let is : get p.grove.nodes key ≡ Some n = sym (H.room.grove.nodes key) ∙ H.could.is in
-    let kind : H.seed.row.kind ≡ H.can.cell.kind = ap (λ (s : Stand). s.cell.kind) H.is_row in
-    subst (λ (k : Kind). steps' ≤ steps + refit_looks n.kind k) kind (few n (node_of n.board H.seed) is H.refit.grove.is)
+-- counts with as many wires as are left
+pub within_left : (n c : Counts) (wires : ℕ) → AreWithin n → AreWithin c → wires ≤ n.wires → AreWithin (with_wires c wires)
+within_left n c wires N C few = let w = N.wires in record { boxes = C.boxes; wires = omega (arith, w, few); sound = C.sound; zeros = C.zeros }
+
+pub within_so : (n c g : Counts) (wires there : ℕ) → AreWithin n → AreWithin g → n.wires ≡ there → wires ≤ there → c ≡ with_wires g wires → AreWithin c
+within_so n c g wires there N G counted few is = subst AreWithin (sym is) (within_left n g wires N G (omega (arith, counted, few)))
 
 module _ (p : Patch) (n left : Counts) (name path : List ℕ) (number : ℕ) (text : List Atom) (k : Known) (plan : Plan) (P : IsPlanned k.names p path number text plan)
     (L : (m : Node) → get p.grove.nodes plan.key ≡ Some m → left ≡ counts_but p.rate m n) where
@@ -142,19 +138,10 @@ module _ (p : Patch) (n left : Counts) (name path : List ℕ) (number : ℕ) (te
     comes_there : (retyping k.names p path number text ≡ Ok (plan.canvas, (plan.key, retyped (settled_text k.names text) (entry_of P.node.element)))) × (plan.canvas ≡ G.added.canvas)
     comes_there = comes_ok k.names p path number text plan.canvas plan.key P.node P.chosen P.new (G.added.canvas, G.grew.entry) (subst (λ (x : Edit). coming k.names p path x ≡ Ok (G.added.canvas, G.grew.entry)) P.edit G.grew.comes)
 
-    -- wires are as many as were counted
-    pub count_grown : (q : Patch) (now : ℕ) (b : RetypedBox) → n.wires ≡ wires_told p.web → b.counts ≡ g.counts → HasBecome p q now plan.key P.node G.added → wires_told q.web ≡ wires_told p.web
-        → b.counts.wires ≡ wires_told q.web
-    count_grown q now b counted same H as_many =
-        let x : b.counts.wires ≡ G.added.counts.wires = ap (λ (c : Counts). c.wires) (same ∙ G.is.counts) in
-        let y : G.added.counts.wires ≡ left.wires + wires_inside G.added.boxes = ap (λ (c : Counts). c.wires) G.grew.counts in
-        let z : wires_inside G.added.boxes ≡ 0 = ap wires_inside H.can.single in
-        let w : left.wires ≡ n.wires = ap (λ (c : Counts). c.wires) at_left in
-        omega (arith, counted, x, y, z, w, as_many)
-
-    pub retypes_box : (q : Patch) (now : ℕ) (b : RetypedBox) (last : Names) → AreProper k.names k.files → All (IsOf k.names) text → IfSome (box_put (settled_edit k.names plan.edit)) (CanBeWritten k.names)
-        → HasBecome p q now plan.key P.node G.added → b.key ≡ plan.key → b.canvas ≡ g.canvas → b.counts ≡ g.counts → last ≡ names → RetypesBox p q n name path number text now k (known files last) b
-    retypes_box q now b last found is_known written H is_key canvas_is counts table =
+    pub retypes_box : (q : Patch) (now : ℕ) (b : RetypedBox) (last : Names) (steps steps' : ℕ) → AreProper k.names k.files → All (IsOf k.names) text → IfSome (box_put (settled_edit k.names plan.edit)) (CanBeWritten k.names)
+        → HasBecome p q now plan.key P.node G.added b.gone.items steps steps' → b.key ≡ plan.key → b.canvas ≡ g.canvas → b.counts ≡ with_wires g.counts (wires_told q.web) → last ≡ names
+        → RetypesBox p q n name path number text now k (known files last) steps steps' b
+    retypes_box q now b last steps steps' found is_known written H is_key canvas_is counts table =
         let there = comes_there in
         let there_canvas : b.canvas ≡ plan.canvas = canvas_is ∙ G.is.canvas ∙ sym there.1 in
         let put = new_entry k.names p path number text plan.canvas plan.key P.node P.chosen P.new in
@@ -171,9 +158,9 @@ module _ (p : Patch) (n left : Counts) (name path : List ℕ) (number : ℕ) (te
           comes = comes_so holds (Ok G.added) G.comes;
           files = G.files;
           grew = grew_so;
-          became = subst (λ (x : ℕ). HasBecome p q now x P.node G.added) (sym is_key) H;
+          became = subst (λ (x : ℕ). HasBecome p q now x P.node G.added b.gone.items steps steps') (sym is_key) H;
           canvas = canvas_is ∙ G.is.canvas;
-          counts = counts ∙ G.is.counts;
+          counts = counts ∙ ap (λ (c : Counts). with_wires c (wires_told q.web)) G.is.counts;
           known_is = ap (known files) table ∙ G.known;
           table_after = subst IsTable (sym table) G.table_after;
         }

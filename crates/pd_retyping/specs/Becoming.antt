@@ -1,5 +1,6 @@
 -- A box that is to become another one, and one that did.
 use Rattle.std.specs.Prelude.{◌≡◌, ◌⊎◌, ◌≤◌, ◌+◌, ℕ, false, List, [], Some, None, Err, slice_get}
+use Rattle.slab.specs.Slab.{get}
 use Rattle.pd_atom.specs.declared.Atom.{Atom}
 use Rattle.pd_atom.specs.Names.{Names}
 use Rattle.pd_object.specs.declared.kinds.Kind.{Kind}
@@ -10,15 +11,17 @@ use Rattle.pd_grove.specs.declared.seeds.Seed.{Seed}
 use Rattle.pd_grove.specs.declared.ports.Side.{Side}
 use Rattle.pd_web.specs.declared.web.Hop.{Hop}
 use Rattle.pd_web.specs.declared.web.Web.{Web}
+use Rattle.pd_web.specs.Changes.{Meet}
 use Rattle.pd_patch.specs.declared.patch.Patch.{Patch}
 use Rattle.pd_wiring.specs.declared.refusals.EditRefusal.{EditRefusal}
 use Rattle.pd_wiring.specs.declared.refusals.EditRefusal.TheVariants.{NoDocument, NoMemory}
 use Rattle.pd_boxes.specs.Room.{SameButRoom}
+use Rattle.pd_boxes.specs.Put.{CanPut, IsLeaf}
 use Rattle.pd_taking.specs.Loosening.{hops_at, line_at, Loosens}
 use Rattle.pd_refitting.specs.Refits.{IsPlainIn, CanRefit, IsRefitted, refit_looks}
 use Rattle.pd_misfits.specs.declared.wires.BoxWire.{BoxWire}
-use Rattle.pd_misfits.specs.Misfits.{turns, NoneTurns}
-use Rattle.pd_misfits.specs.Shedding.{Sheds}
+use Rattle.pd_misfits.specs.Misfits.{turns, misfits, NoneTurns}
+use Rattle.pd_misfits.specs.Shedding.{AreWiresAt, Sheds}
 use Rattle.pd_adding.specs.declared.adding.Grown.{Grown}
 use Rattle.pd_adding.specs.Growing.{Added}
 use Rattle.pd_adding.specs.Adding.{IsAdded}
@@ -48,6 +51,16 @@ pub record IsAlike (p : Patch) (key : ℕ) (n : Node) (k : Kind) : Type 0 where
   pub wires : NoneTurns p.web key k
   pub plain : IsPlainIn p n.board n.kind
   pub stays_plain : IsPlainIn p n.board k
+
+-- A box without a canvas can become that of the seed, and these are the wires at it that don't fit then.
+pub record CanMake (p : Patch) (key : ℕ) (n : Node) (s : Seed) (gone : List BoxWire) : Type 0 where
+  pub can : CanPut p
+  pub meet : Meet p.web
+  pub is : get p.grove.nodes key ≡ Some n
+  pub alike : IsAlike p key n s.row.kind
+  pub leaf : IsLeaf s
+  pub gone_are : gone ≡ misfits p n.board key s.row.kind
+  pub wires : AreWiresAt p.web key gone
 
 -- Room was set aside, the wires at the box of a key that don't fit that of a seed went, and then it became that one.
 pub record MakesOther (old new : Patch) (table : Names) (key : ℕ) (n : Node) (s : Seed) (gone : List BoxWire) (steps steps' : ℕ) : Type 0 where

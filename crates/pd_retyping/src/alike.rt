@@ -9,13 +9,13 @@ ghost use Rattle.pd_grove.specs.Ports.{port_signal};
 ghost use Rattle.pd_refitting.specs.Refits.{IsPlainIn};
 ghost use Rattle.pd_retyping.specs.Becoming.{IsAlike};
 
-use crate::wires::takes_wires;
+use crate::wires::none_turns;
 use pd_grove::Node;
 use pd_kind::{Glue, Kind, Signal};
 use pd_patch::Patch;
 
-/// Whether the box of a key can become one of a kind that holds no canvas: it holds none either, its wires can stay, and neither is a port of
-/// a box around.
+/// Whether the box of a key can become one of a kind that holds no canvas: it holds none either, no wire at it that stays turns, and neither is a
+/// port of a box around.
 pub(crate) fn is_alike(patch: &Patch, key: u32, node: &Node, kind: &Kind) -> bool
     requires small { IsSmallKind kind.now }
     ensures yes { result ≡ true → IsAlike patch.now key node.now kind.now }
@@ -30,7 +30,7 @@ pub(crate) fn is_alike(patch: &Patch, key: u32, node: &Node, kind: &Kind) -> boo
     if !is_plain_in(patch, node.board, kind) {
         return false;
     }
-    takes_wires(&patch.web, key, kind)
+    none_turns(&patch.web, key, kind)
 }
 
 /// Whether a box of a kind is no port of a box around a canvas.

@@ -1,27 +1,31 @@
 //! A box that becomes what grew aside.
 
-ghost use Rattle.std.specs.Prelude.{◌≡◌, ◌≤◌, ◌+◌, ◌∷◌, [], true, false, length, Some, None, IfOk, IfErr, OnOk, OnErr};
+ghost use Rattle.std.specs.Prelude.{◌≡◌, ◌≤◌, ◌∷◌, [], true, false, length, Some, None, IfOk, IfErr, OnOk, OnErr};
 ghost use Rattle.slab.specs.Slab.{get, ContainsKey};
+ghost use Rattle.pd_object.specs.Ports.{IsSmallKind};
 ghost use Rattle.pd_grove.specs.declared.nodes.Node.{Node};
 ghost use Rattle.pd_grove.specs.States.{AreSmall, IsFresh};
 ghost use Rattle.pd_tree.specs.Trees.{stand_of, stands_in};
 ghost use Rattle.pd_web.specs.Changes.{wires_told, Meet};
 ghost use Rattle.pd_boxes.specs.Room.{SameButRoom};
 ghost use Rattle.pd_boxes.specs.Put.{CanPut, IsLeaf};
-ghost use Rattle.pd_refitting.specs.Refits.{CanRefit, refit_looks};
+ghost use Rattle.pd_misfits.specs.Misfits.{misfits};
+ghost use Rattle.pd_misfits.specs.Shedding.{AreWiresAt};
 ghost use Rattle.pd_adding.specs.Adding.{IsAdded};
 ghost use Rattle.pd_adding.specs.Coming.{own_zero};
 ghost use Rattle.pd_adding.specs.Growing.{Added};
-ghost use Rattle.pd_retyping.specs.Retypes.{CanBecome, HasBecome};
-ghost use Rattle.pd_retyping.specs.Becoming.{HasGrown, MakesOther, StaysItself};
+ghost use Rattle.pd_retyping.specs.Retypes.{CanBecome, HasBecome, with_wires};
+ghost use Rattle.pd_retyping.specs.Becoming.{CanMake, HasGrown, MakesOther, StaysItself};
 
 use crate::alike::is_alike;
 use crate::retyping::RetypedBox;
-use pd_adding::{Grown, single_boxes};
+use pd_adding::{Counts, Grown, single_boxes};
 use pd_atom::Symbols;
 use pd_boxes::room_changes_nothing;
 use pd_clock::{Rate, Time};
-use pd_grove::{Seed, Seeds};
+use pd_grove::{Grove, Seed, Seeds};
+use pd_kind::Kind;
+use pd_misfits::{BoxWire, loosen_wires, misfits_at};
 use pd_order::Steps;
 use pd_patch::Patch;
 use pd_refitting::{patches_run_on_refitted, refit, refit_room_changes_nothing, reserve_refit};
@@ -30,7 +34,8 @@ use pd_wiring::EditRefusal;
 use std::alloc::{AllocError, Global};
 use std::sync::ledger::Ledger;
 
-/// Makes the box of a key what grew aside, where it can become that. Looks at signal wires are counted in `steps`.
+/// Makes the box of a key what grew aside, where it can become that; the wires at it that don't fit any more go. `wires` is how many wires there are.
+/// Looks at signal wires are counted in `steps`.
 ///
 /// # Errors
 ///
@@ -41,6 +46,7 @@ pub(crate) fn become_grown<L: Ledger>(
     patch: &mut Patch,
     key: u32,
     grown: Grown,
+    wires: usize,
     now: Time,
     symbols: &mut Symbols,
     steps: &mut Steps<L>,
@@ -49,18 +55,19 @@ pub(crate) fn become_grown<L: Ledger>(
     requires meet { Meet patch.old.web }
     requires here { ContainsKey patch.old.grove.nodes key }
     requires grown { HasGrown grown symbols.old }
+    requires counted { wires ≡ wires_told patch.old.web }
     ensures became { IfOk result (λ b. (n : Node) (a : Added) → get patch.old.grove.nodes key ≡ Some n → IsAdded grown a → a.known.names ≡ symbols.old →
-        HasBecome patch.old patch.new now key n a) }
+        HasBecome patch.old patch.new now key n a b.gone.items steps.old steps.new) }
     ensures key { IfOk result (λ b. b.key ≡ key) }
     ensures canvas { IfOk result (λ b. b.canvas ≡ grown.canvas) }
-    ensures counts { IfOk result (λ b. b.counts ≡ grown.counts) }
+    ensures counts { IfOk result (λ b. b.counts ≡ with_wires grown.counts (wires_told patch.new.web)) }
     ensures refused { IfErr result (λ why. (n : Node) (a : Added) → get patch.old.grove.nodes key ≡ Some n → IsAdded grown a → StaysItself patch.old patch.new key n a why) }
     ensures goes_on { CanPut patch.new }
     ensures meet { Meet patch.new.web }
-    ensures as_many { wires_told patch.new.web ≡ wires_told patch.old.web }
+    ensures fewer { wires_told patch.new.web ≤ wires_told patch.old.web }
+    ensures as_many { OnErr result (wires_told patch.new.web ≡ wires_told patch.old.web) }
     ensures zero { own_zero patch.new ≡ own_zero patch.old }
     ensures table { symbols.new ≡ symbols.old }
-    ensures looks { IfOk result (λ b. (n m : Node) → get patch.old.grove.nodes key ≡ Some n → get patch.new.grove.nodes key ≡ Some m → steps.new ≤ steps.old + refit_looks n.kind m.kind) }
     ensures no_looks { OnErr result (steps.new ≡ steps.old) }
 {
     if !can_become(patch, key, &grown) {
@@ -71,14 +78,74 @@ pub(crate) fn become_grown<L: Ledger>(
     let Ok(seed) = seed_of(alloc, grown.rows, patch.rate, now) else {
         return Err(EditRefusal::NoMemory);
     };
-    let Ok(()) = make_other(alloc, patch, key, seed, symbols, steps) else {
+    let Ok(gone) = misfits_of(alloc, patch, key, &seed.row.kind) else {
         return Err(EditRefusal::NoMemory);
     };
+    let left = make_other(
+        alloc,
+        patch,
+        key,
+        seed,
+        gone.as_slice(),
+        wires,
+        symbols,
+        steps,
+    );
+    let Ok(left) = left else {
+        return Err(EditRefusal::NoMemory);
+    };
+    let counts = counts_left(counts, left);
     Ok(RetypedBox {
         key,
         canvas,
         counts,
+        gone,
     })
+}
+
+/// Counts with another number of wires.
+fn counts_left(counts: Counts, wires: usize) -> Counts
+    ensures { result ≡ with_wires counts wires }
+{
+    Counts {
+        boxes: counts.boxes,
+        wires,
+        sound: counts.sound,
+        next_zero: counts.next_zero,
+    }
+}
+
+/// The wires at a live box that don't fit where it is of a kind, in the order of the wires of its canvas.
+///
+/// # Errors
+///
+/// `AllocError` where memory ran out.
+fn misfits_of(
+    alloc: Global,
+    patch: &Patch,
+    key: u32,
+    kind: &Kind,
+) -> Result<Vec<BoxWire>, AllocError>
+    requires small { IsSmallKind kind.now }
+    requires can { CanPut patch.now }
+    requires meet { Meet patch.now.web }
+    requires here { ContainsKey patch.now.grove.nodes key }
+    ensures told { IfOk result (λ v. (n : Node) → get patch.now.grove.nodes key ≡ Some n → v.items ≡ misfits patch.now n.board key kind.now) }
+    ensures wires { IfOk result (λ v. AreWiresAt patch.now.web key v.items) }
+{
+    let canvas = canvas_of(&patch.grove, key);
+    misfits_at(alloc, patch, canvas, key, kind)
+}
+
+/// The key of the canvas in which a live box lies.
+fn canvas_of(grove: &Grove, key: u32) -> u32
+    requires { ContainsKey grove.now.nodes key }
+    ensures { (n : Node) → get grove.now.nodes key ≡ Some n → result ≡ n.board }
+{
+    match grove.node(key) {
+        Some(node) => node.board,
+        None => 0,
+    }
 }
 
 /// Whether the box of a key can become what grew.
@@ -121,7 +188,8 @@ fn seed_of(alloc: Global, rows: Vec<Row>, rate: Rate, now: Time) -> Result<Seed,
     }
 }
 
-/// Makes the box of a key that of a seed. Looks at signal wires are counted in `steps`.
+/// Makes the box of a key that of a seed, and takes these wires at it out, which don't fit any more. `wires` is how many wires there are, and what is
+/// given how many there are then. Looks at signal wires are counted in `steps`.
 ///
 /// # Errors
 ///
@@ -132,24 +200,31 @@ fn make_other<L: Ledger>(
     patch: &mut Patch,
     key: u32,
     seed: Seed,
+    gone: &[BoxWire],
+    wires: usize,
     symbols: &mut Symbols,
     steps: &mut Steps<L>,
-) -> Result<(), AllocError>
-    requires can { (n : Node) × CanRefit patch.old key n seed }
-    ensures made { OnOk result ((n : Node) → get patch.old.grove.nodes key ≡ Some n → MakesOther patch.old patch.new symbols.old key n seed) }
+) -> Result<usize, AllocError>
+    requires can { (n : Node) × CanMake patch.old key n seed gone.now }
+    requires counted { wires ≡ wires_told patch.old.web }
+    ensures made { OnOk result ((n : Node) → get patch.old.grove.nodes key ≡ Some n →
+        MakesOther patch.old patch.new symbols.old key n seed gone.now steps.old steps.new) }
+    ensures counted { IfOk result (λ left. left ≡ wires_told patch.new.web) }
     ensures short { OnErr result (SameButRoom patch.old patch.new) }
     ensures goes_on { CanPut patch.new }
     ensures meet { Meet patch.new.web }
-    ensures as_many { wires_told patch.new.web ≡ wires_told patch.old.web }
+    ensures fewer { wires_told patch.new.web ≤ wires_told patch.old.web }
+    ensures as_many { OnErr result (wires_told patch.new.web ≡ wires_told patch.old.web) }
     ensures zero { own_zero patch.new ≡ own_zero patch.old }
     ensures table { symbols.new ≡ symbols.old }
-    ensures looks { OnOk result ((n : Node) → get patch.old.grove.nodes key ≡ Some n → steps.new ≤ steps.old + refit_looks n.kind seed.row.kind) }
     ensures no_looks { OnErr result (steps.new ≡ steps.old) }
 {
     patches_run_on_refitted();
     refit_room_changes_nothing();
     room_changes_nothing();
+    patch.web.laws();
     let room = reserve_refit(alloc, patch, key, seed, symbols)?;
+    let left = loosen_wires(patch, key, gone, wires, steps);
     refit(patch, room, symbols, steps);
-    Ok(())
+    Ok(left)
 }

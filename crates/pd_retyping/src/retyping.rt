@@ -91,7 +91,16 @@ pub fn retype_box<H: Shelf, L: Ledger>(
     let grown = grow_aside(
         alloc, patch, left, site.name, site.path, &plan.edit, library, shelf, symbols,
     )?;
-    match become_grown(alloc, patch, plan.key, grown, site.now, symbols, steps) {
+    match become_grown(
+        alloc,
+        patch,
+        plan.key,
+        grown,
+        counts.wires,
+        site.now,
+        symbols,
+        steps,
+    ) {
         Ok(retyped) => Ok(retyped),
         Err(why) => {
             library.forget(files, names, symbols);

@@ -1,7 +1,8 @@
 use Rattle.std.proofs.Common.{◌-◌, length}
 use Rattle.pd_taking.specs.Loosening.{hops_at}
-use Rattle.pd_retyping.proofs.StayLemmas.{IsAlong, passed}
-use Rattle.pd_retyping.proofs.wires.port_stays.Given as goal
+use Rattle.pd_misfits.proofs.WalkLemmas.{passed}
+use Rattle.pd_retyping.proofs.TurnLemmas.{IsAlong}
+use Rattle.pd_retyping.proofs.wires.none_turns_at.Given as goal
 
 abbrev pub invariant-loop-next : goal.invariant-loop-next
 invariant-loop-next l = IsAlong l.web l.key l.kind l.side l.port l.next
