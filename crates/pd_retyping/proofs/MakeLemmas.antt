@@ -14,11 +14,12 @@ use Rattle.pd_boxes.specs.Put.{CanPut}
 use Rattle.pd_boxes.proofs.AskingLemmas.{put_rewired}
 use Rattle.pd_boxes.proofs.RoomLemmas.{room_put}
 use Rattle.pd_taking.specs.Loosening.{Loosens}
-use Rattle.pd_deleting.proofs.DeleteLemmas.{still_meet}
 use Rattle.pd_refitting.specs.declared.room.RefitRoom.{RefitRoom}
 use Rattle.pd_refitting.specs.Refits.{IsPlainIn, TakesWires, CanRefit, IsRefitted, refit_looks}
 use Rattle.pd_refitting.specs.Room.{IsFor, TakesRefit}
+use Rattle.pd_refitting.proofs.BoxLemmas.{still_put}
 use Rattle.pd_refitting.proofs.RoomLemmas.{plain_still}
+use Rattle.pd_refitting.proofs.WireLemmas.{meet_by}
 use Rattle.pd_misfits.specs.declared.wires.BoxWire.{BoxWire}
 use Rattle.pd_misfits.specs.Shedding.{AreWiresAt, IsWired, Sheds}
 use Rattle.pd_misfits.proofs.FitLemmas.{fit_taken}
@@ -28,12 +29,19 @@ use Rattle.pd_adding.specs.Coming.{zero_in, own_zero}
 use Rattle.pd_retyping.specs.Becoming.{CanMake, MakesOther}
 use Rattle.pd_retyping.proofs.BecomeLemmas.{lies_there, refit_wires, refit_zero, room_wires, room_zero}
 
+-- the patch is ready for more boxes, and has no wires that it had not
+pub record GoesOn (p q : Patch) : Type 0 where
+  pub can : CanPut q
+  pub meet : Meet q.web
+  pub fewer : wires_told q.web ≤ wires_told p.web
+  pub zero : own_zero q ≡ own_zero p
+
 module _ (p ready : Patch) (key : ℕ) (n : Node) (s : Seed) (gone : List BoxWire) (C : CanMake p key n s gone) (S : SameButRoom p ready) where
   pub ready_put : CanPut ready
   ready_put = room_put p ready S C.can
 
   pub ready_meet : Meet ready.web
-  ready_meet = still_meet p.web ready.web S.web C.meet
+  ready_meet = meet_by p.web ready.web S.web.fans S.web.feeds C.meet
 
   pub ready_wires : AreWiresAt ready.web key gone
   ready_wires = wires_still p.web ready.web key gone S.web C.wires
@@ -108,14 +116,23 @@ module _ (p ready : Patch) (key : ℕ) (n : Node) (s : Seed) (gone : List BoxWir
           looks = subst (λ (x : Seed). steps' ≤ between + refit_looks n.kind x.row.kind) F.seed (few n (room_refits W).is);
         }
 
-        pub made_wires : wires_told q.web ≡ wires_told loose.web
+        made_wires : wires_told q.web ≡ wires_told loose.web
         made_wires = refit_wires loose q table key n s is_made
 
-        pub made_fewer : wires_told q.web ≤ wires_told p.web
+        made_fewer : wires_told q.web ≤ wires_told p.web
         made_fewer = let a = made_wires in let b = loose_fewer in omega (arith, a, b)
 
-        pub made_zero : own_zero q ≡ own_zero p
-        made_zero = refit_zero loose q table key n s is_made ∙ loose_zero
+        -- what is true of the patch then
+        pub goes_on : GoesOn p q
+        goes_on = record {
+          can = still_put loose q names room.key n room.seed (room_refits W) room_made;
+          meet = meet_by loose.web q.web is_made.ports.fans is_made.ports.feeds L.web.meet;
+          fewer = made_fewer;
+          zero = refit_zero loose q table key n s is_made ∙ loose_zero;
+        }
+
+        pub as_counted : (left : ℕ) → left ≡ wires_told loose.web → left ≡ wires_told q.web
+        as_counted left e = e ∙ sym made_wires
 
 -- the same box under the key
 pub makes_same : (p : Patch) (key : ℕ) (m n : Node) (s : Seed) (gone : List BoxWire) → CanMake p key m s gone → get p.grove.nodes key ≡ Some n → CanMake p key n s gone

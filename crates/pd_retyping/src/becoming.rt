@@ -21,14 +21,13 @@ use crate::alike::is_alike;
 use crate::retyping::RetypedBox;
 use pd_adding::{Counts, Grown, single_boxes};
 use pd_atom::Symbols;
-use pd_boxes::room_changes_nothing;
 use pd_clock::{Rate, Time};
 use pd_grove::{Grove, Seed, Seeds};
 use pd_kind::Kind;
 use pd_misfits::{BoxWire, loosen_wires, misfits_at};
 use pd_order::Steps;
 use pd_patch::Patch;
-use pd_refitting::{patches_run_on_refitted, refit, refit_room_changes_nothing, reserve_refit};
+use pd_refitting::{refit, reserve_refit};
 use pd_tree::Row;
 use pd_wiring::EditRefusal;
 use std::alloc::{AllocError, Global};
@@ -219,9 +218,6 @@ fn make_other<L: Ledger>(
     ensures table { symbols.new ≡ symbols.old }
     ensures no_looks { OnErr result (steps.new ≡ steps.old) }
 {
-    patches_run_on_refitted();
-    refit_room_changes_nothing();
-    room_changes_nothing();
     patch.web.laws();
     let room = reserve_refit(alloc, patch, key, seed, symbols)?;
     let left = loosen_wires(patch, key, gone, wires, steps);

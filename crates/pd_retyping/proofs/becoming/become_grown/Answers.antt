@@ -1,6 +1,9 @@
-use Rattle.std.proofs.Common.{inl, inr, refl}
-use Rattle.pd_retyping.proofs.BecomeLemmas.{rows_small, rows_one, seed_leaf, seed_refits, has_become, refit_seen, same_patch, some_there}
+use Rattle.std.proofs.Common.{inl, inr, refl, sym, ap, ◌∙◌}
+use Rattle.std.specs.Prelude.{List}
 use Rattle.slab.specs.Slab.{get}
+use Rattle.pd_misfits.specs.declared.wires.BoxWire.{BoxWire}
+use Rattle.pd_retyping.specs.Becoming.{MakesOther}
+use Rattle.pd_retyping.proofs.BecomeLemmas.{rows_small, rows_one, seed_leaf, seed_makes, has_become, same_patch, some_there}
 use Rattle.pd_retyping.proofs.becoming.become_grown.Goals as goal
 
 pub can_become-requires : goal.can_become-requires
@@ -15,8 +18,16 @@ seed_of-requires-clause-one g c =
     let n = some_there (get c.args.patch.now.grove.nodes c.args.key) c.requires.here in
     rows_one c.args.patch.now c.args.key n.0 c.args.grown h.added h.is (c.can_become.ensures.yes c.if-not-can_become.false n.0 h.added n.1 h.is)
 
-pub make_other-requires : goal.make_other-requires
-make_other-requires g c =
+pub misfits_of-requires-clause-small : goal.misfits_of-requires-clause-small
+misfits_of-requires-clause-small g c =
+    let p = c.args.patch.now in
+    let h = c.requires.grown in
+    let n = some_there (get p.grove.nodes c.args.key) c.requires.here in
+    let P = c.can_become.ensures.yes c.if-not-can_become.false n.0 h.added n.1 h.is in
+    (seed_leaf p c.args.key n.0 c.args.grown h.added h.is P c.in-Ok.seed c.in-Ok.ensures.stand c.in-Ok.ensures.leaf).small
+
+pub make_other-left-requires : goal.make_other-left-requires
+make_other-left-requires g c =
     let p = c.args.patch.now in
     let h = c.requires.grown in
     let n = some_there (get p.grove.nodes c.args.key) c.requires.here in
@@ -24,9 +35,11 @@ make_other-requires g c =
     record {
       can = (
         n.0,
-        seed_refits p c.args.key n.0 c.args.grown h.added h.is P c.in-Ok.seed c.in-Ok.ensures.stand c.requires.can c.requires.meet n.1
-            (seed_leaf p c.args.key n.0 c.args.grown h.added h.is P c.in-Ok.seed c.in-Ok.ensures.stand c.in-Ok.ensures.leaf),
+        seed_makes p c.args.key n.0 c.args.grown h.added h.is P c.in-Ok.seed c.in-Ok.ensures.stand c.as_slice-gone.result c.requires.can c.requires.meet n.1
+            (seed_leaf p c.args.key n.0 c.args.grown h.added h.is P c.in-Ok.seed c.in-Ok.ensures.stand c.in-Ok.ensures.leaf)
+            (c.in-Ok-misfits_of.ensures.told n.0 n.1) c.in-Ok-misfits_of.ensures.wires,
       );
+      counted = c.requires.counted;
     }
 
 pub returns-clause-became : goal.returns-clause-became
@@ -34,8 +47,8 @@ returns-clause-became g c = λ n a is A names.
     let p = c.args.patch.now in
     let P = c.can_become.ensures.yes c.if-not-can_become.false n a is A in
     let leaf = seed_leaf p c.args.key n c.args.grown a A P c.in-Ok.seed c.in-Ok.ensures.stand c.in-Ok.ensures.leaf in
-    has_become p c.args.key n c.args.grown a A P c.in-Ok.seed c.in-Ok.ensures.stand c.make_other.new.patch c.args.now c.args.symbols.now names leaf c.in-Ok.ensures.fresh
-    c.make_other.ensures.goes_on (c.in-Ok-make_other.ensures.made n is)
+    has_become p c.args.key n c.args.grown a A P c.in-Ok.seed c.in-Ok.ensures.stand c.make_other-left.new.patch c.args.now c.args.symbols.now c.in-Ok-misfits_of.gone.items
+    c.args.steps.now c.make_other-left.new.steps names leaf c.in-Ok.ensures.fresh c.make_other-left.ensures.goes_on (c.in-Ok-misfits_of.ensures.told n is) (c.in-Ok-left.ensures.made n is)
 
 pub returns-then-not-can_become-clause-refused : goal.returns-then-not-can_become-clause-refused
 returns-then-not-can_become-clause-refused g c = λ n a is A. inr (refl, (refl, c.can_become.ensures.no c.if-not-can_become.true n a is A))
@@ -43,11 +56,9 @@ returns-then-not-can_become-clause-refused g c = λ n a is A. inr (refl, (refl, 
 pub returns-in_default-clause-refused : goal.returns-in_default-clause-refused
 returns-in_default-clause-refused g c = λ n a is A. inl (refl, (c.can_become.ensures.yes c.if-not-can_become.false n a is A, same_patch c.args.patch.now))
 
-pub returns-in_default-make_other-clause-refused : goal.returns-in_default-make_other-clause-refused
-returns-in_default-make_other-clause-refused g c = λ n a is A.
-    inl (refl, (c.can_become.ensures.yes c.if-not-can_become.false n a is A, c.in_default-make_other.ensures.short))
+pub returns-in_default-misfits_of-clause-refused : goal.returns-in_default-misfits_of-clause-refused
+returns-in_default-misfits_of-clause-refused g c = λ n a is A. inl (refl, (c.can_become.ensures.yes c.if-not-can_become.false n a is A, same_patch c.args.patch.now))
 
-pub returns-clause-looks : goal.returns-clause-looks
-returns-clause-looks g c = λ n m is now.
-    let M = c.in-Ok-make_other.ensures.made n is in
-    refit_seen M.ready c.make_other.new.patch c.args.symbols.now c.args.key n c.in-Ok.seed M.refit m _ _ now (c.in-Ok-make_other.ensures.looks n is)
+pub returns-in_default-left-clause-refused : goal.returns-in_default-left-clause-refused
+returns-in_default-left-clause-refused g c = λ n a is A.
+    inl (refl, (c.can_become.ensures.yes c.if-not-can_become.false n a is A, c.in_default-left.ensures.short))

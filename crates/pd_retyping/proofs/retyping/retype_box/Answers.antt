@@ -7,9 +7,11 @@ use Rattle.pd_gather.specs.Gather.{known}
 use Rattle.pd_gather.proofs.AskLemmas.{names_cut}
 use Rattle.pd_wiring.specs.declared.refusals.EditRefusal.{EditRefusal}
 use Rattle.pd_wiring.specs.declared.refusals.EditRefusal.TheVariants.{ShelfFault}
+use Rattle.pd_web.specs.Changes.{wires_told}
+use Rattle.pd_adding.specs.declared.counts.Counts.{Counts}
 use Rattle.pd_adding.proofs.AddLemmas.{extends_same}
-use Rattle.pd_retyping.proofs.RetypeLemmas.{as_told, not_known, not_grown, left_so, no_fault, same_err, has_grown, kind_looks, names_grown, count_grown, retypes_box}
-use Rattle.pd_retyping.specs.Retypes.{HasBecome, IsNotRetyped}
+use Rattle.pd_retyping.proofs.RetypeLemmas.{as_told, not_known, not_grown, left_so, no_fault, same_err, has_grown, names_grown, retypes_box, within_so}
+use Rattle.pd_retyping.specs.Retypes.{IsNotRetyped}
 use Rattle.pd_retyping.proofs.BecomeLemmas.{lives_there}
 use Rattle.pd_retyping.proofs.retyping.retype_box.Goals as goal
 
@@ -43,21 +45,17 @@ returns-in-Ok-clause-retyped g c =
     c.counts_without-left.ensures.less holds c.grow_aside.new.library c.grow_aside.new.symbols c.in_ok-grown.grown G in
     retypes_box c.args.patch.now c.args.counts c.counts_without-left.result c.args.site.name.now c.args.site.path.now c.args.number c.args.text.now k c.in_ok-plan.plan P
     c.counts_without-left.ensures.less holds c.grow_aside.new.library c.grow_aside.new.symbols c.in_ok-grown.grown G
-    c.become_grown.new.patch c.args.site.now c.in-Ok.retyped c.become_grown.new.symbols c.requires.found
+    c.become_grown.new.patch c.args.site.now c.in-Ok.retyped c.become_grown.new.symbols c.args.steps.now c.become_grown.new.steps c.requires.found
     (subst (λ (text : List Atom). All (IsOf c.args.symbols.now) text) c.as_slice.ensures (c.are_of.ensures.all c.if-not-are_of.false)) c.in_ok-grown.ensures.written
     (c.in-Ok.ensures.became P.node G.added P.chosen.is G.is names) c.in-Ok.ensures.key c.in-Ok.ensures.canvas c.in-Ok.ensures.counts c.become_grown.ensures.table
 
 pub returns-in-Ok-clause-counted : goal.returns-in-Ok-clause-counted
-returns-in-Ok-clause-counted g c =
-    let G = c.in_ok-grown.ensures.grown in
-    let P = c.in_ok-plan.ensures.planned in
-    let k = known c.args.library.now c.args.symbols.now in
-    let holds = g.H.Shelf.holds c.args.shelf.now in
-    let names = names_grown c.args.patch.now c.args.counts c.counts_without-left.result c.args.site.name.now c.args.site.path.now c.args.number c.args.text.now k c.in_ok-plan.plan P
-    c.counts_without-left.ensures.less holds c.grow_aside.new.library c.grow_aside.new.symbols c.in_ok-grown.grown G in
-    count_grown c.args.patch.now c.args.counts c.counts_without-left.result c.args.site.name.now c.args.site.path.now c.args.number c.args.text.now k c.in_ok-plan.plan P
-    c.counts_without-left.ensures.less holds c.grow_aside.new.library c.grow_aside.new.symbols c.in_ok-grown.grown G
-    c.become_grown.new.patch c.args.site.now c.in-Ok.retyped c.requires.counted c.in-Ok.ensures.counts (c.in-Ok.ensures.became P.node G.added P.chosen.is G.is names) c.become_grown.ensures.as_many
+returns-in-Ok-clause-counted g c = ap (λ (n : Counts). n.wires) c.in-Ok.ensures.counts
+
+pub returns-in-Ok-clause-within : goal.returns-in-Ok-clause-within
+returns-in-Ok-clause-within g c =
+    within_so c.args.counts c.in-Ok.retyped.counts c.in_ok-grown.grown.counts (wires_told c.become_grown.new.patch.web) (wires_told c.args.patch.now.web)
+    c.requires.within c.in_ok-grown.ensures.within c.requires.counted c.become_grown.ensures.fewer c.in-Ok.ensures.counts
 
 pub returns-clause-refused : goal.returns-clause-refused
 returns-clause-refused g c =
@@ -87,8 +85,3 @@ returns-in_err-grown-clause-refused g c =
     (IsNotRetyped c.args.patch.now c.args.patch.now c.args.counts c.args.site.name.now c.args.site.path.now c.args.number c.args.text.now k) c.from_residual-in_err-grown.ensures.1
     (not_grown c.args.patch.now c.args.counts c.counts_without-left.result c.args.site.name.now c.args.site.path.now c.args.number c.args.text.now k c.in_ok-plan.plan c.in_ok-plan.ensures.planned
     c.counts_without-left.ensures.less (g.H.Shelf.holds c.args.shelf.now) why c.in_err-grown.ensures.refused (λ h. c.in_err-grown.ensures.asks (ap (λ (x : EditRefusal). Err x) h)))
-
-pub returns-in-Ok-clause-looks : goal.returns-in-Ok-clause-looks
-returns-in-Ok-clause-looks g c = λ r.
-    kind_looks c.args.patch.now c.become_grown.new.patch c.in_ok-plan.plan.key c.args.site.now r.node r.added
-    (subst (λ x. HasBecome c.args.patch.now c.become_grown.new.patch c.args.site.now x r.node r.added) c.in-Ok.ensures.key r.became) _ _ c.in-Ok.ensures.looks
