@@ -28,6 +28,7 @@ mod counts;
 mod growing;
 mod laws;
 mod patches;
+mod sites;
 
 pub use adding::{Grown, grow_aside};
 pub use coming::{Coming, box_to_come, zero_of};
@@ -38,3 +39,4 @@ pub use laws::{
     counts_stay, edits_put_boxes, grown_patches_are_limited, single_boxes, steps_come_to_it,
 };
 pub use patches::count_patch;
+pub use sites::Site;

@@ -43,9 +43,8 @@ use Rattle.pd_boxes.specs.declared.room.Place.{Place}
 use Rattle.pd_boxes.specs.Put.{CanPut, HasOwners, IsNoPort, keys_before}
 use Rattle.pd_boxes.specs.Rows.{NumbersFrom}
 use Rattle.pd_boxes.proofs.AskingLemmas.{put_rewired}
-use Rattle.pd_taking.specs.Taking.{keys_past}
 use Rattle.pd_clearing.specs.Losing.{LoosensAll}
-use Rattle.pd_clearing.specs.Clearing.{without_all, CanClear, DropsAll, IsCleared, IsPartOf, KeepsOtherPorts, KeepsOtherWires}
+use Rattle.pd_clearing.specs.Clearing.{keys_past, without_all, CanClear, DropsAll, IsCleared, IsPartOf, KeepsOtherPorts, KeepsOtherWires}
 use Rattle.pd_clearing.specs.Layers.{ClosesAll, DropsOrders}
 use Rattle.pd_clearing.proofs.LoosenLemmas.{fans_left, feeds_left}
 use Rattle.pd_clearing.proofs.PartLemmas.{in_box, not_among, part_live}

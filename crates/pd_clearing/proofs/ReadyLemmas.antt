@@ -47,7 +47,7 @@ use Rattle.pd_placing.proofs.ChangeLemmas.{goes_all}
 use Rattle.pd_boxes.specs.declared.room.Place.{Place}
 use Rattle.pd_boxes.specs.Put.{CanPut, HasOwners, IsNoPort, keys_before}
 use Rattle.pd_boxes.specs.Rows.{NumbersFrom}
-use Rattle.pd_taking.specs.Taking.{keys_past}
+use Rattle.pd_clearing.specs.Clearing.{keys_past}
 use Rattle.pd_taking.proofs.LoseLemmas.{none_listed, nothing_there}
 use Rattle.pd_clearing.specs.Layers.{DropsOrders, IsHeldByOne}
 use Rattle.pd_clearing.proofs.PartLemmas.{canvas_outside, held_by_one, held_inside, key_among}

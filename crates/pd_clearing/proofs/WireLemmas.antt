@@ -40,7 +40,7 @@ use Rattle.pd_wiring.proofs.GraphLemmas.{ordered_by_wires}
 use Rattle.pd_wiring.proofs.HeardLemmas.{all_at, sinks_of}
 use Rattle.pd_boxes.specs.declared.room.Place.{Place}
 use Rattle.pd_boxes.specs.Put.{keys_before}
-use Rattle.pd_taking.specs.Taking.{keys_past}
+use Rattle.pd_clearing.specs.Clearing.{keys_past}
 use Rattle.pd_taking.proofs.LoseLemmas.{none_listed}
 use Rattle.pd_clearing.specs.Layers.{but_of_all, ClosesAll}
 use Rattle.pd_clearing.proofs.PartLemmas.{box_gone, box_stays, held_by_one, held_inside, outside, there_left}

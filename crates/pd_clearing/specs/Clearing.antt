@@ -1,5 +1,5 @@
 -- A box goes from a canvas of a running patch, with all that lies in it and with its wires.
-use Rattle.std.specs.Prelude.{◌≡◌, ◌≢◌, ◌≤◌, ◌+◌, ℕ, false, List, [], ◌∷◌, filter, length, slice_get, Some, None, IsSome, IsTrue}
+use Rattle.std.specs.Prelude.{◌≡◌, ◌≢◌, ◌≤◌, ◌+◌, ℕ, false, List, [], ◌∷◌, drop, filter, length, slice_get, Some, None, IsSome, IsTrue}
 use Rattle.slab.specs.Slab.{get}
 use Rattle.pd_atom.specs.Names.{Names}
 use Rattle.pd_clock.specs.Queue.{Clock, without}
@@ -26,7 +26,6 @@ use Rattle.pd_patch.specs.Values.{Blocks, block_at, blocks_told}
 use Rattle.pd_boxes.specs.declared.room.Place.{Place}
 use Rattle.pd_boxes.specs.Put.{CanPut, HasOwners, IsNoPort, keys_before}
 use Rattle.pd_taking.specs.Loosening.{is_of_other}
-use Rattle.pd_taking.specs.Taking.{keys_past}
 use Rattle.pd_clearing.specs.Losing.{Lost, IsAtOne, AreLost, looks_for_all}
 
 -- these are the box of a key and all boxes that lie in it, each once and as it stands in text order
@@ -34,6 +33,10 @@ pub record IsPartOf (g : Grove) (key : ℕ) (spots : List Spot) : Type 0 where
   pub are : ArePart (get g.nodes) (get g.boards) key (keys_of_spots spots)
   pub once : AreNew (keys_of_spots spots) []
   pub stand : (j : ℕ) (p : Spot) → slice_get spots j ≡ Some p → (i : ℕ) × (slice_get (spots_in_order g) i ≡ Some p)
+
+-- the boxes of a canvas behind the one at the place
+abbrev pub keys_past : Patch → Place → List ℕ
+keys_past p place = drop (place.number + 1) (keys_at p.grove place.canvas)
 
 -- the clocks of the other owners than these
 abbrev pub without_all : List ℕ → List Clock → List Clock

@@ -27,7 +27,6 @@ use Rattle.pd_grove.specs.States.{NodesFresh}
 use Rattle.pd_grove.specs.Telling.{kind_in, state_in}
 use Rattle.pd_patch.specs.declared.patch.Patch.{Patch}
 use Rattle.pd_hearing.specs.Worlds.{states_of}
-use Rattle.pd_sized.specs.Kinds.{kinds_of}
 use Rattle.pd_contents_law.specs.Contents.{HasContents, HaveContents, count_of, counts_of, IsGlueSettled, IsKindSettled, AreKindsSettled}
 
 module _ (names : Names) where
@@ -76,5 +75,5 @@ module _ (names : Names) where
       (subst (λ (o : Option Kind). HasContents (option_map_or count_of o 0) names (started (start_of n.kind rate) now)) (sym e)
       (made_contents n.kind rate now (subst (λ (o : Option Kind). IfSome o (IsKindSettled names)) e h)))
 
-  pub grown_contents : (Own : ℕ → Type 0) (p : Patch) (rate : Rate) (now : ℕ) → NodesFresh rate now (get p.grove.nodes) → AreKindsSettled Own names (kinds_of p) → HaveContents Own (counts_of (kinds_of p)) names (states_of p)
-  grown_contents Own p rate now fresh h k own = node_contents rate now (kinds_of p) k (get p.grove.nodes k) refl (λ n e. fresh k n e) (h k own)
+  pub grown_contents : (Own : ℕ → Type 0) (p : Patch) (rate : Rate) (now : ℕ) → NodesFresh rate now (get p.grove.nodes) → AreKindsSettled Own names (λ k. kind_in (get p.grove.nodes k)) → HaveContents Own (counts_of (λ k. kind_in (get p.grove.nodes k))) names (states_of p)
+  grown_contents Own p rate now fresh h k own = node_contents rate now (λ k. kind_in (get p.grove.nodes k)) k (get p.grove.nodes k) refl (λ n e. fresh k n e) (h k own)

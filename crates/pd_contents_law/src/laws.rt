@@ -9,6 +9,7 @@ ghost use Rattle.pd_kind.specs.declared.states.State.{State};
 ghost use Rattle.pd_kind.specs.States.{start_of};
 ghost use Rattle.pd_kind.specs.Tables.{started};
 ghost use Rattle.pd_grove.specs.States.{NodesFresh};
+ghost use Rattle.pd_grove.specs.Telling.{kind_in};
 ghost use Rattle.pd_patch.specs.declared.patch.Patch.{Patch};
 ghost use Rattle.pd_turns.specs.Turns.{World};
 ghost use Rattle.pd_hearing.specs.Worlds.{Net, Kept, states_of};
@@ -19,14 +20,13 @@ ghost use Rattle.pd_block.specs.Nets.{Net as BlockNet, Sound};
 ghost use Rattle.pd_block.specs.Blocks.{block_of};
 ghost use Rattle.pd_guards.specs.Order.{IsMessage};
 ghost use Rattle.pd_guards.specs.Worlds.{IsInOrder, IsStart};
-ghost use Rattle.pd_sized.specs.Kinds.{kinds_of};
 ghost use Rattle.pd_contents_law.specs.Contents.{HasContents, HaveContents, GoesOn, count_of, counts_of, IsKindSettled, AreKindsSettled};
 
 /// What a box keeps when it is made, where the text of a message box is settled; and so what these boxes keep of a patch whose boxes were just made.
 pub fn what_is_made_has_contents()
     ensures made { (names : Names) (k : Kind) (rate : Rate) (now : ℕ) → IsKindSettled names k → HasContents (count_of k) names (started (start_of k rate) now) }
-    ensures grown { (names : Names) (own : ℕ → Bool) (p : Patch) (rate : Rate) (now : ℕ) → NodesFresh rate now (get p.grove.nodes) → AreKindsSettled (λ k. own k ≡ true) names (kinds_of p) →
-        HaveContents (λ k. own k ≡ true) (counts_of (kinds_of p)) names (states_of p) }
+    ensures grown { (names : Names) (own : ℕ → Bool) (p : Patch) (rate : Rate) (now : ℕ) → NodesFresh rate now (get p.grove.nodes) → AreKindsSettled (λ k. own k ≡ true) names (λ k. kind_in (get p.grove.nodes k)) →
+        HaveContents (λ k. own k ≡ true) (counts_of (λ k. kind_in (get p.grove.nodes k))) names (states_of p) }
 {}
 
 /// Messages in order leave texts settled and lists of values as long: each that a box hears, and so a whole delivery, whatever begins it. The

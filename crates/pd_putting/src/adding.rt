@@ -13,10 +13,9 @@ ghost use Rattle.pd_putting.specs.Adds.{AddsBox, IsNotAdded};
 
 use crate::known::is_known;
 use crate::placing::put_grown;
-use pd_adding::{Counts, grow_aside};
+use pd_adding::{Counts, Site, grow_aside};
 use pd_atom::Symbols;
 use pd_canvas::Edit;
-use pd_clock::Time;
 use pd_gather::Library;
 use pd_io::Shelf;
 use pd_order::Steps;
@@ -24,14 +23,6 @@ use pd_patch::Patch;
 use pd_wiring::EditRefusal;
 use std::alloc::Global;
 use std::sync::ledger::Ledger;
-
-/// Which canvas an edit is for and when: the patch's file name, the path to the canvas, and the present time.
-#[derive(Clone, Copy)]
-pub struct Site<'a> {
-    pub name: &'a [u8],
-    pub path: &'a [u32],
-    pub now: Time,
-}
 
 /// A box that an edit put: its key, the key of its canvas, and the counts of the patch with it.
 #[derive(Clone, Copy, Debug, PartialEq, Eq)]

@@ -19,4 +19,5 @@ mod adding;
 mod known;
 mod placing;
 
-pub use adding::{NewBox, Site, add_box};
+pub use adding::{NewBox, add_box};
+pub use pd_adding::Site;

@@ -33,9 +33,8 @@ use Rattle.pd_boxes.specs.Put.{keys_before}
 use Rattle.pd_owning.specs.Bound.{is_among}
 use Rattle.pd_owning.specs.Order.{holder_of, box_out}
 use Rattle.pd_owning.specs.Parts.{LiesWithin}
-use Rattle.pd_taking.specs.Taking.{keys_past}
 use Rattle.pd_clearing.specs.Losing.{Lost, AreLost}
-use Rattle.pd_clearing.specs.Clearing.{IsCleared}
+use Rattle.pd_clearing.specs.Clearing.{keys_past, IsCleared}
 use Rattle.pd_hearing.specs.Worlds.{bare, net_of, states_of}
 use Rattle.pd_guards.specs.Sounds.{AreValues}
 use Rattle.pd_guards.proofs.FactLemmas.{either, all-at, all-from}

@@ -32,7 +32,7 @@ use Rattle.pd_wiring.specs.Plans.{Plan, Attaches, Detaches, canvas_of, attaching
 use Rattle.pd_boxes.specs.declared.room.Place.{Place}
 use Rattle.pd_boxes.specs.Put.{keys_before}
 use Rattle.pd_boxes.proofs.PutLemmas.{longer_by_one}
-use Rattle.pd_taking.specs.Taking.{keys_past}
+use Rattle.pd_clearing.specs.Clearing.{keys_past}
 use Rattle.pd_deleting.specs.Deletes.{going_box, going_in, is_plain}
 use Rattle.pd_shifting.specs.Moves.{is_array_in, is_port_around, moving_box, moving_in}
 use Rattle.pd_hearing.specs.Worlds.{Net, bare, net_of}

@@ -1,2 +1,1 @@
 pub mod Loosening
-pub mod Taking

@@ -6,7 +6,7 @@
 //!
 //! By no clause: in which order the wires at the box go, which nothing tells but the looks.
 //!
-//! Definitions: `Loosening` (the wires at a box go), `Taking` (the boxes behind one that goes).
+//! Definitions: `Loosening` (the wires at a box go).
 #![tactic(auto)]
 
 mod loosening;

@@ -6,8 +6,7 @@ use Rattle.pd_grove.specs.Grafts.{TakesBox}
 use Rattle.pd_grove.specs.TextOrder.{keys_of_spots, spots_in_order}
 use Rattle.pd_owning.specs.Bound.{is_among}
 use Rattle.pd_boxes.specs.Put.{keys_before}
-use Rattle.pd_taking.specs.Taking.{keys_past}
-use Rattle.pd_clearing.specs.Clearing.{IsPartOf}
+use Rattle.pd_clearing.specs.Clearing.{keys_past, IsPartOf}
 use Rattle.pd_clearing.proofs.ClearLemmas.{as_many, cleared_part, is_ready, part_lives, GoesOut}
 use Rattle.pd_clearing.proofs.ReadyLemmas.{above, has_order, hold_alone, lawful, loose, once, within, IsReady}
 use Rattle.pd_clearing.proofs.clearing.clear.Goals as goal
