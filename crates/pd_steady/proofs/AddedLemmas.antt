@@ -233,7 +233,8 @@ canvas_well names rate k e =
 pub put_well : (old new : Patch) (n : Counts) (name path : List ℕ) (now : ℕ) (e : Edit) (k : Known) (a : Added) (key : ℕ) → ComesTo None old n name path e k (Ok a) → (h : HasCome old new now a key) → HasFirst a.known.names
     → IsAddedWell a.known.names old.rate (come_seed old new now a key h).row.kind
 put_well old new n name path now e k a key comes (inl h) first = leaf_well old n name path e k a h.plain.cell h.seed.row comes h.plain.single h.is_row h.suits first
-put_well old new n name path now e k a key comes (inr h) first = canvas_well a.known.names old.rate h.seed.row.kind h.shell.canvas
+put_well old new n name path now e k a key comes (inr (inl h)) first = canvas_well a.known.names old.rate h.seed.row.kind h.shell.canvas
+put_well old new n name path now e k a key comes (inr (inr h)) first = leaf_well old n name path e k a h.port.cell h.seed.row comes h.port.single h.is_row h.suits first
 
 -- ---- where it came, and that there was room for it
 

@@ -27,7 +27,7 @@ use Rattle.pd_hearing.specs.Worlds.{bare, net_of, states_of}
 use Rattle.pd_boxes.specs.declared.room.Place.{Place}
 use Rattle.pd_boxes.specs.Rows.{IsLonger, PutsUnder}
 use Rattle.pd_boxes.specs.Room.{SameButRoom}
-use Rattle.pd_boxes.specs.Put.{node_of, IsPut}
+use Rattle.pd_boxes.specs.Put.{node_of, ComesIn}
 use Rattle.pd_subpatches.specs.Shell.{IsShellPut}
 use Rattle.pd_refitting.specs.Refits.{IsRefitted}
 use Rattle.pd_grove.specs.declared.seeds.Seed.{Seed}
@@ -128,6 +128,32 @@ room_fed p r room h = fed_same p.web r.web room.web.lines room.web.feeds h
 pub room_all : (p r : Patch) (P : List (List ℤ) → Type 0) → SameButRoom p r → P [] → AllByRecursion P (blocks_told p) → AllByRecursion P (blocks_told r)
 room_all p r P room none h = longer_all P [] (blocks_told p) (blocks_told r) room.values none h
 
+-- each box stays, and what is said of the wires to inlets and of blocks is still so
+pub record KeepsBoxes (p q : Patch) : Type 0 where
+  pub nodes : (k : ℕ) → get q.grove.nodes k ≡ get p.grove.nodes k
+  pub fed : AreFed p.web → AreFed q.web
+  pub blocks : HasBlocks p.web (blocks_told p) → HasBlocks q.web (blocks_told q)
+  pub values : AllByRecursion (AllByRecursion AreValues) (blocks_told p) → AllByRecursion (AllByRecursion AreValues) (blocks_told q)
+  pub sizes : AllByRecursion (AllByRecursion IsBlock) (blocks_told p) → AllByRecursion (AllByRecursion IsBlock) (blocks_told q)
+
+pub keeps_then : (p r q : Patch) → KeepsBoxes p r → KeepsBoxes r q → KeepsBoxes p q
+keeps_then p r q a b = record {
+  nodes = λ k. b.nodes k ∙ a.nodes k;
+  fed = λ h. b.fed (a.fed h);
+  blocks = λ h. b.blocks (a.blocks h);
+  values = λ h. b.values (a.values h);
+  sizes = λ h. b.sizes (a.sizes h);
+}
+
+pub room_keeps : (p r : Patch) → SameButRoom p r → KeepsBoxes p r
+room_keeps p r room = record {
+  nodes = room.grove.nodes;
+  fed = room_fed p r room;
+  blocks = room_blocks p r room;
+  values = room_all p r (AllByRecursion AreValues) room tt;
+  sizes = room_all p r (AllByRecursion IsBlock) room tt;
+}
+
 low_key : (key : ℕ) → key < 4294967295 → key < 2 ^ 32
 low_key key l = omega arith
 
@@ -147,21 +173,19 @@ pub record ComesUnder (p q : Patch) (key : ℕ) (n : Node) : Type 0 where
   pub low : key < 4294967295
 
 -- one without a canvas inside
-pub box_under : (p q : Patch) (table : Names) (place : Place) (seed : Seed) (key : ℕ) → IsPut p q table place seed key → ComesUnder p q key (node_of place.canvas seed)
-box_under p q table place seed key put =
-    let c = put.comes in
-    record {
-      stands = record {
-        is = c.grove.is;
-        others = c.grove.others;
-        lines = c.ports.lines;
-        feeds = c.ports.feeds;
-        ports = c.ports.other_ports Outlets;
-        blocks = c.blocks;
-      };
-      vacant = c.grove.vacant;
-      low = c.low;
-    }
+pub box_under : (p q : Patch) (table : Names) (place : Place) (seed : Seed) (key : ℕ) → ComesIn p q table place seed key → ComesUnder p q key (node_of place.canvas seed)
+box_under p q table place seed key c = record {
+  stands = record {
+    is = c.grove.is;
+    others = c.grove.others;
+    lines = c.ports.lines;
+    feeds = c.ports.feeds;
+    ports = c.ports.other_ports Outlets;
+    blocks = c.blocks;
+  };
+  vacant = c.grove.vacant;
+  low = c.low;
+}
 
 -- one that holds a canvas without boxes
 pub shell_under : (p q : Patch) (table : Names) (place : Place) (seed : Seed) (key : ℕ) → (put : IsShellPut p q table place seed key)
@@ -195,34 +219,48 @@ refit_under p q table key n seed refit = record {
   blocks = refit.blocks;
 }
 
-put_blocks : (r q : Patch) (key : ℕ) (n : Node) → StandsUnder r q key n → HasBlocks r.web (blocks_told r) → HasBlocks q.web (blocks_told q)
-put_blocks r q key n c h =
+-- where a box has its first blocks, each outlet that carries signals has a block if each of every other box has
+pub put_blocks : (r q : Patch) (key : ℕ) → PutsUnder (blocks_told r) (blocks_told q) key (first_blocks q.web key)
+    → ((k : ℕ) → k ≢ key → ports_told q.web Outlets k ≡ ports_told r.web Outlets k) → HasBlocks r.web (blocks_told r) → HasBlocks q.web (blocks_told q)
+put_blocks r q key puts ports h =
     by_key (HasBlock q) key
-    (λ o sounds. subst (λ (row : Option (List (List ℤ))). IsSome (option_and_then (λ (own : List (List ℤ)). slice_get own o) row)) (sym c.blocks.is) (first_there q.web key o sounds))
-    (λ k other o sounds. subst (λ (row : Option (List (List ℤ))). IsSome (option_and_then (λ (own : List (List ℤ)). slice_get own o) row)) (sym (c.blocks.others k other))
-    (h k o (ap (λ (js : List Jack). signal_in (slice_get js o)) (sym (c.ports k other)) ∙ sounds)))
+    (λ o sounds. subst (λ (row : Option (List (List ℤ))). IsSome (option_and_then (λ (own : List (List ℤ)). slice_get own o) row)) (sym puts.is) (first_there q.web key o sounds))
+    (λ k other o sounds. subst (λ (row : Option (List (List ℤ))). IsSome (option_and_then (λ (own : List (List ℤ)). slice_get own o) row)) (sym (puts.others k other))
+    (h k o (ap (λ (js : List Jack). signal_in (slice_get js o)) (sym (ports k other)) ∙ sounds)))
 
--- what holds of the blocks of all boxes, and of those of the new one
-all_put : (p r q : Patch) (key : ℕ) (n : Node) → SameButRoom p r → StandsUnder r q key n → (P : List (List ℤ) → Type 0) → P [] → P (first_blocks q.web key)
-    → AllByRecursion P (blocks_told p) → AllByRecursion P (blocks_told q)
-all_put p r q key n room c P none first h = put_all P (blocks_told r) (blocks_told q) key (first_blocks q.web key) c.blocks first (room_all p r P room none h)
+-- and what holds of each block, and of silence, holds of each then
+pub put_each : (P : List ℤ → Type 0) (r q : Patch) (key : ℕ) → PutsUnder (blocks_told r) (blocks_told q) key (first_blocks q.web key) → P silent_block
+    → AllByRecursion (AllByRecursion P) (blocks_told r) → AllByRecursion (AllByRecursion P) (blocks_told q)
+put_each P r q key puts silent h =
+    put_all (AllByRecursion P) (blocks_told r) (blocks_told q) key (first_blocks q.web key) puts (all-same P (block_count (ports_told q.web Outlets key)) silent_block silent) h
 
--- the first blocks of a box are silent
-first_silent : (P : List ℤ → Type 0) (q : Patch) (key : ℕ) → P silent_block → AllByRecursion P (first_blocks q.web key)
-first_silent P q key h = all-same P (block_count (ports_told q.web Outlets key)) silent_block h
-
-pub one_new : (p r q : Patch) (key : ℕ) (n : Node) → SameButRoom p r → StandsUnder r q key n → HasOneNew p q key n
-one_new p r q key n room c = record {
+pub one_new : (p r q : Patch) (key : ℕ) (n : Node) → KeepsBoxes p r → StandsUnder r q key n → HasOneNew p q key n
+one_new p r q key n kept c = record {
   is = c.is;
-  others = λ k other. c.others k other ∙ room.grove.nodes k;
-  fed = λ h. fed_same r.web q.web c.lines c.feeds (room_fed p r room h);
-  blocks = λ h. put_blocks r q key n c (room_blocks p r room h);
-  values = λ h. all_put p r q key n room c (AllByRecursion AreValues) tt (first_silent AreValues q key silent_values) h;
-  sizes = λ h. all_put p r q key n room c (AllByRecursion IsBlock) tt (first_silent IsBlock q key silent_count) h;
+  others = λ k other. c.others k other ∙ kept.nodes k;
+  fed = λ h. fed_same r.web q.web c.lines c.feeds (kept.fed h);
+  blocks = λ h. put_blocks r q key c.blocks c.ports (kept.blocks h);
+  values = λ h. put_each AreValues r q key c.blocks silent_values (kept.values h);
+  sizes = λ h. put_each IsBlock r q key c.blocks silent_count (kept.sizes h);
 }
 
-pub one_more : (p r q : Patch) (key : ℕ) (n : Node) → SameButRoom p r → ComesUnder r q key n → HasOneMore p q key n
-one_more p r q key n room c = record { new = one_new p r q key n room c.stands; vacant = sym (room.grove.nodes key) ∙ c.vacant; low = low_key key c.low }
+pub one_more : (p r q : Patch) (key : ℕ) (n : Node) → KeepsBoxes p r → ComesUnder r q key n → HasOneMore p q key n
+one_more p r q key n kept c = record { new = one_new p r q key n kept c.stands; vacant = sym (kept.nodes key) ∙ c.vacant; low = low_key key c.low }
+
+-- and after that each box stays
+pub more_keeps : (p q r : Patch) (key : ℕ) (n : Node) → HasOneMore p q key n → KeepsBoxes q r → HasOneMore p r key n
+more_keeps p q r key n more kept = record {
+  new = record {
+    is = kept.nodes key ∙ more.new.is;
+    others = λ k other. kept.nodes k ∙ more.new.others k other;
+    fed = λ h. kept.fed (more.new.fed h);
+    blocks = λ h. kept.blocks (more.new.blocks h);
+    values = λ h. kept.values (more.new.values h);
+    sizes = λ h. kept.sizes (more.new.sizes h);
+  };
+  vacant = more.vacant;
+  low = more.low;
+}
 
 -- what boxes keep is of their kinds, where what the new box keeps is of its kind
 pub new_objects : (p q : Patch) (key : ℕ) (n : Node) → HasOneNew p q key n → option_map blank n.state ≡ Some (blank_of n.kind) → KeepsOfKind (λ k. kind_in ((net_of p).nodes k)) (states_of p)

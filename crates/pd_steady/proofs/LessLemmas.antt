@@ -80,7 +80,7 @@ module _ (w v : Web) (key : ℕ) (c : CutsWire w v key) (f : AreFed w) where
       let less = part_fewer (λ (h : Hop). not (h.key == key)) x (feed_hops w n i) in
       subst (λ (o : Option Line). IsSome o) (sym (c.other_lines x (other_there (feed_hops w n i) x m))) (f.live n i x (omega (arith, m, less)))
 
-  cut_fed : AreFed v
+  pub cut_fed : AreFed v
   cut_fed = record {
     live = λ n i. subst (λ (hs : List Hop). (x : ℕ) → 0 < tally x (keys_of hs) → IsSome (line_told v x)) (sym (c.feeds n i)) (cut_live n i);
     once = λ n i. subst (λ (hs : List Hop). (x : ℕ) → tally x (keys_of hs) ≤ 1) (sym (c.feeds n i))

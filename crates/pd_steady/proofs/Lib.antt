@@ -7,8 +7,10 @@ pub mod ShortLemmas
 pub mod StartLemmas
 pub mod NetLemmas
 pub mod KeyLemmas
+pub mod FollowLemmas
 pub mod ComeLemmas
 pub mod LessLemmas
+pub mod LooseLemmas
 pub mod StandLemmas
 pub mod ExtendLemmas
 pub mod PutLemmas
@@ -24,5 +26,6 @@ pub mod RunLemmas
 mod ToldLemmas
 mod LoopLemmas
 mod MadeLemmas
+mod AroundLemmas
 mod LastLemmas
 mod OwnersLemmas

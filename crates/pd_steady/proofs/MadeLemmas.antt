@@ -58,7 +58,7 @@ use Rattle.pd_steady.proofs.LoopLemmas.{stuck_told}
 
 -- ---- a path that leads through subpatches alone leads there
 
-kept_cond : (b : Bool) (o : Option ℕ) (c : ℕ) → cond b o None ≡ Some c → o ≡ Some c
+pub kept_cond : (b : Bool) (o : Option ℕ) (c : ℕ) → cond b o None ≡ Some c → o ≡ Some c
 kept_cond true o c h = h
 kept_cond false o c h = absurd (none-some c h)
 
@@ -83,7 +83,7 @@ from_step : (g : Grove) (path : List ℕ) (c : ℕ) (s r : Option ℕ) → ((x :
 from_step g path c None r f P h = absurd (none-some c (sym (nowhere g path) ∙ h))
 from_step g path c (Some x) r f P h = subst (λ (o : Option ℕ). reached g o path ≡ Some c) (sym (f x refl)) (P (Some x) h)
 
-sub_leads : (g : Grove) (path : List ℕ) (here : Option ℕ) (c : ℕ) → sub_reached g here path ≡ Some c → reached g here path ≡ Some c
+pub sub_leads : (g : Grove) (path : List ℕ) (here : Option ℕ) (c : ℕ) → sub_reached g here path ≡ Some c → reached g here path ≡ Some c
 sub_leads g [] here c h = h
 sub_leads g (n ∷ path) here c h =
     from_step g path c (option_and_then (λ canvas. sub_step_in g canvas n) here) (option_and_then (λ canvas. step_in g canvas n) here)
@@ -169,7 +169,7 @@ rewires_with asks p s path e m at h =
     }) k.rewires
 
 -- a path leads where it leads in a patch whose net the stage has
-led_at : (p q : Patch) (s : Stage) (path : List ℕ) (c : ℕ) → s.net ≡ net_of q → TellsOf p s → reached q.grove (Some q.grove.root) path ≡ Some c → reached p.grove (Some p.grove.root) path ≡ Some c
+pub led_at : (p q : Patch) (s : Stage) (path : List ℕ) (c : ℕ) → s.net ≡ net_of q → TellsOf p s → reached q.grove (Some q.grove.root) path ≡ Some c → reached p.grove (Some p.grove.root) path ≡ Some c
 led_at p q s path c stands tells e =
     let there : led_to s.net (Some s.net.root) path ≡ Some c =
     subst (λ (n : Net). led_to n (Some n.root) path ≡ Some c) (sym stands) (led_is q (Some q.grove.root) path ∙ e) in
@@ -186,7 +186,7 @@ made_told q canvas short = stuck_told q (order_in q.orders.items canvas) short
 -- ---- the order of the canvas into which an edit put a box
 
 -- the boxes of a stage's canvases
-boards_same : (s : Stage) (t : HasTree s) (p : Patch) → s.net ≡ net_of p → p.grove.boards ≡ t.patch.grove.boards
+pub boards_same : (s : Stage) (t : HasTree s) (p : Patch) → s.net ≡ net_of p → p.grove.boards ≡ t.patch.grove.boards
 boards_same s t p e = sym (ap (λ (n : Net). n.boards) e) ∙ ap (λ (n : block.Net). n.boards) t.of.net
 
 -- so they are few
@@ -197,7 +197,7 @@ few_put n m k a l e h g = omega (arith, l, e, h, g)
 few_left : (n m k b : ℕ) → k ≡ suc n → k ≤ m → b ≡ m → b ≤ 16384 → n ≤ 16384
 few_left n m k b e l g h = omega (arith, e, l, g, h)
 
-through : (n a : ℕ) → n ≤ a → a ≤ 16384 → n ≤ most_boxes
+pub through : (n a : ℕ) → n ≤ a → a ≤ 16384 → n ≤ most_boxes
 through n a l h = omega (arith, l, h)
 
 pub put_short : (s : Stage) (path : List ℕ) (e : Edit) (m : Made) → HasTree s → (h : IsPutIn s path e m) → (o : Listing) → order_in h.new.orders.items h.box.canvas ≡ Some o
@@ -303,7 +303,7 @@ moving_at g number None x h = absurd (cc)
 moving_at g number (Some c) x h = ap (λ (y : ℕ). Some y) (moving_from g c number (slice_get (keys_at g c) number) x h)
 
 -- as many as there are in the tree are few
-few_there : (n m b : ℕ) → n ≤ m → b ≡ m → b ≤ 16384 → n ≤ 16384
+pub few_there : (n m b : ℕ) → n ≤ m → b ≡ m → b ≤ 16384 → n ≤ 16384
 few_there n m b l g h = omega (arith, l, g, h)
 
 pub move_short : (s : Stage) (path : List ℕ) (number : ℕ) (x y : ℤ) (m : Made) → HasTree s → (h : IsMovedTo s path number x y m) → (o : Listing)
@@ -345,7 +345,7 @@ retype_short s path number text m t h o order =
     let there : reached t.patch.grove (Some t.patch.grove.root) path ≡ Some c = led_at (patch_now s t) p s path c h.stands.net t.of.net leads in
     let few : length (keys_at t.patch.grove c) ≤ weight t.tree.boxes = canvas_few t.patch.grove t.tree t.stands path c there in
     let same : keys_at q.grove c ≡ keys_at t.patch.grove c =
-    ap (λ (boards : Slab Board). keys_in (get boards c)) b.refit.grove.boards ∙ seen_keys (get p.grove.boards c) (get b.ready.grove.boards c) (b.room.grove.boards c)
+    ap (λ (boards : Slab Board). keys_in (get boards c)) b.refit.grove.boards ∙ ap (λ (g : Grove). keys_at g c) b.loosens.rest.grove ∙ seen_keys (get p.grove.boards c) (get b.ready.grove.boards c) (b.room.grove.boards c)
     ∙ ap (λ (boards : Slab Board). keys_in (get boards c)) (boards_same s t p h.stands.net) in
     let all : length (keys_at q.grove c) ≤ 16384 =
     few_there (length (keys_at q.grove c)) (weight t.tree.boxes) s.base.counts.boxes (subst (λ (ks : List ℕ). length ks ≤ weight t.tree.boxes) (sym same) few) t.boxes t.within.boxes in

@@ -24,7 +24,8 @@ use Rattle.pd_steady.specs.Steady.{IsSteady}
 use Rattle.pd_steady.proofs.StartLemmas.{small_few}
 use Rattle.pd_steady.proofs.AddedLemmas.{leaf_well}
 use Rattle.pd_steady.proofs.ComeLemmas.{node_with}
-use Rattle.pd_steady.proofs.KeyLemmas.{HasOneNew, refit_under, one_new}
+use Rattle.pd_steady.proofs.KeyLemmas.{HasOneNew, KeepsBoxes, keeps_then, room_keeps, refit_under, one_new}
+use Rattle.pd_steady.proofs.LooseLemmas.{loose_keeps}
 use Rattle.pd_steady.proofs.PutLemmas.{IsWell, IsLow, new_well, standing, is_standing, named_is, new_steady}
 use Rattle.pd_engine.proofs.TreeLemmas.{HasBoth}
 
@@ -43,7 +44,9 @@ module _ (s : Stage) (path : List ℕ) (number : ℕ) (text : List Atom) (m : Ma
   pub retyped_new : HasOneNew to.old to.new to.box.key retyped_node
   retyped_new =
       let b = to.retypes.became in
-      one_new to.old b.ready to.new to.box.key retyped_node b.room (refit_under b.ready to.new to.retypes.added.known.names to.box.key to.retypes.node b.seed b.refit)
+      let kept : KeepsBoxes to.old b.loose =
+      keeps_then to.old b.ready b.loose (room_keeps to.old b.ready b.room) (loose_keeps b.ready b.loose to.box.key to.steps b.between b.loosens) in
+      one_new to.old b.loose to.new to.box.key retyped_node kept (refit_under b.loose to.new to.retypes.added.known.names to.box.key to.retypes.node b.seed b.refit)
 
   retyped_well : HasFirst to.retypes.added.known.names → IsWell to.retypes.added.known.names s.time retyped_node
   retyped_well first =

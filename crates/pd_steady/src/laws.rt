@@ -1,31 +1,24 @@
 //! Laws of whole runs.
-ghost use Rattle.std.specs.Prelude.{◌≡◌, ◌+◌, ◌≤◌, ◌^◌, ℕ, ℤ, List, Option, Some, option_and_then};
-ghost use Rattle.std.specs.List.{AllByRecursion};
+ghost use Rattle.std.specs.Prelude.{◌≡◌, ◌+◌, ◌≤◌, ◌^◌, ℕ, List, Option};
 ghost use Rattle.pd_io.specs.declared.files.FileRow.{FileRow};
 ghost use Rattle.pd_atom.specs.Names.{Names, Extends};
-ghost use Rattle.pd_atom.specs.declared.Atom.{Atom};
 ghost use Rattle.pd_canvas.specs.Pages.{Page};
-ghost use Rattle.pd_canvas.specs.declared.edits.Edit.{Edit};
 ghost use Rattle.pd_clock.specs.declared.times.Rate.{Rate};
-ghost use Rattle.pd_order.specs.Listing.{Listing};
 ghost use Rattle.pd_patch.specs.declared.patch.Patch.{Patch};
-ghost use Rattle.pd_patch.specs.declared.report.Remark.TheVariants.{Loop};
-ghost use Rattle.pd_patch.specs.Report.{notices_in};
-ghost use Rattle.pd_patch.specs.Telling.{order_in};
 ghost use Rattle.pd_script.specs.declared.commands.Command.{Command};
 ghost use Rattle.pd_hearing.specs.Worlds.{states_of};
-ghost use Rattle.pd_stage.specs.Choices.{Base, Made, Choice};
-ghost use Rattle.pd_stage.specs.Lawful.{IsMade, IsPutIn, IsTakenOut, IsMovedTo, IsRetypedTo, AreLawful};
+ghost use Rattle.pd_stage.specs.Choices.{Base, Choice};
+ghost use Rattle.pd_stage.specs.Lawful.{AreLawful};
 ghost use Rattle.pd_stage.specs.Stages.{Stage, with_names, followed_by};
 ghost use Rattle.pd_stage.specs.Trees.{HasTree};
 ghost use Rattle.pd_stage.specs.Times.{block_units, advanced, finished};
-ghost use Rattle.pd_engine.specs.Commands.{commanded, led_to};
+ghost use Rattle.pd_engine.specs.Commands.{commanded};
 ghost use Rattle.pd_engine.specs.Opening.{Grows, first_stage, opened};
 ghost use Rattle.pd_steady.specs.Runs.{own_ways, commanded_by, advanced_by, finished_by, opened_by};
 ghost use Rattle.pd_steady.specs.Freely.{free_ways};
 ghost use Rattle.pd_steady.specs.Steady.{IsSteady, IsCommand};
 ghost use Rattle.pd_steady.specs.Serving.{OwnersServe, StayAlike};
-ghost use Rattle.pd_steady.specs.Told.{TellsAll, TellsLoop};
+ghost use Rattle.pd_steady.specs.Told.{TellsOrders, GrowthTellsLoops, EditsTellLoops};
 ghost use Rattle.pd_steady.specs.Steps.{Step, AreSteps, NamesGoOn, steps_by, run_by};
 
 /// With pd_engine's own events and blocks the definitions of a run are pd_engine's.
@@ -125,23 +118,15 @@ pub fn runs_pass_nothing_over()
 /// In a run the two lines of a canvas's order tell all its boxes, whatever wires were made and cut and whatever boxes came, moved, became others and
 /// went: there are never more than a line has room for.
 pub fn lines_tell_all_boxes()
-    ensures { (s : Stage) (path : List ℕ) (o : Listing) → HasTree s →
-        option_and_then (λ c. order_in s.net.orders.items c) (led_to s.net (Some s.net.root) path) ≡ Some o → TellsAll s.net o }
+    ensures { (s : Stage) → HasTree s → TellsOrders s }
 {}
 
-/// Where a patch opens, the line of each signal loop tells all boxes of the loop, and so does the line that an edit tells of one: there
-/// are never more than a line has room for.
+/// Where a patch opens, the line of each signal loop tells all boxes of the loop, and so does each line that an edit tells of one, also of one in the
+/// canvas around where it puts a port: there are never more than a line has room for.
 pub fn loops_tell_all_boxes()
     ensures opened { (holds : Option (List FileRow)) (name : List ℕ) (rate : Rate) (d : Page) (names table : Names) (p : Patch) (base : Base) →
-        Grows holds name rate d names p table base → AllByRecursion (TellsLoop p) (notices_in p.grove p.web p.orders.items) }
-    ensures edited { (s : Stage) (path : List ℕ) (e : Edit) (m : Made) → HasTree s → (made : IsMade s path e m) → TellsLoop made.new (Loop made.canvas) }
-    ensures put { (s : Stage) (path : List ℕ) (e : Edit) (m : Made) → HasTree s → (made : IsPutIn s path e m) → TellsLoop made.new (Loop made.box.canvas) }
-    ensures taken { (s : Stage) (path : List ℕ) (number : ℕ) (m : Made) → HasTree s → (made : IsTakenOut s path number m) →
-        TellsLoop made.new (Loop made.box.canvas) }
-    ensures moved { (s : Stage) (path : List ℕ) (number : ℕ) (x y : ℤ) (m : Made) → HasTree s → (made : IsMovedTo s path number x y m) →
-        TellsLoop made.new (Loop made.moves.canvas) }
-    ensures retyped { (s : Stage) (path : List ℕ) (number : ℕ) (text : List Atom) (m : Made) → HasTree s → (made : IsRetypedTo s path number text m) →
-        TellsLoop made.new (Loop made.box.canvas) }
+        Grows holds name rate d names p table base → GrowthTellsLoops p }
+    ensures edited { (s : Stage) → HasTree s → EditsTellLoops s }
 {
     pd_guards::orders_are_short();
     pd_wiring::rewiring_asks_alike();
