@@ -17,7 +17,7 @@ use Rattle.pd_grove.specs.Telling.{keys_in, inner_in, step_in, reached}
 use Rattle.pd_web.specs.Canvases.{keys_at}
 use Rattle.pd_patch.specs.declared.patch.Patch.{Patch}
 use Rattle.pd_patch.specs.Telling.{order_in}
-use Rattle.pd_deleting.specs.Deletes.{is_port_in}
+use Rattle.pd_adding.specs.Standing.{is_port_in}
 use Rattle.pd_stage.specs.Choices.{Made}
 use Rattle.pd_stage.specs.Stages.{Stage}
 use Rattle.pd_stage.specs.Lawful.{known_at, IsPutIn}
