@@ -18,10 +18,8 @@ use Rattle.pd_wiring.specs.declared.refusals.EditRefusal.TheVariants as refusal
 use Rattle.pd_wiring.specs.Changes.{CanRewire, SameButRoom}
 use Rattle.pd_adding.specs.declared.counts.Counts.{Counts}
 use Rattle.pd_adding.specs.Counts.{AreWithin}
-use Rattle.pd_clearing.specs.Losing.{looks_for_all}
-use Rattle.pd_clearing.specs.Clearing.{without_all}
 use Rattle.pd_deleting.specs.declared.deleting.OldBox.{OldBox}
-use Rattle.pd_deleting.specs.Deletes.{going, going_in, going_box, is_plain, DeletesBox, IsNotDeleted}
+use Rattle.pd_deleting.specs.Deletes.{going, going_in, going_box, is_plain, looks_for_all, without_all, DeletesBox, IsNotDeleted}
 use Rattle.pd_hearing.specs.Worlds.{net_of, states_of}
 use Rattle.pd_stage.specs.Choices.{base_of, Wanted, Edits, Made, Choice, faults_of_why}
 use Rattle.pd_stage.specs.Choices as stage

@@ -25,9 +25,7 @@ use Rattle.pd_adding.specs.declared.counts.Counts.{Counts}
 use Rattle.pd_adding.specs.Counts.{AreWithin}
 use Rattle.pd_gather.specs.Gather.{Known, known}
 use Rattle.pd_retyping.specs.declared.retyping.RetypedBox.{RetypedBox}
-use Rattle.pd_retyping.specs.Retypes.{RetypesBox, IsNotRetyped}
-use Rattle.pd_refitting.specs.Refits.{refit_looks}
-use Rattle.pd_taking.specs.Loosening.{looks_for}
+use Rattle.pd_retyping.specs.Retypes.{looks_for, refit_looks, RetypesBox, IsNotRetyped}
 use Rattle.pd_hearing.specs.Worlds.{net_of, states_of}
 use Rattle.pd_stage.specs.Choices.{base_of, Wanted, Edits, Made, Choice}
 use Rattle.pd_stage.specs.Choices as stage
