@@ -239,6 +239,10 @@ module _ (p q : Patch) (path : List ℕ) (canvas key number : ℕ) (n n' : Node)
             };
       }
 
+-- names have the owners that they had, where boxes and owners stay
+own_still : (p q : Patch) → q.names ≡ p.names → q.grove ≡ p.grove → (names : Names) (file : List ℕ) → HasOwners p names file → HasOwners q names file
+own_still p q owners grove names file h class name = rw (owners, grove) (h class name)
+
 module _ (old new : Patch) (n : Counts) (name path : List ℕ) (number : ℕ) (text : List Atom) (now : ℕ) (k after : Known) (steps steps' : ℕ) (b : RetypedBox)
     (X : RetypesBox old new n name path number text now k after steps steps' b) where
   abbrev loose : Patch
@@ -300,7 +304,4 @@ module _ (old new : Patch) (n : Counts) (name path : List ℕ) (number : ℕ) (t
       let more : HasOwners old after.names name =
       own_more (answer_in k.files) name old k.names after.names t R.stands R.shallow A (goes_on old new n name path number text now k after steps steps' b X) h in
       let again : HasOwners old X.added.known.names name = subst (λ (ns : Names). HasOwners old ns name) is more in
-      subst (λ (ns : Names). HasOwners new ns name) (sym is) (X.became.refit.owners name (own_loose X.added.known.names (room_own old ready X.added.known.names name X.became.room again)))
-    where
-      own_loose : (ns : Names) → HasOwners ready ns name → HasOwners loose ns name
-      own_loose ns h class x = rw (X.became.loosens.rest.names, X.became.loosens.rest.grove) (h class x)
+      subst (λ (ns : Names). HasOwners new ns name) (sym is) (X.became.refit.owners name (own_still ready loose X.became.loosens.rest.names X.became.loosens.rest.grove X.added.known.names name (room_own old ready X.added.known.names name X.became.room again)))

@@ -1,5 +1,5 @@
 -- Lists of which some elements are left, in their order.
-use Rattle.std.proofs.Common.{◌≡◌, ◌≤◌, ℕ, zero, suc, Bool, true, false, cond, List, [], ◌∷◌, map, filter, slice_get, Some, refl, ap, ◌∙◌, absurd, arith}
+use Rattle.std.proofs.Common.{◌≡◌, ◌≤◌, ℕ, zero, suc, Bool, true, false, cond, List, [], ◌∷◌, map, filter, slice_get, Some, refl, ap, ◌∙◌, arith}
 use Rattle.std.specs.List.{AllByRecursion}
 use Rattle.pd_web.specs.declared.web.Hop.{Hop}
 use Rattle.pd_seek.specs.Places.{AreInOrder}
