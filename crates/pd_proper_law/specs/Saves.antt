@@ -15,6 +15,7 @@ use Rattle.pd_grove.specs.declared.nodes.Node.{Node}
 use Rattle.pd_grove.specs.OwnPaths.{sub_reached}
 use Rattle.pd_web.specs.Canvases.{keys_at}
 use Rattle.pd_present.specs.Contents.{text_kept}
+pub use Rattle.pd_sized.specs.Kinds.{kinds_of}
 use Rattle.pd_contents_law.specs.Contents.{count_of}
 
 -- a box of the patch's own document: it lies in a canvas to which a path through subpatches leads

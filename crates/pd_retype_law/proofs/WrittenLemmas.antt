@@ -27,8 +27,7 @@ use Rattle.pd_reload_law.specs.Saving.{IsMade}
 use Rattle.pd_contents_law.specs.Contents.{HasContents, HaveContents, count_of, counts_of, IsKindSettled}
 use Rattle.pd_contents_law.proofs.MadeLemmas.{made_contents}
 use Rattle.pd_contents_law.proofs.SettledLemmas.{contents_more}
-use Rattle.pd_sized.specs.Kinds.{kinds_of}
-use Rattle.pd_proper_law.specs.Saves.{is_written, form_of, IsOwnBox, IsWritten}
+use Rattle.pd_proper_law.specs.Saves.{kinds_of, is_written, form_of, IsOwnBox, IsWritten}
 use Rattle.pd_putting_law.specs.Again.{StandsAgain}
 use Rattle.pd_adding.specs.declared.counts.Counts.{Counts}
 use Rattle.pd_put_law.proofs.RoomLemmas.{room_subs}

@@ -27,9 +27,8 @@ use Rattle.pd_patch.specs.declared.patch.Patch.{Patch}
 use Rattle.pd_alike_law.specs.Feeds.{FedOnce}
 use Rattle.pd_inside_law.specs.Inside.{HasWiresOf, HoldsWires}
 use Rattle.pd_reload_law.specs.Reloading.{RunsAs}
-use Rattle.pd_sized.specs.Kinds.{kinds_of}
 use Rattle.pd_contents_law.specs.Contents.{HasContents, HaveContents, count_of, counts_of}
-use Rattle.pd_proper_law.specs.Saves.{is_written, form_of, IsWritten}
+use Rattle.pd_proper_law.specs.Saves.{kinds_of, is_written, form_of, IsWritten}
 use Rattle.pd_putting_law.specs.Puts.{change_inside}
 use Rattle.pd_shifting.specs.Moves.{MovesBox}
 use Rattle.pd_shifting.proofs.MoveLemmas.{is_moving}

@@ -15,9 +15,8 @@ use Rattle.pd_hearing.specs.Worlds.{states_of}
 use Rattle.pd_patch.specs.declared.patch.Patch.{Patch}
 use Rattle.pd_boxes.specs.Put.{CanPut}
 use Rattle.pd_reload_law.specs.Reloading.{RunsAs}
-use Rattle.pd_sized.specs.Kinds.{kinds_of}
 use Rattle.pd_contents_law.specs.Contents.{HasContents, HaveContents, count_of, counts_of}
-use Rattle.pd_proper_law.specs.Saves.{is_written, form_of, IsOwnBox, IsWritten}
+use Rattle.pd_proper_law.specs.Saves.{kinds_of, is_written, form_of, IsOwnBox, IsWritten}
 use Rattle.pd_putting_law.specs.Again.{StandsAgain}
 use Rattle.pd_putting_law.proofs.PathLemmas.{live_box, sub_leads}
 use Rattle.pd_taking_law.specs.Takes.{taken_at}
