@@ -1,5 +1,5 @@
 -- Where the box around a canvas has a port more, the wires of the patch hold and fit.
-use Rattle.std.proofs.Common.{◌≡◌, ◌≢◌, ◌==◌, ℕ, zero, suc, Bool, true, cond, List, [], ◌∷◌, map, slice_get, Option, Some, inl, inr, eq-eqb, refl, sym, ap, ◌∙◌, subst}
+use Rattle.std.proofs.Common.{◌≡◌, ◌≢◌, ◌==◌, ℕ, suc, Bool, true, cond, List, [], ◌∷◌, map, slice_get, Option, Some, inl, inr, eq-eqb, refl, sym, ap, ◌∙◌, subst}
 use Rattle.std.specs.Prelude.{option_and_then}
 use Rattle.std.specs.List.{AllByRecursion}
 use Rattle.std.proofs.lemmas.Bool.{cases_eq}
@@ -38,7 +38,7 @@ use Rattle.pd_following.proofs.ListLemmas.{up_or}
 use Rattle.pd_following.proofs.RaiseLemmas.{differ_test}
 use Rattle.pd_following_law.specs.Raised.{StandsAt, raised_wire}
 use Rattle.pd_following_law.proofs.WireLemmas.{wires_here, wires_away}
-use Rattle.pd_put_law.proofs.RoomLemmas.{same_canvas, told_same, laid_same}
+use Rattle.pd_put_law.proofs.RoomLemmas.{same_canvas, told_same, laid_same, label_is}
 use Rattle.pd_put_law.proofs.FollowLemmas.{fits_raised, fed_raised}
 
 -- ---- where the box around stands
@@ -210,11 +210,6 @@ module _ (p q : Patch) (holder : ℕ) (side : Side) (at : ℕ) (jack : Jack) (F 
       (h.inside.all way d u l)
 
   -- ---- feeds in their order
-
-  label_is : (xs : List ℕ) (k i : ℕ) → slice_get xs k ≡ Some i → label_at xs k ≡ i
-  label_is [] k i e = absurd (none-some i e)
-  label_is (x ∷ xs) zero i e = same_Some x i e
-  label_is (x ∷ xs) (suc k) i e = label_is xs k i e
 
   -- no other box of its canvas has its number
   own_label : (x : ℕ) → IsAmong (keys here) x → label_at p.numbers.items x ≡ label_at p.numbers.items holder → x ≡ holder

@@ -39,7 +39,7 @@ use Rattle.pd_putting_law.specs.Puts.{change_inside, change_at, with_boxes, put_
 use Rattle.pd_putting_law.proofs.ListLemmas.{by_option, get_front, get_last}
 use Rattle.pd_putting_law.proofs.PathLemmas.{subs, sub_leads, live_box, paths_once}
 use Rattle.pd_putting_law.proofs.WireLemmas.{wires_aside, wires_here}
-use Rattle.pd_put_law.proofs.RoomLemmas.{same_canvas, lists_fed, lists_meet, told_same, laid_same, order_on}
+use Rattle.pd_put_law.proofs.RoomLemmas.{same_canvas, lists_fed, lists_meet, told_same, laid_same, label_is, order_on}
 use Rattle.pd_put_law.proofs.LastLemmas.{ComesLast, keys_more, keys_stay, was_there, no_feed, keeps, last}
 
 -- ---- paths that part
@@ -356,14 +356,9 @@ module _ (p q : Patch) (path : List ℕ) (c key : ℕ) (C : ComesLast p q path c
 
   -- ---- feeds in their order
 
-  at_index : (xs : List ℕ) (k i : ℕ) → slice_get xs k ≡ Some i → label_at xs k ≡ i
-  at_index [] k i e = absurd (none-some i e)
-  at_index (x ∷ xs) zero i e = same_Some x i e
-  at_index (x ∷ xs) (suc k) i e = at_index xs k i e
-
   same_label : (d i k : ℕ) → slice_get (keys_at p.grove d) i ≡ Some k → label_at q.numbers.items k ≡ label_at p.numbers.items k
   same_label d i k e =
-      at_index q.numbers.items k i (C.numbered d i k (stays_at d i k e)) ∙ sym (at_index p.numbers.items k i (C.can.runs.numbers d i k e))
+      label_is q.numbers.items k i (C.numbered d i k (stays_at d i k e)) ∙ sym (label_is p.numbers.items k i (C.can.runs.numbers d i k e))
 
   -- a wire comes from a box of a canvas
   from_there : (hops : List Hop) (i : ℕ) (h : Hop) (k : ℕ) → AllByRecursion (λ (x : Hop). ShareCanvas p.grove k x.node) hops → slice_get hops i ≡ Some h

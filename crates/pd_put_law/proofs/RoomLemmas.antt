@@ -2,6 +2,7 @@
 use Rattle.std.proofs.Common.{◌≡◌, ◌≤◌, ◌<◌, ◌⊎◌, ℕ, zero, suc, ◌+◌, true, List, [], ◌∷◌, ◌++◌, length, slice_get, Option, Some, None, refl, sym, ap, ◌∙◌, subst}
 use Rattle.std.specs.Prelude.{option_map, option_and_then, replicate, map}
 use Rattle.std.specs.List.{AllByRecursion, flat_map, range_with_len}
+use Rattle.std.proofs.lemmas.Option.{none-some, same_Some}
 use Rattle.slab.specs.Slab.{get}
 use Rattle.pd_canvas.specs.declared.wires.Wire.{Wire}
 use Rattle.pd_tree.specs.Ports.{Sockets, fits}
@@ -84,6 +85,11 @@ kept_told : (w v : Web) (keys : List ℕ) → KeepsPorts w v → boxes_told v ke
 kept_told w v keys k = told_same w v keys (λ i x e. laid_same w v x (k.ports Inlets x) (k.ports Outlets x) (k.made x))
 
 -- ---- numbers
+
+pub label_is : (xs : List ℕ) (k i : ℕ) → slice_get xs k ≡ Some i → label_at xs k ≡ i
+label_is [] k i e = absurd (none-some i e)
+label_is (x ∷ xs) zero i e = same_Some x i e
+label_is (x ∷ xs) (suc k) i e = label_is xs k i e
 
 abbrev zeros : ℕ → List ℕ
 zeros n = replicate n 0
