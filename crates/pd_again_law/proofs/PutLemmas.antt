@@ -1,5 +1,5 @@
 -- What the laws of pd_put_law say of a box that an edit put.
-use Rattle.std.proofs.Common.{◌≡◌, ◌≤◌, ℕ, List, [], ◌++◌, ap, ◌∙◌}
+use Rattle.std.proofs.Common.{◌≡◌, ◌≤◌, ℕ, List, [], ◌++◌, ◌⊎◌, ap, ◌∙◌}
 use mathlib.Core.Logic.{⊎_elim}
 use Rattle.pd_atom.specs.Names.{Names, Extends, IsTable}
 use Rattle.pd_canvas.specs.declared.edits.Edit.{Edit}
@@ -20,7 +20,7 @@ use Rattle.pd_putting_law.specs.Puts.{put_at}
 use Rattle.pd_adding.specs.declared.counts.Counts.{Counts}
 use Rattle.pd_adding.specs.Growing.{Added}
 use Rattle.pd_putting.specs.declared.adding.NewBox.{NewBox}
-use Rattle.pd_putting.specs.Adds.{AddsBox, HasCome, IsBoxPut, IsSubPut}
+use Rattle.pd_putting.specs.Adds.{AddsBox, HasCome, IsBoxPut, IsSubPut, IsPortBoxPut}
 use Rattle.pd_again_law.proofs.HeldLemmas.{Settled}
 
 pub record PutLaws : Type 0 where
@@ -58,11 +58,15 @@ pub record PutLaws : Type 0 where
 pub no_numbers : (old new : Patch) (now : ℕ) (a : Added) (key : ℕ) → HasCome old new now a key → zeros_in a.boxes ≡ []
 no_numbers old new now a key come = ⊎_elim
     (λ (x : IsBoxPut old new now a key). ap (λ (t : Trees). zeros_in t) x.plain.single)
+    (λ (other : IsSubPut old new now a key ⊎ IsPortBoxPut old new now a key). ⊎_elim
     (λ (x : IsSubPut old new now a key).
-    ap (λ (t : Trees). zeros_in t) x.sub.single ∙ ap (λ (f : Shape). own_zeros f x.sub.sheet ++ []) x.sub.form) come
+    ap (λ (t : Trees). zeros_in t) x.sub.single ∙ ap (λ (f : Shape). own_zeros f x.sub.sheet ++ []) x.sub.form)
+    (λ (x : IsPortBoxPut old new now a key). ap (λ (t : Trees). zeros_in t) x.port.single) other) come
 
 -- the patch runs on at its rate
 pub same_rate : (old new : Patch) (now : ℕ) (a : Added) (key : ℕ) → HasCome old new now a key → new.rate ≡ old.rate
 same_rate old new now a key come = ⊎_elim
     (λ (x : IsBoxPut old new now a key). x.put.comes.rate ∙ x.room.rate)
-    (λ (x : IsSubPut old new now a key). x.put.comes.rate ∙ x.room.rate) come
+    (λ (other : IsSubPut old new now a key ⊎ IsPortBoxPut old new now a key). ⊎_elim
+    (λ (x : IsSubPut old new now a key). x.put.comes.rate ∙ x.room.rate)
+    (λ (x : IsPortBoxPut old new now a key). x.put.rest.rate ∙ x.put.comes.rate ∙ x.room.rate) other) come

@@ -21,40 +21,40 @@ use Rattle.pd_retyping_law.specs.Retypes.{retyped_at}
 use Rattle.pd_again_law.proofs.HeldLemmas.{Settled}
 
 pub record RetypeLaws : Type 0 where
-  pub names : (old new : Patch) (n : Counts) (name path : List ℕ) (number : ℕ) (text : List Atom) (now : ℕ) (k after : Known) (b : RetypedBox)
-      → RetypesBox old new n name path number text now k after b → Extends k.names after.names
-  pub runs : (old new : Patch) (n : Counts) (name path : List ℕ) (number : ℕ) (text : List Atom) (now : ℕ) (k after : Known) (b : RetypedBox) (t : Tree)
-      → (r : RetypesBox old new n name path number text now k after b) → CanPut old → RunsAs old.grove t → StandsAgain (answer_in k.files) name k.names t
+  pub names : (old new : Patch) (n : Counts) (name path : List ℕ) (number : ℕ) (text : List Atom) (now : ℕ) (k after : Known) (steps steps' : ℕ) (b : RetypedBox)
+      → RetypesBox old new n name path number text now k after steps steps' b → Extends k.names after.names
+  pub runs : (old new : Patch) (n : Counts) (name path : List ℕ) (number : ℕ) (text : List Atom) (now : ℕ) (k after : Known) (steps steps' : ℕ) (b : RetypedBox) (t : Tree)
+      → (r : RetypesBox old new n name path number text now k after steps steps' b) → CanPut old → RunsAs old.grove t → StandsAgain (answer_in k.files) name k.names t
       → RunsAs new.grove (retyped_at path number r.became.can.cell t)
-  pub again : (old new : Patch) (n : Counts) (name path : List ℕ) (number : ℕ) (text : List Atom) (now : ℕ) (k after : Known) (b : RetypedBox) (t : Tree)
-      → (r : RetypesBox old new n name path number text now k after b) → CanPut old → RunsAs old.grove t → StandsAgain (answer_in k.files) name k.names t
+  pub again : (old new : Patch) (n : Counts) (name path : List ℕ) (number : ℕ) (text : List Atom) (now : ℕ) (k after : Known) (steps steps' : ℕ) (b : RetypedBox) (t : Tree)
+      → (r : RetypesBox old new n name path number text now k after steps steps' b) → CanPut old → RunsAs old.grove t → StandsAgain (answer_in k.files) name k.names t
       → StandsAgain (answer_in after.files) name after.names (retyped_at path number r.became.can.cell t)
-  pub zeros : (old new : Patch) (n : Counts) (name path : List ℕ) (number : ℕ) (text : List Atom) (now : ℕ) (k after : Known) (b : RetypedBox) (t : Tree)
-      → (r : RetypesBox old new n name path number text now k after b) → CanPut old → RunsAs old.grove t
+  pub zeros : (old new : Patch) (n : Counts) (name path : List ℕ) (number : ℕ) (text : List Atom) (now : ℕ) (k after : Known) (steps steps' : ℕ) (b : RetypedBox) (t : Tree)
+      → (r : RetypesBox old new n name path number text now k after steps steps' b) → CanPut old → RunsAs old.grove t
       → zeros_of (retyped_at path number r.became.can.cell t) ≡ zeros_of t
-  pub holds : (old new : Patch) (n : Counts) (name path : List ℕ) (number : ℕ) (text : List Atom) (now : ℕ) (k after : Known) (b : RetypedBox) (t : Tree)
-      → (r : RetypesBox old new n name path number text now k after b) → CanPut old → RunsAs old.grove t → HoldsWires old t
+  pub holds : (old new : Patch) (n : Counts) (name path : List ℕ) (number : ℕ) (text : List Atom) (now : ℕ) (k after : Known) (steps steps' : ℕ) (b : RetypedBox) (t : Tree)
+      → (r : RetypesBox old new n name path number text now k after steps steps' b) → CanPut old → RunsAs old.grove t → HoldsWires old t
       → HoldsWires new (retyped_at path number r.became.can.cell t)
-  pub fit : (old new : Patch) (n : Counts) (name path : List ℕ) (number : ℕ) (text : List Atom) (now : ℕ) (k after : Known) (b : RetypedBox)
-      → RetypesBox old new n name path number text now k after b → CanPut old → WiresFit old → WiresFit new
-  pub owners : (old new : Patch) (n : Counts) (name path : List ℕ) (number : ℕ) (text : List Atom) (now : ℕ) (k after : Known) (b : RetypedBox) (t : Tree)
-      → RetypesBox old new n name path number text now k after b → CanPut old → RunsAs old.grove t → StandsAgain (answer_in k.files) name k.names t
+  pub fit : (old new : Patch) (n : Counts) (name path : List ℕ) (number : ℕ) (text : List Atom) (now : ℕ) (k after : Known) (steps steps' : ℕ) (b : RetypedBox)
+      → RetypesBox old new n name path number text now k after steps steps' b → CanPut old → WiresFit old → WiresFit new
+  pub owners : (old new : Patch) (n : Counts) (name path : List ℕ) (number : ℕ) (text : List Atom) (now : ℕ) (k after : Known) (steps steps' : ℕ) (b : RetypedBox) (t : Tree)
+      → RetypesBox old new n name path number text now k after steps steps' b → CanPut old → RunsAs old.grove t → StandsAgain (answer_in k.files) name k.names t
       → HasOwners old k.names name → HasOwners new after.names name
-  pub boxes : (old new : Patch) (n : Counts) (name path : List ℕ) (number : ℕ) (text : List Atom) (now : ℕ) (k after : Known) (b : RetypedBox) (t : Tree)
-      → (r : RetypesBox old new n name path number text now k after b) → CanPut old → RunsAs old.grove t → n.boxes ≡ weight t.boxes
+  pub boxes : (old new : Patch) (n : Counts) (name path : List ℕ) (number : ℕ) (text : List Atom) (now : ℕ) (k after : Known) (steps steps' : ℕ) (b : RetypedBox) (t : Tree)
+      → (r : RetypesBox old new n name path number text now k after steps steps' b) → CanPut old → RunsAs old.grove t → n.boxes ≡ weight t.boxes
       → b.counts.boxes ≡ weight (retyped_at path number r.became.can.cell t).boxes
-  pub sound : (old new : Patch) (n : Counts) (name path : List ℕ) (number : ℕ) (text : List Atom) (now : ℕ) (k after : Known) (b : RetypedBox) (t : Tree)
-      → (r : RetypesBox old new n name path number text now k after b) → CanPut old → RunsAs old.grove t → n.sound ≡ sound_of old.rate t.boxes
+  pub sound : (old new : Patch) (n : Counts) (name path : List ℕ) (number : ℕ) (text : List Atom) (now : ℕ) (k after : Known) (steps steps' : ℕ) (b : RetypedBox) (t : Tree)
+      → (r : RetypesBox old new n name path number text now k after steps steps' b) → CanPut old → RunsAs old.grove t → n.sound ≡ sound_of old.rate t.boxes
       → b.counts.sound ≡ sound_of old.rate (retyped_at path number r.became.can.cell t).boxes
-  pub proper : (old new : Patch) (n : Counts) (name path : List ℕ) (number : ℕ) (text : List Atom) (now : ℕ) (k after : Known) (b : RetypedBox) (t : Tree) (later : Names)
-      → (r : RetypesBox old new n name path number text now k after b) → CanPut old → RunsAs old.grove t → StandsAgain (answer_in k.files) name k.names t
+  pub proper : (old new : Patch) (n : Counts) (name path : List ℕ) (number : ℕ) (text : List Atom) (now : ℕ) (k after : Known) (steps steps' : ℕ) (b : RetypedBox) (t : Tree) (later : Names)
+      → (r : RetypesBox old new n name path number text now k after steps steps' b) → CanPut old → RunsAs old.grove t → StandsAgain (answer_in k.files) name k.names t
       → Extends after.names later → IsTable later → weight t.boxes ≤ 16384
       → IsProper later (document_in t) → IsProper later (document_in (retyped_at path number r.became.can.cell t))
-  pub contents : (old new : Patch) (n : Counts) (name path : List ℕ) (number : ℕ) (text : List Atom) (now : ℕ) (k after : Known) (b : RetypedBox) (t : Tree)
-      → RetypesBox old new n name path number text now k after b → CanPut old → RunsAs old.grove t → StandsAgain (answer_in k.files) name k.names t
+  pub contents : (old new : Patch) (n : Counts) (name path : List ℕ) (number : ℕ) (text : List Atom) (now : ℕ) (k after : Known) (steps steps' : ℕ) (b : RetypedBox) (t : Tree)
+      → RetypesBox old new n name path number text now k after steps steps' b → CanPut old → RunsAs old.grove t → StandsAgain (answer_in k.files) name k.names t
       → Settled old k.names (states_of old) → Settled new after.names (states_of new)
 
 -- the patch runs on at its rate
-pub same_rate : (old new : Patch) (n : Counts) (name path : List ℕ) (number : ℕ) (text : List Atom) (now : ℕ) (k after : Known) (b : RetypedBox)
-    → RetypesBox old new n name path number text now k after b → new.rate ≡ old.rate
-same_rate old new n name path number text now k after b r = r.became.refit.rate ∙ r.became.room.rate
+pub same_rate : (old new : Patch) (n : Counts) (name path : List ℕ) (number : ℕ) (text : List Atom) (now : ℕ) (k after : Known) (steps steps' : ℕ) (b : RetypedBox)
+    → RetypesBox old new n name path number text now k after steps steps' b → new.rate ≡ old.rate
+same_rate old new n name path number text now k after steps steps' b r = r.became.refit.rate ∙ r.became.loosens.rest.rate ∙ r.became.room.rate

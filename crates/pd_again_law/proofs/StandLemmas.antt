@@ -407,13 +407,13 @@ module _ (library : List (ℕ × Answer)) (rate : Rate) (name : List ℕ) (clean
       one_ran = runs_at most s x.old h steady x.stands
 
       runs_other : RunsAs x.new.grove other
-      runs_other = retypes.runs x.old x.new s.base.counts s.file path number text s.time known_then x.after x.box h.tree x.retypes x.stands.puts one_ran h.again
+      runs_other = retypes.runs x.old x.new s.base.counts s.file path number text s.time known_then x.after x.steps x.steps' x.box h.tree x.retypes x.stands.puts one_ran h.again
 
       grows_other : StandsAgain (answer_in x.after.files) s.file x.after.names other
-      grows_other = retypes.again x.old x.new s.base.counts s.file path number text s.time known_then x.after x.box h.tree x.retypes x.stands.puts one_ran h.again
+      grows_other = retypes.again x.old x.new s.base.counts s.file path number text s.time known_then x.after x.steps x.steps' x.box h.tree x.retypes x.stands.puts one_ran h.again
 
       names_go_on : Extends s.names x.after.names
-      names_go_on = retypes.names x.old x.new s.base.counts s.file path number text s.time known_then x.after x.box x.retypes
+      names_go_on = retypes.names x.old x.new s.base.counts s.file path number text s.time known_then x.after x.steps x.steps' x.box x.retypes
 
       files_go_on : GoesOn library x.after.files
       files_go_on = goes_behind library s.base.files x.after.files h.files
@@ -421,9 +421,9 @@ module _ (library : List (ℕ × Answer)) (rate : Rate) (name : List ℕ) (clean
 
       other_counted : HasCounted rate (base_of x.after.files x.box.counts) other
       other_counted = record {
-        boxes = retypes.boxes x.old x.new s.base.counts s.file path number text s.time known_then x.after x.box h.tree x.retypes x.stands.puts one_ran h.counted.boxes;
+        boxes = retypes.boxes x.old x.new s.base.counts s.file path number text s.time known_then x.after x.steps x.steps' x.box h.tree x.retypes x.stands.puts one_ran h.counted.boxes;
         sound = subst (λ (r : Rate). x.box.counts.sound ≡ sound_of r other.boxes) (rate_at s x.old h x.stands)
-            (retypes.sound x.old x.new s.base.counts s.file path number text s.time known_then x.after x.box h.tree x.retypes x.stands.puts one_ran
+            (retypes.sound x.old x.new s.base.counts s.file path number text s.time known_then x.after x.steps x.steps' x.box h.tree x.retypes x.stands.puts one_ran
             (subst (λ (r : Rate). s.base.counts.sound ≡ sound_of r h.tree.boxes) (sym (rate_at s x.old h x.stands)) h.counted.sound));
       }
 
@@ -433,22 +433,22 @@ module _ (library : List (ℕ × Answer)) (rate : Rate) (name : List ℕ) (clean
       held_other : IsHeld s.file x.after.names (states_of x.new) other x.new
       held_other = record {
         stands = runs_other.stands;
-        fit = retypes.fit x.old x.new s.base.counts s.file path number text s.time known_then x.after x.box x.retypes x.stands.puts one_stood.fit;
-        holds = retypes.holds x.old x.new s.base.counts s.file path number text s.time known_then x.after x.box h.tree x.retypes x.stands.puts one_ran one_stood.holds;
-        owners = retypes.owners x.old x.new s.base.counts s.file path number text s.time known_then x.after x.box h.tree x.retypes x.stands.puts one_ran h.again one_stood.owners;
-        contents = retypes.contents x.old x.new s.base.counts s.file path number text s.time known_then x.after x.box h.tree x.retypes x.stands.puts one_ran h.again
+        fit = retypes.fit x.old x.new s.base.counts s.file path number text s.time known_then x.after x.steps x.steps' x.box x.retypes x.stands.puts one_stood.fit;
+        holds = retypes.holds x.old x.new s.base.counts s.file path number text s.time known_then x.after x.steps x.steps' x.box h.tree x.retypes x.stands.puts one_ran one_stood.holds;
+        owners = retypes.owners x.old x.new s.base.counts s.file path number text s.time known_then x.after x.steps x.steps' x.box h.tree x.retypes x.stands.puts one_ran h.again one_stood.owners;
+        contents = retypes.contents x.old x.new s.base.counts s.file path number text s.time known_then x.after x.steps x.steps' x.box h.tree x.retypes x.stands.puts one_ran h.again
             (subst (λ (f : ℕ → Option State). Settled x.old s.names f) x.stands.states one_stood.contents);
       }
 
       stays_proper : StaysProper x.after.names other
       stays_proper more on table =
-          retypes.proper x.old x.new s.base.counts s.file path number text s.time known_then x.after x.box h.tree more x.retypes x.stands.puts one_ran h.again on table few_there
+          retypes.proper x.old x.new s.base.counts s.file path number text s.time known_then x.after x.steps x.steps' x.box h.tree more x.retypes x.stands.puts one_ran h.again on table few_there
           (h.proper more (onward s.names x.after.names more names_go_on on) table)
 
       retyped_stands : IsStanding (stage_by s (Makes m))
       retyped_stands = record {
         file = h.file;
-        rates = ap (λ (n : Net). n.rate) x.net ∙ retype.same_rate x.old x.new s.base.counts s.file path number text s.time known_then x.after x.box x.retypes ∙ rate_at s x.old h x.stands;
+        rates = ap (λ (n : Net). n.rate) x.net ∙ retype.same_rate x.old x.new s.base.counts s.file path number text s.time known_then x.after x.steps x.steps' x.box x.retypes ∙ rate_at s x.old h x.stands;
         six = subst (λ (ns : Names). 6 ≤ length ns) (sym x.names) (six_more s.names x.after.names names_go_on h.six);
         tree = other;
         low = runs_other.shallow;
@@ -456,7 +456,7 @@ module _ (library : List (ℕ × Answer)) (rate : Rate) (name : List ℕ) (clean
             (subst (λ (ns : Names). StandsAgain (answer_in x.after.files) s.file ns other) (sym x.names) grows_other);
         proper = subst (λ (ns : Names). StaysProper ns other) (sym x.names) stays_proper;
         numbers = λ k. still_first h.tree other
-            (retypes.zeros x.old x.new s.base.counts s.file path number text s.time known_then x.after x.box h.tree x.retypes x.stands.puts one_ran) (h.numbers k);
+            (retypes.zeros x.old x.new s.base.counts s.file path number text s.time known_then x.after x.steps x.steps' x.box h.tree x.retypes x.stands.puts one_ran) (h.numbers k);
         files = subst (λ (c : Base). GoesOn library c.files) (sym x.base) files_go_on;
         counted = subst (λ (c : Base). HasCounted rate c other) (sym x.base) other_counted;
         held = held_in s.file m.names m.states other x.new m.net x.net
