@@ -9,9 +9,6 @@ use Rattle.pd_kind.specs.Fit.{blank}
 use Rattle.pd_grove.specs.declared.nodes.Node.{Node}
 use Rattle.pd_grove.specs.Telling.{kind_in}
 use Rattle.pd_patch.specs.declared.patch.Patch.{Patch}
-use Rattle.pd_retyping.specs.Asking.{put_instead}
-use Rattle.pd_retyping.specs.Retypes.{counts_but}
-use Rattle.pd_canvas.specs.Views.{entry_of}
 use Rattle.pd_hearing.specs.Worlds.{bare, net_of, states_of}
 use Rattle.pd_guards.specs.Order.{HasFirst}
 use Rattle.pd_guards.proofs.MoreLemmas.{longer, first_more}
@@ -53,8 +50,7 @@ module _ (s : Stage) (path : List ℕ) (number : ℕ) (text : List Atom) (m : Ma
       let x = to.retypes in
       let b = x.became in
       new_well to.old.rate s.time x.added.known.names x.node.board b.seed None b.fresh (small_few b.seed.row.kind b.leaf.small)
-      (leaf_well to.old (counts_but to.old.rate x.node s.base.counts) s.file path (put_instead (entry_of x.node.element) text) (known_at s) x.added b.can.cell b.seed.row
-      x.comes b.can.single b.is_row b.suits first)
+      (leaf_well to.old _ s.file path _ (known_at s) x.added b.can.cell b.seed.row x.comes b.can.single b.is_row b.suits first)
 
 -- an edit that made a box another one
 pub retype_steady : (most : ℕ) (s : Stage) (ahead : List Choice) (path : List ℕ) (number : ℕ) (text : List Atom) (m : Made) → IsSteady most s → IsRetypedTo (with_ahead s []) path number text m

@@ -4,3 +4,4 @@ pub mod Steady
 pub mod Steps
 pub mod Told
 pub mod Serving
+pub mod Laws

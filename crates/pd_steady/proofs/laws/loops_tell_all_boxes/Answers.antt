@@ -9,19 +9,19 @@ use Rattle.pd_steady.proofs.MadeLemmas.{rewires_with, made_at, made_told, put_sh
 use Rattle.pd_steady.proofs.AroundLemmas.{around_short}
 use Rattle.pd_steady.proofs.laws.loops_tell_all_boxes.Goals as goal
 
-pub returns-clause-opened : goal.returns-clause-opened
-returns-clause-opened c = λ holds name rate d names table p base g.
-    notices_told p g.tree.tree g.tree.stands g.tree.shallow (c.orders_are_short.ensures (answer_in g.files.files) name d g.files.names table 1001 rate p g.tree g.fresh)
-
-pub returns-clause-edited : goal.returns-clause-edited
-returns-clause-edited c = λ s t. record {
-  rewired = λ path e m made.
-      let q : Patch = with_wires t.patch made.new.web made.new.links made.new.orders in
-      let can : CanRewire q = rewires_with c.rewiring_asks_alike.ensures t.patch s path e m t.of made in
-      made_told made.new made.canvas (λ o order. tree_short s t q refl can.orders path made.canvas o (made_at t.patch s path e m t.of made) order);
-  put = λ path e m made. made_told made.new made.box.canvas (λ o order. put_short s path e m t made o order);
-  around = λ path e m canvas made at. made_told made.new canvas (λ o order. around_short s path e m t made canvas at o order);
-  taken = λ path number m made. made_told made.new made.box.canvas (λ o order. take_short s path number m t made o order);
-  moved = λ path number x y m made. made_told made.new made.moves.canvas (λ o order. move_short s path number x y m t made o order);
-  retyped = λ path number text m made. made_told made.new made.box.canvas (λ o order. retype_short s path number text m t made o order);
+pub returns : goal.returns
+returns c = record {
+  opened = λ holds name rate d names table p base g.
+      notices_told p g.tree.tree g.tree.stands g.tree.shallow (c.orders_are_short.ensures (answer_in g.files.files) name d g.files.names table 1001 rate p g.tree g.fresh);
+  edited = λ s t. record {
+    rewired = λ path e m made.
+        let q : Patch = with_wires t.patch made.new.web made.new.links made.new.orders in
+        let can : CanRewire q = rewires_with c.rewiring_asks_alike.ensures t.patch s path e m t.of made in
+        made_told made.new made.canvas (λ o order. tree_short s t q refl can.orders path made.canvas o (made_at t.patch s path e m t.of made) order);
+    put = λ path e m made. made_told made.new made.box.canvas (λ o order. put_short s path e m t made o order);
+    around = λ path e m canvas made at. made_told made.new canvas (λ o order. around_short s path e m t made canvas at o order);
+    taken = λ path number m made. made_told made.new made.box.canvas (λ o order. take_short s path number m t made o order);
+    moved = λ path number x y m made. made_told made.new made.moves.canvas (λ o order. move_short s path number x y m t made o order);
+    retyped = λ path number text m made. made_told made.new made.box.canvas (λ o order. retype_short s path number text m t made o order);
+  };
 }
