@@ -35,10 +35,10 @@ pub record CommandsStaySteady : Type 0 where
 
 -- and so does time, where it is one at which events come
 pub record TimeStaysSteady : Type 0 where
-  pub advanced : (most to : ℕ) (s : Stage) → most ≤ 2 ^ 101 → to ≤ most → IsSteady most s → AreLawful (advanced to s).edits → IsSteady most (advanced to s).stage
-  pub advanced_freely : (most to : ℕ) (s : Stage) → most ≤ 2 ^ 101 → to ≤ most → IsSteady most s → AreLawful (advanced to s).edits → advanced_by free_ways to s ≡ advanced to s
-  pub finished : (most : ℕ) (s : Stage) → most + block_units ≤ 2 ^ 101 → IsSteady most s → AreLawful (finished s).edits → IsSteady (most + block_units) (finished s).stage
-  pub finished_freely : (most : ℕ) (s : Stage) → most + block_units ≤ 2 ^ 101 → IsSteady most s → AreLawful (finished s).edits → finished_by free_ways s ≡ finished s
+  pub advances : (most to : ℕ) (s : Stage) → most ≤ 2 ^ 101 → to ≤ most → IsSteady most s → AreLawful (advanced to s).edits → IsSteady most (advanced to s).stage
+  pub advances_freely : (most to : ℕ) (s : Stage) → most ≤ 2 ^ 101 → to ≤ most → IsSteady most s → AreLawful (advanced to s).edits → advanced_by free_ways to s ≡ advanced to s
+  pub finishes : (most : ℕ) (s : Stage) → most + block_units ≤ 2 ^ 101 → IsSteady most s → AreLawful (finished s).edits → IsSteady (most + block_units) (finished s).stage
+  pub finishes_freely : (most : ℕ) (s : Stage) → most + block_units ≤ 2 ^ 101 → IsSteady most s → AreLawful (finished s).edits → finished_by free_ways s ≡ finished s
 
 -- the names that a record brings leave a stage steady
 abbrev pub NamesStaySteady : Type 0

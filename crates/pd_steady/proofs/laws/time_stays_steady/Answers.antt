@@ -16,8 +16,8 @@ returns c =
       begins = λ names name atoms first n h. c.commands_begin_in_order.ensures.message names name atoms first n h;
     } in
     record {
-      advanced = λ most to s top l h w. (advanced_free g most top to s l h (lawful_fair _ w)).steady (lawful_fair _ w);
-      advanced_freely = λ most to s top l h w. (advanced_free g most top to s l h (lawful_fair _ w)).same;
-      finished = λ most s top h w. (finished_free g most s top h (lawful_fair _ w)).steady (lawful_fair _ w);
-      finished_freely = λ most s top h w. (finished_free g most s top h (lawful_fair _ w)).same;
+      advances = λ most to s top l h w. (advanced_free g most top to s l h (lawful_fair _ w)).steady (lawful_fair _ w);
+      advances_freely = λ most to s top l h w. (advanced_free g most top to s l h (lawful_fair _ w)).same;
+      finishes = λ most s top h w. (finished_free g most s top h (lawful_fair _ w)).steady (lawful_fair _ w);
+      finishes_freely = λ most s top h w. (finished_free g most s top h (lawful_fair _ w)).same;
     }
