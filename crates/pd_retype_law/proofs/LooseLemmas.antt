@@ -1,5 +1,5 @@
 -- A patch from which wires at a box of the own document went: what wires it has still hold and fit.
-use Rattle.std.proofs.Common.{◌≡◌, ◌≢◌, ◌==◌, ℕ, zero, suc, Bool, true, false, cond, not, List, [], ◌∷◌, ◌++◌, length, map, filter, slice_get, Some, None, refl, sym, ap, ◌∙◌, subst, arith}
+use Rattle.std.proofs.Common.{◌≡◌, ◌≢◌, ◌==◌, ℕ, true, not, List, [], ◌∷◌, length, map, slice_get, Some, sym, ap, ◌∙◌, subst, arith}
 use Rattle.std.specs.List.{AllByRecursion, flat_map, range_with_len}
 use Rattle.std.proofs.lemmas.Bool.Decides.{nat_tests}
 use Rattle.std.proofs.lemmas.Option.{none-some, same_Some}
@@ -15,7 +15,7 @@ use Rattle.pd_web.specs.declared.jacks.Jack.{Jack}
 use Rattle.pd_web.specs.declared.web.Hop.{Hop}
 use Rattle.pd_web.specs.declared.web.Web.{Web}
 use Rattle.pd_web.specs.Canvases.{keys_at}
-use Rattle.pd_web.specs.Changes.{hop_at, line_told, without_hop, KeepsPorts, Meet}
+use Rattle.pd_web.specs.Changes.{hop_at, line_told, KeepsPorts, Meet}
 use Rattle.pd_web.specs.Hops.{boxes_told, ports_told, fan_hops, feed_hops, feed_keys}
 use Rattle.pd_seek.specs.Places.{AreInOrder}
 use Rattle.pd_present.specs.Presents.{wire_along, outlet_wires, box_wires, wires_among}
