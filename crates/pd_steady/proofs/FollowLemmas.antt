@@ -1,5 +1,5 @@
 -- A box gets a port more, and the wires behind it follow: each box stays, and what is said of the wires to inlets and of blocks is still so.
-use Rattle.std.proofs.Common.{arith, ◌≡◌, ◌≢◌, ◌⊎◌, inl, inr, ◌<◌, ◌≤◌, ◌+◌, ℕ, ℤ, zero, suc, Bool, true, false, List, [], ◌∷◌, length, map, slice_get, Option, Some, None, IsSome, is_some, refl, sym, ap, subst, ◌∙◌, true≢false}
+use Rattle.std.proofs.Common.{arith, ◌≡◌, ◌≢◌, ◌⊎◌, inl, inr, ◌<◌, ◌≤◌, ℕ, ℤ, zero, suc, Bool, true, false, List, [], ◌∷◌, length, map, slice_get, Option, Some, None, IsSome, is_some, refl, sym, ap, subst, ◌∙◌, true≢false}
 use Rattle.std.specs.List.{AllByRecursion}
 use Rattle.std.proofs.lemmas.Bool.{cases_eq}
 use Rattle.std.proofs.lemmas.List.{length-map}
@@ -22,7 +22,7 @@ use Rattle.pd_patch.specs.declared.patch.Patch.{Patch}
 use Rattle.pd_patch.specs.Fed.{keys_of, AreFed}
 use Rattle.pd_patch.specs.Values.{Blocks, block_at, blocks_told}
 use Rattle.pd_boxes.specs.declared.room.Place.{Place}
-use Rattle.pd_following.specs.Raising.{up, raised, Raises}
+use Rattle.pd_following.specs.Raising.{raised, Raises}
 use Rattle.pd_following.specs.Ports.{BlocksFollow, IsPortPut}
 use Rattle.pd_following.proofs.ListLemmas.{up_or}
 use Rattle.pd_guards.specs.Sounds.{AreValues}

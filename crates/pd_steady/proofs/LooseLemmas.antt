@@ -1,5 +1,5 @@
 -- Some wires at a box go: each box stays, and what is said of the wires to inlets and of blocks is still so.
-use Rattle.std.proofs.Common.{◌≡◌, true, ℕ, ℤ, List, [], ◌∷◌, slice_get, IsSome, refl, sym, ap, subst, ◌∙◌}
+use Rattle.std.proofs.Common.{◌≡◌, ℕ, ℤ, List, [], ◌∷◌, slice_get, IsSome, refl, sym, ap, subst, ◌∙◌}
 use Rattle.std.specs.List.{AllByRecursion}
 use Rattle.slab.specs.Slab.{get}
 use Rattle.pd_grove.specs.declared.grove.Grove.{Grove}
