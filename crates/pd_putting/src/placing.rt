@@ -105,7 +105,8 @@ fn is_single(grown: &Grown) -> bool
     if rows.len() != 1 {
         return false;
     }
-    !rows[0].sheet.is_some()
+    let row = &rows[0];
+    !row.sheet.is_some()
 }
 
 /// Whether what grew is one subpatch without boxes, which isn't too deep.
