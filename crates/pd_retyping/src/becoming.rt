@@ -80,7 +80,7 @@ pub(crate) fn become_grown<L: Ledger>(
     let Ok(gone) = misfits_of(alloc, patch, key, &seed.row.kind) else {
         return Err(EditRefusal::NoMemory);
     };
-    let left = make_other(
+    let Ok(left) = make_other(
         alloc,
         patch,
         key,
@@ -89,8 +89,7 @@ pub(crate) fn become_grown<L: Ledger>(
         wires,
         symbols,
         steps,
-    );
-    let Ok(left) = left else {
+    ) else {
         return Err(EditRefusal::NoMemory);
     };
     let counts = counts_left(counts, left);

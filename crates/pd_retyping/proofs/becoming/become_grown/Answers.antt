@@ -1,7 +1,8 @@
-use Rattle.std.proofs.Common.{inl, inr, refl, sym, ap, ◌∙◌}
+use Rattle.std.proofs.Common.{inl, inr, refl, sym, ◌∙◌, subst}
 use Rattle.std.specs.Prelude.{List}
 use Rattle.slab.specs.Slab.{get}
 use Rattle.pd_misfits.specs.declared.wires.BoxWire.{BoxWire}
+use Rattle.pd_misfits.specs.Shedding.{AreWiresAt}
 use Rattle.pd_retyping.specs.Becoming.{MakesOther}
 use Rattle.pd_retyping.proofs.BecomeLemmas.{rows_small, rows_one, seed_leaf, seed_makes, has_become, same_patch, some_there}
 use Rattle.pd_retyping.proofs.becoming.become_grown.Goals as goal
@@ -26,8 +27,8 @@ misfits_of-requires-clause-small g c =
     let P = c.can_become.ensures.yes c.if-not-can_become.false n.0 h.added n.1 h.is in
     (seed_leaf p c.args.key n.0 c.args.grown h.added h.is P c.in-Ok.seed c.in-Ok.ensures.stand c.in-Ok.ensures.leaf).small
 
-pub make_other-left-requires : goal.make_other-left-requires
-make_other-left-requires g c =
+pub make_other-requires : goal.make_other-requires
+make_other-requires g c =
     let p = c.args.patch.now in
     let h = c.requires.grown in
     let n = some_there (get p.grove.nodes c.args.key) c.requires.here in
@@ -35,9 +36,10 @@ make_other-left-requires g c =
     record {
       can = (
         n.0,
-        seed_makes p c.args.key n.0 c.args.grown h.added h.is P c.in-Ok.seed c.in-Ok.ensures.stand c.as_slice-gone.result c.requires.can c.requires.meet n.1
+        seed_makes p c.args.key n.0 c.args.grown h.added h.is P c.in-Ok.seed c.in-Ok.ensures.stand c.as_slice.result.now c.requires.can c.requires.meet n.1
             (seed_leaf p c.args.key n.0 c.args.grown h.added h.is P c.in-Ok.seed c.in-Ok.ensures.stand c.in-Ok.ensures.leaf)
-            (c.in-Ok-misfits_of.ensures.told n.0 n.1) c.in-Ok-misfits_of.ensures.wires,
+            (c.as_slice.ensures.value ∙ c.in-Ok-misfits_of.ensures.told n.0 n.1)
+            (subst (λ (ms : List BoxWire). AreWiresAt p.web c.args.key ms) (sym c.as_slice.ensures.value) c.in-Ok-misfits_of.ensures.wires),
       );
       counted = c.requires.counted;
     }
@@ -47,8 +49,10 @@ returns-clause-became g c = λ n a is A names.
     let p = c.args.patch.now in
     let P = c.can_become.ensures.yes c.if-not-can_become.false n a is A in
     let leaf = seed_leaf p c.args.key n c.args.grown a A P c.in-Ok.seed c.in-Ok.ensures.stand c.in-Ok.ensures.leaf in
-    has_become p c.args.key n c.args.grown a A P c.in-Ok.seed c.in-Ok.ensures.stand c.make_other-left.new.patch c.args.now c.args.symbols.now c.in-Ok-misfits_of.gone.items
-    c.args.steps.now c.make_other-left.new.steps names leaf c.in-Ok.ensures.fresh c.make_other-left.ensures.goes_on (c.in-Ok-misfits_of.ensures.told n is) (c.in-Ok-left.ensures.made n is)
+    has_become p c.args.key n c.args.grown a A P c.in-Ok.seed c.in-Ok.ensures.stand c.make_other.new.patch c.args.now c.args.symbols.now c.in-Ok-misfits_of.gone.items
+    c.args.steps.now c.make_other.new.steps names leaf c.in-Ok.ensures.fresh c.make_other.ensures.goes_on (c.in-Ok-misfits_of.ensures.told n is)
+    (subst (λ (ms : List BoxWire). MakesOther p c.make_other.new.patch c.args.symbols.now c.args.key n c.in-Ok.seed ms c.args.steps.now c.make_other.new.steps) c.as_slice.ensures.value
+    (c.in-Ok-make_other.ensures.made n is))
 
 pub returns-then-not-can_become-clause-refused : goal.returns-then-not-can_become-clause-refused
 returns-then-not-can_become-clause-refused g c = λ n a is A. inr (refl, (refl, c.can_become.ensures.no c.if-not-can_become.true n a is A))
@@ -59,6 +63,6 @@ returns-in_default-clause-refused g c = λ n a is A. inl (refl, (c.can_become.en
 pub returns-in_default-misfits_of-clause-refused : goal.returns-in_default-misfits_of-clause-refused
 returns-in_default-misfits_of-clause-refused g c = λ n a is A. inl (refl, (c.can_become.ensures.yes c.if-not-can_become.false n a is A, same_patch c.args.patch.now))
 
-pub returns-in_default-left-clause-refused : goal.returns-in_default-left-clause-refused
-returns-in_default-left-clause-refused g c = λ n a is A.
-    inl (refl, (c.can_become.ensures.yes c.if-not-can_become.false n a is A, c.in_default-left.ensures.short))
+pub returns-in_default-make_other-clause-refused : goal.returns-in_default-make_other-clause-refused
+returns-in_default-make_other-clause-refused g c = λ n a is A.
+    inl (refl, (c.can_become.ensures.yes c.if-not-can_become.false n a is A, c.in_default-make_other.ensures.short))
