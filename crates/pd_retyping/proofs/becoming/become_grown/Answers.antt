@@ -1,8 +1,9 @@
-use Rattle.std.proofs.Common.{inl, inr, refl, sym, ◌∙◌, subst}
+use Rattle.std.proofs.Common.{inl, inr, refl, sym, ap, ◌∙◌, subst}
 use Rattle.std.specs.Prelude.{List}
 use Rattle.slab.specs.Slab.{get}
 use Rattle.pd_misfits.specs.declared.wires.BoxWire.{BoxWire}
 use Rattle.pd_misfits.specs.Shedding.{AreWiresAt}
+use Rattle.pd_retyping.specs.Retypes.{with_wires}
 use Rattle.pd_retyping.specs.Becoming.{MakesOther}
 use Rattle.pd_retyping.proofs.BecomeLemmas.{rows_small, rows_one, seed_leaf, seed_makes, has_become, same_patch, some_there}
 use Rattle.pd_retyping.proofs.becoming.become_grown.Goals as goal
@@ -66,3 +67,6 @@ returns-in_default-misfits_of-clause-refused g c = λ n a is A. inl (refl, (c.ca
 pub returns-in_default-make_other-clause-refused : goal.returns-in_default-make_other-clause-refused
 returns-in_default-make_other-clause-refused g c = λ n a is A.
     inl (refl, (c.can_become.ensures.yes c.if-not-can_become.false n a is A, c.in_default-make_other.ensures.short))
+
+pub returns-clause-counts : goal.returns-clause-counts
+returns-clause-counts g c = c.counts_left-counts.ensures ∙ ap (with_wires c.args.grown.counts) c.in-Ok-make_other.ensures.counted

@@ -1,6 +1,6 @@
 use Rattle.std.proofs.Common.{arith, sym, ◌∙◌}
 use Rattle.pd_misfits.specs.Shedding.{IsWired}
-use Rattle.pd_retyping.proofs.BecomeLemmas.{lives_there, ordered_there, room_zero, room_wires}
+use Rattle.pd_retyping.proofs.BecomeLemmas.{lives_there, on_err, ordered_there, room_zero, room_wires}
 use Rattle.pd_retyping.proofs.MakeLemmas as make
 use Rattle.pd_retyping.proofs.becoming.make_other.Goals as goal
 
@@ -120,7 +120,7 @@ pub returns-in_err-room-clause-fewer : goal.returns-in_err-room-clause-fewer
 returns-in_err-room-clause-fewer g c = let same = room_wires c.args.patch.now c.reserve_refit.new.patch c.reserve_refit.ensures.same in omega (arith, same)
 
 pub returns-in_err-room-clause-as_many : goal.returns-in_err-room-clause-as_many
-returns-in_err-room-clause-as_many g c = room_wires c.args.patch.now c.reserve_refit.new.patch c.reserve_refit.ensures.same
+returns-in_err-room-clause-as_many g c = on_err c.from_residual.result (room_wires c.args.patch.now c.reserve_refit.new.patch c.reserve_refit.ensures.same)
 
 pub returns-in_err-room-clause-zero : goal.returns-in_err-room-clause-zero
 returns-in_err-room-clause-zero g c = room_zero c.args.patch.now c.reserve_refit.new.patch c.reserve_refit.ensures.same
