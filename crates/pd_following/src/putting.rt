@@ -3,7 +3,6 @@
 ghost use Rattle.std.specs.Prelude.{◌≡◌, ◌≤◌, ◌+◌, length};
 ghost use Rattle.slab.specs.Slab.{ContainsKey};
 ghost use Rattle.pd_web.specs.Canvases.{keys_at};
-ghost use Rattle.pd_boxes.specs.Room.{TakesBox};
 ghost use Rattle.pd_following.specs.Ports.{CanPutPort, IsPortPut};
 ghost use Rattle.pd_following.specs.Room.{TakesPort};
 

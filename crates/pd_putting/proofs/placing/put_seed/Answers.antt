@@ -1,4 +1,4 @@
-use Rattle.std.proofs.Common.{inl, inr, sym, ◌∙◌}
+use Rattle.std.proofs.Common.{sym, ◌∙◌}
 use Rattle.pd_putting.proofs.SubLemmas.{ready_shell, ready_leaf}
 use Rattle.pd_putting.proofs.placing.put_seed.Goals as goal
 
