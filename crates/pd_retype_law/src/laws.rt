@@ -1,6 +1,6 @@
 //! Laws over a running patch of which an edit made a box another one, and its tree.
 
-ghost use Rattle.std.specs.Prelude.{◌≡◌, ◌≤◌, ◌+◌, ℕ, List, length, Option};
+ghost use Rattle.std.specs.Prelude.{◌≡◌, ◌≤◌, ◌+◌, ℕ, List, length};
 ghost use Rattle.pd_atom.specs.declared.Atom.{Atom};
 ghost use Rattle.pd_atom.specs.Names.{Names, Extends, IsTable};
 ghost use Rattle.pd_canvas.specs.Edits.{edited, retyped};
