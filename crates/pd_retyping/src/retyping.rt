@@ -1,6 +1,6 @@
 //! A box that an edit makes another one, grown aside and put in its place.
 
-ghost use Rattle.std.specs.Prelude.{◌≡◌, ◌≤◌, ◌+◌, Err, IfOk, IfErr, OnErr};
+ghost use Rattle.std.specs.Prelude.{◌≡◌, ◌≤◌, Err, IfOk, IfErr, OnErr};
 ghost use Rattle.pd_io.specs.Faults.{Rose};
 ghost use Rattle.pd_atom.specs.Names.{Extends};
 ghost use Rattle.pd_gather.specs.Gather.{known, AreProper};

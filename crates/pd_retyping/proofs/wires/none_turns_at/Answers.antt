@@ -1,4 +1,4 @@
-use Rattle.std.proofs.Common.{◌≡◌, true, false, sym, ap, ◌∙◌}
+use Rattle.std.proofs.Common.{sym, ap, ◌∙◌}
 use Rattle.pd_misfits.specs.Misfits.{turns}
 use Rattle.pd_retyping.proofs.TurnLemmas.{along_all, along_first, along_next, along_not, along_smaller, once_at}
 use Rattle.pd_retyping.proofs.wires.none_turns_at.Goals as goal
