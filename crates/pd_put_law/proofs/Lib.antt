@@ -3,6 +3,7 @@ pub mod LastLemmas
 pub mod InsideLemmas
 pub mod FollowLemmas
 pub mod AroundLemmas
+mod HomeLemmas
 pub mod PortLemmas
 pub mod ComeLemmas
 pub mod CountLemmas

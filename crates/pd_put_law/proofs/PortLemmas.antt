@@ -8,7 +8,6 @@ use Rattle.pd_grove.specs.Telling.{inner_in}
 use Rattle.pd_web.specs.declared.jacks.Jack.{Jack}
 use Rattle.pd_web.specs.Canvases.{keys_at}
 use Rattle.pd_ports.specs.Known.{KnowsHomes}
-use Rattle.pd_ports.proofs.KnownLemmas.{had_known}
 use Rattle.pd_patch.specs.declared.patch.Patch.{Patch}
 use Rattle.pd_patch.specs.Linked.{StayInside}
 use Rattle.pd_boxes.specs.declared.room.Place.{Place}
@@ -22,6 +21,7 @@ use Rattle.pd_following.specs.Raising.{IsOneMore}
 use Rattle.pd_following.proofs.ComeLemmas.{hold_alone, ready_holds, ready_one_more}
 use Rattle.pd_following_law.specs.Raised.{StandsAt}
 use Rattle.pd_putting.specs.Adds.{last_place, IsPortBoxPut}
+use Rattle.pd_put_law.proofs.HomeLemmas.{had_known}
 use Rattle.pd_put_law.proofs.LastLemmas.{ComesLast, leaf_last}
 use Rattle.pd_put_law.proofs.InsideLemmas.{subs_more}
 use Rattle.pd_put_law.proofs.AroundLemmas.{HasFollowed, holder_stands}
