@@ -1,0 +1,3 @@
+pub mod LowerLemmas
+pub mod GraftLemmas
+pub mod LeaveLemmas
