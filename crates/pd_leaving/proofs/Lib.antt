@@ -1,3 +1,6 @@
 pub mod LowerLemmas
 pub mod GraftLemmas
 pub mod LeaveLemmas
+pub mod PortWireLemmas
+pub mod PortWalkLemmas
+pub mod BlockLemmas

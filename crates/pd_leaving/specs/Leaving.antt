@@ -40,7 +40,7 @@ pub record CanTakePort (p : Patch) (place : Place) (key holder : ℕ) (side : Si
   pub stands : get p.grove.nodes key ≡ Some node
   pub leaf : node.inner ≡ None
   pub at : IsPortAt p.grove place node.kind holder side
-  pub port : port_told p.web key ≡ Some (holder, port)
+  pub numbered : port_told p.web key ≡ Some (holder, port)
 
 -- A box without wires and without a canvas inside is out of its canvas, with its own ports, its blocks and its clock. It is among no owners, and
 -- the boxes behind it have the numbers before theirs. Of all else only the orders may differ.

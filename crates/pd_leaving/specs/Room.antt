@@ -1,5 +1,5 @@
 -- Room for the box around where a port of it goes.
-use Rattle.std.specs.Prelude.{◌≡◌, ◌+◌, ℕ, List, ◌++◌, take, drop, length, replicate, IsSome}
+use Rattle.std.specs.Prelude.{◌≡◌, ◌+◌, ℕ, zero, suc, List, [], ◌∷◌, length, replicate, IsSome}
 use Rattle.slab.specs.Slab.{get}
 use Rattle.pd_kind.specs.States.{silent_block}
 use Rattle.pd_grove.specs.declared.ports.Side.TheVariants.{Inlets, Outlets}
@@ -14,7 +14,9 @@ use Rattle.pd_leaving.specs.Wires.{port_wires}
 
 -- a list without the one of a number
 abbrev pub without_at : {X : Type 0} → List X → ℕ → List X
-without_at xs i = take i xs ++ drop (i + 1) xs
+without_at [] i = []
+without_at (x ∷ xs) zero = xs
+without_at (x ∷ xs) (suc i) = x ∷ without_at xs i
 
 -- the wires at the port of the box around are told, and the box around loses the port without taking memory
 pub record TakesLoss (p : Patch) (loss : PortLoss) : Type 0 where

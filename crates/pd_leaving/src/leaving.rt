@@ -40,7 +40,6 @@ pub(crate) fn leave_port(web: &mut Web, grove: &Grove, holder: u32, side: Side, 
 {
     web.laws();
     follow_ports(web, grove, holder, side, room);
-    web.laws();
 }
 
 /// Gives the box around its blocks, where an outlet went.
