@@ -1,6 +1,8 @@
 -- Outlets that carry signals, without one of them.
-use Rattle.std.proofs.Common.{◌≡◌, ◌≢◌, ℕ, zero, suc, ◌≤◌, ◌||◌, Bool, true, false, List, [], ◌∷◌, length, slice_get, true≢false, refl, sym, ap, ◌∙◌, arith}
+use Rattle.std.proofs.Common.{◌≡◌, ◌≢◌, ℕ, zero, suc, ◌<◌, ◌≤◌, ◌||◌, Bool, true, false, List, [], ◌∷◌, length, slice_get, inl, inr, true≢false, refl, sym, ap, ◌∙◌, arith}
 use Rattle.std.specs.List.{insert, list_any}
+use Rattle.std.proofs.lemmas.Bool.{cases_lt}
+use Rattle.std.proofs.lemmas.Option.{slice_get_past}
 use Rattle.pd_web.specs.declared.jacks.Jack.{Jack}
 use Rattle.pd_web.specs.Hops.{signal_in}
 use Rattle.pd_following.proofs.ReserveLemmas.{no_signal, some_signal}
@@ -31,3 +33,9 @@ without_inserted [] zero j l = refl
 without_inserted (x ∷ js) zero j l = refl
 without_inserted [] (suc at) j l = absurd (omega (arith, l))
 without_inserted (x ∷ js) (suc at) j l = ap (λ ys. x ∷ ys) (without_inserted js at j (omega (arith, l)))
+
+pub none_before : (js : List Jack) (port n : ℕ) → length js ≤ n → ((i : ℕ) → i < n → i ≢ port → signal_in (slice_get js i) ≡ false) → list_any (λ (j : Jack). j.is_signal) (without_at js port) ≡ false
+none_before js port n l h = no_other_sounds js port (λ i d. elim (cases_lt i n) [
+  | inl m ↦ h i m d
+  | inr m ↦ ap signal_in (slice_get_past js i (omega (arith, l, m)))
+])

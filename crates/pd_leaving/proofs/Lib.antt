@@ -4,3 +4,4 @@ pub mod LeaveLemmas
 pub mod PortWireLemmas
 pub mod PortWalkLemmas
 pub mod BlockLemmas
+pub mod OutLemmas

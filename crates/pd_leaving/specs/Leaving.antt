@@ -1,5 +1,5 @@
 -- A port box goes from a canvas that a box holds.
-use Rattle.std.specs.Prelude.{◌≡◌, ◌≢◌, ℕ, false, List, [], slice_get, Some, None}
+use Rattle.std.specs.Prelude.{◌≡◌, ◌≢◌, ◌<◌, ℕ, false, List, [], length, slice_get, Some, None, IsSome}
 use Rattle.slab.specs.Slab.{get}
 use Rattle.pd_atom.specs.Names.{Names}
 use Rattle.pd_clock.specs.Queue.{without}
@@ -31,7 +31,7 @@ use Rattle.pd_following.specs.Ports.{BlocksFollow, IsPortAt, RestStays, port_jac
 use Rattle.pd_following.specs.Raising.{Raises}
 use Rattle.pd_leaving.specs.Wires.{port_wires}
 
--- At the place stands a box without a canvas inside, which is this port of the box around.
+-- At the place stands a box without a canvas inside, which is this port of the box around. Each box has a place for its blocks.
 pub record CanTakePort (p : Patch) (place : Place) (key holder : ℕ) (side : Side) (port : ℕ) : Type 0 where
   pub can : CanPut p
   pub meet : Meet p.web
@@ -41,6 +41,7 @@ pub record CanTakePort (p : Patch) (place : Place) (key holder : ℕ) (side : Si
   pub leaf : node.inner ≡ None
   pub at : IsPortAt p.grove place node.kind holder side
   pub numbered : port_told p.web key ≡ Some (holder, port)
+  pub reached : (k : ℕ) → IsSome (get p.grove.nodes k) → k < length p.values.items
 
 -- A box without wires and without a canvas inside is out of its canvas, with its own ports, its blocks and its clock. It is among no owners, and
 -- the boxes behind it have the numbers before theirs. Of all else only the orders may differ.

@@ -1,10 +1,10 @@
 //! A port box goes, layer by layer, and the box around loses its port.
 
-ghost use Rattle.std.specs.Prelude.{◌≡◌, ◌+◌, None, Some, slice_get};
+ghost use Rattle.std.specs.Prelude.{◌≡◌, ◌<◌, ◌+◌, length, None, Some, slice_get};
 ghost use Rattle.slab.specs.Slab.{get};
 ghost use Rattle.pd_grove.specs.Telling.{inner_in};
 ghost use Rattle.pd_web.specs.Canvases.{keys_at};
-ghost use Rattle.pd_web.specs.Changes.{wires_told, HasRoom};
+ghost use Rattle.pd_web.specs.Changes.{wires_told, HasRoom, Meet};
 ghost use Rattle.pd_ports.specs.Boxes.{HasNoWires};
 ghost use Rattle.pd_boxes.specs.Put.{CanPut};
 ghost use Rattle.pd_leaving.specs.Leaving.{CanTakePort, GoesOut, IsPortTaken};
@@ -13,7 +13,8 @@ ghost use Rattle.pd_leaving.specs.Room.{TakesLoss};
 use crate::leaving::{leave_blocks, leave_port};
 use crate::room::PortLoss;
 use pd_atom::Symbols;
-use pd_boxes::{Place, number_boxes, put_blocks};
+use pd_boxes::{Place, put_blocks};
+use pd_clearing::lower_numbers;
 use pd_misfits::loosen_wires;
 use pd_order::Steps;
 use pd_owning::{spot_at, unbind_box};
@@ -70,7 +71,9 @@ fn take_out(
     requires can { CanPut patch.old }
     requires is { slice_get (keys_at patch.old.grove place.canvas) place.number ≡ Some key }
     requires leaf { inner_in (get patch.old.grove.nodes key) ≡ None }
+    requires meet { Meet patch.old.web }
     requires bare { HasNoWires patch.old.web key }
+    requires reached { key < length patch.old.values.items }
     requires near { HasRoom patch.old.web (key + 1) 0 0 }
     ensures out { GoesOut patch.old patch.new symbols.old place key }
     ensures table { symbols.new ≡ symbols.old }
@@ -89,5 +92,5 @@ fn take_out(
     patch.grove.take_box(place.canvas, place.number);
     close_box(&mut patch.web, alloc, key);
     put_blocks(&mut patch.values, key, Vec::new(alloc));
-    number_boxes(&mut patch.numbers, &patch.grove, place);
+    lower_numbers(&mut patch.numbers, &patch.grove, place);
 }
