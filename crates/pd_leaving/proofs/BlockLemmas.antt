@@ -39,3 +39,14 @@ none_before js port n l h = no_other_sounds js port (λ i d. elim (cases_lt i n)
   | inl m ↦ h i m d
   | inr m ↦ ap signal_in (slice_get_past js i (omega (arith, l, m)))
 ])
+
+-- how many are left
+pub one_shorter : (js : List Jack) (port : ℕ) → port < length js → suc (length (without_at js port)) ≡ length js
+one_shorter [] port l = absurd (omega (arith, l))
+one_shorter (j ∷ js) zero l = refl
+one_shorter (j ∷ js) (suc port) l = ap suc (one_shorter js port (omega (arith, l)))
+
+pub as_long : (js : List Jack) (port : ℕ) → length js ≤ port → length (without_at js port) ≡ length js
+as_long [] port l = refl
+as_long (j ∷ js) zero l = absurd (omega (arith, l))
+as_long (j ∷ js) (suc port) l = ap suc (as_long js port (omega (arith, l)))

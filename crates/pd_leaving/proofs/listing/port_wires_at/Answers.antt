@@ -19,7 +19,7 @@ loop-next-preserved c =
     let W = subst (λ x. IsWalked f hops [] old x) c.in-Some.is c.loop-next.invariant in
     let is : c.wire_at.result ≡ wire_at p.numbers.items o.side o.node o.port c.in-Some.hop =
     c.wire_at.ensures ∙ ap (λ (ns : List ℕ). wire_at ns o.side o.node o.port c.in-Some.hop) c.as_slice.ensures.value in
-    let pushed : c.push.new.self.items ≡ old ++ f c.in-Some.hop = c.in_ok-push.ensures ∙ ap (λ (m : BoxWire). old ++ m ∷ []) is in
+    let pushed : c.push.new.self.items ≡ old ++ f c.in-Some.hop = c.in_ok-push.ensures.items ∙ ap (λ (m : BoxWire). old ++ m ∷ []) is in
     walk_next f hops [] old c.push.new.self.items c.in-Some.hop c.next_at-next.result W pushed c.next_at-next.ensures
 
 pub loop-next-smaller : goal.loop-next-smaller

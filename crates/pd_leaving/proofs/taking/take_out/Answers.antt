@@ -1,9 +1,9 @@
-use Rattle.std.proofs.Common.{[], ◌∷◌, refl, sym, ap, ◌∙◌, subst}
-use Rattle.std.specs.Prelude.{slice_get, Some}
-use Rattle.pd_grove.specs.TextOrder.{spots_in_order}
-use Rattle.pd_web.specs.Canvases.{keys_at}
+use Rattle.std.proofs.Common.{[], ◌∷◌, IsSome, refl, sym, subst}
+use Rattle.slab.specs.Slab.{get}
+use Rattle.pd_grove.proofs.ForestLemmas.{box_there}
+use Rattle.pd_owning.specs.Bound.{AreOwnersBut}
 use Rattle.pd_clearing.proofs.ReadyLemmas.{above, has_order, hold_alone, lawful, loose, numbers_left, numbers_stay, once, owners_left, within}
-use Rattle.pd_leaving.proofs.OutLemmas.{leaf_ready, no_orders_go}
+use Rattle.pd_leaving.proofs.OutLemmas.{leaf_ready}
 use Rattle.pd_leaving.proofs.taking.take_out.Goals as goal
 
 pub displace_box-requires-clause-loose : goal.displace_box-requires-clause-loose
@@ -49,3 +49,37 @@ lower_numbers-requires-clause-above c =
     let key = c.args.key in
     above p c.args.place key (key ∷ []) (leaf_ready p c.args.place key c.requires.can c.requires.is c.requires.leaf c.requires.meet c.requires.bare) c.take_box.new.self c.take_box.result
     (c.take_box.ensures.takes key c.requires.is)
+
+pub spot_at-spot-requires-clause-here : goal.spot_at-spot-requires-clause-here
+spot_at-spot-requires-clause-here c =
+    let p = c.args.patch.now in
+    let B = box_there (get p.grove.nodes c.args.key) c.args.place.canvas (c.requires.can.forest.own.home c.args.place.canvas c.args.place.number c.args.key c.requires.is) in
+    subst (λ o. IsSome o) (sym B.is) refl
+
+pub returns-clause-out : goal.returns-clause-out
+returns-clause-out c =
+    let p = c.args.patch.now in
+    let key = c.args.key in
+    let place = c.args.place in
+    let R = leaf_ready p place key c.requires.can c.requires.is c.requires.leaf c.requires.meet c.requires.bare in
+    let h = c.take_box.new.self in
+    let n = c.take_box.result in
+    let T = c.take_box.ensures.takes key c.requires.is in
+    record {
+      node = n;
+      grove = T;
+      root = c.take_box.ensures.root;
+      ports = c.close_box.ensures.ports;
+      homes = c.close_box.ensures.homes;
+      owners = owners_left p place key (key ∷ []) R h n T c.unbind_box.new.names c.args.symbols.now c.take_box.ensures.root
+          (λ file away o. subst (λ k. AreOwnersBut c.unbind_box.new.names c.args.symbols.now file p.grove (k ∷ away)) c.spot_at-spot.ensures.node (c.unbind_box.ensures.unbinds file away o));
+      links = refl;
+      numbers = numbers_left p place key (key ∷ []) R h n T c.lower_numbers.new.numbers.items c.lower_numbers.ensures place.canvas;
+      other_numbers = numbers_stay p place key (key ∷ []) R h n T c.lower_numbers.new.numbers.items c.lower_numbers.ensures;
+      blocks = c.put_blocks.ensures;
+      clocks = c.clear.ensures.clocks;
+      clock_room = c.clear.ensures.end;
+      other_orders = c.displace_box.ensures.others;
+      rate = refl;
+      present = refl;
+    }
