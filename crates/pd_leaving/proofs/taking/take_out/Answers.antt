@@ -1,7 +1,9 @@
-use Rattle.std.proofs.Common.{[], ◌∷◌, IsSome, refl, sym, subst}
+use Rattle.std.proofs.Common.{[], ◌∷◌, map, IsSome, refl, sym, subst}
 use Rattle.slab.specs.Slab.{get}
 use Rattle.pd_grove.proofs.ForestLemmas.{box_there}
 use Rattle.pd_owning.specs.Bound.{AreOwnersBut}
+use Rattle.pd_patch.specs.Values.{blocks_told}
+use Rattle.pd_boxes.specs.Rows.{PutsUnder}
 use Rattle.pd_clearing.proofs.ReadyLemmas.{above, has_order, hold_alone, lawful, loose, numbers_left, numbers_stay, once, owners_left, within}
 use Rattle.pd_leaving.proofs.OutLemmas.{leaf_ready}
 use Rattle.pd_leaving.proofs.taking.take_out.Goals as goal
@@ -76,7 +78,7 @@ returns-clause-out c =
       links = refl;
       numbers = numbers_left p place key (key ∷ []) R h n T c.lower_numbers.new.numbers.items c.lower_numbers.ensures place.canvas;
       other_numbers = numbers_stay p place key (key ∷ []) R h n T c.lower_numbers.new.numbers.items c.lower_numbers.ensures;
-      blocks = c.put_blocks.ensures;
+      blocks = subst (PutsUnder (blocks_told p) (map (λ b. b.items) c.put_blocks.new.values.items) key) c.new.ensures.items c.put_blocks.ensures;
       clocks = c.clear.ensures.clocks;
       clock_room = c.clear.ensures.end;
       other_orders = c.displace_box.ensures.others;
