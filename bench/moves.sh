@@ -7,16 +7,9 @@
 # ./play, or name another one in PDPLAY.
 set -u
 top=$(cd "$(dirname "$0")/.." && pwd) || exit 2
-# shellcheck source=bench/program.sh
-. "$top/bench/program.sh"
+# shellcheck source=bench/main-pd.sh
+. "$top/bench/main-pd.sh"
 edits=${1:-10000}
-folder=$(mktemp -d)
-trap 'rm -rf "$folder"' EXIT
-# shellcheck source=bench/seconds.sh
-. "$top/bench/seconds.sh"
-cd "$folder" || exit 2
-
-run() { "$program" main.pd; }
 
 # The patch of so many voices, flat or five voices a subpatch: patch flat|inside VOICES
 patch() {

@@ -8,16 +8,9 @@
 # by the number of boxes of the patch. Build the program first, by ./play, or name another one in PDPLAY.
 set -u
 top=$(cd "$(dirname "$0")/.." && pwd) || exit 2
-# shellcheck source=bench/program.sh
-. "$top/bench/program.sh"
+# shellcheck source=bench/main-pd.sh
+. "$top/bench/main-pd.sh"
 edits=${1:-4000}
-folder=$(mktemp -d)
-trap 'rm -rf "$folder"' EXIT
-# shellcheck source=bench/seconds.sh
-. "$top/bench/seconds.sh"
-cd "$folder" || exit 2
-
-run() { "$program" main.pd; }
 
 # The patch of so many voices, and behind them a box without wires, and two with a wire.
 patch() {
