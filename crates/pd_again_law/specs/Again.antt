@@ -11,7 +11,7 @@ use Rattle.pd_doc.specs.Reading.{document_of}
 use Rattle.pd_doc.specs.Writing.{text_of}
 use Rattle.pd_library.specs.Files.{answer_in}
 use Rattle.pd_library.specs.declared.answers.Answer.{Answer}
-use Rattle.pd_tree.specs.Trees.{Tree, weight, zeros_of}
+use Rattle.pd_tree.specs.Trees.{Tree, weight, zeros_in, zeros_of}
 use Rattle.pd_growth.specs.Steps.{Stock, Step, gives, zeros_from}
 use Rattle.pd_growth.specs.Growth.{grown}
 use Rattle.pd_gather.specs.Gather.{GoesOn, known}
@@ -30,7 +30,7 @@ use Rattle.pd_inside_law.specs.Inside.{IsSameCanvas}
 use Rattle.pd_taking_law.specs.Takes.{taken_at}
 use Rattle.pd_stage.specs.Choices.{Wanted, Edits, Asks, Saves, Choice, Makes}
 use Rattle.pd_stage.specs.Stages.{Stage, Taken}
-use Rattle.pd_stage.specs.Lawful.{IsTakenOut, IsSaved}
+use Rattle.pd_stage.specs.Lawful.{IsPutIn, IsTakenOut, IsSaved}
 use Rattle.pd_engine.specs.Opening.{growth_of}
 
 -- The second patch stands as the first one does: as this tree, with no name more, and each name has the same owners, by their places in text order.
@@ -67,14 +67,15 @@ pub record OpensAgain (files : List (ℕ × Answer)) (name : List ℕ) (rate : R
       GrowsAgain (growth_of name page (known files names)) (stock names numbers_left room_left) name rate t p names
   pub alike : (more : List ℕ) (room : ℕ) → GrowsAgain (grown_alike files name page names t more room) (stock names more room) name rate t p names
 
--- where the edit took a box out, no `$0` number went with it
-abbrev pub TakesNoNumber : Stage → List ℕ → Edit → Choice → Type 0
-TakesNoNumber s path (edit.Delete number) (Makes m) = (x : IsTakenOut s path number m) (t : Tree) → RunsAs x.old.grove t → zeros_of (taken_at path number t) ≡ zeros_of t
-TakesNoNumber s path e c = Unit {0}
+-- where the edit took a box out, no `$0` number went with it, and where it put one, none came with it
+abbrev pub KeepsNumbers : Stage → List ℕ → Edit → Choice → Type 0
+KeepsNumbers s path (edit.Delete number) (Makes m) = (x : IsTakenOut s path number m) (t : Tree) → RunsAs x.old.grove t → zeros_of (taken_at path number t) ≡ zeros_of t
+KeepsNumbers s path e (Makes m) = (x : IsPutIn s path e m) → zeros_in x.adds.added.boxes ≡ []
+KeepsNumbers s path e c = Unit {0}
 
 abbrev pub LeavesNumbers : Wanted → Stage → Choice → Type 0
-LeavesNumbers (Edits None path e) s c = TakesNoNumber s path e c
-LeavesNumbers (Asks path e) s c = TakesNoNumber s path e c
+LeavesNumbers (Edits None path e) s c = KeepsNumbers s path e c
+LeavesNumbers (Asks path e) s c = KeepsNumbers s path e c
 LeavesNumbers wanted s c = Unit {0}
 
 -- so it is of all these edits
@@ -82,8 +83,8 @@ abbrev pub AllLeaveNumbers : List Taken → Type 0
 AllLeaveNumbers edits = AllByRecursion (λ taken. LeavesNumbers taken.wanted taken.found taken.choice) edits
 
 -- A patch that stands at a stage opens again from its text, with the files that are known there: those that were known where the patch opened, with what
--- boxes that came or became others have asked for behind them. Where the edits before took no `$0` number away, the numbers of its tree are the first
--- ones from 1001 on.
+-- boxes that came or became others have asked for behind them. Where the edits before took no `$0` number away and brought none, the numbers of its tree are
+-- the first ones from 1001 on.
 pub record Reopens (library : List (ℕ × Answer)) (name : List ℕ) (rate : Rate) (before : List Taken) (s : Stage) (p : Patch) : Type 0 where
   pub tree : Tree
   pub files : GoesOn library s.base.files

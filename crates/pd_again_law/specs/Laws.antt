@@ -14,7 +14,7 @@ use Rattle.pd_stage.specs.Times.{block_units}
 use Rattle.pd_engine.specs.Opening.{Grows, opened}
 use Rattle.pd_steady.specs.Runs.{own_ways}
 use Rattle.pd_steady.specs.Steps.{Step, AreSteps, steps_by, run_by}
-use Rattle.pd_again_law.specs.Again.{TakesNoNumber, Reopens, AreAgain}
+use Rattle.pd_again_law.specs.Again.{KeepsNumbers, Reopens, AreAgain}
 
 -- each save of a run from where a patch opens to its end, in which each edit is lawful, opens again as the patch that was saved
 abbrev pub SavesOpenAgain : Type 0
@@ -35,4 +35,4 @@ StagesOpenAgain = (holds : Option (List FileRow)) (name : List ℕ) (rate : Rate
 -- an edit that took a box out that holds no canvas took no `$0` number away
 abbrev pub BareBoxesLeaveNumbers : Type 0
 BareBoxesLeaveNumbers = (s : Stage) (path : List ℕ) (number : ℕ) (m : Made) → ((x : IsTakenOut s path number m) → x.deletes.cleared.node.inner ≡ None) →
-    TakesNoNumber s path (edit.Delete number) (Makes m)
+    KeepsNumbers s path (edit.Delete number) (Makes m)

@@ -19,7 +19,7 @@ use Rattle.pd_stage.specs.Choices as stage
 use Rattle.pd_stage.specs.Stages.{Stage, Taken, Passage, saying, joined}
 use Rattle.pd_stage.specs.Lines.{numbers_told, boxes_text}
 use Rattle.pd_stage.specs.Leads.{Sinks, Comes}
-use Rattle.pd_stage.specs.Events.{event, Message, edit_taken}
+use Rattle.pd_stage.specs.Events.{event, Message, edit_event}
 use Rattle.pd_engine.specs.Messages.{message_in}
 
 -- the canvas to which a path of box numbers leads from a canvas
@@ -49,14 +49,14 @@ abbrev pub sent : ℕ → List Atom → Stage → Passage
 sent name atoms s =
     joined (saying s (cut_text (message_in atoms).atoms)) (event s (Message name (message_in atoms).selector (cut_atoms (message_in atoms).atoms)))
 
--- A message is sent by an event. What an edit, a save, an undo or a redo comes to is told by what is ahead.
+-- A message is sent by an event, and an edit, a save, an undo or a redo is one: what it comes to is told by what is ahead.
 unfoldable pub commanded : Command → Stage → Passage
 commanded (command.Send name atoms) s = sent name atoms s
-commanded (command.Edit place edit) s = edit_taken (Edits place.document place.path edit) s
-commanded (command.Save document) s = edit_taken (Saves document) s
+commanded (command.Edit place edit) s = edit_event (Edits place.document place.path edit) s
+commanded (command.Save document) s = edit_event (Saves document) s
 commanded (command.Show path) s = saying s (shown s.net path)
-commanded command.Undo s = edit_taken Undoes s
-commanded command.Redo s = edit_taken Redoes s
+commanded command.Undo s = edit_event Undoes s
+commanded command.Redo s = edit_event Redoes s
 
 -- what is answered to what is refused for a reason
 abbrev pub refused_as : Why → Outcome

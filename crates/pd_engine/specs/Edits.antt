@@ -1,5 +1,5 @@
 -- What an edit of the patch's own document comes to.
-use Rattle.std.specs.Prelude.{◌≡◌, ◌≤◌, ◌+◌, ◌⊎◌, ℕ, true, List, Some, None, Result, Ok, Err}
+use Rattle.std.specs.Prelude.{◌≡◌, ◌≤◌, ◌+◌, ◌⊎◌, ℕ, true, List, [], ◌∷◌, Some, None, Result, Ok, Err}
 use Rattle.std.specs.List.{AllByRecursion}
 use Rattle.pd_atom.specs.declared.Atom.{Atom}
 use Rattle.pd_canvas.specs.declared.edits.Edit.{Edit}
@@ -16,9 +16,9 @@ use Rattle.pd_wiring.specs.declared.refusals.EditRefusal.{EditRefusal}
 use Rattle.pd_wiring.specs.declared.refusals.EditRefusal.TheVariants.{NoMemory}
 use Rattle.pd_say.specs.declared.refusals.Why.{Why}
 use Rattle.pd_say.specs.declared.refusals.Why.TheVariants as why
-use Rattle.pd_stage.specs.Choices.{Wanted, Edits, Asks, Saves, Undoes, Redoes, Choice}
-use Rattle.pd_stage.specs.Stages.{Stage}
-use Rattle.pd_stage.specs.Events.{edit_taken}
+use Rattle.pd_stage.specs.Choices.{Wanted, Edits, Asks, Saves, Undoes, Redoes, Choice, loads_of_choice}
+use Rattle.pd_stage.specs.Stages.{Stage, Taken}
+use Rattle.pd_stage.specs.Events.{edit_event, edit_taken}
 use Rattle.pd_stage.specs.Leads.{Sinks, Comes}
 use Rattle.pd_stage.specs.Lawful.{why_of}
 use Rattle.pd_stage.specs.Lines.{loops_text}
@@ -58,14 +58,25 @@ abbrev pub edit_outcome : Result ℕ EditRefusal → Outcome
 edit_outcome (Ok canvas) = Done
 edit_outcome (Err why) = Refused why
 
--- what is asked for was taken, and this is answered
-pub record IsTakenSo (wanted : Wanted) (outcome : Outcome) (from to : List Choice → Stage) (old new : Sinks) : Type 0 where
+-- the boxes that are loaded behind the first of these edits
+abbrev pub first_loads : List Taken → List ℕ
+first_loads [] = []
+first_loads (t ∷ edits) = loads_of_choice t.choice
+
+-- what is asked for was taken, this is answered, and these boxes are to be loaded behind it
+pub record IsTakenSo (wanted : Wanted) (outcome : Outcome) (loads : List ℕ) (from to : List Choice → Stage) (old new : Sinks) : Type 0 where
   pub comes : Comes (edit_taken wanted) from to old new
   pub answer : outcome ≡ first_outcome comes.edits
+  pub loads_are : loads ≡ first_loads comes.edits
 
--- an edit of the patch's own document was taken, and this is answered
-abbrev pub IsEdited : List ℕ → Edit → Outcome → (List Choice → Stage) → (List Choice → Stage) → Sinks → Sinks → Type 0
-IsEdited path e outcome from to old new = IsTakenSo (Edits None path e) outcome from to old new
+-- what is asked for was taken, with all that follows from it, and this is answered
+pub record IsEvent (wanted : Wanted) (outcome : Outcome) (from to : List Choice → Stage) (old new : Sinks) : Type 0 where
+  pub comes : Comes (edit_event wanted) from to old new
+  pub answer : outcome ≡ first_outcome comes.edits
+
+-- an edit of the patch's own document was taken, this is answered, and these boxes are to be loaded behind it
+abbrev pub IsEdited : List ℕ → Edit → Outcome → List ℕ → (List Choice → Stage) → (List Choice → Stage) → Sinks → Sinks → Type 0
+IsEdited path e outcome loads from to old new = IsTakenSo (Edits None path e) outcome loads from to old new
 
 -- an edit of the canvas at a path of the patch's own document, which a command or a message asks for
 abbrev pub IsOwn : Wanted → List ℕ → Edit → Type 0
@@ -84,7 +95,7 @@ AreAskedFor waiting = AllByRecursion (λ asked. CanBeAsked asked.1) waiting
 
 -- the patch's own document was saved, or not, and this is answered
 abbrev pub IsSavedSo : Outcome → (List Choice → Stage) → (List Choice → Stage) → Sinks → Sinks → Type 0
-IsSavedSo outcome from to old new = IsTakenSo (Saves None) outcome from to old new
+IsSavedSo outcome from to old new = IsTakenSo (Saves None) outcome [] from to old new
 
 -- what is refused for a reason whatever the patch is: what another document than the patch's own is asked, an undo and a redo
 abbrev pub IsAlwaysRefused : Wanted → Why → Type 0

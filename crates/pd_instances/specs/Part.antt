@@ -17,7 +17,7 @@ use Rattle.pd_grove.specs.Standing.{Stands, depth_of}
 use Rattle.pd_grove.specs.Telling.{inner_in}
 use Rattle.pd_bind.specs.Owning.{root_owner}
 use Rattle.pd_owning.specs.Bound.{is_among, AreNew}
-use Rattle.pd_owning.specs.Parts.{ArePart}
+use Rattle.pd_owning.specs.Parts.{part_keys, ArePart}
 use Rattle.pd_web.specs.declared.lines.Line.{Line}
 use Rattle.pd_web.specs.Canvases.{keys_at}
 use Rattle.pd_web.specs.Changes.{line_told, wires_told, Meet}
@@ -113,6 +113,7 @@ pub record HasPartOrders (p q : Patch) (place : Place) : Type 0 where
 pub record IsPartPut (p q : Patch) (table : Names) (place : Place) (s : Seed) (seeds : List Seed) (key steps steps' : ℕ) : Type 0 where
   pub part : List ℕ
   pub comes : ComesAs p q key part
+  pub in_order : part ≡ part_keys (get q.grove.nodes) (get q.grove.boards) key
   pub grove : HasPartMore (get p.grove.nodes) (get q.grove.nodes) (get p.grove.boards) (get q.grove.boards) place.canvas key (keys_before p place) (keys_behind p place)
   pub stands : (t : Trees) → one (seed_stand s) (stands_ready seeds) ≡ stands_of t → width t ≡ 1 →
       Stands (get q.grove.nodes) (get q.grove.boards) place.canvas (depth_of (get p.grove.boards place.canvas)) (key ∷ []) t

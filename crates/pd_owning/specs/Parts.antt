@@ -1,9 +1,9 @@
 -- A box with all that lies in it.
-use Rattle.std.specs.Prelude.{◌≡◌, ◌↔◌, ◌-◌, ℕ, List, Option, Some, IsTrue}
+use Rattle.std.specs.Prelude.{◌≡◌, ◌↔◌, ◌-◌, ℕ, true, List, Option, Some, IsTrue}
 use Rattle.pd_grove.specs.declared.nodes.Node.{Node}
 use Rattle.pd_grove.specs.declared.boards.Board.{Board}
 use Rattle.pd_grove.specs.declared.spots.Spot.{Spot}
-use Rattle.pd_grove.specs.TextOrder.{box_spots, spots_among}
+use Rattle.pd_grove.specs.TextOrder.{box_spots, keys_of_spots, spot, spots_among}
 use Rattle.pd_owning.specs.Order.{box_out, level}
 use Rattle.pd_owning.specs.Bound.{is_among}
 
@@ -18,3 +18,7 @@ ArePart nodes boards k keys = (x : ℕ) → (IsTrue (is_among keys x) ↔ LiesWi
 -- a box and all boxes that lie in it, in text order: with the root 257 canvases may lie in one another
 abbrev pub part_spots : (ℕ → Option Node) → (ℕ → Option Board) → Spot → List Spot
 part_spots nodes boards p = box_spots boards (spots_among nodes boards (256 - level nodes boards p.node)) p.is_top p.node (nodes p.node)
+
+-- their keys
+abbrev pub part_keys : (ℕ → Option Node) → (ℕ → Option Board) → ℕ → List ℕ
+part_keys nodes boards k = keys_of_spots (part_spots nodes boards (spot true k))

@@ -1,16 +1,23 @@
 -- A box that an edit puts into a canvas of a running patch.
-use Rattle.std.specs.Prelude.{◌≡◌, ◌⊎◌, ℕ, List, length, Some, None, Ok, Err, IfSome}
+use Rattle.std.specs.Prelude.{◌≡◌, ◌⊎◌, ◌<◌, ◌+◌, ℕ, List, ◌∷◌, length, Option, Some, None, Ok, Err, IfSome}
+use Rattle.std.specs.List.{AllByRecursion}
+use Rattle.slab.specs.Slab.{get}
 use Rattle.pd_atom.specs.Names.{IsTable}
 use Rattle.pd_canvas.specs.declared.edits.Edit.{Edit}
 use Rattle.pd_canvas.specs.Pages.{Sub}
 use Rattle.pd_object.specs.declared.kinds.Kind.TheVariants as kind
 use Rattle.pd_tree.specs.declared.rows.Sheet.{Sheet}
-use Rattle.pd_tree.specs.Trees.{Cell, Done, Leaf, Holder, stand_of}
+use Rattle.pd_tree.specs.Trees.{Cell, Trees, Done, Leaf, Holder, stand_of, stands_of}
 use Rattle.pd_growth.specs.Suits.{RowSuits}
 use Rattle.pd_gather.specs.Gather.{Known, AreProper}
 use Rattle.pd_grove.specs.declared.ports.Side.{Side}
 use Rattle.pd_grove.specs.declared.seeds.Seed.{Seed}
-use Rattle.pd_grove.specs.States.{IsFresh}
+use Rattle.pd_grove.specs.Planting.{one, seed_stand, stands_ready}
+use Rattle.pd_grove.specs.Standing.{depth_of}
+use Rattle.pd_grove.specs.States.{AreFresh, IsFresh, SeedsSmall}
+use Rattle.pd_grove.specs.Telling.{inner_in}
+use Rattle.pd_grove.specs.TextOrder.{deep}
+use Rattle.pd_owning.specs.Parts.{part_keys}
 use Rattle.pd_web.specs.Canvases.{keys_at}
 use Rattle.pd_patch.specs.declared.patch.Patch.{Patch}
 use Rattle.pd_wiring.specs.declared.refusals.EditRefusal.{EditRefusal}
@@ -19,6 +26,7 @@ use Rattle.pd_boxes.specs.declared.room.Place.{Place}
 use Rattle.pd_boxes.specs.Room.{SameButRoom}
 use Rattle.pd_boxes.specs.Put.{CanPut, IsLeaf, IsNoPort, IsPut}
 use Rattle.pd_following.specs.Ports.{CanPutPort, IsPortAt, IsPortPut}
+use Rattle.pd_instances.specs.Part.{looks_of, IsPartPut}
 use Rattle.pd_subpatches.specs.Shell.{IsShallow, IsShell, IsShellPut}
 use Rattle.pd_adding.specs.declared.counts.Counts.{Counts}
 use Rattle.pd_adding.specs.Boxes.{IsKnown, CanBeWritten, settled_edit, box_put}
@@ -54,9 +62,18 @@ pub record IsPort (p : Patch) (a : Added) : Type 0 where
   pub side : Side
   pub at : IsPortAt p.grove (last_place p a.canvas) cell.kind holder side
 
--- What grew is one of these. Other boxes aren't put yet.
+-- What grew is one box with a canvas in it and whatever lies in that, and isn't too deep for the place.
+pub record IsHolder (p : Patch) (a : Added) : Type 0 where
+  pub cell : Cell
+  pub sheet : Sheet
+  pub inner : Trees
+  pub single : a.boxes ≡ Holder cell sheet inner Done
+  pub canvas : cell.kind ≡ kind.Canvas
+  pub shallow : depth_of (get p.grove.boards a.canvas) + deep a.boxes < 257
+
+-- What grew is one of these. Other boxes aren't put.
 abbrev pub CanCome : Patch → Added → Type 0
-CanCome p a = IsPlain p a ⊎ (IsSub p a ⊎ IsPort p a)
+CanCome p a = IsPlain p a ⊎ (IsSub p a ⊎ (IsPort p a ⊎ IsHolder p a))
 
 -- What grew came in as the last box of its canvas, under this key, and keeps what its kind keeps at first. All else of the patch stays, but that
 -- there is more room.
@@ -98,9 +115,38 @@ pub record IsPortBoxPut (old new : Patch) (now : ℕ) (a : Added) (key : ℕ) : 
   pub put : IsPortPut ready new a.known.names (last_place old a.canvas) seed key port.holder port.side
   pub goes_on : CanPut new
 
+-- The same of a box with all that lies in it: each box of it keeps what its kind keeps at first.
+pub record IsPartBoxPut (old new : Patch) (now : ℕ) (a : Added) (key : ℕ) : Type 0 where
+  pub holder : IsHolder old a
+  pub ready : Patch
+  pub room : SameButRoom old ready
+  pub seed : Seed
+  pub seeds : List Seed
+  pub are_rows : one (seed_stand seed) (stands_ready seeds) ≡ stands_of a.boxes
+  pub suit : AllByRecursion (λ (s : Seed). RowSuits a.known.names s.row) (seed ∷ seeds)
+  pub small : SeedsSmall (seed ∷ seeds)
+  pub fresh : AreFresh old.rate now (seed ∷ seeds)
+  pub steps : ℕ
+  pub steps' : ℕ
+  pub put : IsPartPut ready new a.known.names (last_place old a.canvas) seed seeds key steps steps'
+  pub goes_on : CanPut new
+
 -- what grew came in
 abbrev pub HasCome : Patch → Patch → ℕ → Added → ℕ → Type 0
-HasCome old new now a key = IsBoxPut old new now a key ⊎ (IsSubPut old new now a key ⊎ IsPortBoxPut old new now a key)
+HasCome old new now a key = IsBoxPut old new now a key ⊎ (IsSubPut old new now a key ⊎ (IsPortBoxPut old new now a key ⊎ IsPartBoxPut old new now a key))
+
+-- a box with all that lies in it, in text order
+abbrev pub keys_within : Patch → ℕ → List ℕ
+keys_within p key = part_keys (get p.grove.nodes) (get p.grove.boards) key
+
+-- The most looks at signal wires that it takes to put a box that holds a canvas: those for its place in the order of the canvas around, and those for the
+-- orders of the canvases in it. A box that holds none takes no look.
+abbrev pub looks_with : Patch → ℕ → Option ℕ → ℕ
+looks_with p key None = 0
+looks_with p key (Some canvas) = 8 + looks_of p.grove p.links (keys_within p key)
+
+abbrev pub put_looks : Patch → ℕ → ℕ
+put_looks p key = looks_with p key (inner_in (get p.grove.nodes key))
 
 -- An edit put a box, with this known after it, as what grew: `k` was known before it, `n` were the counts of the patch, and it is this time. The
 -- documents that were found before it are proper. It grew where the files were known for which it asked.

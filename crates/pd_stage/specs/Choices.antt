@@ -39,8 +39,8 @@ pub record Base : Type 0 where
 abbrev pub base_of : List (ℕ × Answer) → Counts → Base
 base_of files counts = record { files = files; counts = counts }
 
--- what is made: how the patch stands after it, with its table of names; what later edits go on from; the lines that tell of it; the files that are put; and at how many
--- signal wires it looks at the most
+-- what is made: how the patch stands after it, with its table of names; what later edits go on from; the lines that tell of it; the files that are put; the boxes
+-- that are loaded behind it; and at how many signal wires it looks at the most
 pub record Made : Type 0 where
   pub net : Net
   pub states : ℕ → Option State
@@ -49,6 +49,7 @@ pub record Made : Type 0 where
   pub base : Base
   pub lines : List ℕ
   pub files : List (List ℕ × List ℕ)
+  pub loads : List ℕ
   pub looks : ℕ
 
 -- it is refused, for this reason; or for want of memory, after which there may be more room; or it is made
@@ -72,6 +73,12 @@ abbrev pub text_of_choice : Wanted → Choice → List ℕ
 text_of_choice wanted (Refuses why) = refusal_text (request_of wanted) why
 text_of_choice wanted (Lacks net) = refusal_text (request_of wanted) NoMemory
 text_of_choice wanted (Makes m) = m.lines
+
+-- the boxes that are loaded behind it: none where it is refused
+abbrev pub loads_of_choice : Choice → List ℕ
+loads_of_choice (Refuses why) = []
+loads_of_choice (Lacks net) = []
+loads_of_choice (Makes m) = m.loads
 
 -- its looks at signal wires: where it is refused there are none
 abbrev pub looks_of_choice : Choice → ℕ

@@ -18,7 +18,7 @@ use Rattle.pd_wiring.specs.declared.refusals.EditRefusal.{EditRefusal}
 use Rattle.pd_wiring.specs.declared.refusals.EditRefusal.TheVariants as refusal
 use Rattle.pd_boxes.specs.Put.{CanPut}
 use Rattle.pd_adding.specs.Counts.{AreWithin}
-use Rattle.pd_putting.specs.Adds.{AddsBox, IsNotPut, IsShortOfRoom}
+use Rattle.pd_putting.specs.Adds.{put_looks, AddsBox, IsNotPut, IsShortOfRoom}
 use Rattle.pd_putting.specs.declared.adding.NewBox.{NewBox}
 use Rattle.pd_deleting.specs.Deletes as deleting
 use Rattle.pd_deleting.specs.Deletes.{going, without_all, looks_for_all, DeletesBox}
@@ -32,7 +32,7 @@ use Rattle.pd_say.specs.declared.refusals.Why.TheVariants as why
 use Rattle.pd_hearing.specs.Worlds.{Net, net_of, states_of}
 use Rattle.pd_stage.specs.Choices.{Base, base_of, Wanted, Edits, Asks, Saves, Undoes, Redoes, Made, Choice, Refuses, Lacks, Makes}
 use Rattle.pd_stage.specs.Stages.{Stage, Taken}
-use Rattle.pd_stage.specs.Lines.{loops_text, put_text, retyped_text}
+use Rattle.pd_stage.specs.Lines.{loads_inside, loops_text, put_text, retyped_text}
 
 -- the reason that a line tells
 abbrev pub why_of : EditRefusal → Why
@@ -81,6 +81,7 @@ pub record IsMade (s : Stage) (path : List ℕ) (e : Edit) (m : Made) : Type 0 w
   pub base : m.base ≡ with_wire_count s.base (wires_told new.web)
   pub lines : m.lines ≡ loops_text new canvas
   pub files : m.files ≡ []
+  pub loads : m.loads ≡ []
   pub looks : m.looks ≡ most_looks rewired.plan old new
 
 -- it is refused for the reason that it is planned to be
@@ -107,8 +108,10 @@ IsRewiringLawful s path e (Refuses reason) = IsRefusedFor s path e reason
 IsRewiringLawful s path e (Lacks net) = IsShort s path e net
 IsRewiringLawful s path e (Makes m) = IsMade s path e m
 
--- An edit put a box: all other boxes keep what they kept, the clocks stay, names and files go on, the counts stay within the limits of a patch, and it
--- is told why the box could not be made, and loops of its canvas and of the one around where it is a port of that. It looks at no signal wire.
+-- An edit put a box with all that lies in it: all other boxes keep what they kept, the clocks stay, names and files go on, and the counts stay within the
+-- limits of a patch. It is told why boxes could not be made, which wires in it don't fit, and loops of its canvas, of the one around where it is a port of
+-- that, and of those in it. The load boxes that lie in it are loaded. It looks at no more signal wires than its place in the order of its canvas and
+-- the orders of the canvases in it take.
 pub record IsPutIn (s : Stage) (path : List ℕ) (e : Edit) (m : Made) : Type 0 where
   pub old : Patch
   pub new : Patch
@@ -125,7 +128,8 @@ pub record IsPutIn (s : Stage) (path : List ℕ) (e : Edit) (m : Made) : Type 0 
   pub within : AreWithin m.base.counts
   pub lines : m.lines ≡ put_text m.names new box.key box.canvas
   pub files : m.files ≡ []
-  pub looks : m.looks ≡ 0
+  pub loads : m.loads ≡ loads_inside new box.key
+  pub looks : m.looks ≡ put_looks new box.key
 
 -- no box is put, for this reason
 pub record IsUnput (s : Stage) (path : List ℕ) (e : Edit) (reason : Why) : Type 0 where
@@ -167,6 +171,7 @@ pub record IsTakenOut (s : Stage) (path : List ℕ) (number : ℕ) (m : Made) : 
   pub within : AreWithin m.base.counts
   pub lines : m.lines ≡ loops_text new box.canvas
   pub files : m.files ≡ []
+  pub loads : m.loads ≡ []
   pub looks : m.looks ≡ looks_for_all deletes.cleared.lost deletes.cleared.loose
 
 -- no box goes, for this reason
@@ -206,6 +211,7 @@ pub record IsMovedTo (s : Stage) (path : List ℕ) (number : ℕ) (x y : ℤ) (m
   pub base : m.base ≡ s.base
   pub lines : m.lines ≡ loops_text new moves.canvas
   pub files : m.files ≡ []
+  pub loads : m.loads ≡ []
   pub looks : m.looks ≡ 0
 
 -- no box moves, for this reason
@@ -243,6 +249,7 @@ pub record IsRetypedTo (s : Stage) (path : List ℕ) (number : ℕ) (text : List
   pub within : AreWithin m.base.counts
   pub lines : m.lines ≡ retyped_text m.names new box.key box.canvas box.gone.items
   pub files : m.files ≡ []
+  pub loads : m.loads ≡ []
   pub looks : m.looks ≡ looks_for box.canvas retypes.became.loosens.gone retypes.became.loose + refit_looks retypes.node.kind retypes.became.can.cell.kind
 
 -- no box becomes another one, for this reason
@@ -288,6 +295,7 @@ pub record IsSaved (s : Stage) (m : Made) : Type 0 where
   pub base : m.base ≡ s.base
   pub lines : m.lines ≡ []
   pub files : m.files ≡ (s.file, text_of s.names (present_document patch)) ∷ []
+  pub loads : m.loads ≡ []
   pub looks : m.looks ≡ 0
 
 abbrev pub IsSaveLawful : Stage → Choice → Type 0

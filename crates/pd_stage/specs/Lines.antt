@@ -1,5 +1,5 @@
 -- The lines of edits and of growth: boxes that can't be made, and lines with the numbers of boxes.
-use Rattle.std.specs.Prelude.{ℕ, List, [], ◌∷◌, ◌++◌, codes, cond, decimal, map, take, Option, Some, None, if◌then◌else◌}
+use Rattle.std.specs.Prelude.{ℕ, List, [], ◌∷◌, ◌++◌, codes, cond, decimal, drop, filter, map, not, take, Option, Some, None, if◌then◌else◌}
 use Rattle.std.specs.List.{concat, flat_map}
 use Rattle.slab.specs.Slab.{get}
 use Rattle.pd_atom.specs.Names.{Names}
@@ -7,12 +7,18 @@ use Rattle.pd_atom.specs.declared.Atom.{Atom}
 use Rattle.pd_canvas.specs.declared.wires.Wire.{Wire}
 use Rattle.pd_tree.specs.declared.rows.Fault.{Fault}
 use Rattle.pd_tree.specs.declared.rows.Fault.TheVariants.{Unknown, InsideItself, BadFile, TooDeep}
+use Rattle.pd_tree.specs.Ports.{fits}
 use Rattle.pd_grove.specs.Forest.{holder_in}
 use Rattle.pd_grove.specs.Owning.{board_in}
+use Rattle.pd_web.specs.Canvases.{keys_at}
+use Rattle.pd_web.specs.Hops.{boxes_told}
+use Rattle.pd_web.specs.Lines.{wires_in}
 use Rattle.pd_patch.specs.declared.patch.Patch.{Patch}
 use Rattle.pd_patch.specs.Paths.{path_told}
+use Rattle.pd_patch.specs.Report.{canvases_inside, loads_among}
 use Rattle.pd_patch.specs.Telling.{order_in, number_in, is_looped, fault_in}
 use Rattle.pd_patch.specs.Values.{stuck_in}
+use Rattle.pd_putting.specs.Adds.{keys_within}
 use Rattle.pd_retyping.specs.Retypes.{BoxWire}
 use Rattle.pd_adding.specs.Standing.{is_port_in}
 use Rattle.pd_say.specs.Lines.{named_error, file_error}
@@ -76,11 +82,6 @@ abbrev pub loops_if : Patch → Option ℕ → List ℕ
 loops_if p None = []
 loops_if p (Some canvas) = loops_text p canvas
 
--- the lines of an edit that put a box into a canvas: why it could not be made; where it is a port of the box around, the loop of the canvas in which
--- that lies; and the loop of its canvas
-abbrev pub put_text : Names → Patch → (key canvas : ℕ) → List ℕ
-put_text names p key canvas = unmade_text names (fault_in (get p.grove.nodes key)) ++ (loops_if p (canvas_of_port p key canvas) ++ loops_text p canvas)
-
 -- a wire of the canvas at a path doesn't fit
 abbrev pub unfit_text : List ℕ → Wire → List ℕ
 unfit_text path w =
@@ -90,6 +91,33 @@ unfit_text path w =
 -- the lines of wires of a canvas that went
 abbrev pub gone_text : List ℕ → List BoxWire → List ℕ
 gone_text path gone = flat_map (λ m. unfit_text path m.wire) gone
+
+-- why boxes could not be made, in their order
+abbrev pub unmades_text : Names → Patch → List ℕ → List ℕ
+unmades_text names p boxes = flat_map (λ k. unmade_text names (fault_in (get p.grove.nodes k))) boxes
+
+-- the wires that a canvas was given and that don't fit
+abbrev pub unfit_wires : Patch → ℕ → List Wire
+unfit_wires p canvas = filter (λ w. not (fits (boxes_told p.web (keys_at p.grove canvas)) w)) (wires_in (get p.grove.boards canvas))
+
+-- the lines of those of canvases
+abbrev pub unfits_text : Patch → List ℕ → List ℕ
+unfits_text p canvases = flat_map (λ c. flat_map (unfit_text (path_in p c)) (unfit_wires p c)) canvases
+
+-- the canvases that a box and those in it hold, in text order
+abbrev pub canvases_within : Patch → ℕ → List ℕ
+canvases_within p key = canvases_inside p.grove (keys_within p key)
+
+-- the load boxes that lie in a box, in text order
+abbrev pub loads_inside : Patch → ℕ → List ℕ
+loads_inside p key = loads_among p.grove (drop 1 (keys_within p key))
+
+-- The lines of an edit that put a box into a canvas: why it and those in it could not be made; the wires in it that don't fit; where it is a port of the box
+-- around, the loop of the canvas in which that lies; and the loops of its canvas and of those in it.
+abbrev pub put_text : Names → Patch → (key canvas : ℕ) → List ℕ
+put_text names p key canvas =
+    unmades_text names p (keys_within p key) ++ (unfits_text p (canvases_within p key) ++ (loops_if p (canvas_of_port p key canvas) ++ (loops_text p canvas ++
+    flat_map (loops_text p) (canvases_within p key))))
 
 -- the lines of an edit that gave a box another text: why it could not be made, the wires that didn't fit any more, and the loop of its canvas
 abbrev pub retyped_text : Names → Patch → (key canvas : ℕ) → List BoxWire → List ℕ

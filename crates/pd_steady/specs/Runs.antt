@@ -9,23 +9,24 @@ use Rattle.pd_script.specs.declared.commands.Command.TheVariants as command
 use Rattle.pd_grove.specs.TextOrder.{keys_in_order}
 use Rattle.pd_patch.specs.declared.patch.Patch.{Patch}
 use Rattle.pd_patch.specs.Report.{notices_in, loads_among}
-use Rattle.pd_stage.specs.Choices.{Base, Choice}
+use Rattle.pd_stage.specs.Choices.{Base, Choice, Wanted, Edits, Saves, Undoes, Redoes}
 use Rattle.pd_stage.specs.Stages.{Stage, Passage, still, saying, joined, followed_by}
-use Rattle.pd_stage.specs.Events.{Beginning, Message, Firing, Loading, event}
+use Rattle.pd_stage.specs.Events.{Beginning, Message, Firing, Loading, event, edit_event}
 use Rattle.pd_engine.specs.Messages.{message_in}
 use Rattle.pd_stage.specs.Times.{block_units, most_fired, next_clock, taken_off, with_taken, with_fired, block_sounds, time_is}
-use Rattle.pd_engine.specs.Commands.{cut_text, commanded}
+use Rattle.pd_engine.specs.Commands.{cut_text, shown}
 use Rattle.pd_engine.specs.Remarks.{remarks_text}
 use Rattle.pd_engine.specs.Opening.{first_stage}
 
--- what becomes, at a stage, of what begins an event, and of the block that comes next
+-- what becomes, at a stage, of what begins an event, of an edit that is one, and of the block that comes next
 pub record Ways : Type 0 where
   pub event : Stage → Beginning → Passage
+  pub edit : Wanted → Stage → Passage
   pub block : Stage → Passage
 
 -- pd_engine's own
 abbrev pub own_ways : Ways
-own_ways = record { event = event; block = block_sounds }
+own_ways = record { event = event; edit = edit_event; block = block_sounds }
 
 -- a clock that was taken off fires
 abbrev pub fires_by : Ways → Stage → Clock → Passage
@@ -70,10 +71,14 @@ abbrev pub sent_by : Ways → ℕ → List Atom → Stage → Passage
 sent_by ways name atoms s =
     joined (saying s (cut_text (message_in atoms).atoms)) (ways.event s (Message name (message_in atoms).selector (cut_atoms (message_in atoms).atoms)))
 
--- what a command leads to: a message that is sent is the only one that is an event
+-- what a command leads to: each is an event but the one that shows an order
 unfoldable pub commanded_by : Ways → Command → Stage → Passage
 commanded_by ways (command.Send name atoms) s = sent_by ways name atoms s
-commanded_by ways c s = commanded c s
+commanded_by ways (command.Edit place edit) s = ways.edit (Edits place.document place.path edit) s
+commanded_by ways (command.Save document) s = ways.edit (Saves document) s
+commanded_by ways (command.Show path) s = saying s (shown s.net path)
+commanded_by ways command.Undo s = ways.edit Undoes s
+commanded_by ways command.Redo s = ways.edit Redoes s
 
 -- a patch that has grown from a file opens, with these names: its lines are said, and its load boxes are loaded
 abbrev pub opened_by : Ways → List ℕ → Patch → Names → Base → List Choice → Passage

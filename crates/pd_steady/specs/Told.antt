@@ -13,7 +13,7 @@ use Rattle.pd_patch.specs.Values.{stuck_in}
 use Rattle.pd_hearing.specs.Worlds.{Net, net_of}
 use Rattle.pd_stage.specs.Choices.{Made}
 use Rattle.pd_stage.specs.Lawful.{IsMade, IsPutIn, IsTakenOut, IsMovedTo, IsRetypedTo}
-use Rattle.pd_stage.specs.Lines.{numbers_told, canvas_of_port}
+use Rattle.pd_stage.specs.Lines.{numbers_told, canvas_of_port, canvases_within}
 use Rattle.pd_stage.specs.Stages.{Stage}
 use Rattle.pd_engine.specs.Commands.{led_to}
 
@@ -39,12 +39,14 @@ TellsLoop p r = Unit {0}
 abbrev pub GrowthTellsLoops : Patch → Type 0
 GrowthTellsLoops p = AllByRecursion (TellsLoop p) (notices_in p.grove p.web p.orders.items)
 
--- the line of a loop of its canvas that an edit tells at a stage does, and so does that of a loop of the canvas around where it puts a port
+-- the line of a loop of its canvas that an edit tells at a stage does, and so do that of a loop of the canvas around where it puts a port, and those of
+-- loops of the canvases in the box that it puts
 pub record EditsTellLoops (s : Stage) : Type 0 where
   pub rewired : (path : List ℕ) (e : Edit) (m : Made) → (made : IsMade s path e m) → TellsLoop made.new (Loop made.canvas)
   pub put : (path : List ℕ) (e : Edit) (m : Made) → (made : IsPutIn s path e m) → TellsLoop made.new (Loop made.box.canvas)
   pub around : (path : List ℕ) (e : Edit) (m : Made) (canvas : ℕ) → (made : IsPutIn s path e m) → canvas_of_port made.new made.box.key made.box.canvas ≡ Some canvas
       → TellsLoop made.new (Loop canvas)
+  pub within : (path : List ℕ) (e : Edit) (m : Made) → (made : IsPutIn s path e m) → AllByRecursion (λ c. TellsLoop made.new (Loop c)) (canvases_within made.new made.box.key)
   pub taken : (path : List ℕ) (number : ℕ) (m : Made) → (made : IsTakenOut s path number m) → TellsLoop made.new (Loop made.box.canvas)
   pub moved : (path : List ℕ) (number : ℕ) (x y : ℤ) (m : Made) → (made : IsMovedTo s path number x y m) → TellsLoop made.new (Loop made.moves.canvas)
   pub retyped : (path : List ℕ) (number : ℕ) (text : List Atom) (m : Made) → (made : IsRetypedTo s path number text m) → TellsLoop made.new (Loop made.box.canvas)
