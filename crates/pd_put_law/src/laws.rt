@@ -1,6 +1,6 @@
 //! Laws over a running patch into which an edit put a box, and its tree.
 
-ghost use Rattle.std.specs.Prelude.{◌≡◌, ◌≤◌, ℕ, List, Option};
+ghost use Rattle.std.specs.Prelude.{◌≡◌, ◌≤◌, ◌+◌, ℕ, List, Option};
 ghost use Rattle.pd_atom.specs.Names.{Names, Extends, IsTable};
 ghost use Rattle.pd_canvas.specs.declared.edits.Edit.{Edit};
 ghost use Rattle.pd_canvas.specs.Proper.{IsProper};
@@ -10,6 +10,7 @@ ghost use Rattle.pd_tree.specs.Trees.{Tree, weight, document_in};
 ghost use Rattle.pd_web.specs.Changes.{wires_told};
 ghost use Rattle.pd_patch.specs.declared.patch.Patch.{Patch};
 ghost use Rattle.pd_patch.specs.Sounds.{sound_of};
+ghost use Rattle.pd_fit.specs.Fitting.{wires_inside};
 ghost use Rattle.pd_gather.specs.Gather.{Known};
 ghost use Rattle.pd_hearing.specs.Worlds.{states_of};
 ghost use Rattle.pd_boxes.specs.Put.{CanPut, HasOwners};
@@ -38,7 +39,7 @@ pub fn room_keeps_trees()
 {}
 
 /// Where an edit put a box, the table of names goes on, and the tree that stood stands with the box last in its canvas. It grows again from its own document, its wires hold and
-/// fit, and there are as many; each name has its owners.
+/// fit, and as many came as fit in the box; each name has its owners.
 pub fn boxes_come_into_trees()
     ensures names { (old new : Patch) (n : Counts) (name path : List ℕ) (now : ℕ) (e : Edit) (k after : Known) (b : NewBox) →
         AddsBox old new n name path now e k after b → Extends k.names after.names }
@@ -54,7 +55,7 @@ pub fn boxes_come_into_trees()
     ensures fit { (old new : Patch) (n : Counts) (name path : List ℕ) (now : ℕ) (e : Edit) (k after : Known) (b : NewBox) →
         AddsBox old new n name path now e k after b → CanPut old → WiresFit old → WiresFit new }
     ensures wires { (old new : Patch) (n : Counts) (name path : List ℕ) (now : ℕ) (e : Edit) (k after : Known) (b : NewBox) →
-        AddsBox old new n name path now e k after b → CanPut old → wires_told new.web ≡ wires_told old.web }
+        (adds : AddsBox old new n name path now e k after b) → CanPut old → wires_told new.web ≡ wires_told old.web + wires_inside adds.added.boxes }
     ensures owners { (old new : Patch) (n : Counts) (name path : List ℕ) (now : ℕ) (e : Edit) (k after : Known) (b : NewBox) (t : Tree) →
         AddsBox old new n name path now e k after b → RunsAs old.grove t → StandsAgain (answer_in k.files) name k.names t →
         HasOwners old k.names name → HasOwners new after.names name }
@@ -66,7 +67,7 @@ pub fn counts_follow_boxes()
         (adds : AddsBox old new n name path now e k after b) → CanPut old → RunsAs old.grove t → n.boxes ≡ weight t.boxes →
         b.counts.boxes ≡ weight (put_at path adds.added.boxes t).boxes }
     ensures wires { (old new : Patch) (n : Counts) (name path : List ℕ) (now : ℕ) (e : Edit) (k after : Known) (b : NewBox) →
-        AddsBox old new n name path now e k after b → b.counts.wires ≡ n.wires }
+        (adds : AddsBox old new n name path now e k after b) → b.counts.wires ≡ n.wires + wires_inside adds.added.boxes }
     ensures sound { (old new : Patch) (n : Counts) (name path : List ℕ) (now : ℕ) (e : Edit) (k after : Known) (b : NewBox) (t : Tree) →
         (adds : AddsBox old new n name path now e k after b) → CanPut old → RunsAs old.grove t → n.sound ≡ sound_of old.rate t.boxes →
         b.counts.sound ≡ sound_of old.rate (put_at path adds.added.boxes t).boxes }
