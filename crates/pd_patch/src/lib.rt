@@ -56,4 +56,4 @@ pub use laws::{growth_is_shallow, paths_are_short, paths_lead_back, what_grows_i
 pub use patch::Patch;
 pub use pd_gather::Library;
 pub use refusal::GrowRefusal;
-pub use report::{Remark, Report};
+pub use report::{Remark, Report, is_load_box};

@@ -219,8 +219,8 @@ fn push_load_box(grove: &Grove, key: u32, fresh: &mut Vec<u32>) -> Result<(), Al
     Ok(())
 }
 
-/// Whether a box sends when it is loaded: a `loadbang`, or a `bng` or `tgl` whose init isn't 0.
-fn is_load_box(grove: &Grove, key: u32) -> bool
+/// Whether a live box sends when it is loaded: a `loadbang`, or a `bng` or `tgl` whose init isn't 0.
+pub fn is_load_box(grove: &Grove, key: u32) -> bool
     ensures { result ≡ loads (get grove.now.nodes key) }
 {
     match grove.node(key) {
