@@ -8,5 +8,6 @@ pub mod LessLemmas
 pub mod FollowLemmas
 pub mod LeafLemmas
 pub mod PartLemmas
+pub mod PartKeyLemmas
 pub mod AlterLemmas
 pub mod TurnLemmas
