@@ -16,6 +16,7 @@ use Rattle.pd_web.specs.Canvases.{HoldersAreNoPorts}
 use Rattle.pd_growth.specs.declared.growing.Stop.{Stop}
 use Rattle.pd_growth.specs.Steps.{Stock, Step, gives, goes_on, ◌>>=◌, counted, numbered, brought}
 use Rattle.pd_growth.specs.Making.{Around, Making, Plain, Subpatch, File, made}
+use Rattle.pd_growth.specs.Growing.{inside_grown}
 use Rattle.pd_growth.specs.Growth.{Inner, box_made, box_grown, boxes_grown, page_grown, canvas_grown, own_text, grown, around_root, without_ending, receiver_bytes, receiver_brought}
 use Rattle.pd_patch.specs.Sounds.{sound_in, sound_of}
 use Rattle.pd_patch.proofs.MakingLemmas.{Holds, MayHold, IsAny, any_hold, HasLevels, levels_hold}
@@ -146,6 +147,18 @@ page_shallow lib root (suc n) a p w v b l g =
     boxes_fit lib root (suc n) (HasLevels (suc n)) (suc n) (page_grown lib root n)
     (λ a p w v b q h. inside_below (length (elements_of p)) n b (page_shallow lib root n a p w v b (one_less (levels p.boxes) n q) h)) a (elements_of p) w v b
     (levels_hold lib root (suc n) p.boxes l) g
+
+inside_any : (lib : ℕ → Option Answer) (root : List ℕ) (left : ℕ) → Inside (inside_grown lib root left) IsAny (left + 1)
+inside_any lib root zero = λ a p w v b q g. none_inside b (given Done b w v g)
+inside_any lib root (suc n) = λ a p w v b q g. inside_next (length (elements_of p)) n b (page_fits lib root n a p w v b g)
+
+-- in a box that grew no more canvases lie in one another than may, with its own, and no box of it that holds a canvas is a port
+pub grown_box_fits : (lib : ℕ → Option Answer) (root : List ℕ) (left : ℕ) (a : Around) (e : Entry) (w v : Stock) (b : Trees)
+    → box_grown lib root left (inside_grown lib root left) a e w ≡ gives b v → (deep b ≤ left + 1) × HoldersAreNoPorts b
+grown_box_fits lib root left a e w v b g =
+    let any : AllByRecursion (MayHold lib root left IsAny) (e ∷ []) = any_hold lib root left (e ∷ []) in
+    let f = one_fits lib root left IsAny (left + 1) (inside_grown lib root left) (inside_any lib root left) a e w v b any.0 g in
+    (f.shallow, f.bare)
 
 -- what grew at the root
 record AtRoot (lib : ℕ → Option Answer) (name : List ℕ) (p : Page) (t : Tree) : Type 0 where
