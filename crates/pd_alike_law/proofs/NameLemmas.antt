@@ -518,6 +518,13 @@ grown_alike lib name p w v t more l o h x =
           (all_alike v.names more true g.boxes x steady);
     }
 
+-- a box that grew in a canvas, with all that lies in it, owns the same in each table that goes on
+pub box_alike : (lib : ℕ → Option Answer) (root : List ℕ) (left : ℕ) (a : Around) (e : Entry) (w v : Stock) (t : Trees) (more : Names) → IsLibraryOf w.names lib → IsAroundOf w.names a
+    → IsEntryOf w.names e → box_grown lib root left (inner_of lib root left) a e w ≡ gives t v → Extends v.names more
+    → AllByRecursion (λ p. owned_by more p.is_top p.cell ≡ owned_by v.names p.is_top p.cell) (placed_in_order a.is_top t)
+box_alike lib root left a e w v t more l i o h x =
+    all_alike v.names more a.is_top t x (box_steady lib root left (inner_of lib root left) a e w t v (inner_takes lib root left) (inner_steady lib root left) l i o h)
+
 -- ---- one box without a canvas
 
 is_leaf : Trees → Bool

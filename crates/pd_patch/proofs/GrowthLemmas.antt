@@ -7,7 +7,7 @@ use Rattle.pd_atom.specs.declared.Atom.{Atom}
 use Rattle.pd_clock.specs.declared.times.Rate.{Rate}
 use Rattle.pd_kind.specs.States.{size_of}
 use Rattle.pd_canvas.specs.Pages.{Page, Entry, elements_of}
-use Rattle.pd_canvas.specs.Proper.{levels}
+use Rattle.pd_canvas.specs.Proper.{levels, levels_of}
 use Rattle.pd_library.specs.declared.answers.Answer.{Answer}
 use Rattle.pd_tree.specs.declared.rows.Row.{Row}
 use Rattle.pd_tree.specs.Trees.{Trees, Done, Leaf, Holder, Tree, Stand, join, width, stands_of, stands_in}
@@ -19,7 +19,7 @@ use Rattle.pd_growth.specs.Making.{Around, Making, Plain, Subpatch, File, made}
 use Rattle.pd_growth.specs.Growing.{inside_grown}
 use Rattle.pd_growth.specs.Growth.{Inner, box_made, box_grown, boxes_grown, page_grown, canvas_grown, own_text, grown, around_root, without_ending, receiver_bytes, receiver_brought}
 use Rattle.pd_patch.specs.Sounds.{sound_in, sound_of}
-use Rattle.pd_patch.proofs.MakingLemmas.{Holds, MayHold, IsAny, any_hold, HasLevels, levels_hold}
+use Rattle.pd_patch.proofs.MakingLemmas.{Holds, MayHold, IsAny, any_hold, HasLevels, form_holds, levels_hold}
 
 -- what both steps of two gave
 record Both {A B : Type 0} (s : Step A) (f : A → Stock → Step B) (b : B) (v : Stock) : Type 0 where
@@ -159,6 +159,16 @@ grown_box_fits lib root left a e w v b g =
     let any : AllByRecursion (MayHold lib root left IsAny) (e ∷ []) = any_hold lib root left (e ∷ []) in
     let f = one_fits lib root left IsAny (left + 1) (inside_grown lib root left) (inside_any lib root left) a e w v b any.0 g in
     (f.shallow, f.bare)
+
+inside_levels : (lib : ℕ → Option Answer) (root : List ℕ) (left : ℕ) → Inside (inside_grown lib root left) (HasLevels left) left
+inside_levels lib root zero = λ a p w v b q g. absurd (none_below (levels p.boxes) q)
+inside_levels lib root (suc n) = λ a p w v b q g. inside_below (length (elements_of p)) n b (page_shallow lib root n a p w v b (one_less (levels p.boxes) n q) g)
+
+-- and no more than may, where no more do in its element
+pub box_shallow : (lib : ℕ → Option Answer) (root : List ℕ) (left : ℕ) (a : Around) (e : Entry) (w v : Stock) (b : Trees) → levels_of e.head.form (levels e.page.boxes) ≤ left
+    → box_grown lib root left (inside_grown lib root left) a e w ≡ gives b v → deep b ≤ left
+box_shallow lib root left a e w v b l g =
+    (one_fits lib root left (HasLevels left) left (inside_grown lib root left) (inside_levels lib root left) a e w v b (λ a names text m h. form_holds lib root left e.head.form e.page l a names text m h) g).shallow
 
 -- what grew at the root
 record AtRoot (lib : ℕ → Option Answer) (name : List ℕ) (p : Page) (t : Tree) : Type 0 where

@@ -82,7 +82,7 @@ object_holds lib root left a names [] named.Nothing own m h = is_made (HasLevels
 object_holds lib root left a names (x ∷ text) named.Nothing own m h = is_made (HasLevels left) own _ (unmade Unknown) m refl tt h
 
 -- a box of this form
-form_holds : (lib : ℕ → Option Answer) (root : List ℕ) (left : ℕ) (form : Shape) (own : Page) → levels_of form (levels own.boxes) ≤ left
+pub form_holds : (lib : ℕ → Option Answer) (root : List ℕ) (left : ℕ) (form : Shape) (own : Page) → levels_of form (levels own.boxes) ≤ left
     → (a : Around) (names : Names) (text : List Atom) (m : Making) → made lib root left a names form text ≡ Ok m → Holds (HasLevels left) own m
 form_holds lib root left Obj own l a names text m h = object_holds lib root left a names text (named_by names text) own m h
 form_holds lib root left Msg own l a names text m h = is_made (HasLevels left) own _ _ m refl tt h
