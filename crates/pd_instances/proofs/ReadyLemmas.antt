@@ -33,7 +33,8 @@ use Rattle.pd_grove.specs.Telling.{inner_in, keys_in}
 use Rattle.pd_grove.specs.TextOrder.{deep, keys_of_spots, spot, spots_in_order}
 use Rattle.pd_bind.specs.Owning.{boxes_owning, root_owner}
 use Rattle.pd_owning.specs.Bound.{is_among, AreNew, HasRoom}
-use Rattle.pd_owning.specs.Parts.{ArePart, part_spots}
+use Rattle.pd_owning.specs.Parts.{ArePart, part_keys, part_spots}
+use Rattle.pd_owning.proofs.PartKeyLemmas.{part_told}
 use Rattle.pd_web.specs.declared.web.Web.{Web}
 use Rattle.pd_web.specs.Canvases.{keys_at}
 use Rattle.pd_web.specs.Changes.{HasRoom as HasWebRoom}
@@ -142,6 +143,8 @@ pub record IsReady (p : Patch) (room : PartRoom) (table : Names) (g : Grove) (ke
   pub outer_once : AreApart (keys_at g room.place.canvas)
   pub outer_few : length (keys_at g room.place.canvas) < 2 ^ 32
   pub list : IsPartOf g key spots
+  pub in_order : keys_of_spots spots ≡ part_keys (get g.nodes) (get g.boards) key
+  pub fits : length spots ≤ vec_capacity room.signal
   pub all_live : AllByRecursion (λ k. IsSome (get g.nodes k)) (keys_of_spots spots)
   pub small : KindsSmall g
   pub rooms : AreRoomsFor (map (need_at g) (keys_of_spots spots)) room.boxes.items
@@ -272,6 +275,15 @@ module _ (p : Patch) (room : PartRoom) (table : Names) (C : CanPut p) (plain : I
     pub list : IsPartOf g key spots
     list = is_part g F key (spot top key) spots refl at told
 
+    in_order : keys_of_spots spots ≡ part_keys (get g.nodes) (get g.boards) key
+    in_order = ap keys_of_spots told ∙ part_told (get g.nodes) (get g.boards) top key
+
+    -- the list for signal boxes has room for all of them
+    fits : length spots ≤ vec_capacity room.signal
+    fits =
+        let e = ap (λ (ps : List Spot). length ps) told ∙ part_length g room.place.canvas key tree stood more.lies lower top (stands_for room) T.part.is_tree in
+        let l = T.all in omega (arith, e, l)
+
     abbrev keys : List ℕ
     keys = keys_of_spots spots
 
@@ -380,6 +392,8 @@ module _ (p : Patch) (room : PartRoom) (table : Names) (C : CanPut p) (plain : I
       outer_once = outer_once;
       outer_few = outer_few;
       list = list;
+      in_order = in_order;
+      fits = fits;
       all_live = all_live;
       small = small;
       rooms = rooms;

@@ -90,6 +90,7 @@ takes_part old p room table rows end wires needs ss P depth small roomy count ke
       outer = outer;
       owners = subst (λ xs. (class : Class) (name : ℕ) → owning_among table class name xs ≢ 0 → HasOwnerRoom p.names (Some (class, name)) (owning_among table class name xs)) back owners;
       spots = subst (λ n. IsEmptyFor n room.spots.items (vec_len room.spots) (vec_capacity room.spots)) (sym stood) spots;
+      all = omega (arith, stood, signal);
       signal = subst (λ is. AllByRecursion (λ (i : Inside). i.boxes ≤ vec_capacity room.signal) is) (sym (insides_all (stands_for room) P.tree (ss ∙ P.is_tree)))
           (insides_small (vec_capacity room.signal) P.tree (let w = stands_counted P.tree in let e = ap (λ (xs : List Stand). length xs) (ss ∙ P.is_tree) in omega (arith, w, e, stood, signal)));
     }

@@ -302,6 +302,7 @@ module _ (p q : Patch) (table : Names) (place : Place) (s : Seed) (seeds : List 
   pub is_put : IsPartPut p q table place s seeds key steps steps'
   is_put = record {
     part = part;
+    in_order = Y.in_order;
     comes = record {
       is_part = Y.is_part;
       once = Y.once;

@@ -11,7 +11,7 @@ use Rattle.pd_grove.specs.Planting.{one, seed_stand, stands_ready, Uses}
 use Rattle.pd_grove.specs.Standing.{Stands, depth_of}
 use Rattle.pd_bind.specs.Owning.{root_owner}
 use Rattle.pd_owning.specs.Bound.{is_among, AreNew, AreOwnersBut}
-use Rattle.pd_owning.specs.Parts.{ArePart}
+use Rattle.pd_owning.specs.Parts.{part_keys, ArePart}
 use Rattle.pd_web.specs.declared.web.Web.{Web}
 use Rattle.pd_web.specs.Canvases.{keys_at}
 use Rattle.pd_patch.specs.declared.patch.Patch.{Patch}
@@ -36,6 +36,7 @@ pub record PartLayers (p q : Patch) (table : Names) (place : Place) (s : Seed) (
   pub kind : (n : Node) → get q.grove.nodes key ≡ Some n → n.kind ≡ s.row.kind
   pub root : q.grove.root ≡ p.grove.root
   pub is_part : ArePart (get q.grove.nodes) (get q.grove.boards) key part
+  pub in_order : part ≡ part_keys (get q.grove.nodes) (get q.grove.boards) key
   pub once : AreNew part []
   pub low : (k : ℕ) → IsTrue (is_among part k) → k < root_owner
   pub opened : Web

@@ -75,4 +75,5 @@ pub record TakesPart (p : Patch) (room : PartRoom) (table : Names) : Type 0 wher
   pub outer : HasPlaces (order_in p.orders.items room.place.canvas) 1
   pub owners : (class : Class) (name : ℕ) → let n = owning_among table class name (stands_for room) in n ≢ 0 → HasOwnerRoom p.names (Some (class, name)) n
   pub spots : IsEmptyFor (length (stands_for room)) room.spots.items (vec_len room.spots) (vec_capacity room.spots)
+  pub all : length (stands_for room) ≤ vec_capacity room.signal
   pub signal : AllByRecursion (λ (i : Inside). i.boxes ≤ vec_capacity room.signal) (insides_of (stands_for room))

@@ -5,6 +5,7 @@
 //! it, and so each box that lies in it; with the wires of the canvases inside that fit, in their order; among the owners of names, with
 //! numbers, with silent blocks and with room for clocks; in the order of the canvas around, and with an order for each canvas
 //! inside. It can't fail, and every other box and what it keeps, every other wire, clock and block, and the orders of the other canvases stay.
+//! It gives the keys of the boxes that came, in text order, in a list that was set aside as well (`NewPart`).
 //!
 //! Definitions: `Part` (what comes and what stays), `Room` and `Needs` (what is set aside), `Lay` (wires that come), `Layers` and `Coming`
 //! (what the calls of each layer tell).
@@ -24,6 +25,6 @@ mod rooms;
 mod spots;
 
 pub use needs::{Need, PortCount};
-pub use putting::put_part;
+pub use putting::{NewPart, put_part};
 pub use reserving::reserve_part;
 pub use room::{BoxRoom, PartRoom};

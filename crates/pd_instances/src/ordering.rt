@@ -42,6 +42,7 @@ pub(crate) fn order_all<L: Ledger>(
     requires lists { (k c : ℕ) → IsTrue (is_among (keys_of_spots spots.now) k) → inner_in (get grove.now.nodes k) ≡ Some c → length (keys_at grove.now c) ≤ vec_capacity signal.old }
     ensures orders { OrdersAll grove.now links.now orders.old.items orders.new.items (keys_of_spots spots.now) }
     ensures slots { length orders.new.items ≡ length orders.old.items }
+    ensures list { vec_capacity signal.new ≡ vec_capacity signal.old }
     ensures looks { steps.new ≤ steps.old + looks_of grove.now links.now (keys_of_spots spots.now) }
 {
     for spot in spots {

@@ -5,8 +5,8 @@ ghost use Rattle.slab.specs.Slab.{get, ContainsKey};
 ghost use Rattle.pd_grove.specs.Forest.{IsForest};
 ghost use Rattle.pd_grove.specs.Owning.{board_in};
 ghost use Rattle.pd_grove.specs.Standing.{depth_of};
-ghost use Rattle.pd_grove.specs.TextOrder.{spot, spots_in_order};
-ghost use Rattle.pd_owning.specs.Parts.{part_spots};
+ghost use Rattle.pd_grove.specs.TextOrder.{keys_of_spots, spot, spots_in_order};
+ghost use Rattle.pd_owning.specs.Parts.{part_keys, part_spots};
 ghost use Rattle.pd_grove.specs.Planting.{seeds_in};
 ghost use Rattle.pd_web.specs.Canvases.{keys_at};
 ghost use Rattle.pd_boxes.specs.Put.{CanPut, IsNoPort};
@@ -32,20 +32,28 @@ use std::sync::ledger::Ledger;
 /// So many canvases may lie in the root.
 const MOST_LEVELS: u32 = 256;
 
-/// Puts a box with all that lies in it, for which room was set aside, into a live canvas at its number, and gives its key. The boxes from that
-/// number on move back by one. The box is no port of a box around. Looks at signal wires are counted in `steps`.
+/// A box that came, and the keys of all boxes that came with it, in text order.
+#[derive(Drop)]
+pub struct NewPart {
+    pub key: u32,
+    pub keys: Vec<u32>,
+}
+
+/// Puts a box with all that lies in it, for which room was set aside, into a live canvas at its number, and gives the keys. The boxes from that
+/// number on move back by one. The box is no port of a box around. Looks at signal wires are counted in `steps`. No memory is taken.
 pub fn put_part<L: Ledger>(
     patch: &mut Patch,
     room: PartRoom,
     symbols: &mut Symbols,
     steps: &mut Steps<L>,
-) -> u32
+) -> NewPart
     requires can { CanPut patch.old }
     requires here { ContainsKey patch.old.grove.boards room.place.canvas }
     requires number { room.place.number ≤ length (keys_at patch.old.grove room.place.canvas) }
     requires plain { IsNoPort patch.old room.place room.seed.row.kind }
     requires room { TakesPart patch.old room symbols.old }
-    ensures put { IsPartPut patch.old patch.new symbols.old room.place room.seed (seeds_in room.inside) result steps.old steps.new }
+    ensures put { IsPartPut patch.old patch.new symbols.old room.place room.seed (seeds_in room.inside) result.key steps.old steps.new }
+    ensures keys { result.keys.items ≡ part_keys (get patch.new.grove.nodes) (get patch.new.grove.boards) result.key }
     ensures table { symbols.new ≡ symbols.old }
 {
     port_boxes_are_known();
@@ -94,7 +102,19 @@ pub fn put_part<L: Ledger>(
         &mut signal,
         steps,
     );
-    key
+    list_keys(spots, &mut signal);
+    NewPart { key, keys: signal }
+}
+
+/// Makes a list that has room that of the keys of some boxes.
+fn list_keys(spots: &[Spot], keys: &mut Vec<u32>)
+    requires room { length spots.now ≤ vec_capacity keys.old }
+    ensures { keys.new.items ≡ keys_of_spots spots.now }
+{
+    keys.clear();
+    for spot in spots {
+        keys.push_reserved(spot.node);
+    }
 }
 
 /// Adds a box of a canvas and all boxes that lie in it, in text order, to an empty list that has room.
