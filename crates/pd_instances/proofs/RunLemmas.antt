@@ -353,5 +353,6 @@ module _ (p q : Patch) (table : Names) (place : Place) (s : Seed) (seeds : List 
     present = Y.present;
     can = can;
     meet = λ m. Y.lays.meet (lists_meet p.web Y.opened Y.opens.fans Y.opens.feeds m);
+    fed = Y.fed;
     built = built;
   }

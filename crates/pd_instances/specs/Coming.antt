@@ -24,7 +24,7 @@ use Rattle.pd_boxes.specs.Put.{keys_before, keys_behind}
 use Rattle.pd_boxes.specs.Rows.{NumbersFrom}
 use Rattle.pd_instances.specs.Lay.{LaysLines}
 use Rattle.pd_instances.specs.Layers.{NumbersAll, OpensAll, OrdersAll, PutsBlocks}
-use Rattle.pd_instances.specs.Part.{lines_of, looks_of}
+use Rattle.pd_instances.specs.Part.{lines_of, looks_of, AreFedOnce}
 
 -- The tree grew; the new boxes got their ports, blocks, names and numbers; the box joined the order of its canvas; wires were laid, and the canvases
 -- inside got their orders.
@@ -51,6 +51,7 @@ pub record PartLayers (p q : Patch) (table : Names) (place : Place) (s : Seed) (
   pub other_orders : StayBut p.orders.items orders place.canvas
   pub lays : LaysLines opened q.web (lines_of q.grove part)
   pub wired : AreWired q.grove q.web q.links
+  pub fed : AreFedOnce q.web
   pub own_orders : OrdersAll q.grove q.links orders q.orders.items part
   pub looks : steps' ≤ steps + 8 + looks_of q.grove q.links part
   pub clocks : q.timers ≡ p.timers

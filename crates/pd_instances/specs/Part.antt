@@ -20,9 +20,11 @@ use Rattle.pd_owning.specs.Bound.{is_among, AreNew}
 use Rattle.pd_owning.specs.Parts.{part_keys, ArePart}
 use Rattle.pd_web.specs.declared.lines.Line.{Line}
 use Rattle.pd_web.specs.Canvases.{keys_at}
-use Rattle.pd_web.specs.Changes.{line_told, wires_told, Meet}
+use Rattle.pd_web.specs.declared.web.Hop.{Hop}
+use Rattle.pd_web.specs.declared.web.Web.{Web}
+use Rattle.pd_web.specs.Changes.{hop_at, line_by, line_told, wires_told, Meet}
 use Rattle.pd_web.specs.Homes.{IsPortOf}
-use Rattle.pd_web.specs.Hops.{fan_hops, feed_hops, places_of, port_told, ports_told}
+use Rattle.pd_web.specs.Hops.{fan_hops, feed_hops, feed_keys, places_of, port_told, ports_told}
 use Rattle.pd_web.specs.Jacks.{jacks_at, made_in}
 use Rattle.pd_web.specs.Lines.{fed_from, feeding, lines_at}
 use Rattle.pd_web.specs.Sockets.{made_at}
@@ -95,6 +97,11 @@ pub record HasPartWires (p q : Patch) (key : ℕ) (part : List ℕ) : Type 0 whe
   pub lines : (k : ℕ) (l : Line) → line_told p.web k ≡ Some l → line_told q.web k ≡ Some l
   pub count : wires_told q.web ≡ wires_told p.web + length (lines_of q.grove part)
 
+-- each wire stands once among the feeds of an inlet, the one to which it leads
+pub record AreFedOnce (w : Web) : Type 0 where
+  pub lines : (node inlet i : ℕ) (h : Hop) → slice_get (feed_hops w node inlet) i ≡ Some h → line_told w h.key ≡ Some (line_by h (hop_at h.key node inlet))
+  pub once : (node inlet i j k : ℕ) → slice_get (feed_keys w node inlet) i ≡ Some k → slice_get (feed_keys w node inlet) j ≡ Some k → i ≡ j
+
 -- the boxes that came have silent blocks, one for each outlet where one of them carries signals, and the blocks of other keys stay
 pub record HasPartBlocks (p q : Patch) (part : List ℕ) : Type 0 where
   pub blocks : (k : ℕ) → IsTrue (is_among part k) → slice_get (blocks_told q) k ≡ Some (first_blocks q.web k)
@@ -134,6 +141,7 @@ pub record IsPartPut (p q : Patch) (table : Names) (place : Place) (s : Seed) (s
   pub present : q.present ≡ p.present
   pub can : CanPut q
   pub meet : Meet p.web → Meet q.web
+  pub fed : AreFedOnce q.web
   pub built : (file : List ℕ) (rate : Rate) → IsBuilt p table file rate → IsBuilt q table file rate
 
 -- room was set aside, and then a box of a seed came in with all that lies in it

@@ -93,6 +93,7 @@ pub fn put_part<L: Ledger>(
     );
     open_links(&mut patch.links, &patch.grove, spots, &mut links);
     lay_part(&mut patch.web, &mut patch.links, &patch.grove, spots);
+    patch.web.laws();
     order_all(
         &mut patch.orders,
         &patch.grove,

@@ -274,6 +274,7 @@ returns-clause-put g c =
       other_orders = c.place_box.ensures.others;
       lays = c.lay_part.ensures.lays;
       wired = c.lay_part.ensures.wired;
+      fed = record { lines = c.laws.ensures.feeds; once = c.laws.ensures.once_fed };
       own_orders = c.order_all.ensures.orders;
       looks = (let a = c.place_box.ensures.looks in let b = c.order_all.ensures.looks in omega (arith, a, b));
       clocks = refl;
