@@ -1,5 +1,5 @@
 -- What an edit of the patch's own document comes to.
-use Rattle.std.specs.Prelude.{◌≡◌, ◌≤◌, ◌+◌, ◌⊎◌, ℕ, true, List, [], ◌∷◌, Some, None, Result, Ok, Err}
+use Rattle.std.specs.Prelude.{◌≡◌, ◌≤◌, ◌+◌, ◌⊎◌, ℕ, true, List, [], ◌∷◌, slice_get, Some, None, Result, Ok, Err}
 use Rattle.std.specs.List.{AllByRecursion}
 use Rattle.pd_atom.specs.declared.Atom.{Atom}
 use Rattle.pd_canvas.specs.declared.edits.Edit.{Edit}
@@ -17,9 +17,11 @@ use Rattle.pd_wiring.specs.declared.refusals.EditRefusal.TheVariants.{NoMemory}
 use Rattle.pd_say.specs.declared.refusals.Why.{Why}
 use Rattle.pd_say.specs.declared.refusals.Why.TheVariants as why
 use Rattle.pd_stage.specs.Choices.{Wanted, Edits, Asks, Saves, Undoes, Redoes, Choice, loads_of_choice}
-use Rattle.pd_stage.specs.Stages.{Stage, Taken}
-use Rattle.pd_stage.specs.Events.{edit_event, edit_taken}
-use Rattle.pd_stage.specs.Leads.{Sinks, Comes}
+use Rattle.pd_walk.specs.declared.walker.Budget.{Budget}
+use Rattle.pd_walk.specs.Outcome.{all_loaded}
+use Rattle.pd_stage.specs.Stages.{Stage, Taken, Passage}
+use Rattle.pd_stage.specs.Events.{Left, edit_taken, loaded_by, asked_by, edit_event}
+use Rattle.pd_stage.specs.Leads.{Sinks, Leads, BreaksOff, Comes, Stops}
 use Rattle.pd_stage.specs.Lawful.{why_of}
 use Rattle.pd_stage.specs.Lines.{loops_text}
 use Rattle.pd_engine.specs.Commands.{first_outcome}
@@ -73,6 +75,25 @@ pub record IsTakenSo (wanted : Wanted) (outcome : Outcome) (loads : List ℕ) (f
 pub record IsEvent (wanted : Wanted) (outcome : Outcome) (from to : List Choice → Stage) (old new : Sinks) : Type 0 where
   pub comes : Comes (edit_event wanted) from to old new
   pub answer : outcome ≡ first_outcome comes.edits
+
+-- what is left of an event that may still have so many deliveries, and in which these edits were asked for so far
+abbrev pub left_of : Budget → Waiting → Left
+left_of budget asked = record { budget = budget; asked = asked }
+
+-- boxes were loaded with what was left of an event, and the rest goes on with what is left now
+abbrev pub IsLoadedSo : List ℕ → (l l' : Left) → (from to : List Choice → Stage) → (old new : Sinks) → Type 0
+IsLoadedSo boxes l l' from to old new = (rest : Left → Stage → Passage) → Leads (λ m. loaded_by all_loaded boxes l rest (from m)) (λ m. rest l' (to m)) old new
+
+abbrev pub IsLoadedPart : List ℕ → Left → (from : List Choice → Stage) → (old new : Sinks) → Type 0
+IsLoadedPart boxes l from old new = (rest : Left → Stage → Passage) → Stops (loaded_by all_loaded boxes l rest) from old new
+
+-- the same of the edit at a place of those that were asked for, with the boxes that are loaded behind it
+abbrev pub IsAskedSo : ℕ → (l l' : Left) → (from to : List Choice → Stage) → (old new : Sinks) → Type 0
+IsAskedSo place l l' from to old new =
+    (rest : Left → Stage → Passage) → Leads (λ m. asked_by all_loaded rest l (from m) (slice_get l.asked place)) (λ m. rest l' (to m)) old new
+
+abbrev pub IsAskedPart : ℕ → Left → (from : List Choice → Stage) → (old new : Sinks) → Type 0
+IsAskedPart place l from old new = (rest : Left → Stage → Passage) → BreaksOff (λ m. asked_by all_loaded rest l (from m) (slice_get l.asked place)) old new
 
 -- an edit of the patch's own document was taken, this is answered, and these boxes are to be loaded behind it
 abbrev pub IsEdited : List ℕ → Edit → Outcome → List ℕ → (List Choice → Stage) → (List Choice → Stage) → Sinks → Sinks → Type 0

@@ -1,15 +1,15 @@
 //! Commands of the script.
 
-ghost use Rattle.std.specs.Prelude.{◌≡◌, ◌≤◌, ℕ, List, Option, OnOk, OnErr, IfOk};
+ghost use Rattle.std.specs.Prelude.{◌≡◌, ◌≤◌, ℕ, List, [], Option, OnOk, OnErr, IfOk};
 ghost use Rattle.pd_io.specs.Stream.{grown, TookPart};
 ghost use Rattle.pd_io.specs.declared.files.FileRow.{FileRow};
 ghost use Rattle.pd_say.specs.Gathering.{HasCause};
 ghost use Rattle.pd_stage.specs.Choices.{Wanted, Edits, Saves, request_of};
 ghost use Rattle.pd_stage.specs.Stages.{saying};
-ghost use Rattle.pd_stage.specs.Events.{edit_taken};
+ghost use Rattle.pd_stage.specs.Events.{edit_taken, edit_event};
 ghost use Rattle.pd_stage.specs.Leads.{sinks, Comes, Stops, Says, SaysPart};
 ghost use Rattle.pd_engine.specs.Stages.{stage_at};
-ghost use Rattle.pd_engine.specs.Edits.{IsTakenSo, IsAlwaysRefused};
+ghost use Rattle.pd_engine.specs.Edits.{IsTakenSo, IsEvent, IsAlwaysRefused};
 ghost use Rattle.pd_engine.specs.Commands as commands;
 
 use crate::engine::Engine;
@@ -73,9 +73,9 @@ impl Engine {
         steps: &mut Steps<K>,
     ) -> Result<Outcome, SinkFailed>
         ensures ok { IfOk result (λ outcome. (samples : Option (List ℕ)) →
-            IsTakenSo (Edits place.now.document place.now.path edit.now) outcome (stage_at self.old) (stage_at self.new) (sinks (L.taken lines.old) samples steps.old (H.holds shelf.old) (H.faults shelf.old)) (sinks (L.taken lines.new) samples steps.new (H.holds shelf.new) (H.faults shelf.new))) }
+            IsEvent (Edits place.now.document place.now.path edit.now) outcome (stage_at self.old) (stage_at self.new) (sinks (L.taken lines.old) samples steps.old (H.holds shelf.old) (H.faults shelf.old)) (sinks (L.taken lines.new) samples steps.new (H.holds shelf.new) (H.faults shelf.new))) }
         ensures err { OnErr result ((samples : Option (List ℕ)) →
-            Stops (edit_taken (Edits place.now.document place.now.path edit.now)) (stage_at self.old) (sinks (L.taken lines.old) samples steps.old (H.holds shelf.old) (H.faults shelf.old)) (sinks (L.taken lines.new) samples steps.new (H.holds shelf.new) (H.faults shelf.new))) }
+            Stops (edit_event (Edits place.now.document place.now.path edit.now)) (stage_at self.old) (sinks (L.taken lines.old) samples steps.old (H.holds shelf.old) (H.faults shelf.old)) (sinks (L.taken lines.new) samples steps.new (H.holds shelf.new) (H.faults shelf.new))) }
         ensures cause { HasCause (L.faults lines.old) (L.faults lines.new) result }
         ensures counted { H.faults shelf.old ≤ H.faults shelf.new }
         ensures stays { self.new.stopped ≡ self.old.stopped }
@@ -97,7 +97,7 @@ impl Engine {
         lines: &mut L,
     ) -> Result<Outcome, SinkFailed>
         ensures ok { IfOk result (λ outcome. (samples : Option (List ℕ)) (looks : ℕ) →
-            IsTakenSo (Saves document) outcome (stage_at self.old) (stage_at self.new) (sinks (L.taken lines.old) samples looks (H.holds shelf.old) (H.faults shelf.old)) (sinks (L.taken lines.new) samples looks (H.holds shelf.new) (H.faults shelf.new))) }
+            IsTakenSo (Saves document) outcome [] (stage_at self.old) (stage_at self.new) (sinks (L.taken lines.old) samples looks (H.holds shelf.old) (H.faults shelf.old)) (sinks (L.taken lines.new) samples looks (H.holds shelf.new) (H.faults shelf.new))) }
         ensures err { OnErr result ((samples : Option (List ℕ)) (looks : ℕ) →
             Stops (edit_taken (Saves document)) (stage_at self.old) (sinks (L.taken lines.old) samples looks (H.holds shelf.old) (H.faults shelf.old)) (sinks (L.taken lines.new) samples looks (H.holds shelf.new) (H.faults shelf.new))) }
         ensures cause { HasCause (L.faults lines.old) (L.faults lines.new) result }
@@ -188,7 +188,7 @@ impl Engine {
     ) -> Result<Outcome, SinkFailed>
         requires { outcome ≡ commands.refused_as why }
         ensures ok { IfOk result (λ outcome. (wanted : Wanted) → request ≡ request_of wanted → IsAlwaysRefused wanted why → (samples : Option (List ℕ)) (looks : ℕ) (held : Option (List FileRow)) (faults : ℕ) →
-            IsTakenSo wanted outcome (stage_at self.old) (stage_at self.new) (sinks (L.taken lines.old) samples looks held faults) (sinks (L.taken lines.new) samples looks held faults)) }
+            IsTakenSo wanted outcome [] (stage_at self.old) (stage_at self.new) (sinks (L.taken lines.old) samples looks held faults) (sinks (L.taken lines.new) samples looks held faults)) }
         ensures err { OnErr result ((wanted : Wanted) → request ≡ request_of wanted → IsAlwaysRefused wanted why → (looks : ℕ) → SaysPart (edit_taken wanted) (stage_at self.old) (L.taken lines.old) (L.taken lines.new) looks looks) }
         ensures cause { HasCause (L.faults lines.old) (L.faults lines.new) result }
         ensures stays { self.new.stopped ≡ self.old.stopped }

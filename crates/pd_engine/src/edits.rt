@@ -1,6 +1,6 @@
 //! Edits and saves of the patch's own document.
 
-ghost use Rattle.std.specs.Prelude.{◌≡◌, ◌<◌, ◌≤◌, ℕ, true, List, Option, Some, None, length, slice_index_or, OnOk, OnErr, IfOk};
+ghost use Rattle.std.specs.Prelude.{◌≡◌, ◌<◌, ◌≤◌, ℕ, true, List, [], Option, Some, None, length, OnOk, OnErr, IfOk};
 ghost use Rattle.pd_io.specs.Stream.{grown, TookPart};
 ghost use Rattle.pd_io.specs.declared.files.FileRow.{FileRow};
 ghost use Rattle.pd_canvas.specs.declared.edits.Edit.{Edit as EditSeen};
@@ -11,9 +11,9 @@ ghost use Rattle.pd_say.specs.Gathering.{HasCause};
 ghost use Rattle.pd_web.specs.Changes.{wires_told};
 ghost use Rattle.pd_wiring.specs.Changes.{CanRewire};
 ghost use Rattle.pd_stage.specs.Choices.{Wanted, Edits, Asks, Saves};
-ghost use Rattle.pd_stage.specs.Events.{edit_asked, edit_taken};
+ghost use Rattle.pd_stage.specs.Events.{edit_taken, edit_event};
 ghost use Rattle.pd_stage.specs.Lawful.{why_of as why_so};
-ghost use Rattle.pd_stage.specs.Leads.{sinks, Comes, Stops, SaysPart};
+ghost use Rattle.pd_stage.specs.Leads.{sinks, Stops, SaysPart};
 ghost use Rattle.pd_stage.specs.Lines.{put_text, retyped_text};
 ghost use Rattle.pd_engine.specs.Stages.{stage_at};
 ghost use Rattle.pd_engine.specs.Edits as edits;
@@ -36,35 +36,38 @@ use pd_save::put_document;
 use pd_say::{Request, Why};
 use pd_script::CommandEdit;
 use pd_shifting::move_box;
+use pd_walk::Budget;
 use std::alloc::{AllocError, Global};
 use std::sync::ledger::Ledger;
 
 impl Engine {
-    /// Takes the edit of a place of the queue.
+    /// Takes the edit of a place of the queue, and loads the boxes that it made, with what is left of the event.
     pub(crate) fn take_asked<H: Shelf, L: Sink, K: Ledger>(
         &mut self,
         i: u32,
+        budget: &mut Budget,
         shelf: &mut H,
         lines: &mut L,
         steps: &mut Steps<K>,
     ) -> Result<(), SinkFailed>
         requires place { i < length self.old.queue }
         requires asked { edits.AreAskedFor self.old.queue }
-        ensures ok { OnOk result ((d : List ℕ × EditSeen) (samples : Option (List ℕ)) → Comes (edit_asked (slice_index_or self.old.queue i d)) (stage_at self.old) (stage_at self.new) (sinks (L.taken lines.old) samples steps.old (H.holds shelf.old) (H.faults shelf.old)) (sinks (L.taken lines.new) samples steps.new (H.holds shelf.new) (H.faults shelf.new))) }
-        ensures err { OnErr result ((d : List ℕ × EditSeen) (samples : Option (List ℕ)) → Stops (edit_asked (slice_index_or self.old.queue i d)) (stage_at self.old) (sinks (L.taken lines.old) samples steps.old (H.holds shelf.old) (H.faults shelf.old)) (sinks (L.taken lines.new) samples steps.new (H.holds shelf.new) (H.faults shelf.new))) }
+        ensures ok { OnOk result ((samples : Option (List ℕ)) → edits.IsAskedSo i (edits.left_of budget.old self.old.queue) (edits.left_of budget.new self.new.queue) (stage_at self.old) (stage_at self.new) (sinks (L.taken lines.old) samples steps.old (H.holds shelf.old) (H.faults shelf.old)) (sinks (L.taken lines.new) samples steps.new (H.holds shelf.new) (H.faults shelf.new))) }
+        ensures err { OnErr result ((samples : Option (List ℕ)) → edits.IsAskedPart i (edits.left_of budget.old self.old.queue) (stage_at self.old) (sinks (L.taken lines.old) samples steps.old (H.holds shelf.old) (H.faults shelf.old)) (sinks (L.taken lines.new) samples steps.new (H.holds shelf.new) (H.faults shelf.new))) }
+        ensures asked { OnOk result (edits.AreAskedFor self.new.queue) }
         ensures cause { HasCause (L.faults lines.old) (L.faults lines.new) result }
         ensures counted { H.faults shelf.old ≤ H.faults shelf.new }
         ensures kept { H.holds shelf.new ≡ H.holds shelf.old }
         ensures stays { self.new.stopped ≡ self.old.stopped }
-        ensures queue { self.new.queue ≡ self.old.queue }
     {
         let Some(asked) = self.queue.get(i) else {
             return Ok(());
         };
         let Some(edit) = asked.wire_edit() else {
             let copied = asked.copy(self.alloc);
+            self.loads.clear();
             self.put_asked(copied, shelf, lines, steps)?;
-            return Ok(());
+            return self.load_made(budget, lines);
         };
         let done = make(
             self.alloc,
@@ -86,8 +89,9 @@ impl Engine {
         lines: &mut L,
         steps: &mut Steps<K>,
     ) -> Result<Outcome, SinkFailed>
-        requires { IfOk copied (λ c. puts_box c.1 ≡ true) }
-        ensures ok { OnOk result ((path : List ℕ) (e : EditSeen) → puts_box e ≡ true → IfOk copied (λ c. (c.0.path ≡ path) × (c.1 ≡ e)) → (samples : Option (List ℕ)) → Comes (edit_taken (Asks path e)) (stage_at self.old) (stage_at self.new) (sinks (L.taken lines.old) samples steps.old (H.holds shelf.old) (H.faults shelf.old)) (sinks (L.taken lines.new) samples steps.new (H.holds shelf.new) (H.faults shelf.new))) }
+        requires empty { self.old.loads.items ≡ [] }
+        requires puts { IfOk copied (λ c. puts_box c.1 ≡ true) }
+        ensures ok { IfOk result (λ outcome. (path : List ℕ) (e : EditSeen) → puts_box e ≡ true → IfOk copied (λ c. (c.0.path ≡ path) × (c.1 ≡ e)) → (samples : Option (List ℕ)) → edits.IsTakenSo (Asks path e) outcome self.new.loads.items (stage_at self.old) (stage_at self.new) (sinks (L.taken lines.old) samples steps.old (H.holds shelf.old) (H.faults shelf.old)) (sinks (L.taken lines.new) samples steps.new (H.holds shelf.new) (H.faults shelf.new))) }
         ensures err { OnErr result ((path : List ℕ) (e : EditSeen) → puts_box e ≡ true → IfOk copied (λ c. (c.0.path ≡ path) × (c.1 ≡ e)) → (samples : Option (List ℕ)) → Stops (edit_taken (Asks path e)) (stage_at self.old) (sinks (L.taken lines.old) samples steps.old (H.holds shelf.old) (H.faults shelf.old)) (sinks (L.taken lines.new) samples steps.new (H.holds shelf.new) (H.faults shelf.new))) }
         ensures cause { HasCause (L.faults lines.old) (L.faults lines.new) result }
         ensures counted { H.faults shelf.old ≤ H.faults shelf.new }
@@ -103,7 +107,7 @@ impl Engine {
         }
     }
 
-    /// Makes an edit of the canvas at a path of the patch's own document, or refuses it.
+    /// Makes an edit of the canvas at a path of the patch's own document, or refuses it, with all that follows from it.
     pub(crate) fn edit_own<H: Shelf, L: Sink, K: Ledger>(
         &mut self,
         path: &[u32],
@@ -112,14 +116,14 @@ impl Engine {
         lines: &mut L,
         steps: &mut Steps<K>,
     ) -> Result<Outcome, SinkFailed>
-        ensures ok { IfOk result (λ outcome. (samples : Option (List ℕ)) → edits.IsEdited path.now edit.now outcome (stage_at self.old) (stage_at self.new) (sinks (L.taken lines.old) samples steps.old (H.holds shelf.old) (H.faults shelf.old)) (sinks (L.taken lines.new) samples steps.new (H.holds shelf.new) (H.faults shelf.new))) }
-        ensures err { OnErr result ((samples : Option (List ℕ)) → Stops (edit_taken (Edits None path.now edit.now)) (stage_at self.old) (sinks (L.taken lines.old) samples steps.old (H.holds shelf.old) (H.faults shelf.old)) (sinks (L.taken lines.new) samples steps.new (H.holds shelf.new) (H.faults shelf.new))) }
+        ensures ok { IfOk result (λ outcome. (samples : Option (List ℕ)) → edits.IsEvent (Edits None path.now edit.now) outcome (stage_at self.old) (stage_at self.new) (sinks (L.taken lines.old) samples steps.old (H.holds shelf.old) (H.faults shelf.old)) (sinks (L.taken lines.new) samples steps.new (H.holds shelf.new) (H.faults shelf.new))) }
+        ensures err { OnErr result ((samples : Option (List ℕ)) → Stops (edit_event (Edits None path.now edit.now)) (stage_at self.old) (sinks (L.taken lines.old) samples steps.old (H.holds shelf.old) (H.faults shelf.old)) (sinks (L.taken lines.new) samples steps.new (H.holds shelf.new) (H.faults shelf.new))) }
         ensures cause { HasCause (L.faults lines.old) (L.faults lines.new) result }
         ensures counted { H.faults shelf.old ≤ H.faults shelf.new }
         ensures stays { self.new.stopped ≡ self.old.stopped }
     {
         if edit.puts_box() {
-            return self.put_own(path, edit, shelf, lines, steps);
+            return self.put_loaded(path, edit, shelf, lines, steps);
         }
         if let Some(number) = edit.deleted() {
             return self.delete_own(path, number, lines, steps);
@@ -141,6 +145,29 @@ impl Engine {
         self.tell(done, lines)
     }
 
+    /// Puts a box last into the canvas at a path of the patch's own document, or refuses it. The load boxes that lie in it are loaded, and
+    /// the edits are taken that they ask for.
+    fn put_loaded<H: Shelf, L: Sink, K: Ledger>(
+        &mut self,
+        path: &[u32],
+        edit: &CommandEdit,
+        shelf: &mut H,
+        lines: &mut L,
+        steps: &mut Steps<K>,
+    ) -> Result<Outcome, SinkFailed>
+        requires { puts_box edit.now ≡ true }
+        ensures ok { IfOk result (λ outcome. (samples : Option (List ℕ)) → edits.IsEvent (Edits None path.now edit.now) outcome (stage_at self.old) (stage_at self.new) (sinks (L.taken lines.old) samples steps.old (H.holds shelf.old) (H.faults shelf.old)) (sinks (L.taken lines.new) samples steps.new (H.holds shelf.new) (H.faults shelf.new))) }
+        ensures err { OnErr result ((samples : Option (List ℕ)) → Stops (edit_event (Edits None path.now edit.now)) (stage_at self.old) (sinks (L.taken lines.old) samples steps.old (H.holds shelf.old) (H.faults shelf.old)) (sinks (L.taken lines.new) samples steps.new (H.holds shelf.new) (H.faults shelf.new))) }
+        ensures cause { HasCause (L.faults lines.old) (L.faults lines.new) result }
+        ensures counted { H.faults shelf.old ≤ H.faults shelf.new }
+        ensures stays { self.new.stopped ≡ self.old.stopped }
+    {
+        self.loads.clear();
+        let outcome = self.put_own(path, edit, shelf, lines, steps)?;
+        self.follow_edit(shelf, lines, steps)?;
+        Ok(outcome)
+    }
+
     /// Deletes the box of a number in the canvas at a path of the patch's own document, with all that lies in it, or refuses it.
     fn delete_own<L: Sink, K: Ledger>(
         &mut self,
@@ -149,7 +176,7 @@ impl Engine {
         lines: &mut L,
         steps: &mut Steps<K>,
     ) -> Result<Outcome, SinkFailed>
-        ensures ok { IfOk result (λ outcome. (samples : Option (List ℕ)) (held : Option (List FileRow)) (faults : ℕ) → edits.IsEdited path.now (edit.Delete number) outcome (stage_at self.old) (stage_at self.new) (sinks (L.taken lines.old) samples steps.old held faults) (sinks (L.taken lines.new) samples steps.new held faults)) }
+        ensures ok { IfOk result (λ outcome. (samples : Option (List ℕ)) (held : Option (List FileRow)) (faults : ℕ) → edits.IsEdited path.now (edit.Delete number) outcome [] (stage_at self.old) (stage_at self.new) (sinks (L.taken lines.old) samples steps.old held faults) (sinks (L.taken lines.new) samples steps.new held faults)) }
         ensures err { OnErr result (SaysPart (edit_taken (Edits None path.now (edit.Delete number))) (stage_at self.old) (L.taken lines.old) (L.taken lines.new) steps.old steps.new) }
         ensures cause { HasCause (L.faults lines.old) (L.faults lines.new) result }
         ensures stays { self.new.stopped ≡ self.old.stopped }
@@ -181,7 +208,7 @@ impl Engine {
         y: Num,
         lines: &mut L,
     ) -> Result<Outcome, SinkFailed>
-        ensures ok { IfOk result (λ outcome. (samples : Option (List ℕ)) (looks : ℕ) (held : Option (List FileRow)) (faults : ℕ) → edits.IsEdited path.now (edit.Move number x y) outcome (stage_at self.old) (stage_at self.new) (sinks (L.taken lines.old) samples looks held faults) (sinks (L.taken lines.new) samples looks held faults)) }
+        ensures ok { IfOk result (λ outcome. (samples : Option (List ℕ)) (looks : ℕ) (held : Option (List FileRow)) (faults : ℕ) → edits.IsEdited path.now (edit.Move number x y) outcome [] (stage_at self.old) (stage_at self.new) (sinks (L.taken lines.old) samples looks held faults) (sinks (L.taken lines.new) samples looks held faults)) }
         ensures err { OnErr result ((looks : ℕ) → SaysPart (edit_taken (Edits None path.now (edit.Move number x y))) (stage_at self.old) (L.taken lines.old) (L.taken lines.new) looks looks) }
         ensures cause { HasCause (L.faults lines.old) (L.faults lines.new) result }
         ensures stays { self.new.stopped ≡ self.old.stopped }
@@ -203,7 +230,7 @@ impl Engine {
         steps: &mut Steps<K>,
     ) -> Result<Outcome, SinkFailed>
         requires { edits.IsRetype edit.now }
-        ensures ok { IfOk result (λ outcome. (samples : Option (List ℕ)) → edits.IsEdited path.now edit.now outcome (stage_at self.old) (stage_at self.new) (sinks (L.taken lines.old) samples steps.old (H.holds shelf.old) (H.faults shelf.old)) (sinks (L.taken lines.new) samples steps.new (H.holds shelf.new) (H.faults shelf.new))) }
+        ensures ok { IfOk result (λ outcome. (samples : Option (List ℕ)) → edits.IsEdited path.now edit.now outcome [] (stage_at self.old) (stage_at self.new) (sinks (L.taken lines.old) samples steps.old (H.holds shelf.old) (H.faults shelf.old)) (sinks (L.taken lines.new) samples steps.new (H.holds shelf.new) (H.faults shelf.new))) }
         ensures err { OnErr result ((samples : Option (List ℕ)) → Stops (edit_taken (Edits None path.now edit.now)) (stage_at self.old) (sinks (L.taken lines.old) samples steps.old (H.holds shelf.old) (H.faults shelf.old)) (sinks (L.taken lines.new) samples steps.new (H.holds shelf.new) (H.faults shelf.new))) }
         ensures cause { HasCause (L.faults lines.old) (L.faults lines.new) result }
         ensures counted { H.faults shelf.old ≤ H.faults shelf.new }
@@ -226,7 +253,7 @@ impl Engine {
         lines: &mut L,
         steps: &mut Steps<K>,
     ) -> Result<Outcome, SinkFailed>
-        ensures ok { IfOk result (λ outcome. (samples : Option (List ℕ)) → edits.IsEdited path.now (edit.Retype number text.now) outcome (stage_at self.old) (stage_at self.new) (sinks (L.taken lines.old) samples steps.old (H.holds shelf.old) (H.faults shelf.old)) (sinks (L.taken lines.new) samples steps.new (H.holds shelf.new) (H.faults shelf.new))) }
+        ensures ok { IfOk result (λ outcome. (samples : Option (List ℕ)) → edits.IsEdited path.now (edit.Retype number text.now) outcome [] (stage_at self.old) (stage_at self.new) (sinks (L.taken lines.old) samples steps.old (H.holds shelf.old) (H.faults shelf.old)) (sinks (L.taken lines.new) samples steps.new (H.holds shelf.new) (H.faults shelf.new))) }
         ensures err { OnErr result ((samples : Option (List ℕ)) → Stops (edit_taken (Edits None path.now (edit.Retype number text.now))) (stage_at self.old) (sinks (L.taken lines.old) samples steps.old (H.holds shelf.old) (H.faults shelf.old)) (sinks (L.taken lines.new) samples steps.new (H.holds shelf.new) (H.faults shelf.new))) }
         ensures cause { HasCause (L.faults lines.old) (L.faults lines.new) result }
         ensures counted { H.faults shelf.old ≤ H.faults shelf.new }
@@ -267,8 +294,9 @@ impl Engine {
         lines: &mut L,
         steps: &mut Steps<K>,
     ) -> Result<Outcome, SinkFailed>
-        requires { puts_box edit.now ≡ true }
-        ensures ok { IfOk result (λ outcome. (samples : Option (List ℕ)) → edits.IsEdited path.now edit.now outcome (stage_at self.old) (stage_at self.new) (sinks (L.taken lines.old) samples steps.old (H.holds shelf.old) (H.faults shelf.old)) (sinks (L.taken lines.new) samples steps.new (H.holds shelf.new) (H.faults shelf.new))) }
+        requires empty { self.old.loads.items ≡ [] }
+        requires puts { puts_box edit.now ≡ true }
+        ensures ok { IfOk result (λ outcome. (samples : Option (List ℕ)) → edits.IsEdited path.now edit.now outcome self.new.loads.items (stage_at self.old) (stage_at self.new) (sinks (L.taken lines.old) samples steps.old (H.holds shelf.old) (H.faults shelf.old)) (sinks (L.taken lines.new) samples steps.new (H.holds shelf.new) (H.faults shelf.new))) }
         ensures err { OnErr result ((samples : Option (List ℕ)) → Stops (edit_taken (Edits None path.now edit.now)) (stage_at self.old) (sinks (L.taken lines.old) samples steps.old (H.holds shelf.old) (H.faults shelf.old)) (sinks (L.taken lines.new) samples steps.new (H.holds shelf.new) (H.faults shelf.new))) }
         ensures cause { HasCause (L.faults lines.old) (L.faults lines.new) result }
         ensures counted { H.faults shelf.old ≤ H.faults shelf.new }
@@ -289,8 +317,9 @@ impl Engine {
         lines: &mut L,
         steps: &mut Steps<K>,
     ) -> Result<Outcome, SinkFailed>
-        requires { puts_box edit.now ≡ true }
-        ensures ok { IfOk result (λ outcome. (wanted : Wanted) → edits.IsOwn wanted path.now edit.now → (samples : Option (List ℕ)) → edits.IsTakenSo wanted outcome (stage_at self.old) (stage_at self.new) (sinks (L.taken lines.old) samples steps.old (H.holds shelf.old) (H.faults shelf.old)) (sinks (L.taken lines.new) samples steps.new (H.holds shelf.new) (H.faults shelf.new))) }
+        requires empty { self.old.loads.items ≡ [] }
+        requires puts { puts_box edit.now ≡ true }
+        ensures ok { IfOk result (λ outcome. (wanted : Wanted) → edits.IsOwn wanted path.now edit.now → (samples : Option (List ℕ)) → edits.IsTakenSo wanted outcome self.new.loads.items (stage_at self.old) (stage_at self.new) (sinks (L.taken lines.old) samples steps.old (H.holds shelf.old) (H.faults shelf.old)) (sinks (L.taken lines.new) samples steps.new (H.holds shelf.new) (H.faults shelf.new))) }
         ensures err { OnErr result ((wanted : Wanted) → edits.IsOwn wanted path.now edit.now → (samples : Option (List ℕ)) → Stops (edit_taken wanted) (stage_at self.old) (sinks (L.taken lines.old) samples steps.old (H.holds shelf.old) (H.faults shelf.old)) (sinks (L.taken lines.new) samples steps.new (H.holds shelf.new) (H.faults shelf.new))) }
         ensures cause { HasCause (L.faults lines.old) (L.faults lines.new) result }
         ensures counted { H.faults shelf.old ≤ H.faults shelf.new }
@@ -338,6 +367,7 @@ impl Engine {
         ensures cause { HasCause (L.faults lines.old) (L.faults lines.new) result }
         ensures stays { self.new.stopped ≡ self.old.stopped }
         ensures queue { self.new.queue ≡ self.old.queue }
+        ensures loads { self.new.loads ≡ self.old.loads }
     {
         print_unmade(&self.patch, key, &self.symbols, &mut self.held, lines)?;
         print_loop_around(
@@ -413,6 +443,7 @@ impl Engine {
         ensures stays { self.new.stopped ≡ self.old.stopped }
         ensures library { self.new.library ≡ self.old.library }
         ensures queue { self.new.queue ≡ self.old.queue }
+        ensures loads { self.new.loads ≡ self.old.loads }
     {
         match done {
             Ok(canvas) => {

@@ -51,6 +51,8 @@ pub struct Engine {
     pub(crate) symbols: Symbols,
     pub(crate) walker: Walker,
     pub(crate) queue: EditQueue,
+    /// The boxes that are loaded behind an edit.
+    pub(crate) loads: Vec<u32>,
     pub(crate) held: Held,
     /// The numbers of a line.
     pub(crate) numbers: BoxNumbers,

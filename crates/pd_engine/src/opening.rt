@@ -319,6 +319,7 @@ fn begin<H: Shelf, L: Sink>(
         symbols,
         walker,
         queue,
+        loads: Vec::new(alloc),
         held: Held::new(),
         numbers,
         time: Time::of_units(0),
