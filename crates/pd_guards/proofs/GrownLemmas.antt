@@ -1,5 +1,5 @@
 -- The boxes of a tree that grows are of kinds in order.
-use Rattle.std.proofs.Common.{◌≡◌, ℕ, pos, zero, suc, ◌+◌, ◌*◌, ◌≤◌, Bool, true, false, cond, List, [], ◌∷◌, ◌++◌, length, drop, Option, Some, None, Result, Ok, Err, IfOk, refl, sym, subst, ◌∙◌, arith, nat_lt}
+use Rattle.std.proofs.Common.{◌≡◌, ℕ, zero, suc, ◌+◌, ◌≤◌, Bool, true, false, cond, List, [], ◌∷◌, ◌++◌, length, drop, Option, Some, None, Result, Ok, Err, IfOk, refl, sym, subst, ◌∙◌, arith, nat_lt}
 use Rattle.std.specs.List.{AllByRecursion}
 use Rattle.pd_atom.specs.declared.Atom.{Atom}
 use Rattle.pd_atom.specs.declared.Expanded.{Expanded}
@@ -27,10 +27,9 @@ use Rattle.pd_growth.specs.Growth.{Inner, cell_of, canvas_grown, receiver_bytes,
 use Rattle.pd_regrowth_law.specs.Regrowth.{Takes, inner_of}
 use Rattle.pd_regrowth_law.proofs.StepLemmas.{no_boxes, page_is, gives_same, gives_stock, chain, named_went, text_extends, box_went, boxes_went, counted_takes, numbered_takes, brought_takes}
 use Rattle.pd_regrowth_law.proofs.TakeLemmas.{text_takes, receiver_takes, canvas_went, InnerTakes, box_takes, boxes_take, inner_takes, patch_went}
-use Rattle.pd_guards.specs.Order.{IsNumber, HasFirst, IsAtom, AreAtoms, IsList}
+use Rattle.pd_guards.specs.Order.{HasFirst, IsAtom, AreAtoms, IsList}
 use Rattle.pd_guards.specs.Growing.{IsBorn, AreBorn, ValuesIn, IsHeadIn, BoxesIn, LibraryIn, StockIn}
 use Rattle.pd_guards.proofs.FactLemmas.{either, all-weaker}
-use Rattle.pd_guards.proofs.NumberLemmas.{near_pos}
 use Rattle.pd_guards.proofs.BaseLemmas.{no_number}
 use Rattle.pd_guards.proofs.MoreLemmas.{longer, first_more, atom_more, atoms_more, list_more, kind_more, kept_more}
 use Rattle.pd_guards.proofs.NameLemmas.{IsExpanded, expanded_at}
@@ -43,10 +42,9 @@ record EntryIn (names : Names) (e : Entry) : Type 0 where
 abbrev EntriesIn : Names → List Entry → Type 0
 EntriesIn names es = AllByRecursion (EntryIn names) es
 
--- the `$0` and the arguments around
-record AroundIn (names : Names) (a : Around) : Type 0 where
-  zero : a.zero ≤ 1000000000
-  arguments : AreAtoms names a.arguments
+-- the arguments around
+abbrev AroundIn : Names → Around → Type 0
+AroundIn names a = AreAtoms names a.arguments
 
 entries_in : (names : Names) (b : Boxes) → BoxesIn names b → EntriesIn names (listed b)
 entries_in names End h = tt
@@ -100,7 +98,7 @@ module _ (old new : Names) (l : length old ≤ length new) where
   library_more lib h s d e = boxes_more d.root.boxes (h s d e)
 
   around_more : (a : Around) → AroundIn old a → AroundIn new a
-  around_more a h = record { zero = h.zero; arguments = atoms_more old new l a.arguments h.arguments }
+  around_more a h = atoms_more old new l a.arguments h
 
 trees_join : (names : Names) (t r : Trees) → AreBorn names t → AreBorn names r → AreBorn names (join t r)
 trees_join names Done r h k = k
@@ -120,9 +118,6 @@ stock_more w v numbers n t h = record {
   zeros = all-right IsZero numbers v.zeros (subst (AllByRecursion IsZero) t.zeros h.zeros);
 }
 
-number_in : (w v : Stock) (z : ℕ) → Takes w (z ∷ []) 0 v → StockIn w → IsZero z
-number_in w v z t h = let all : AllByRecursion IsZero ((z ∷ []) ++ v.zeros) = subst (AllByRecursion IsZero) t.zeros h.zeros in all.0
-
 -- texts with their dollars replaced
 record IsText (n : ℕ) (o : Outcome (List Atom)) : Type 0 where
   ok : IfOk o.answer (λ atoms. AreAtoms o.names atoms × (length atoms ≤ n))
@@ -137,22 +132,21 @@ then_text : (own : ℕ) (args atoms : List Atom) (more : Names) (r : Result Expa
 then_text own args atoms more (Ok e) h k = cons_text (length atoms) e.atom more (text_expanded own args atoms more).names (text_expanded own args atoms more).answer (text_extends own args atoms more) h k.ok
 then_text own args atoms more (Err e) h k = record { ok = tt }
 
-expanded_text : (own : ℕ) (args atoms : List Atom) (names : Names) → IsNumber (pos (own * 1000000)) → AreAtoms names args → AreAtoms names atoms → IsText (length atoms) (text_expanded own args atoms names)
+expanded_text : (own : ℕ) (args atoms : List Atom) (names : Names) → AreAtoms names args → AreAtoms names atoms → IsText (length atoms) (text_expanded own args atoms names)
 unfolding text_expanded
-expanded_text own args [] names n g h = record { ok = (tt, omega arith) }
-expanded_text own args (a ∷ atoms) names n g h =
-    let o : IsExpanded names (expanded names a own args) = expanded_at names a own args n h.0 g in
+expanded_text own args [] names g h = record { ok = (tt, omega arith) }
+expanded_text own args (a ∷ atoms) names g h =
+    let o : IsExpanded names (expanded names a own args) = expanded_at names a own args h.0 g in
     let more = (expanded names a own args).names in
     let l : length names ≤ length more = longer names more o.extends in
-    then_text own args atoms more (expanded names a own args).answer o.answer (expanded_text own args atoms more n (atoms_more names more l args g) (atoms_more names more l atoms h.1))
+    then_text own args atoms more (expanded names a own args).answer o.answer (expanded_text own args atoms more (atoms_more names more l args g) (atoms_more names more l atoms h.1))
 
 own_by : (b : Bool) (a : Around) (h : Head) (w v : Stock) (text : List Atom) → AroundIn w.names a → IsList w.names h.text
     → cond b (named_step (text_expanded a.zero a.arguments h.text w.names) w) (gives h.text w) ≡ gives text v → IsList v.names text
 own_by true a h w v text i k e =
     let o = text_expanded a.zero a.arguments h.text w.names in
     let g = named_went o w text v e in
-    let l : a.zero ≤ 1000000000 = i.zero in
-    let t : IsText (length h.text) o = expanded_text a.zero a.arguments h.text w.names (near_pos (a.zero * 1000000) (omega arith)) i.arguments k.all in
+    let t : IsText (length h.text) o = expanded_text a.zero a.arguments h.text w.names i k.all in
     let both : AreAtoms o.names text × (length text ≤ length h.text) = subst (λ (r : Result (List Atom) SymbolRefusal). IfOk r (λ atoms. AreAtoms o.names atoms × (length atoms ≤ length h.text))) g.answer t.ok in
     let few : length text ≤ length h.text = both.1 in
     let most : length h.text ≤ 1024 = k.few in
@@ -254,7 +248,7 @@ tree_in lib inner a e text (File s p) w t v g l i o x b f h =
     let rest : IsList w.names (drop 1 text) = tail_in w.names text x in
     let given : AreAtoms c.stock.names args = atoms_more w.names c.stock.names up args (arguments_in w.names (drop 1 text) rest).all in
     canvas_in lib inner (around_instance a c.value s args) p e.head text c.stock t v g (library_more w.names c.stock.names up lib l)
-    (record { zero = number_in w c.stock c.value takes o; arguments = given }) (stock_more w c.stock (c.value ∷ []) 0 takes o)
+    given (stock_more w c.stock (c.value ∷ []) 0 takes o)
     (entries_in c.stock.names p.boxes (boxes_more w.names c.stock.names up p.boxes f)) c.next
   where
     tail_in : (names : Names) (atoms : List Atom) → IsList names atoms → IsList names (drop 1 atoms)
@@ -298,6 +292,12 @@ inner_in lib root zero a p w t v l i o n h = subst (AreBorn v.names) (gives_same
 inner_in lib root (suc m) a p w t v l i o n h =
     boxes_in lib root m (inner_of lib root m) a (elements_of p) w t v (inner_takes lib root m) (inner_in lib root m) l i o n (sym (page_is lib root m a p w) ∙ h)
 
+-- a box that grows in a canvas, with all that lies in it
+pub one_in : (lib : ℕ → Option Answer) (root : List ℕ) (left : ℕ) (a : Around) (e : Entry) (w v : Stock) (t : Trees) → LibraryIn w.names lib → AreAtoms w.names a.arguments → StockIn w
+    → IsHeadIn w.names e.head → BoxesIn w.names e.page.boxes → box_grown lib root left (inner_of lib root left) a e w ≡ gives t v → AreBorn v.names t
+one_in lib root left a e w v t l i o head boxes h =
+    box_in lib root left (inner_of lib root left) a e w t v (inner_in lib root left) l i o (record { head = head; inner = boxes }) h
+
 page_in : (lib : ℕ → Option Answer) (root : List ℕ) (left : ℕ) (a : Around) (p : Page) (w : Stock) (t : Trees) (v : Stock) → LibraryIn w.names lib → AroundIn w.names a → StockIn w → BoxesIn w.names p.boxes
     → page_grown lib root left a p w ≡ gives t v → AreBorn v.names t
 page_in lib root left a p w t v l i o b h =
@@ -313,5 +313,5 @@ patch_in lib name p w v t l b o h =
     let stock : StockIn g.named = stock_more g.start g.named [] 0 brings (stock_more w g.start (g.own ∷ []) 0 takes o) in
     subst (λ (y : Tree). AreBorn v.names y.boxes) g.tree_is
     (page_in lib (without_ending name) 255 (around_root g.own) p g.named g.boxes v (library_more g.start.names g.named.names on lib (library_more w.names g.start.names up lib l))
-    (record { zero = number_in w g.start g.own takes o; arguments = tt }) stock
+    tt stock
     (boxes_more g.start.names g.named.names on p.boxes (boxes_more w.names g.start.names up p.boxes b)) g.boxes_is)

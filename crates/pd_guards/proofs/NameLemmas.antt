@@ -1,5 +1,5 @@
 -- Atoms that are expanded, and atoms that are settled.
-use Rattle.std.proofs.Common.{◌≡◌, ℕ, pos, zero, suc, ◌*◌, min, nat_lt, List, [], ◌∷◌, ◌++◌, length, position, bytes_eq, Option, Some, None, IfSome, option_map, Result, Ok, Err, IfOk, refl, sym, ap, subst, ◌∙◌, arith, append-nil, length-append}
+use Rattle.std.proofs.Common.{◌≡◌, ℕ, zero, suc, ◌*◌, min, nat_lt, List, [], ◌∷◌, ◌++◌, length, position, bytes_eq, Option, Some, None, IfSome, option_map, Result, Ok, Err, IfOk, refl, sym, ap, subst, ◌∙◌, arith, append-nil, length-append}
 use Rattle.pd_num.specs.Reading.{number_at}
 use Rattle.pd_atom.specs.Names.{Names, Extends, Outcome, longest, most, name_of, given, refused, placed, interned, answer_map}
 use Rattle.pd_atom.specs.Atoms.{IsOf, HoldsNumber, spelled}
@@ -12,7 +12,7 @@ use Rattle.pd_atom.specs.declared.SymbolRefusal.{SymbolRefusal}
 use Rattle.pd_atom.specs.declared.SymbolRefusal.TheVariants.{TooLong, Full}
 use Rattle.pd_atom.proofs.NameLemmas.{position_low, absent_at}
 use Rattle.pd_atom.proofs.TokenLemmas.{by_option, nameless_is, atom_read_some, atom_read_none, number_range, dollar_small, settled_from, number_settled, dollar_settled, comma_settled, semi_settled, of_named, of_any}
-use Rattle.pd_guards.specs.Order.{IsNumber, IsName, IsAtom, AreAtoms}
+use Rattle.pd_guards.specs.Order.{IsName, IsAtom, AreAtoms}
 use Rattle.pd_guards.proofs.FactLemmas.{either, all-at}
 use Rattle.pd_guards.proofs.NumberLemmas.{near_pos}
 use Rattle.pd_guards.proofs.BaseLemmas.{no_number}
@@ -48,9 +48,9 @@ pub record IsExpanded (names : Names) (o : Outcome Expanded) : Type 0 where
   pub extends : Extends names o.names
   pub answer : IfOk o.answer (λ e. IsAtom o.names e.atom)
 
-argument_in : (names : Names) (own : ℕ) (args : List Atom) (n : ℕ) → IsNumber (pos (own * 1000000)) → AreAtoms names args → IfSome (argument own args n) (IsAtom names)
-argument_in names own args zero o h = (tt, near_pos (min own 1000000000 * 1000000) (omega arith))
-argument_in names own args (suc k) o h = all-at (IsAtom names) args k h
+argument_in : (names : Names) (own : ℕ) (args : List Atom) (n : ℕ) → AreAtoms names args → IfSome (argument own args n) (IsAtom names)
+argument_in names own args zero h = (tt, near_pos (min own 1000000000 * 1000000) (omega arith))
+argument_in names own args (suc k) h = all-at (IsAtom names) args k h
 
 dollar_in : (names : Names) (n : ℕ) (o : Option Atom) → IfSome o (IsAtom names) → IsAtom names (dollar_expanded n o).atom
 dollar_in names n (Some a) h = h
@@ -60,20 +60,20 @@ symbol_answer : (names : Names) (missing : Option ℕ) (r : Result ℕ SymbolRef
 symbol_answer names missing (Ok s) h = (h, tt)
 symbol_answer names missing (Err e) h = tt
 
-pub expanded_at : (names : Names) (a : Atom) (own : ℕ) (args : List Atom) → IsNumber (pos (own * 1000000)) → IsAtom names a → AreAtoms names args → IsExpanded names (expanded names a own args)
+pub expanded_at : (names : Names) (a : Atom) (own : ℕ) (args : List Atom) → IsAtom names a → AreAtoms names args → IsExpanded names (expanded names a own args)
 unfolding expanded
-expanded_at names (Number z) own args n h k = record { extends = same_table names; answer = h }
-expanded_at names (Symbol s) own args n h k = record { extends = same_table names; answer = h }
-expanded_at names (Dollar m) own args n h k = record { extends = same_table names; answer = dollar_in names m (argument own args m) (argument_in names own args m n k) }
-expanded_at names (DollarSymbol s) own args n h k =
+expanded_at names (Number z) own args h k = record { extends = same_table names; answer = h }
+expanded_at names (Symbol s) own args h k = record { extends = same_table names; answer = h }
+expanded_at names (Dollar m) own args h k = record { extends = same_table names; answer = dollar_in names m (argument own args m) (argument_in names own args m k) }
+expanded_at names (DollarSymbol s) own args h k =
     let o = interned_in names (expanded_name names s own args) in
     record { extends = o.extends; answer = symbol_answer _ (first_missing own args (runs_of (name_of names s))) _ o.answer }
-expanded_at names Comma own args n h k = record { extends = same_table names; answer = h }
-expanded_at names Semi own args n h k = record { extends = same_table names; answer = h }
+expanded_at names Comma own args h k = record { extends = same_table names; answer = h }
+expanded_at names Semi own args h k = record { extends = same_table names; answer = h }
 
 -- the same with 0 as `$0`
 pub expanded_in : (names : Names) (a : Atom) (args : List Atom) → IsAtom names a → AreAtoms names args → IsExpanded names (expanded names a 0 args)
-expanded_in names a args h k = expanded_at names a 0 args no_number h k
+expanded_in names a args h k = expanded_at names a 0 args h k
 
 -- an atom without a name
 or_in : (P : Atom → Type 0) (x y : Option Atom) → IfSome x P → IfSome y P → IfSome (or_else x y) P

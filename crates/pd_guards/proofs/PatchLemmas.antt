@@ -53,7 +53,7 @@ unfolding numbers_up
 none_up n zero e = tt
 none_up n (suc k) e = absurd (omega arith)
 
-zeros_in : (n : ℕ) → AllByRecursion (λ z. z ≤ 1000000000) (zeros_from n)
+pub zeros_in : (n : ℕ) → AllByRecursion (λ z. z ≤ 1000000000) (zeros_from n)
 unfolding zeros_from
 zeros_in n = elim (cases_lt n 1000000001) [ inl low ↦ up_in n (1000000001 - n) (omega arith) | inr high ↦ none_up n (1000000001 - n) (omega arith) ]
 
@@ -77,7 +77,7 @@ library_in names (f ∷ files) h s d =
     (λ e. found_in names d f.1 h.0 (some_same f.1 (Found d) e)) (library_in names files h.1 s d)
 
 -- a box of the tree
-cell_born : (names : Names) (t : Trees) (x : Cell) → AreBorn names t → HasCell t x → IsBorn names x.kind
+pub cell_born : (names : Names) (t : Trees) (x : Cell) → AreBorn names t → HasCell t x → IsBorn names x.kind
 cell_born names Done x h y = absurd y
 cell_born names (Leaf c rest) x h y = elim y [ inl e ↦ subst (λ (z : Cell). IsBorn names z.kind) e h.0 | inr z ↦ cell_born names rest x h.1 z ]
 cell_born names (Holder c s inner rest) x h y =
