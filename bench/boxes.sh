@@ -1,12 +1,12 @@
 #!/usr/bin/env bash
 # Measures boxes that come into a patch: bench/boxes.sh [EDITS]
 #
-# The patch has voices of `osc~` into `*~`, all led to one `dac~`. EDITS times (4,000) an edit puts a box last into it, an `f`, a message box, an `osc~`,
-# an empty subpatch, or, a tenth as often, an abstraction of ten boxes whose file is known by then, all at the start of the run. Printed are microseconds an edit of the whole run, the reading of its record and the memory of the
-# box with it, less those of a run without edits, by the number of boxes that the patch has at first; a patch has at most 16,384. Beside them stand the
-# same edits in Pd (`pd -nogui -batch`), where `pd` is installed: fewer of them, asked for by messages from a `qlist`, with the sound on. The last
-# columns tell how many times Pd's time ours is, by the least times of nine runs and by those in the middle. Build the program first, by ./play, or name
-# another one in PDPLAY.
+# The patch has voices of `osc~` into `*~`, all led to one `dac~`. EDITS times (4,000) an edit puts a box last into it, an `f`, a message box, an
+# `osc~`, an empty subpatch, or, a tenth as often, an abstraction of ten boxes whose file is known by then, all at the start of the run. Printed are
+# microseconds an edit of the whole run, the reading of its record and the memory of the box with it, less those of a run without edits, by the number
+# of boxes that the patch has at first; a patch has at most 16,384. Beside them stand the same edits in Pd (`pd -nogui -batch`), where `pd` is
+# installed: fewer of them, asked for by messages from a `qlist`, with the sound on. The last columns tell how many times Pd's time ours is, by the
+# least times of nine runs and by those in the middle. Build the program first, by ./play, or name another one in PDPLAY.
 set -u
 top=$(cd "$(dirname "$0")/.." && pwd) || exit 2
 # shellcheck source=bench/program.sh
