@@ -1,8 +1,9 @@
 -- At each stage of a run a tree stands that grows again from its own document, whatever edits were made.
-use Rattle.std.proofs.Common.{◌≡◌, ◌<◌, ◌≤◌, ◌+◌, ◌-◌, ◌^◌, inl, ℕ, zero, suc, Bool, true, false, nat_lt, nat_le, if◌then◌else◌, List, [], ◌∷◌, ◌++◌, length, Option, Some, None, IfSome, refl, sym, ap, ◌∙◌, subst, arith}
+use Rattle.std.proofs.Common.{◌≡◌, ◌<◌, ◌≤◌, ◌+◌, ◌-◌, ◌^◌, inl, ℕ, zero, suc, Bool, true, false, nat_lt, nat_le, if◌then◌else◌, List, [], ◌∷◌, ◌++◌, length, Option, Some, None, slice_get, IfSome, refl, sym, ap, ◌∙◌, subst, arith}
 use Rattle.std.proofs.lemmas.Bool.{leb-true, ltb-true}
 use Rattle.pd_atom.specs.Names.{Names, Extends}
 use Rattle.pd_canvas.specs.declared.edits.Edit.{Edit}
+use Rattle.pd_queue.specs.Queue as queue
 use Rattle.pd_clock.specs.declared.times.Rate.{Rate}
 use Rattle.pd_clock.specs.Queue.{Clock}
 use Rattle.pd_kind.specs.declared.states.State.{State}
@@ -17,6 +18,7 @@ use Rattle.pd_patch.specs.declared.patch.Patch.{Patch}
 use Rattle.pd_patch.specs.Report.{loads_among}
 use Rattle.pd_gather.specs.Gather.{GoesOn}
 use Rattle.pd_hearing.specs.Worlds.{Net, Kept}
+use Rattle.pd_walk.specs.Outcome.{all_loaded}
 use Rattle.pd_regrowth_law.proofs.StepLemmas.{extends_same}
 use Rattle.pd_regrowth_law.proofs.AgainLemmas.{library_more}
 use Rattle.pd_putting_law.specs.Again.{StandsAgain}
@@ -28,14 +30,15 @@ use Rattle.pd_contents_law.proofs.SettledLemmas.{onward}
 use Rattle.pd_contents_law.proofs.RunLemmas.{all_more, outcome_kept}
 use Rattle.pd_contents_law.proofs.BlockLemmas.{block_kept}
 use Rattle.pd_proper_law.specs.Saves.{IsWritten}
-use Rattle.pd_stage.specs.Choices.{Base, Wanted, Choice, first_choice, later}
+use Rattle.pd_stage.specs.Choices.{Base, Wanted, Asks, Choice, first_choice, later, loads_of_choice}
 use Rattle.pd_stage.specs.Stages.{Stage, Taken, Passage, with_names, with_ahead, still, followed_by}
-use Rattle.pd_stage.specs.Events.{Beginning, Message, Firing, Loading, edit_taken, edit_asked, edits_taken, begun, delivered, with_kept, event}
+use Rattle.pd_stage.specs.Events.{Beginning, Message, Firing, Loading, Left, whole, left_after, going_on, deliveries, after_deliveries, delivered, with_kept, edit_taken, loaded_by, edit_loaded_by, asked_by, edits_taken_by, edits_of_by, event, edit_event}
 use Rattle.pd_stage.specs.Times.{block_units, most_fired, first_clock, next_clock, taken_off, with_taken, with_fired, fires, fires_or_not, fires_below, clocks_fire, block_net, sound_at, block_sounds, block_runs, blocks_run, time_is, comes_to, advanced, finished}
 use Rattle.pd_engine.specs.Messages.{message_in}
 use Rattle.pd_engine.specs.Commands.{commanded}
 use Rattle.pd_engine.specs.Opening.{first_stage, opened}
 use Rattle.pd_engine.proofs.WholeLemmas.{both_on}
+use Rattle.pd_guards.specs.Worlds.{IsInOrder}
 use Rattle.pd_steady.specs.Runs.{own_ways, finished_by}
 use Rattle.pd_steady.specs.Steady.{IsSteady, IsCommand}
 use Rattle.pd_steady.specs.Steps.{Step, Does, Learns, Comes, AreSteps, step_by, steps_by, run_by}
@@ -133,11 +136,6 @@ module _ (library : List (ℕ × Answer)) (rate : Rate) (name : List ℕ) where
     taken_leads : (wanted : Wanted) (s : Stage) → Leads s (edit_taken wanted s)
     taken_leads wanted s clean h l = record { stage = taken_good clean wanted s l h; found = taken_found clean wanted s h }
 
-    edits_lead : (waiting : List (List ℕ × Edit)) (s : Stage) → Leads s (edits_taken waiting s)
-    unfolding edits_taken
-    edits_lead [] s = here s
-    edits_lead (asked ∷ waiting) s = followed s (edit_asked asked s) (edits_taken waiting) (taken_leads _ s) (edits_lead waiting (edit_asked asked s).stage)
-
     -- names that go on
     again_on : (clean : Type 0) (s : Stage) (names : Names) (h : IsStanding library rate name clean s) → Extends s.names names → StandsAgain (answer_in s.base.files) s.file names h.tree
     again_on clean s names h x =
@@ -159,38 +157,81 @@ module _ (library : List (ℕ × Answer)) (rate : Rate) (name : List ℕ) where
     proper_on : (clean : Type 0) (s : Stage) (names : Names) (h : IsStanding library rate name clean s) → Extends s.names names → StaysProper names h.tree
     proper_on clean s names h x more on table = h.proper more (onward s.names names more x on) table
 
-    -- events
-    names_on : (s : Stage) (b : Beginning) → Extends s.names (delivered s b).kept.names
-    names_on s b = subst (λ (w : World Kept). Extends s.names w.kept.names) (outcome_is s.net s.time (begun s) b) (outcome_extends s.net s.time (begun s) (start_of b))
+    -- deliveries of an event, by what is left of it
+    abbrev come_to : Stage → Left → Beginning → World Kept
+    come_to s l b = deliveries s.net s.time (going_on s l) b
 
-    kept_good : (clean : Type 0) (s : Stage) (b : Beginning) → IsGood clean most s → Begins s.names b → IsGood clean most (with_kept s (delivered s b).kept)
-    kept_good clean s b h k =
-        let on : Extends s.names (delivered s b).kept.names = names_on s b in
+    names_on : (s : Stage) (l : Left) (b : Beginning) → Extends s.names (come_to s l b).kept.names
+    names_on s l b = subst (λ (w : World Kept). Extends s.names w.kept.names) (outcome_is s.net s.time (going_on s l) b) (outcome_extends s.net s.time (going_on s l) (start_of b))
+
+    kept_good : (clean : Type 0) (s : Stage) (l : Left) (b : Beginning) → IsGood clean most s → Begins s.names b → IsGood clean most (with_kept s (come_to s l b).kept)
+    kept_good clean s l b h k =
+        let on : Extends s.names (come_to s l b).kept.names = names_on s l b in
+        let order : IsInOrder s.net s.time (going_on s l).kept = record {
+          time = h.steady.order.time;
+          first = h.steady.order.first;
+          kinds = h.steady.order.kinds;
+          states = h.steady.order.states;
+        } in
         record {
-          steady = delivered_steady g most s b h.steady k;
+          steady = delivered_steady g most s l b h.steady k;
           stands = record {
             file = h.stands.file;
             rates = h.stands.rates;
-            six = six_more s.names (delivered s b).kept.names on h.stands.six;
+            six = six_more s.names (come_to s l b).kept.names on h.stands.six;
             tree = h.stands.tree;
             low = h.stands.low;
-            again = again_on clean s (delivered s b).kept.names h.stands on;
-            proper = proper_on clean s (delivered s b).kept.names h.stands on;
+            again = again_on clean s (come_to s l b).kept.names h.stands on;
+            proper = proper_on clean s (come_to s l b).kept.names h.stands on;
             numbers = h.stands.numbers;
             files = h.stands.files;
             counted = h.stands.counted;
-            held = held_on clean s (delivered s b).kept.names (delivered s b).kept.states h.stands on (λ p c.
-                subst (λ (w : World Kept). Settled p w.kept.names w.kept.states) (outcome_is s.net s.time (begun s) b)
-                (outcome_kept (IsWritten p.grove) (counts_of (kinds_of p)) s.net s.time (begun s) (start_of b) h.steady.order (starts s.names b k) h.stands.six c).contents);
+            held = held_on clean s (come_to s l b).kept.names (come_to s l b).kept.states h.stands on (λ p c.
+                subst (λ (w : World Kept). Settled p w.kept.names w.kept.states) (outcome_is s.net s.time (going_on s l) b)
+                (outcome_kept (IsWritten p.grove) (counts_of (kinds_of p)) s.net s.time (going_on s l) (start_of b) order (starts s.names b k) h.stands.six c).contents);
           };
         }
 
+    deliveries_lead : (s : Stage) (l : Left) (b : Beginning) → (IsSteady most s → Begins s.names b) → Leads s (after_deliveries s (come_to s l b))
+    deliveries_lead s l b k clean h fair = record {
+      stage = good_if clean (clean × AllLeaveNumbers []) (λ x. x.0) most (with_kept s (come_to s l b).kept) (kept_good clean s l b h (k h.steady));
+      found = tt;
+    }
+
+    -- an edit with the boxes that are loaded behind it, and then the rest of the event
+    module _ (rest : Left → Stage → Passage) (leads : (l : Left) (s : Stage) → Leads s (rest l s)) where
+      loads_lead : (boxes : List ℕ) (l : Left) (s : Stage) → Leads s (loaded_by all_loaded boxes l rest s)
+      loads_lead boxes l s =
+          let w : World Kept = come_to s l (Loading boxes) in
+          followed s (after_deliveries s w) (rest (left_after w)) (deliveries_lead s l (Loading boxes) (λ x. tt)) (leads (left_after w) (with_kept s w.kept))
+
+      loaded_leads : (wanted : Wanted) (l : Left) (s : Stage) → Leads s (edit_loaded_by all_loaded wanted l rest s)
+      loaded_leads wanted l s =
+          let boxes : List ℕ = loads_of_choice (first_choice s.ahead) in
+          followed s (edit_taken wanted s) (loaded_by all_loaded boxes l rest) (taken_leads wanted s) (loads_lead boxes l (edit_taken wanted s).stage)
+
+      asked_leads : (l : Left) (s : Stage) (o : Option (List ℕ × Edit)) → Leads s (asked_by all_loaded rest l s o)
+      asked_leads l s None = here s
+      asked_leads l s (Some asked) = loaded_leads (Asks asked.0 asked.1) l s
+
+    -- events
+    edits_lead : (n place : ℕ) (l : Left) (s : Stage) → Leads s (edits_taken_by all_loaded n place l s)
+    unfolding edits_taken_by
+    edits_lead zero place l s = here s
+    edits_lead (suc n) place l s = asked_leads (edits_taken_by all_loaded n (place + 1)) (edits_lead n (place + 1)) l s (slice_get l.asked place)
+
+    all_lead : (l : Left) (s : Stage) → Leads s (edits_of_by all_loaded l s)
+    all_lead l s = edits_lead queue.most 0 l s
+
     event_leads : (s : Stage) (b : Beginning) → (IsSteady most s → Begins s.names b) → Leads s (event s b)
     unfolding event
-    event_leads s b k clean h l =
-        let r : Stage = with_kept s (delivered s b).kept in
-        let e : EndsWell clean most (edits_taken (delivered s b).kept.queue r) = edits_lead (delivered s b).kept.queue r clean (kept_good clean s b h (k h.steady)) l in
-        record { stage = e.stage; found = e.found }
+    event_leads s b k =
+        let w : World Kept = delivered s b in
+        followed s (after_deliveries s w) (edits_of_by all_loaded (left_after w)) (deliveries_lead s whole b k) (all_lead (left_after w) (with_kept s w.kept))
+
+    edit_leads : (wanted : Wanted) (s : Stage) → Leads s (edit_event wanted s)
+    unfolding edit_event
+    edit_leads wanted s = loaded_leads (edits_of_by all_loaded) all_lead wanted whole s
 
     -- the same but for times and clocks
     same_stands : (clean : Type 0) (s r : Stage) → r.file ≡ s.file → r.net ≡ s.net → r.states ≡ s.states → r.names ≡ s.names → r.base ≡ s.base → IsStanding library rate name clean s
@@ -312,11 +353,11 @@ module _ (library : List (ℕ × Answer)) (rate : Rate) (name : List ℕ) where
         let b : Beginning = Message name (message_in atoms).selector (cut_atoms (message_in atoms).atoms) in
         let e : EndsWell clean most (event s b) = event_leads s b (λ x. g.begins s.names name atoms x.order.first k.0 k.1) clean h l in
         record { stage = e.stage; found = e.found }
-    commanded_leads (command.Edit place edit) s k = taken_leads _ s
-    commanded_leads (command.Save document) s k = taken_leads _ s
+    commanded_leads (command.Edit place edit) s k = edit_leads _ s
+    commanded_leads (command.Save document) s k = edit_leads _ s
     commanded_leads (command.Show path) s k = λ clean h l. record { stage = good_if clean (clean × AllLeaveNumbers []) (λ x. x.0) most s h; found = tt }
-    commanded_leads command.Undo s k = taken_leads _ s
-    commanded_leads command.Redo s k = taken_leads _ s
+    commanded_leads command.Undo s k = edit_leads _ s
+    commanded_leads command.Redo s k = edit_leads _ s
 
     -- steps
     same_leads : (s : Stage) (q r : Passage) → q ≡ r → Leads s r → Leads s q

@@ -43,7 +43,7 @@ use Rattle.pd_stage.specs.Events.{with_net, stage_by}
 use Rattle.pd_steady.specs.Steady.{IsSteady}
 use Rattle.pd_steady.proofs.FairLemmas.{IsRefusal, IsFair}
 use Rattle.pd_steady.proofs.TimeLemmas.{within}
-use Rattle.pd_again_law.specs.Again.{TakesNoNumber, LeavesNumbers}
+use Rattle.pd_again_law.specs.Again.{TakesNoNumber, BringsNoNumber, KeepsNumbers, LeavesNumbers}
 use Rattle.pd_again_law.proofs.NumberLemmas.{HasFirstNumbers, still_first, put_first, goes_behind}
 use Rattle.pd_again_law.proofs.HeldLemmas.{Settled, IsHeld, bare_kind, NetHeld, told, held_in, held_edit, held_room}
 use Rattle.pd_again_law.proofs.PutLemmas.{PutLaws}
@@ -171,7 +171,8 @@ module _ (library : List (ℕ × Answer)) (rate : Rate) (name : List ℕ) (clean
       record { stands = (held_at s p h at).stands; shallow = h.low; savable = kinds_savable p (keeps_at most s p steady at) }
 
   -- an edit that put a box
-  module _ (puts : PutLaws) (most : ℕ) (s : Stage) (path : List ℕ) (e : Edit) (m : Made) (x : IsPutIn s path e m) (steady : IsSteady most s) (h : IsStanding s) where
+  module _ (puts : PutLaws) (most : ℕ) (s : Stage) (path : List ℕ) (e : Edit) (m : Made) (x : IsPutIn s path e m) (leaves : clean → BringsNoNumber s path e (Makes m))
+      (steady : IsSteady most s) (h : IsStanding s) where
     abbrev can : CanPut x.old
     can = x.stands.puts
 
@@ -237,7 +238,7 @@ module _ (library : List (ℕ × Answer)) (rate : Rate) (name : List ℕ) (clean
           let later : Extends x.after.names more = subst (λ (ns : Names). Extends ns more) x.names on_more in
           puts.proper x.old x.new s.base.counts s.file path s.time e before x.after x.box h.tree more x.adds can runs h.again later table few
           (h.proper more (onward s.names x.after.names more on later) table);
-      numbers = λ k. put_first x.adds.added.boxes (put.no_numbers x.old x.new s.time x.adds.added x.box.key x.adds.put) path h.tree (h.numbers k);
+      numbers = λ k. put_first x.adds.added.boxes (leaves k x) path h.tree (h.numbers k);
       files = subst (λ (b : Base). GoesOn library b.files) (sym x.base) files;
       counted = subst (λ (b : Base). HasCounted rate b now) (sym x.base) counted;
       held = held_in s.file m.names m.states now x.new m.net x.net
@@ -275,7 +276,7 @@ module _ (library : List (ℕ × Answer)) (rate : Rate) (name : List ℕ) (clean
   unput_stands most s path e net x steady h = room_stands most s net x.old x.new x.stands x.short.room x.net_is steady h
 
   -- an edit that took a box out
-  module _ (takes : TakeLaws) (most : ℕ) (s : Stage) (path : List ℕ) (number : ℕ) (m : Made) (x : IsTakenOut s path number m) (leaves : clean → TakesNoNumber s path (edit.Delete number) (Makes m))
+  module _ (takes : TakeLaws) (most : ℕ) (s : Stage) (path : List ℕ) (number : ℕ) (m : Made) (x : IsTakenOut s path number m) (leaves : clean → TakesNoNumber s path number (Makes m))
       (steady : IsSteady most s) (h : IsStanding s) where
     abbrev less : Tree
     less = taken_at path number h.tree
@@ -496,12 +497,13 @@ module _ (library : List (ℕ × Answer)) (rate : Rate) (name : List ℕ) (clean
     wire_stands path e (Lacks net) x = on_ahead (with_net (with_ahead s []) net) (short_stands (with_ahead s []) path e net x h)
     wire_stands path e (Makes m) x = on_ahead (stage_by (with_ahead s []) (Makes m)) (made_stands (with_ahead s []) path e m x h)
 
-    box_stands : (path : List ℕ) (e : Edit) (c : Choice) → IsPutLawful (with_ahead s []) path e c → IsStanding (stage_by (with_ahead s ahead) c)
-    box_stands path e (Refuses why) x = on_ahead (with_ahead s []) h
-    box_stands path e (Lacks net) x = on_ahead (with_net (with_ahead s []) net) (unput_stands most (with_ahead s []) path e net x steady h)
-    box_stands path e (Makes m) x = on_ahead (stage_by (with_ahead s []) (Makes m)) (put_stands laws.puts most (with_ahead s []) path e m x steady h)
+    box_stands : (path : List ℕ) (e : Edit) (c : Choice) → (clean → BringsNoNumber (with_ahead s []) path e c) → IsPutLawful (with_ahead s []) path e c
+        → IsStanding (stage_by (with_ahead s ahead) c)
+    box_stands path e (Refuses why) leaves x = on_ahead (with_ahead s []) h
+    box_stands path e (Lacks net) leaves x = on_ahead (with_net (with_ahead s []) net) (unput_stands most (with_ahead s []) path e net x steady h)
+    box_stands path e (Makes m) leaves x = on_ahead (stage_by (with_ahead s []) (Makes m)) (put_stands laws.puts most (with_ahead s []) path e m x leaves steady h)
 
-    gone_stands : (path : List ℕ) (number : ℕ) (c : Choice) → (clean → TakesNoNumber (with_ahead s []) path (edit.Delete number) c) → IsTakingLawful (with_ahead s []) path number c
+    gone_stands : (path : List ℕ) (number : ℕ) (c : Choice) → (clean → TakesNoNumber (with_ahead s []) path number c) → IsTakingLawful (with_ahead s []) path number c
         → IsStanding (stage_by (with_ahead s ahead) c)
     gone_stands path number (Refuses why) leaves x = on_ahead (with_ahead s []) h
     gone_stands path number (Lacks net) leaves x = on_ahead (with_net (with_ahead s []) net) (left_stands (with_ahead s []) path number net x h)
@@ -525,19 +527,19 @@ module _ (library : List (ℕ × Answer)) (rate : Rate) (name : List ℕ) (clean
     none_stands : (c : Choice) (why : _) → c ≡ Refuses why → IsStanding (stage_by (with_ahead s ahead) c)
     none_stands c why x = subst (λ (y : Choice). IsStanding (stage_by (with_ahead s ahead) y)) (sym x) (on_ahead (with_ahead s []) h)
 
-    edit_stands : (path : List ℕ) (e : Edit) (c : Choice) → (clean → TakesNoNumber (with_ahead s []) path e c) → IsEditLawful (with_ahead s []) path e c
+    edit_stands : (path : List ℕ) (e : Edit) (c : Choice) → (clean → KeepsNumbers (with_ahead s []) path e c) → IsEditLawful (with_ahead s []) path e c
         → IsStanding (stage_by (with_ahead s ahead) c)
     edit_stands path (edit.Connect v) c leaves x = wire_stands path (edit.Connect v) c x
     edit_stands path (edit.Disconnect v) c leaves x = wire_stands path (edit.Disconnect v) c x
     edit_stands path (edit.Delete number) c leaves x = gone_stands path number c leaves x
     edit_stands path (edit.Retype number text) c leaves x = become_stands path number text c x
     edit_stands path (edit.Move number a b) c leaves x = placed_stands path number a b c x
-    edit_stands path (edit.Obj a b text) c leaves x = box_stands path (edit.Obj a b text) c x
-    edit_stands path (edit.Msg a b text) c leaves x = box_stands path (edit.Msg a b text) c x
-    edit_stands path (edit.Comment a b text) c leaves x = box_stands path (edit.Comment a b text) c x
-    edit_stands path (edit.FloatBox a b text) c leaves x = box_stands path (edit.FloatBox a b text) c x
-    edit_stands path (edit.SymbolBox a b text) c leaves x = box_stands path (edit.SymbolBox a b text) c x
-    edit_stands path (edit.Sub a b text) c leaves x = box_stands path (edit.Sub a b text) c x
+    edit_stands path (edit.Obj a b text) c leaves x = box_stands path (edit.Obj a b text) c leaves x
+    edit_stands path (edit.Msg a b text) c leaves x = box_stands path (edit.Msg a b text) c leaves x
+    edit_stands path (edit.Comment a b text) c leaves x = box_stands path (edit.Comment a b text) c leaves x
+    edit_stands path (edit.FloatBox a b text) c leaves x = box_stands path (edit.FloatBox a b text) c leaves x
+    edit_stands path (edit.SymbolBox a b text) c leaves x = box_stands path (edit.SymbolBox a b text) c leaves x
+    edit_stands path (edit.Sub a b text) c leaves x = box_stands path (edit.Sub a b text) c leaves x
 
     choice_stands : (wanted : Wanted) (c : Choice) → (clean → LeavesNumbers wanted (with_ahead s []) c) → MayCome wanted (with_ahead s []) c → IsStanding (stage_by (with_ahead s ahead) c)
     choice_stands (Edits None path e) c leaves x = edit_stands path e c leaves x

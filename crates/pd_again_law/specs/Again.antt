@@ -67,11 +67,20 @@ pub record OpensAgain (files : List (ℕ × Answer)) (name : List ℕ) (rate : R
       GrowsAgain (growth_of name page (known files names)) (stock names numbers_left room_left) name rate t p names
   pub alike : (more : List ℕ) (room : ℕ) → GrowsAgain (grown_alike files name page names t more room) (stock names more room) name rate t p names
 
--- where the edit took a box out, no `$0` number went with it, and where it put one, none came with it
+-- where the edit took the box of this number out, no `$0` number went with it
+abbrev pub TakesNoNumber : Stage → List ℕ → ℕ → Choice → Type 0
+TakesNoNumber s path number (Makes m) = (x : IsTakenOut s path number m) (t : Tree) → RunsAs x.old.grove t → zeros_of (taken_at path number t) ≡ zeros_of t
+TakesNoNumber s path number c = Unit {0}
+
+-- where the edit put a box, none came with it
+abbrev pub BringsNoNumber : Stage → List ℕ → Edit → Choice → Type 0
+BringsNoNumber s path e (Makes m) = (x : IsPutIn s path e m) → zeros_in x.adds.added.boxes ≡ []
+BringsNoNumber s path e c = Unit {0}
+
+-- neither took it any `$0` number nor brought it one
 abbrev pub KeepsNumbers : Stage → List ℕ → Edit → Choice → Type 0
-KeepsNumbers s path (edit.Delete number) (Makes m) = (x : IsTakenOut s path number m) (t : Tree) → RunsAs x.old.grove t → zeros_of (taken_at path number t) ≡ zeros_of t
-KeepsNumbers s path e (Makes m) = (x : IsPutIn s path e m) → zeros_in x.adds.added.boxes ≡ []
-KeepsNumbers s path e c = Unit {0}
+KeepsNumbers s path (edit.Delete number) c = TakesNoNumber s path number c
+KeepsNumbers s path e c = BringsNoNumber s path e c
 
 abbrev pub LeavesNumbers : Wanted → Stage → Choice → Type 0
 LeavesNumbers (Edits None path e) s c = KeepsNumbers s path e c

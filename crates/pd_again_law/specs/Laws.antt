@@ -1,20 +1,24 @@
 -- What the laws of saves say.
-use Rattle.std.specs.Prelude.{◌≡◌, ◌+◌, ◌≤◌, ◌^◌, ℕ, List, Option, None}
+use Rattle.std.specs.Prelude.{◌≡◌, ◌⊎◌, ◌+◌, ◌≤◌, ◌^◌, ℕ, List, Option, None}
+use Rattle.slab.specs.Slab.{get}
 use Rattle.pd_io.specs.declared.files.FileRow.{FileRow}
 use Rattle.pd_atom.specs.Names.{Names, IsTable}
+use Rattle.pd_canvas.specs.declared.edits.Edit.{Edit}
 use Rattle.pd_canvas.specs.declared.edits.Edit.TheVariants as edit
 use Rattle.pd_canvas.specs.Pages.{Page}
 use Rattle.pd_clock.specs.declared.times.Rate.{Rate}
+use Rattle.pd_grove.specs.Telling.{inner_in}
 use Rattle.pd_patch.specs.declared.patch.Patch.{Patch}
+use Rattle.pd_putting.specs.Adds.{IsSub}
 use Rattle.pd_reload_law.specs.Wires.{StandOnce}
 use Rattle.pd_stage.specs.Choices.{Base, Made, Choice, Makes}
-use Rattle.pd_stage.specs.Lawful.{StandsAt, IsTakenOut, AreLawful}
+use Rattle.pd_stage.specs.Lawful.{StandsAt, IsPutIn, IsTakenOut, AreLawful}
 use Rattle.pd_stage.specs.Stages.{Stage, followed_by}
 use Rattle.pd_stage.specs.Times.{block_units}
 use Rattle.pd_engine.specs.Opening.{Grows, opened}
 use Rattle.pd_steady.specs.Runs.{own_ways}
 use Rattle.pd_steady.specs.Steps.{Step, AreSteps, steps_by, run_by}
-use Rattle.pd_again_law.specs.Again.{KeepsNumbers, Reopens, AreAgain}
+use Rattle.pd_again_law.specs.Again.{BringsNoNumber, KeepsNumbers, Reopens, AreAgain}
 
 -- each save of a run from where a patch opens to its end, in which each edit is lawful, opens again as the patch that was saved
 abbrev pub SavesOpenAgain : Type 0
@@ -36,3 +40,8 @@ StagesOpenAgain = (holds : Option (List FileRow)) (name : List ℕ) (rate : Rate
 abbrev pub BareBoxesLeaveNumbers : Type 0
 BareBoxesLeaveNumbers = (s : Stage) (path : List ℕ) (number : ℕ) (m : Made) → ((x : IsTakenOut s path number m) → x.deletes.cleared.node.inner ≡ None) →
     KeepsNumbers s path (edit.Delete number) (Makes m)
+
+-- an edit that put a box that holds no canvas, or a subpatch without boxes, brought no `$0` number
+abbrev pub BareBoxesBringNoNumber : Type 0
+BareBoxesBringNoNumber = (s : Stage) (path : List ℕ) (e : Edit) (m : Made) →
+    ((x : IsPutIn s path e m) → (inner_in (get x.new.grove.nodes x.box.key) ≡ None) ⊎ IsSub x.old x.adds.added) → BringsNoNumber s path e (Makes m)

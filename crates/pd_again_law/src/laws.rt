@@ -1,10 +1,10 @@
 //! The law of saves in whole runs.
-ghost use Rattle.pd_again_law.specs.Laws.{SavesOpenAgain, StagesOpenAgain, BareBoxesLeaveNumbers};
+ghost use Rattle.pd_again_law.specs.Laws.{SavesOpenAgain, StagesOpenAgain, BareBoxesLeaveNumbers, BareBoxesBringNoNumber};
 
 /// In a run in which each edit is lawful, from where a patch opens to its end, whatever wires and boxes come, go and move, and whatever boxes become,
 /// each save puts a text that opens again, under the patch's own `$0` numbers, as the patch that was saved. So it does as a file that is opened does,
-/// where these numbers are the first ones from 1001 on, as they are until a box goes that takes one of them away. It does so with the files that are
-/// known by then, which begin with those that were gathered where the patch opened.
+/// where these numbers are the first ones from 1001 on, as they are until a box goes that takes one of them away, or one comes that brings one. It
+/// does so with the files that are known by then, which begin with those that were gathered where the patch opened.
 pub fn saves_open_again()
     ensures { SavesOpenAgain }
 {
@@ -65,4 +65,9 @@ pub fn stages_open_again()
 /// A box without a canvas inside takes no `$0` number away where it goes.
 pub fn bare_boxes_leave_numbers()
     ensures { BareBoxesLeaveNumbers }
+{}
+
+/// A box without a canvas inside brings no `$0` number where it comes, nor does a subpatch without boxes.
+pub fn bare_boxes_bring_no_number()
+    ensures { BareBoxesBringNoNumber }
 {}
