@@ -1,13 +1,15 @@
--- An event that begins in order passes nothing over, and leaves the stage steady where its edits are fair.
-use Rattle.std.proofs.Common.{◌≡◌, inl, inr, ◌≤◌, ◌+◌, ◌-◌, ◌^◌, ℕ, List, Option, slice_get, refl, sym, ap, subst, ◌∙◌}
+-- An event that begins in order passes nothing over, and leaves the stage steady, where its edits are fair.
+use Rattle.std.proofs.Common.{◌≡◌, inl, inr, ◌≤◌, ◌+◌, ◌-◌, ◌^◌, ℕ, zero, suc, List, Option, Some, None, slice_get, refl, sym, ap, subst, ◌∙◌}
 use Rattle.pd_atom.specs.Names.{Names, Extends}
 use Rattle.pd_atom.specs.declared.Atom.{Atom}
+use Rattle.pd_canvas.specs.declared.edits.Edit.{Edit}
 use Rattle.pd_kind.specs.declared.states.State.{State}
 use Rattle.pd_kind.specs.Forming.{cut_atoms}
+use Rattle.pd_queue.specs.Queue.{most as last}
 use Rattle.pd_turns.specs.Turns.{World}
 use Rattle.pd_walk.specs.declared.walker.Start.{Start}
 use Rattle.pd_walk.specs.declared.walker.Start.TheVariants as start
-use Rattle.pd_walk.specs.Outcome.{outcome}
+use Rattle.pd_walk.specs.Outcome.{outcome, all_loaded as own_loaded}
 use Rattle.pd_hearing.specs.Worlds.{Net, Kept}
 use Rattle.pd_grove.specs.declared.ports.Side.TheVariants.{Outlets}
 use Rattle.pd_web.specs.declared.jacks.Jack.{Jack}
@@ -21,7 +23,7 @@ use Rattle.pd_guards.specs.Order.{HasFirst, IsName, AreAtoms}
 use Rattle.pd_guards.specs.Near.{AreNear}
 use Rattle.pd_guards.specs.Worlds.{AreKept, IsInOrder, IsStart, IsNamed}
 use Rattle.pd_guards.specs.Sounds.{HaveValues, IsSounding}
-use Rattle.pd_guards.specs.Freely.{outcome as free_outcome}
+use Rattle.pd_guards.specs.Freely.{outcome as free_outcome, all_loaded}
 use Rattle.pd_sized.specs.Sizes.{HaveSizes}
 use Rattle.pd_sized.specs.Alike.{AreAlike}
 use Rattle.pd_sized.specs.Kinds.{KeepsOfKind}
@@ -30,15 +32,16 @@ use Rattle.pd_ends_law.specs.Ends.{AreOpen, kinds_in}
 use Rattle.pd_ends_law.proofs.RunLemmas.{outcome_open}
 use Rattle.pd_sound_law.specs.Ready.{HasBlocks, IsReady}
 use Rattle.pd_sound_law.proofs.ReadyLemmas.{ready_lasts}
-use Rattle.pd_stage.specs.Stages.{Stage, Passage}
+use Rattle.pd_stage.specs.Choices.{Wanted, Asks, first_choice, loads_of_choice}
+use Rattle.pd_stage.specs.Stages.{Stage, Passage, joined, followed_by}
 use Rattle.pd_engine.specs.Messages.{message_in}
 use Rattle.pd_stage.specs.Times.{block_units, block_net, sound_at}
 use Rattle.pd_stage.specs.Events as engine
-use Rattle.pd_stage.specs.Events.{Beginning, Message, Firing, Loading, begun, delivered, with_kept, event_after, event}
+use Rattle.pd_stage.specs.Events.{Beginning, Message, Firing, Loading, Left, whole, left_after, going_on, begun, delivered, with_kept, after_deliveries, edit_taken, loaded_by, edit_loaded_by, asked_by, edits_taken_by, edits_of_by, event, edit_event}
 use Rattle.pd_stage.proofs.EditLemmas.{ButWires, but_wires, Alters}
-use Rattle.pd_steady.specs.Freely.{deliveries, event_freely}
+use Rattle.pd_steady.specs.Freely.{deliveries, event_freely, edit_freely}
 use Rattle.pd_steady.specs.Steady.{IsSteady}
-use Rattle.pd_steady.proofs.FairLemmas.{AreFair, edits_keep}
+use Rattle.pd_steady.proofs.FairLemmas.{AreFair, fair_first, fair_second, taken_left}
 use Rattle.pd_steady.proofs.ExtendLemmas.{outcome_extends}
 use Rattle.pd_engine.proofs.TreeLemmas.{HasBoth, altered_both}
 use Rattle.pd_engine.proofs.WholeLemmas.{both_on}
@@ -185,23 +188,95 @@ kept_steady most s v u h d = record {
 any_steady : (most : ℕ) (s r : Stage) → Alters s r → IsSteady most s → IsSteady most r
 any_steady most s r a h = altered_steady most s r h a (altered_both s r a (owned_at most s h))
 
--- an event that comes to this world, and freely to that one
-after_free : (most : ℕ) (s : Stage) (v u : World Kept) → IsSteady most s → IsDelivered s.net s.time s.names s.states v u → IsFree most (event_after s v) (event_after s u)
-after_free most s v u h d = record {
-  same = ap (λ (w : World Kept). event_after s w) d.same;
-  steady = λ l. edits_keep (IsSteady most) (any_steady most) v.kept.queue (with_kept s v.kept) l (kept_steady most s v u h d);
-}
+-- one part, and then another from where it leads
+pub followed : (most : ℕ) (p q : Passage) (next free : Stage → Passage) → IsFree most p q → (IsSteady most p.stage → AreFair (next p.stage).edits → IsFree most (next p.stage) (free p.stage))
+    → AreFair (followed_by p next).edits → IsFree most (followed_by p next) (followed_by q free)
+followed most p q next free a f l =
+    let b : IsFree most (next p.stage) (free p.stage) = f (a.steady (fair_first p.edits (next p.stage).edits l)) (fair_second p.edits (next p.stage).edits l) in
+    record {
+      same = ap (λ (x : Passage). followed_by x free) a.same ∙ ap (λ (x : Passage). joined p x) b.same;
+      steady = λ k. b.steady (fair_second p.edits (next p.stage).edits k);
+    }
 
-pub event_free : (g : Guards) (most : ℕ) (s : Stage) (b : Beginning) → IsSteady most s → Begins s.names b → IsFree most (event s b) (event_freely s b)
-unfolding event event_freely
-event_free g most s b h k =
-    after_free most s (delivered s b) (deliveries s.net s.time (begun s) b) h
-    (deliver g s.net s.time (begun s) (delivered s b) (deliveries s.net s.time (begun s) b) (start_of b) (outcome_is s.net s.time (begun s) b) (free_is s.net s.time (begun s) b)
-    h.near h.order h.values.states h.ready.whole.states h.ready.kinds (starts s.names b k))
+-- what goes on from where deliveries or edits led is the same freely
+abbrev AreFree : ℕ → (rest free : Left → Stage → Passage) → Type 0
+AreFree most rest free = (l : Left) (r : Stage) → IsSteady most r → AreFair (rest l r).edits → IsFree most (rest l r) (free l r)
 
--- what deliveries leave is steady
+-- deliveries that come to this world, and freely to that one, and then what goes on from where they led
+after_free : (most : ℕ) (s : Stage) (v u : World Kept) (rest free : Left → Stage → Passage) → IsSteady most s → IsDelivered s.net s.time s.names s.states v u → AreFree most rest free
+    → AreFair (followed_by (after_deliveries s v) (rest (left_after v))).edits
+    → IsFree most (followed_by (after_deliveries s v) (rest (left_after v))) (followed_by (after_deliveries s u) (free (left_after u)))
+after_free most s v u rest free h d f l =
+    let now : IsFree most (after_deliveries s v) (after_deliveries s v) = record { same = refl; steady = λ k. kept_steady most s v u h d } in
+    let all : IsFree most (followed_by (after_deliveries s v) (rest (left_after v))) (followed_by (after_deliveries s v) (free (left_after v))) =
+    followed most (after_deliveries s v) (after_deliveries s v) (rest (left_after v)) (free (left_after v)) now (λ k m. f (left_after v) (with_kept s v.kept) k m) l in
+    record { same = ap (λ (w : World Kept). followed_by (after_deliveries s w) (free (left_after w))) d.same ∙ all.same; steady = all.steady }
+
+-- an edit leads where it leads, whatever is loaded behind it
+taken_free : (most : ℕ) (wanted : Wanted) (s : Stage) → IsSteady most s → IsFree most (edit_taken wanted s) (edit_taken wanted s)
+taken_free most wanted s h = record { same = refl; steady = λ l. any_steady most s (edit_taken wanted s).stage (taken_left wanted s l) h }
+
+module _ (g : Guards) (most : ℕ) where
+  -- deliveries that begin in order, wherever an event goes on
+  delivered_on : (s : Stage) (l : Left) (b : Beginning) → IsSteady most s → Begins s.names b
+      → IsDelivered s.net s.time s.names s.states (engine.deliveries s.net s.time (going_on s l) b) (deliveries s.net s.time (going_on s l) b)
+  delivered_on s l b h k =
+      deliver g s.net s.time (going_on s l) (engine.deliveries s.net s.time (going_on s l) b) (deliveries s.net s.time (going_on s l) b) (start_of b)
+      (outcome_is s.net s.time (going_on s l) b) (free_is s.net s.time (going_on s l) b) h.near
+      (record { time = h.order.time; first = h.order.first; kinds = h.order.kinds; states = h.order.states }) h.values.states h.ready.whole.states h.ready.kinds (starts s.names b k)
+
+  -- what deliveries leave is steady
+  pub left_steady : (s : Stage) (l : Left) (b : Beginning) → IsSteady most s → Begins s.names b → IsSteady most (with_kept s (engine.deliveries s.net s.time (going_on s l) b).kept)
+  left_steady s l b h k =
+      kept_steady most s (engine.deliveries s.net s.time (going_on s l) b) (deliveries s.net s.time (going_on s l) b) h (delivered_on s l b h k)
+
+  -- boxes are loaded
+  loaded_free : (boxes : List ℕ) (l : Left) (rest free : Left → Stage → Passage) → AreFree most rest free → (s : Stage) → IsSteady most s
+      → AreFair (loaded_by own_loaded boxes l rest s).edits → IsFree most (loaded_by own_loaded boxes l rest s) (loaded_by all_loaded boxes l free s)
+  loaded_free boxes l rest free f s h w =
+      after_free most s (own_loaded s.net s.time (going_on s l) boxes) (all_loaded s.net s.time (going_on s l) boxes) rest free h (delivered_on s l (Loading boxes) h tt) f w
+
+  -- an edit, and the boxes that are loaded behind it
+  edit_free : (wanted : Wanted) (l : Left) (rest free : Left → Stage → Passage) → AreFree most rest free → (s : Stage) → IsSteady most s
+      → AreFair (edit_loaded_by own_loaded wanted l rest s).edits → IsFree most (edit_loaded_by own_loaded wanted l rest s) (edit_loaded_by all_loaded wanted l free s)
+  edit_free wanted l rest free f s h w =
+      let boxes : List ℕ = loads_of_choice (first_choice s.ahead) in
+      followed most (edit_taken wanted s) (edit_taken wanted s) (loaded_by own_loaded boxes l rest) (loaded_by all_loaded boxes l free) (taken_free most wanted s h)
+      (λ k v. loaded_free boxes l rest free f (edit_taken wanted s).stage k v) w
+
+  asked_free : (rest free : Left → Stage → Passage) → AreFree most rest free → (l : Left) (s : Stage) (o : Option (List ℕ × Edit)) → IsSteady most s
+      → AreFair (asked_by own_loaded rest l s o).edits → IsFree most (asked_by own_loaded rest l s o) (asked_by all_loaded free l s o)
+  asked_free rest free f l s None h w = record { same = refl; steady = λ k. h }
+  asked_free rest free f l s (Some asked) h w = edit_free (Asks asked.0 asked.1) l rest free f s h w
+
+  -- the edits of an event, one after the other
+  edits_free : (n place : ℕ) → AreFree most (edits_taken_by own_loaded n place) (edits_taken_by all_loaded n place)
+  unfolding edits_taken_by
+  edits_free zero place l s h w = record { same = refl; steady = λ k. h }
+  edits_free (suc n) place l s h w =
+      asked_free (edits_taken_by own_loaded n (place + 1)) (edits_taken_by all_loaded n (place + 1)) (λ m r k v. edits_free n (place + 1) m r k v) l s (slice_get l.asked place) h w
+
+  pub event_free : (s : Stage) (b : Beginning) → IsSteady most s → Begins s.names b → AreFair (event s b).edits → IsFree most (event s b) (event_freely s b)
+  unfolding event event_freely
+  event_free s b h k w =
+      after_free most s (delivered s b) (deliveries s.net s.time (begun s) b) (edits_of_by own_loaded) (edits_of_by all_loaded) h (delivered_on s whole b h k)
+      (λ l r m v. edits_free last 0 l r m v) w
+
+  pub edit_event_free : (wanted : Wanted) (s : Stage) → IsSteady most s → AreFair (edit_event wanted s).edits → IsFree most (edit_event wanted s) (edit_freely wanted s)
+  unfolding edit_event edit_freely
+  edit_event_free wanted s h w = edit_free wanted whole (edits_of_by own_loaded) (edits_of_by all_loaded) (λ l r m v. edits_free last 0 l r m v) s h w
+
+-- what deliveries leave
 pub delivered_steady : (g : Guards) (most : ℕ) (s : Stage) (b : Beginning) → IsSteady most s → Begins s.names b → IsSteady most (with_kept s (delivered s b).kept)
-delivered_steady g most s b h k =
-    kept_steady most s (delivered s b) (deliveries s.net s.time (begun s) b) h
-    (deliver g s.net s.time (begun s) (delivered s b) (deliveries s.net s.time (begun s) b) (start_of b) (outcome_is s.net s.time (begun s) b) (free_is s.net s.time (begun s) b)
-    h.near h.order h.values.states h.ready.whole.states h.ready.kinds (starts s.names b k))
+delivered_steady g most s b h k = left_steady g most s whole b h k
+
+-- boxes that are loaded leave what is of the same objects, and names go on
+pub loads_alike : (s : Stage) (l : Left) (boxes : List ℕ) → AreAlike s.states (own_loaded s.net s.time (going_on s l) boxes).kept.states
+loads_alike s l boxes =
+    subst (λ (w : World Kept). AreAlike s.states w.kept.states) (outcome_is s.net s.time (going_on s l) (Loading boxes))
+    (outcome_alike s.net s.time (going_on s l) (start_of (Loading boxes)))
+
+pub loads_extend : (s : Stage) (l : Left) (boxes : List ℕ) → Extends s.names (own_loaded s.net s.time (going_on s l) boxes).kept.names
+loads_extend s l boxes =
+    subst (λ (w : World Kept). Extends s.names w.kept.names) (outcome_is s.net s.time (going_on s l) (Loading boxes))
+    (outcome_extends s.net s.time (going_on s l) (start_of (Loading boxes)))

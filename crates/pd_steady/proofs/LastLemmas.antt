@@ -1,6 +1,6 @@
 -- In a run in which each edit is lawful the boxes that were there, and that no edit deletes, by itself or with a box around it, or makes another one,
 -- go on keeping what is of the same objects.
-use Rattle.std.proofs.Common.{◌≡◌, ◌≢◌, ◌+◌, ◌-◌, ℕ, ℤ, zero, suc, Bool, true, false, nat_le, if◌then◌else◌, List, [], ◌∷◌, ◌++◌, Option, Some, None, IsSome, option_map, refl, sym, ap, subst, ◌∙◌}
+use Rattle.std.proofs.Common.{◌≡◌, ◌≢◌, ◌+◌, ◌-◌, ℕ, ℤ, zero, suc, Bool, true, false, nat_le, if◌then◌else◌, List, [], ◌∷◌, ◌++◌, Option, Some, None, IsSome, slice_get, option_map, refl, sym, ap, subst, ◌∙◌}
 use Rattle.std.proofs.lemmas.Option.{none-some}
 use Rattle.std.specs.Prelude.{option_and_then}
 use Rattle.slab.specs.Slab.{get}
@@ -20,24 +20,26 @@ use Rattle.pd_grove.specs.Owning.{board_in}
 use Rattle.pd_grove.specs.Telling.{state_in}
 use Rattle.pd_owning.specs.Order.{holder_of, box_out}
 use Rattle.pd_owning.specs.Parts.{LiesWithin}
+use Rattle.pd_queue.specs.Queue.{most}
 use Rattle.pd_turns.specs.Turns.{World}
+use Rattle.pd_walk.specs.Outcome.{all_loaded}
 use Rattle.pd_hearing.specs.Worlds.{Net, Kept, bare, net_of, states_of}
 use Rattle.pd_patch.specs.declared.patch.Patch.{Patch}
 use Rattle.pd_sized.specs.Alike.{AreAlike}
 use Rattle.pd_sized.proofs.AlikeRunLemmas.{outcome_alike}
 use Rattle.pd_sized.proofs.AlikeBlockLemmas.{block_alike}
-use Rattle.pd_stage.specs.Choices.{Base, Wanted, Edits, Asks, Saves, Undoes, Redoes, Choice, Refuses, Lacks, Makes, first_choice, later}
+use Rattle.pd_stage.specs.Choices.{Base, Wanted, Edits, Asks, Saves, Undoes, Redoes, Choice, Refuses, Lacks, Makes, first_choice, later, loads_of_choice}
 use Rattle.pd_stage.specs.Lawful.{IsRewiringLawful, IsPutLawful, IsTakingLawful, IsMovingLawful, IsRetypingLawful, IsEditLawful, IsSaveLawful, MayCome, AreLawful}
 use Rattle.pd_stage.proofs.LeadLemmas.{lawful_first, lawful_second}
 use Rattle.pd_stage.specs.Stages.{Stage, Passage, Taken, with_ahead, still, followed_by}
-use Rattle.pd_stage.specs.Events.{Beginning, Firing, begun, delivered, with_kept, after_deliveries, stage_by, edit_taken, edit_asked, edits_taken, event}
+use Rattle.pd_stage.specs.Events.{Beginning, Firing, Left, whole, left_after, going_on, begun, delivered, with_kept, after_deliveries, stage_by, edit_taken, loaded_by, edit_loaded_by, asked_by, edits_taken_by, edits_of_by, event, edit_event}
 use Rattle.pd_stage.specs.Times.{block_units, most_fired, next_clock, taken_off, with_taken, with_fired, fires, fires_or_not, fires_below, clocks_fire, block_net, sound_at, block_sounds, block_runs, blocks_run, time_is, comes_to, advanced}
 use Rattle.pd_engine.specs.Commands.{commanded}
 use Rattle.pd_engine.specs.Opening.{first_stage, opened}
 use Rattle.pd_steady.specs.Runs.{own_ways}
 use Rattle.pd_steady.specs.Steps.{Step, Does, Learns, Comes, step_by, steps_by}
 use Rattle.pd_steady.specs.Serving.{EndsIn, Ends, LeavesBox, LeaveBox, StayAlike}
-use Rattle.pd_steady.proofs.EventLemmas.{start_of, outcome_is}
+use Rattle.pd_steady.proofs.EventLemmas.{start_of, outcome_is, loads_alike}
 use Rattle.pd_steady.proofs.ComeLemmas.{come_node, come_more}
 use Rattle.pd_steady.proofs.KeyLemmas.{HasOneNew, HasOneMore, more_alike}
 use Rattle.pd_steady.proofs.LessLemmas.{HasLess}
@@ -201,23 +203,44 @@ taken_lasts : (wanted : Wanted) (s : Stage) → Leads s (edit_taken wanted s)
 unfolding edit_taken
 taken_lasts wanted s = λ l k there left. choice_same wanted s (later s.ahead) (first_choice s.ahead) l.0 k there left.0
 
-edits_last : (waiting : List (List ℕ × Edit)) (s : Stage) → Leads s (edits_taken waiting s)
-unfolding edits_taken
-edits_last [] s = λ l. itself_lasts s
-edits_last (asked ∷ waiting) s =
-    followed_lasts s (edit_asked asked s) (edits_taken waiting) (taken_lasts (Asks asked.0 asked.1) s) (edits_last waiting (edit_asked asked s).stage)
-
--- events
+-- events: deliveries, and then the edits, each with the boxes that are loaded behind it
 kept_lasts : (s : Stage) (b : Beginning) → StayAlike [] s.states (delivered s b).kept.states
 kept_lasts s b =
     alike_lasts s (with_kept s (delivered s b).kept)
     (subst (λ (w : World Kept). AreAlike s.states w.kept.states) (outcome_is s.net s.time (begun s) b) (outcome_alike s.net s.time (begun s) (start_of b)))
 
+-- what goes on from where deliveries led
+abbrev AllLead : (Left → Stage → Passage) → Type 0
+AllLead rest = (l : Left) (s : Stage) → Leads s (rest l s)
+
+loads_last : (boxes : List ℕ) (l : Left) (rest : Left → Stage → Passage) → AllLead rest → (s : Stage) → Leads s (loaded_by all_loaded boxes l rest s)
+loads_last boxes l rest f s =
+    let w : World Kept = all_loaded s.net s.time (going_on s l) boxes in
+    followed_lasts s (after_deliveries s w) (rest (left_after w)) (λ k. alike_lasts s (with_kept s w.kept) (loads_alike s l boxes)) (f (left_after w) (with_kept s w.kept))
+
+edit_lasts : (wanted : Wanted) (l : Left) (rest : Left → Stage → Passage) → AllLead rest → (s : Stage) → Leads s (edit_loaded_by all_loaded wanted l rest s)
+edit_lasts wanted l rest f s =
+    let boxes : List ℕ = loads_of_choice (first_choice s.ahead) in
+    followed_lasts s (edit_taken wanted s) (loaded_by all_loaded boxes l rest) (taken_lasts wanted s) (loads_last boxes l rest f (edit_taken wanted s).stage)
+
+asked_lasts : (rest : Left → Stage → Passage) → AllLead rest → (l : Left) (s : Stage) (o : Option (List ℕ × Edit)) → Leads s (asked_by all_loaded rest l s o)
+asked_lasts rest f l s None = λ k. itself_lasts s
+asked_lasts rest f l s (Some asked) = edit_lasts (Asks asked.0 asked.1) l rest f s
+
+edits_last : (n place : ℕ) → AllLead (edits_taken_by all_loaded n place)
+unfolding edits_taken_by
+edits_last zero place l s = λ k. itself_lasts s
+edits_last (suc n) place l s = asked_lasts (edits_taken_by all_loaded n (place + 1)) (edits_last n (place + 1)) l s (slice_get l.asked place)
+
 event_lasts : (s : Stage) (b : Beginning) → Leads s (event s b)
 unfolding event
 event_lasts s b =
     let w : World Kept = delivered s b in
-    followed_lasts s (after_deliveries s w) (edits_taken w.kept.queue) (λ l. kept_lasts s b) (edits_last w.kept.queue (with_kept s w.kept))
+    followed_lasts s (after_deliveries s w) (edits_of_by all_loaded (left_after w)) (λ l. kept_lasts s b) (edits_last most 0 (left_after w) (with_kept s w.kept))
+
+edit_event_lasts : (wanted : Wanted) (s : Stage) → Leads s (edit_event wanted s)
+unfolding edit_event
+edit_event_lasts wanted s = edit_lasts wanted whole (edits_of_by all_loaded) (edits_last most 0) s
 
 -- clocks
 fires_lasts : (s : Stage) (c : Clock) → Leads s (fires s c)
@@ -262,11 +285,11 @@ advanced_lasts to s = followed_lasts s (blocks_run (to + 1) to s) (comes_to to) 
 commanded_lasts : (c : Command) (s : Stage) → Leads s (commanded c s)
 unfolding commanded
 commanded_lasts (command.Send name atoms) s = event_lasts s _
-commanded_lasts (command.Edit place edit) s = taken_lasts _ s
-commanded_lasts (command.Save document) s = taken_lasts _ s
+commanded_lasts (command.Edit place edit) s = edit_event_lasts _ s
+commanded_lasts (command.Save document) s = edit_event_lasts _ s
 commanded_lasts (command.Show path) s = λ l. itself_lasts s
-commanded_lasts command.Undo s = taken_lasts _ s
-commanded_lasts command.Redo s = taken_lasts _ s
+commanded_lasts command.Undo s = edit_event_lasts _ s
+commanded_lasts command.Redo s = edit_event_lasts _ s
 
 -- steps
 by_same : (s : Stage) (p q : Passage) → p ≡ q → Leads s q → Leads s p

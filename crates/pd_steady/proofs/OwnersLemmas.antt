@@ -17,6 +17,7 @@ use Rattle.pd_grove.specs.declared.nodes.Node.{Node}
 use Rattle.pd_grove.specs.declared.seeds.Seed.{Seed}
 use Rattle.pd_grove.specs.Telling.{kind_in}
 use Rattle.pd_turns.specs.Turns.{World}
+use Rattle.pd_walk.specs.Outcome.{all_loaded}
 use Rattle.pd_hearing.specs.Worlds.{Net, Kept, bare, net_of, states_of}
 use Rattle.pd_patch.specs.declared.patch.Patch.{Patch}
 use Rattle.pd_regrowth_law.proofs.StepLemmas.{extends_same}
@@ -25,20 +26,21 @@ use Rattle.pd_sized.specs.Kinds.{blank_of, KeepsOfKind}
 use Rattle.pd_sized.proofs.KindLemmas.{made_of_kind}
 use Rattle.pd_sized.proofs.AlikeRunLemmas.{outcome_alike}
 use Rattle.pd_sized.proofs.AlikeBlockLemmas.{block_alike}
-use Rattle.pd_stage.specs.Choices.{Base, Choice}
+use Rattle.pd_stage.specs.Choices.{Base, Wanted, Choice}
 use Rattle.pd_stage.specs.Lawful.{AreLawful}
 use Rattle.pd_stage.proofs.LeadLemmas.{lawful_first, lawful_second}
-use Rattle.pd_stage.proofs.EditLemmas.{ButWires, but_wires, Alters, HasNewBox, HasLostBox, HasMovedBox, HasRetypedBox, HasMoreRoom, taken_alters, event_keeps}
+use Rattle.pd_stage.proofs.EditLemmas.{ButWires, but_wires, Alters, HasNewBox, HasLostBox, HasMovedBox, HasRetypedBox, HasMoreRoom}
 use Rattle.pd_stage.specs.Stages.{Stage, Passage, with_names, with_ahead, still, followed_by}
-use Rattle.pd_stage.specs.Events.{Beginning, Firing, begun, delivered, with_kept, with_net, event}
+use Rattle.pd_stage.specs.Events.{Beginning, Firing, Left, going_on, begun, delivered, with_kept, with_net, event, edit_event}
 use Rattle.pd_stage.specs.Times.{block_units, most_fired, next_clock, taken_off, with_taken, with_fired, fires, fires_or_not, fires_below, clocks_fire, block_net, sound_at, played_at, with_played, block_sounds, block_runs, blocks_run, with_time, time_is, comes_to, advanced, finished}
 use Rattle.pd_engine.specs.Commands.{commanded}
 use Rattle.pd_engine.specs.Opening.{Grows, first_stage, opened}
 use Rattle.pd_steady.specs.Runs.{own_ways, finished_by}
 use Rattle.pd_steady.specs.Steps.{Step, Does, Learns, Comes, step_by, steps_by, LearnsOn, NamesGoOn, run_by}
 use Rattle.pd_steady.specs.Serving.{OwnersServe}
-use Rattle.pd_steady.proofs.EventLemmas.{start_of as start_at, outcome_is}
+use Rattle.pd_steady.proofs.EventLemmas.{start_of as start_at, outcome_is, loads_alike, loads_extend}
 use Rattle.pd_steady.proofs.ExtendLemmas.{outcome_extends}
+use Rattle.pd_steady.proofs.FairLemmas.{lawful_fair, event_keeps, edit_event_keeps}
 use Rattle.pd_steady.proofs.ComeLemmas.{come_seed, come_node, come_fresh, come_more}
 use Rattle.pd_steady.proofs.KeyLemmas.{HasOneNew, new_objects}
 use Rattle.pd_steady.proofs.LessLemmas.{left_objects}
@@ -173,8 +175,16 @@ kept_goes s b h =
       kinds = alike_kinds s r (λ k. refl) (subst (λ (w : World Kept). AreAlike s.states w.kept.states) is (outcome_alike s.net s.time (begun s) (start_at b))) h.kinds;
     }
 
+loads_go : (s : Stage) (l : Left) (boxes : List ℕ) → IsServing s → IsServing (with_kept s (all_loaded s.net s.time (going_on s l) boxes).kept)
+loads_go s l boxes h =
+    let r : Stage = with_kept s (all_loaded s.net s.time (going_on s l) boxes).kept in
+    record { owned = both_on s r refl refl refl (loads_extend s l boxes) h.owned; kinds = alike_kinds s r (λ k. refl) (loads_alike s l boxes) h.kinds }
+
 event_goes : (s : Stage) (b : Beginning) → Goes s (event s b)
-event_goes s b h l = event_keeps IsServing altered_goes s b l (kept_goes s b h)
+event_goes s b h l = event_keeps IsServing altered_goes loads_go s b (lawful_fair (event s b).edits l) (kept_goes s b h)
+
+edit_goes : (wanted : Wanted) (s : Stage) → Goes s (edit_event wanted s)
+edit_goes wanted s h l = edit_event_keeps IsServing altered_goes loads_go wanted s (lawful_fair (edit_event wanted s).edits l) h
 
 -- clocks
 fires_go : (s : Stage) (c : Clock) → Goes s (fires s c)
@@ -228,11 +238,11 @@ finished_goes s = if_goes (nat_lt s.block_end (s.time + block_units)) s (block_r
 commanded_goes : (c : Command) (s : Stage) → Goes s (commanded c s)
 unfolding commanded
 commanded_goes (command.Send name atoms) s h l = event_goes s _ h l
-commanded_goes (command.Edit place edit) s h l = altered_goes s (commanded (command.Edit place edit) s).stage (taken_alters _ s l) h
-commanded_goes (command.Save document) s h l = altered_goes s (commanded (command.Save document) s).stage (taken_alters _ s l) h
+commanded_goes (command.Edit place edit) s h l = edit_goes _ s h l
+commanded_goes (command.Save document) s h l = edit_goes _ s h l
 commanded_goes (command.Show path) s h l = h
-commanded_goes command.Undo s h l = altered_goes s (commanded command.Undo s).stage (taken_alters _ s l) h
-commanded_goes command.Redo s h l = altered_goes s (commanded command.Redo s).stage (taken_alters _ s l) h
+commanded_goes command.Undo s h l = edit_goes _ s h l
+commanded_goes command.Redo s h l = edit_goes _ s h l
 
 -- steps
 by_same : (s : Stage) (p q : Passage) → p ≡ q → Goes s q → Goes s p

@@ -20,7 +20,7 @@ use Rattle.pd_ends_law.specs.Ends.{AreOpen}
 use Rattle.pd_sound_law.specs.Ready.{IsReady}
 use Rattle.pd_guards.proofs.FactLemmas.{some-weaker}
 use Rattle.pd_guards.proofs.MoreLemmas.{longer, first_more, kind_more, kept_more}
-use Rattle.pd_stage.specs.Choices.{Base, Choice}
+use Rattle.pd_stage.specs.Choices.{Base, Choice, Edits, Saves, Undoes, Redoes}
 use Rattle.pd_stage.specs.Stages.{Stage, Passage, with_names, saying, joined, followed_by}
 use Rattle.pd_stage.specs.Events.{Beginning, Message, Loading, event}
 use Rattle.pd_engine.specs.Messages.{message_in}
@@ -32,12 +32,11 @@ use Rattle.pd_steady.specs.Runs.{own_ways, commanded_by, advanced_by, finished_b
 use Rattle.pd_steady.specs.Freely.{event_freely, free_ways}
 use Rattle.pd_steady.specs.Steady.{IsSteady, IsCommand}
 use Rattle.pd_steady.specs.Steps.{Step, Does, Learns, Comes, IsStep, AreSteps, step_by, steps_by, run_by}
-use Rattle.pd_steady.proofs.FairLemmas.{AreFair, fair_first, fair_second, taken_left}
+use Rattle.pd_steady.proofs.FairLemmas.{AreFair, fair_first, fair_second}
 use Rattle.pd_engine.proofs.TreeLemmas.{HasBoth}
 use Rattle.pd_engine.proofs.WholeLemmas.{both_on}
-use Rattle.pd_steady.proofs.TreeLemmas.{taken_owned}
-use Rattle.pd_steady.proofs.EventLemmas.{Guards, IsFree, owned_at, altered_steady, event_free}
-use Rattle.pd_steady.proofs.TimeLemmas.{followed, advanced_free, finished_free}
+use Rattle.pd_steady.proofs.EventLemmas.{Guards, IsFree, owned_at, followed, event_free, edit_event_free}
+use Rattle.pd_steady.proofs.TimeLemmas.{advanced_free, finished_free}
 use Rattle.pd_steady.proofs.OwnLemmas.{commanded_own, advanced_own, finished_own}
 
 -- numbers apart, since tactics read all that is in scope
@@ -55,16 +54,17 @@ said_free : (most : ℕ) (s : Stage) (lines : List ℕ) (p free : Passage) → I
 said_free most s lines p free a = record { same = ap (λ (x : Passage). joined (saying s lines) x) a.same; steady = a.steady }
 
 -- commands
-pub commanded_free : (g : Guards) (most : ℕ) (c : Command) (s : Stage) → IsSteady most s → IsCommand s.names c → IsFree most (commanded c s) (commanded_by free_ways c s)
+pub commanded_free : (g : Guards) (most : ℕ) (c : Command) (s : Stage) → IsSteady most s → IsCommand s.names c → AreFair (commanded c s).edits
+    → IsFree most (commanded c s) (commanded_by free_ways c s)
 unfolding commanded commanded_by
-commanded_free g most (command.Send name atoms) s h k =
+commanded_free g most (command.Send name atoms) s h k l =
     let b : Beginning = Message name (message_in atoms).selector (cut_atoms (message_in atoms).atoms) in
-    said_free most s (cut_text (message_in atoms).atoms) (event s b) (event_freely s b) (event_free g most s b h (g.begins s.names name atoms h.order.first k.0 k.1))
-commanded_free g most (command.Edit place edit) s h k = record { same = refl; steady = λ l. altered_steady most s (commanded (command.Edit place edit) s).stage h (taken_left _ s l) (taken_owned _ s l (owned_at most s h)) }
-commanded_free g most (command.Save document) s h k = record { same = refl; steady = λ l. altered_steady most s (commanded (command.Save document) s).stage h (taken_left _ s l) (taken_owned _ s l (owned_at most s h)) }
-commanded_free g most (command.Show path) s h k = record { same = refl; steady = λ l. h }
-commanded_free g most command.Undo s h k = record { same = refl; steady = λ l. altered_steady most s (commanded command.Undo s).stage h (taken_left _ s l) (taken_owned _ s l (owned_at most s h)) }
-commanded_free g most command.Redo s h k = record { same = refl; steady = λ l. altered_steady most s (commanded command.Redo s).stage h (taken_left _ s l) (taken_owned _ s l (owned_at most s h)) }
+    said_free most s (cut_text (message_in atoms).atoms) (event s b) (event_freely s b) (event_free g most s b h (g.begins s.names name atoms h.order.first k.0 k.1) l)
+commanded_free g most (command.Edit place edit) s h k l = edit_event_free g most (Edits place.document place.path edit) s h l
+commanded_free g most (command.Save document) s h k l = edit_event_free g most (Saves document) s h l
+commanded_free g most (command.Show path) s h k l = record { same = refl; steady = λ w. h }
+commanded_free g most command.Undo s h k l = edit_event_free g most Undoes s h l
+commanded_free g most command.Redo s h k l = edit_event_free g most Redoes s h l
 
 -- names
 pub named_steady : (most : ℕ) (s : Stage) (names : Names) → IsSteady most s → Extends s.names names → IsSteady most (with_names s names)
@@ -103,11 +103,12 @@ first_steady most file p table base ahead near o v w ended tree = record {
 }
 
 pub opened_free : (g : Guards) (most : ℕ) (file : List ℕ) (p : Patch) (table : Names) (base : Base) (ahead : List Choice) → AreNear (net_of p) → IsInOrder (net_of p) 0 (kept_of p table []) → IsSounding (sound_with (net_of p) (kept_of p table [])) → IsReady (nets.net_of p) (sound_of p)
-    → AreOpen 0 (states_of p) → HasBoth (first_stage file p table base ahead) → IsFree most (opened file p table base ahead) (opened_by free_ways file p table base ahead)
-opened_free g most file p table base ahead near o v w ended tree =
+    → AreOpen 0 (states_of p) → HasBoth (first_stage file p table base ahead) → AreFair (opened file p table base ahead).edits
+    → IsFree most (opened file p table base ahead) (opened_by free_ways file p table base ahead)
+opened_free g most file p table base ahead near o v w ended tree l =
     let s : Stage = first_stage file p table base ahead in
     let b : Beginning = Loading (loads_among p.grove (keys_in_order p.grove)) in
-    said_free most s (remarks_text table p (notices_in p.grove p.web p.orders.items)) (event s b) (event_freely s b) (event_free g most s b (first_steady most file p table base ahead near o v w ended tree) tt)
+    said_free most s (remarks_text table p (notices_in p.grove p.web p.orders.items)) (event s b) (event_freely s b) (event_free g most s b (first_steady most file p table base ahead near o v w ended tree) tt l)
 
 pub at_first : 0 ≤ 2 ^ 101
 at_first = early (2 ^ 101)
@@ -125,7 +126,8 @@ module _ (g : Guards) (most : ℕ) (top : most ≤ 2 ^ 101) where
   same_fair p q e l = subst (λ (x : Passage). AreFair x.edits) e l
 
   step_free : (x : Step) (s : Stage) → IsSteady most s → IsStep most x s → AreFair (step_by own_ways x s).edits → IsFree most (step_by own_ways x s) (step_by free_ways x s)
-  step_free (Does c) s h k l = same_part (commanded_by own_ways c s) (commanded c s) (commanded_by free_ways c s) (commanded_own c s) (commanded_free g most c s h k)
+  step_free (Does c) s h k l = same_part (commanded_by own_ways c s) (commanded c s) (commanded_by free_ways c s) (commanded_own c s)
+      (commanded_free g most c s h k (same_fair (commanded_by own_ways c s) (commanded c s) (commanded_own c s) l))
   step_free (Learns names) s h k l = record { same = refl; steady = λ w. named_steady most s names h k }
   step_free (Comes to) s h k l =
       same_part (advanced_by own_ways to s) (advanced to s) (advanced_by free_ways to s) (advanced_own to s)
@@ -148,7 +150,8 @@ module _ (g : Guards) (file : List ℕ) (p : Patch) (table : Names) (base : Base
       → IsFree most (begun xs) (followed_by (opened_by free_ways file p table base ahead) (steps_by free_ways xs))
   begun_free most xs top k l =
       followed most (opened file p table base ahead) (opened_by free_ways file p table base ahead) (steps_by own_ways xs) (steps_by free_ways xs)
-      (opened_free g most file p table base ahead near first sounds ready ended tree) (λ h v. steps_free g most top xs (opened file p table base ahead).stage h k v) l
+      (opened_free g most file p table base ahead near first sounds ready ended tree (fair_first (opened file p table base ahead).edits (steps_by own_ways xs (opened file p table base ahead).stage).edits l))
+      (λ h v. steps_free g most top xs (opened file p table base ahead).stage h k v) l
 
   pub begun_steady : (most : ℕ) (xs : List Step) → most ≤ 2 ^ 101 → AreSteps most xs (opened file p table base ahead).stage → AreFair (begun xs).edits → IsSteady most (begun xs).stage
   begun_steady most xs top k l = (begun_free most xs top k l).steady l

@@ -6,7 +6,7 @@ use Rattle.pd_regrowth_law.proofs.StepLemmas.{extends_same}
 use Rattle.pd_guards.specs.Worlds.{IsInOrder}
 use Rattle.pd_guards.specs.Sounds.{IsSounding}
 use Rattle.pd_guards.proofs.FactLemmas.{either_by}
-use Rattle.pd_stage.specs.Stages.{Stage, Passage, kept_at, still, joined, followed_by}
+use Rattle.pd_stage.specs.Stages.{Stage, Passage, kept_at, still, followed_by}
 use Rattle.pd_stage.specs.Events.{Firing}
 use Rattle.pd_stage.specs.Times.{block_units, most_fired, first_clock, if_below, next_clock, taken_off, with_taken, with_fired, fires, fires_or_not, fires_below, clocks_fire, block_net, sound_at, sounding, most_time, played_at, with_played, block_sounds, block_runs, blocks_run, with_time, time_is, comes_to, advanced, finished}
 use Rattle.pd_stage.proofs.EditLemmas.{event_times}
@@ -18,10 +18,10 @@ use Rattle.pd_sound_law.proofs.ReadyLemmas.{ready_on, whole_free}
 use Rattle.pd_steady.specs.Runs.{fires_by, fires_or_not_by, fires_below_by, clocks_fire_by, block_runs_by, blocks_run_by, comes_to_by, advanced_by, finished_by}
 use Rattle.pd_steady.specs.Freely.{block_freely, free_ways}
 use Rattle.pd_steady.specs.Steady.{IsSteady}
-use Rattle.pd_steady.proofs.FairLemmas.{AreFair, fair_first, fair_second}
+use Rattle.pd_steady.proofs.FairLemmas.{AreFair, fair_first}
 use Rattle.pd_engine.proofs.WholeLemmas.{both_on}
 use Rattle.pd_steady.proofs.TreeLemmas.{tree_once}
-use Rattle.pd_steady.proofs.EventLemmas.{Guards, IsFree, owned_at, event_free}
+use Rattle.pd_steady.proofs.EventLemmas.{Guards, IsFree, owned_at, followed, event_free}
 
 -- a clock that is next is below the limit
 pub below_limit : (limit : ℕ) (o : Option Clock) → IfSome (if_below limit o) (λ (c : Clock). c.time < limit)
@@ -85,16 +85,6 @@ unfolding block_sounds block_freely
 sounds_freely most s h early =
     ap (λ (p : Played). sounding s p) (sym (whole_free (block_net s) (sound_at s) (s.block_end - block_units) h.ready h.ends (tree_once s h.tree 257) early))
 
--- one part, and then another from where it leads
-pub followed : (most : ℕ) (p q : Passage) (next free : Stage → Passage) → IsFree most p q → (IsSteady most p.stage → AreFair (next p.stage).edits → IsFree most (next p.stage) (free p.stage))
-    → AreFair (followed_by p next).edits → IsFree most (followed_by p next) (followed_by q free)
-followed most p q next free a f l =
-    let b : IsFree most (next p.stage) (free p.stage) = f (a.steady (fair_first p.edits (next p.stage).edits l)) (fair_second p.edits (next p.stage).edits l) in
-    record {
-      same = ap (λ (x : Passage). followed_by x free) a.same ∙ ap (λ (x : Passage). joined p x) b.same;
-      steady = λ k. b.steady (fair_second p.edits (next p.stage).edits k);
-    }
-
 module _ (g : Guards) (most : ℕ) (top : most ≤ 2 ^ 101) where
   -- at a later time
   later : (s : Stage) (time : ℕ) → time ≤ most → IsSteady most s → IsInOrder s.net (max s.time time) (kept_at s)
@@ -142,7 +132,8 @@ module _ (g : Guards) (most : ℕ) (top : most ≤ 2 ^ 101) where
   clock_free s rest free limit None l low f h w = here s h
   clock_free s rest free limit (Some c) l low f h w =
       let a : IsFree most (fires s c) (fires_by free_ways s c) =
-      event_free g most (with_fired (with_taken s (taken_off s.clocks)) c.time) (Firing c.owner) (fired_steady s c (below c.time limit most low l) h) tt in
+      event_free g most (with_fired (with_taken s (taken_off s.clocks)) c.time) (Firing c.owner) (fired_steady s c (below c.time limit most low l) h) tt
+      (fair_first (fires s c).edits (rest (fires s c).stage).edits w) in
       followed most (fires s c) (fires_by free_ways s c) rest free a (f (fires s c).stage) w
 
   clocks_free : (n limit : ℕ) (s : Stage) → limit ≤ most → IsSteady most s → AreFair (fires_below n limit s).edits → IsFree most (fires_below n limit s) (fires_below_by free_ways n limit s)

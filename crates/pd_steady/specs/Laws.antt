@@ -28,10 +28,10 @@ pub record RunsAreByEvents : Type 0 where
   pub finished : (s : Stage) → finished_by own_ways s ≡ finished s
   pub opened : (file : List ℕ) (p : Patch) (names : Names) (base : Base) (ahead : List Choice) → opened_by own_ways file p names base ahead ≡ opened file p names base ahead
 
--- from a steady stage a command in order leads to a steady one, where its edits are lawful, and nothing is passed over in it
+-- from a steady stage a command in order leads to a steady one, and nothing is passed over in it, where its edits are lawful
 pub record CommandsStaySteady : Type 0 where
   pub steady : (most : ℕ) (c : Command) (s : Stage) → IsSteady most s → IsCommand s.names c → AreLawful (commanded c s).edits → IsSteady most (commanded c s).stage
-  pub freely : (most : ℕ) (c : Command) (s : Stage) → IsSteady most s → IsCommand s.names c → commanded_by free_ways c s ≡ commanded c s
+  pub freely : (most : ℕ) (c : Command) (s : Stage) → IsSteady most s → IsCommand s.names c → AreLawful (commanded c s).edits → commanded_by free_ways c s ≡ commanded c s
 
 -- and so does time, where it is one at which events come
 pub record TimeStaysSteady : Type 0 where
@@ -44,14 +44,14 @@ pub record TimeStaysSteady : Type 0 where
 abbrev pub NamesStaySteady : Type 0
 NamesStaySteady = (most : ℕ) (s : Stage) (names : Names) → IsSteady most s → Extends s.names names → IsSteady most (with_names s names)
 
--- where a patch opens the stage is steady, at first and, where the edits of its load event are lawful, after it, and nothing is passed over in that
+-- where a patch opens the stage is steady, at first and, where the edits of its load event are lawful, after it, and nothing is then passed over in that
 pub record OpeningIsSteady : Type 0 where
   pub first : (holds : Option (List FileRow)) (name : List ℕ) (rate : Rate) (d : Page) (names table : Names) (p : Patch) (base : Base) (most : ℕ) (ahead : List Choice) →
       Grows holds name rate d names p table base → IsSteady most (first_stage name p table base ahead)
   pub steady : (holds : Option (List FileRow)) (name : List ℕ) (rate : Rate) (d : Page) (names table : Names) (p : Patch) (base : Base) (most : ℕ) (ahead : List Choice) →
       Grows holds name rate d names p table base → AreLawful (opened name p table base ahead).edits → IsSteady most (opened name p table base ahead).stage
   pub freely : (holds : Option (List FileRow)) (name : List ℕ) (rate : Rate) (d : Page) (names table : Names) (p : Patch) (base : Base) (ahead : List Choice) →
-      Grows holds name rate d names p table base → opened_by free_ways name p table base ahead ≡ opened name p table base ahead
+      Grows holds name rate d names p table base → AreLawful (opened name p table base ahead).edits → opened_by free_ways name p table base ahead ≡ opened name p table base ahead
 
 -- From a steady stage a run in which each edit is lawful stays steady along its steps, and nothing is passed over in it. So it is in a whole run, from
 -- where a patch opens to its end.

@@ -6,7 +6,7 @@ pub fn runs_are_by_events()
     ensures { RunsAreByEvents }
 {}
 
-/// From a steady stage a command in order leads to a steady stage, where its edits are lawful, and nothing is passed over in it.
+/// From a steady stage a command in order leads to a steady stage, and nothing is passed over in it, where its edits are lawful.
 pub fn commands_stay_steady()
     ensures { CommandsStaySteady }
 {
@@ -36,8 +36,8 @@ pub fn names_stay_steady()
     ensures { NamesStaySteady }
 {}
 
-/// Where a patch opens, the stage is steady, at first and, where the edits of its load event are lawful, after it, and nothing is passed over in
-/// that event.
+/// Where a patch opens, the stage is steady, at first and, where the edits of its load event are lawful, after it, and then nothing is passed
+/// over in that event.
 pub fn opening_is_steady()
     ensures { OpeningIsSteady }
 {

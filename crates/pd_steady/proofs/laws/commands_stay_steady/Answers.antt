@@ -16,6 +16,6 @@ returns c =
       begins = λ names name atoms first n h. c.commands_begin_in_order.ensures.message names name atoms first n h;
     } in
     record {
-      steady = λ most k s h i l. (commanded_free g most k s h i).steady (lawful_fair _ l);
-      freely = λ most k s h i. (commanded_free g most k s h i).same;
+      steady = λ most k s h i l. (commanded_free g most k s h i (lawful_fair _ l)).steady (lawful_fair _ l);
+      freely = λ most k s h i l. (commanded_free g most k s h i (lawful_fair _ l)).same;
     }

@@ -31,10 +31,10 @@ returns c =
           (c.grown_patches_are_near.ensures p table name rate (growth_of name d x.files) x.tree x.fresh)
           (c.grown_patches_are_in_order.ensures.order x.files.files name d x.files.names table 1001 rate p 0 [] at_first (first_names_in x.files.names x.table) x.proper x.found x.tree x.fresh)
           (c.grown_patches_are_in_order.ensures.sounds x.files.files name d x.files.names table 1001 rate p [] (first_names_in x.files.names x.table) x.proper x.found x.tree x.fresh)
-          (ready_grown p table name rate x.fresh (planted_few x.files.files name d x.files.names table 1001 rate p x.proper x.found x.tree) (c.what_is_made_has_sizes.ensures.patches p table name rate (growth_of name d x.files) x.tree x.fresh)) (record { each = grown_open p rate 0 0 x.fresh.states }) (first_both holds name rate d names table p base ahead x)).steady (lawful_fair _ l);
-      freely = λ holds name rate d names table p base ahead x. (opened_free g 0 name p table base ahead
+          (ready_grown p table name rate x.fresh (planted_few x.files.files name d x.files.names table 1001 rate p x.proper x.found x.tree) (c.what_is_made_has_sizes.ensures.patches p table name rate (growth_of name d x.files) x.tree x.fresh)) (record { each = grown_open p rate 0 0 x.fresh.states }) (first_both holds name rate d names table p base ahead x) (lawful_fair _ l)).steady (lawful_fair _ l);
+      freely = λ holds name rate d names table p base ahead x l. (opened_free g 0 name p table base ahead
           (c.grown_patches_are_near.ensures p table name rate (growth_of name d x.files) x.tree x.fresh)
           (c.grown_patches_are_in_order.ensures.order x.files.files name d x.files.names table 1001 rate p 0 [] at_first (first_names_in x.files.names x.table) x.proper x.found x.tree x.fresh)
           (c.grown_patches_are_in_order.ensures.sounds x.files.files name d x.files.names table 1001 rate p [] (first_names_in x.files.names x.table) x.proper x.found x.tree x.fresh)
-          (ready_grown p table name rate x.fresh (planted_few x.files.files name d x.files.names table 1001 rate p x.proper x.found x.tree) (c.what_is_made_has_sizes.ensures.patches p table name rate (growth_of name d x.files) x.tree x.fresh)) (record { each = grown_open p rate 0 0 x.fresh.states }) (first_both holds name rate d names table p base ahead x)).same;
+          (ready_grown p table name rate x.fresh (planted_few x.files.files name d x.files.names table 1001 rate p x.proper x.found x.tree) (c.what_is_made_has_sizes.ensures.patches p table name rate (growth_of name d x.files) x.tree x.fresh)) (record { each = grown_open p rate 0 0 x.fresh.states }) (first_both holds name rate d names table p base ahead x) (lawful_fair _ l)).same;
     }
