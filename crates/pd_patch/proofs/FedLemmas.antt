@@ -25,7 +25,7 @@ hop_key : (key : ℕ) (o : Option Spot) → (hop_by key o).key ≡ key
 hop_key key None = refl
 hop_key key (Some s) = refl
 
-told_keys : (f : ℕ → Option Spot) (keys : List ℕ) → keys_of (map (λ k. hop_by k (f k)) keys) ≡ keys
+pub told_keys : (f : ℕ → Option Spot) (keys : List ℕ) → keys_of (map (λ k. hop_by k (f k)) keys) ≡ keys
 told_keys f [] = refl
 told_keys f (k ∷ keys) = ap (λ (x : ℕ). x ∷ keys_of (map (λ k. hop_by k (f k)) keys)) (hop_key k (f k)) ∙ ap (λ (xs : List ℕ). k ∷ xs) (told_keys f keys)
 
@@ -53,7 +53,7 @@ apart_once x (y ∷ ks) h =
     (λ f. rw f (omega (arith, rest)))
 
 -- a wire that is found among those of a web is one
-found_live : (w : Web) (key : ℕ) (ks : List ℕ) → ((i : ℕ) (h : Hop) → slice_get (map (hop_from w) ks) i ≡ Some h → IsSome (line_told w h.key)) → 0 < tally key ks → IsSome (line_told w key)
+pub found_live : (w : Web) (key : ℕ) (ks : List ℕ) → ((i : ℕ) (h : Hop) → slice_get (map (hop_from w) ks) i ≡ Some h → IsSome (line_told w h.key)) → 0 < tally key ks → IsSome (line_told w key)
 found_live w key ks lines m =
     let a = at_tally key ks m in
     let there : slice_get ks a.0 ≡ Some key = slice_get-get_or ks a.0 0 a.1 ∙ ap (λ (k : ℕ). Some k) a.2 in

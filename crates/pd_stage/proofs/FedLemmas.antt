@@ -99,12 +99,15 @@ told_some w key = mapped_some _ (wire_at w.book key)
 none_there : (key x : ℕ) (w : Web) → line_told w key ≡ None → IsSome (line_told w x) → x ≡ key → ⊥
 none_there key x w e there same = let q : false ≡ true = sym (ap is_some (subst (λ (k : ℕ). line_told w k ≡ None) (sym same) e)) ∙ there in absurd (cc)
 
+-- keys of wires, each once, are no more than there are wires
+pub few_keys : (w : Web) (ks : List ℕ) → ((k : ℕ) → tally k ks ≤ 1) → ((k : ℕ) → 0 < tally k ks → IsSome (line_told w k)) → length ks ≤ wires_told w
+few_keys w ks once live = fits ks w.book.wires once (λ key m. sym (told_some w key) ∙ live key m)
+
 -- no inlet has more wires than there are
 few_fed : (w : Web) → AreFed w → (node inlet : ℕ) → length (feed_hops w node inlet) ≤ wires_told w
 few_fed w f node inlet =
     let count : length (keys_of (feed_hops w node inlet)) ≡ length (feed_hops w node inlet) = length-map (feed_hops w node inlet) (λ (h : Hop). h.key) in
-    let rest : length (keys_of (feed_hops w node inlet)) ≤ held w.book.wires =
-    fits (keys_of (feed_hops w node inlet)) w.book.wires (f.once node inlet) (λ key m. sym (told_some w key) ∙ f.live node inlet key m) in
+    let rest : length (keys_of (feed_hops w node inlet)) ≤ wires_told w = few_keys w (keys_of (feed_hops w node inlet)) (f.once node inlet) (f.live node inlet) in
     omega (arith, count, rest)
 
 module _ (w w' : Web) (key : ℕ) (l : Line) (fan_place place : ℕ) (j : Joins w w' key l fan_place place) (f : AreFed w) where
