@@ -4,3 +4,4 @@ pub mod ItemLemmas
 pub mod LeadLemmas
 pub mod EditLemmas
 pub mod SumLemmas
+pub mod ThroughLemmas
