@@ -95,6 +95,7 @@ module _ (path : List ℕ) (number : ℕ) (file : List ℕ) (names : Names) (fil
       base = base_of files b.counts;
       lines = loops_text new b.canvas;
       files = [];
+      loads = [];
       looks = looks_for_all d.cleared.lost d.cleared.loose;
     }
 
@@ -115,12 +116,13 @@ module _ (path : List ℕ) (number : ℕ) (file : List ℕ) (names : Names) (fil
       within = within;
       lines = refl;
       files = refl;
+      loads = refl;
       looks = refl;
     }
 
     pub gone_told : Told wanted (from []) (stage_with file new names (base_of files b.counts) time block_end fired tally) (loops_text new b.canvas) Done steps steps'
     gone_told = record {
-      came = record { choice = stage.Makes gone; may = gone_is; text_is = refl; stage = λ m. refl; answer = refl };
+      came = record { choice = stage.Makes gone; may = gone_is; text_is = refl; stage = λ m. refl; answer = refl; loads_are = refl };
       few = (refl, refl, d.cleared.looks);
     }
 
@@ -140,6 +142,7 @@ module _ (path : List ℕ) (number : ℕ) (file : List ℕ) (names : Names) (fil
       text_is = refl;
       stage = λ m. ap (λ (p : Patch). stage_with file p names (base_of files counts) time block_end fired tally m) (sym d.0);
       answer = outcome_by cause;
+      loads_are = refl;
     };
     few = (refl, faultless old path number cause d.1, omega (arith, looks));
   }
@@ -150,6 +153,7 @@ module _ (path : List ℕ) (number : ℕ) (file : List ℕ) (names : Names) (fil
       text_is = ap (λ (c : EditRefusal). edit_text new (Err c)) (sym d.0);
       stage = λ m. room_left d.1.room m;
       answer = ap (λ (c : EditRefusal). edit_outcome (Err c)) (sym d.0);
+      loads_are = refl;
     };
     few = (refl, refl, omega (arith, looks));
   }
@@ -165,14 +169,14 @@ module _ (path : List ℕ) (number : ℕ) (file : List ℕ) (names : Names) (fil
     leads = stays ∙ ap (λ (n : Names). stage_with file new n (base_of files counts') time block_end fired tally) same
 
     so : (o : Outcome) → t' ≡ grown t text → o ≡ outcome → (samples : Option (List ℕ)) (held : Option (List FileRow)) (faults : ℕ)
-        → IsEdited path (edit.Delete number) o from to (sinks t samples k held faults) (sinks t' samples k' held faults)
+        → IsEdited path (edit.Delete number) o [] from to (sinks t samples k held faults) (sinks t' samples k' held faults)
     so o said answer samples held faults =
-        subst (λ (x : List Choice → Stage). IsEdited path (edit.Delete number) o from x (sinks t samples k held faults) (sinks t' samples k' held faults)) (sym leads)
-        (subst (λ (x : Outcome). IsEdited path (edit.Delete number) x from there (sinks t samples k held faults) (sinks t' samples k' held faults)) (sym answer)
+        subst (λ (x : List Choice → Stage). IsEdited path (edit.Delete number) o [] from x (sinks t samples k held faults) (sinks t' samples k' held faults)) (sym leads)
+        (subst (λ (x : Outcome). IsEdited path (edit.Delete number) x [] from there (sinks t samples k held faults) (sinks t' samples k' held faults)) (sym answer)
         (told_so wanted (from []) there text outcome t t' samples k k' held faults told said))
 
     pub deleted_so : OnOk r (t' ≡ grown t text) → IfOk r (λ o. o ≡ outcome)
-        → IfOk r (λ o. (samples : Option (List ℕ)) (held : Option (List FileRow)) (faults : ℕ) → IsEdited path (edit.Delete number) o from to (sinks t samples k held faults) (sinks t' samples k' held faults))
+        → IfOk r (λ o. (samples : Option (List ℕ)) (held : Option (List FileRow)) (faults : ℕ) → IsEdited path (edit.Delete number) o [] from to (sinks t samples k held faults) (sinks t' samples k' held faults))
     deleted_so said is = both_ok r (λ o a b samples held faults. so o a b samples held faults) said is
 
     pub deleted_part : OnErr r (TookPart t t' text) → OnErr r (SaysPart (edit_taken wanted) from t t' k k')

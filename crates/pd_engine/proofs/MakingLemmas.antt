@@ -25,7 +25,7 @@ use Rattle.pd_say.specs.declared.refusals.Request.TheVariants as request
 use Rattle.pd_say.specs.declared.refusals.Why.{Why}
 use Rattle.pd_wiring.specs.Changes.{CanRewire, SameButRoom, StaysButWire}
 use Rattle.pd_boxes.specs.Room.{SameButRoom as RoomSet}
-use Rattle.pd_putting.specs.Adds.{AddsBox, IsNotPut, IsShortOfRoom}
+use Rattle.pd_putting.specs.Adds.{AddsBox, IsNotPut, IsShortOfRoom, put_looks}
 use Rattle.pd_putting.specs.declared.adding.NewBox.{NewBox}
 use Rattle.pd_gather.specs.Gather.{known}
 use Rattle.pd_library.specs.declared.answers.Answer.{Answer}
@@ -37,18 +37,18 @@ use Rattle.pd_wiring.specs.declared.asking.WireRefusal.TheVariants as wire
 use Rattle.pd_wiring.specs.declared.refusals.EditRefusal.{EditRefusal}
 use Rattle.pd_wiring.specs.declared.refusals.EditRefusal.TheVariants as refusal
 use Rattle.pd_hearing.specs.Worlds.{net_of, states_of}
-use Rattle.pd_stage.specs.Choices.{Base, base_of, Wanted, Edits, Asks, Saves, Undoes, Redoes, Made, Choice, text_of_choice, looks_of_choice, faults_of_choice, faults_of_why, request_of}
+use Rattle.pd_stage.specs.Choices.{Base, base_of, Wanted, Edits, Asks, Saves, Undoes, Redoes, Made, Choice, text_of_choice, loads_of_choice, looks_of_choice, faults_of_choice, faults_of_why, request_of}
 use Rattle.pd_stage.specs.Choices as stage
 use Rattle.pd_stage.specs.Stages.{Stage, Passage, still, with_ahead, after}
 use Rattle.pd_stage.specs.Lawful.{why_of, StandsAt, with_wire_count, IsMade, IsRewiringLawful, IsPutIn, IsPutLawful, IsEditLawful, MayCome}
-use Rattle.pd_stage.specs.Lines.{loops_text, put_text}
+use Rattle.pd_stage.specs.Lines.{loops_text, put_text, loads_inside}
 use Rattle.pd_stage.specs.Leads.{Sinks, sinks, Took, Comes, Stops, Says, SaysPart}
 use Rattle.pd_stage.specs.Events.{edit_taken, stage_by, files_put, with_net}
 use Rattle.pd_stage.proofs.EditLemmas.{taken_at, took_looks, edit_logged_by, edit_stops_by}
 use Rattle.pd_engine.specs.declared.refusals.Outcome.{Outcome}
 use Rattle.pd_engine.specs.declared.refusals.Outcome.TheVariants.{Done}
 use Rattle.pd_engine.specs.Commands.{outcome_of, refused_as, first_outcome}
-use Rattle.pd_engine.specs.Edits.{Makes, Lacks, Refuses, EditsTo, edit_text, edit_outcome, IsTakenSo, IsOwn, IsAlwaysRefused}
+use Rattle.pd_engine.specs.Edits.{Makes, Lacks, Refuses, EditsTo, edit_text, edit_outcome, first_loads, IsTakenSo, IsOwn, IsAlwaysRefused}
 use mathlib.Core.Logic.{∥∥₁_map}
 use Rattle.pd_adding.specs.declared.counts.Counts.{Counts}
 use Rattle.pd_adding.specs.Counts.{AreWithin}
@@ -60,13 +60,14 @@ use Rattle.pd_engine.proofs.CameLemmas.{came_clocks}
 
 -- ---- one choice, and where it leads
 
--- an edit that finds this stage comes to a choice, which says these lines, leads there, and is answered so
-pub record Came (wanted : Wanted) (s : Stage) (to : List Choice → Stage) (text : List ℕ) (o : Outcome) : Type 0 where
+-- an edit that finds this stage comes to a choice, which says these lines, leads there, is answered so, and has these boxes loaded behind it
+pub record Came (wanted : Wanted) (s : Stage) (to : List Choice → Stage) (text : List ℕ) (o : Outcome) (loads : List ℕ) : Type 0 where
   pub choice : Choice
   pub may : MayCome wanted (with_ahead s []) choice
   pub text_is : text_of_choice wanted choice ≡ text
   pub stage : (m : List Choice) → stage_by (with_ahead s m) choice ≡ to m
   pub answer : outcome_of choice ≡ o
+  pub loads_are : loads_of_choice choice ≡ loads
 
 -- the same log with another end
 abbrev ends_at : (part : Stage → Passage) (from to to' : List Choice → Stage) (x y : Sinks) → ((m : List Choice) → to m ≡ to' m) → Comes part from to x y → Comes part from to' x y
@@ -79,14 +80,15 @@ ends_at part from to to' x y e c = record {
 }
 
 -- it was taken
-module _ (wanted : Wanted) (s : Stage) (to : List Choice → Stage) (text : List ℕ) (o : Outcome) (c : Came wanted s to text o) (x : Sinks) (t t' u : Option (List ℕ)) (k : ℕ)
-    (h : Option (List FileRow)) (f : ℕ) (took : Took x (sinks t u k h f) (files_put c.choice) (taken_at wanted s c.choice ∷ [])) where
-  pub came_so : t' ≡ grown t text → IsTakenSo wanted o (with_ahead s) to x (sinks t' u k h f)
+module _ (wanted : Wanted) (s : Stage) (to : List Choice → Stage) (text : List ℕ) (o : Outcome) (loads : List ℕ) (c : Came wanted s to text o loads) (x : Sinks)
+    (t t' u : Option (List ℕ)) (k : ℕ) (h : Option (List FileRow)) (f : ℕ) (took : Took x (sinks t u k h f) (files_put c.choice) (taken_at wanted s c.choice ∷ [])) where
+  pub came_so : t' ≡ grown t text → IsTakenSo wanted o loads (with_ahead s) to x (sinks t' u k h f)
   came_so said =
       let d = edit_logged_by wanted s c.choice x t t' u k h f c.may took (said ∙ ap (λ (l : List ℕ). grown t l) (sym c.text_is)) in
       record {
         comes = ends_at (edit_taken wanted) (with_ahead s) (λ m. stage_by (with_ahead s m) c.choice) to x (sinks t' u k h f) c.stage d.0;
         answer = sym (ap first_outcome d.1 ∙ c.answer);
+        loads_are = sym (ap first_loads d.1 ∙ c.loads_are);
       }
 
   pub came_part : TookPart t t' text → Stops (edit_taken wanted) (with_ahead s) x (sinks t' u k h f)
@@ -101,18 +103,18 @@ few_took : (wanted : Wanted) (s : Stage) (c : Choice) (t u : Option (List ℕ)) 
 few_took wanted s c t u k k' h f few =
     subst (λ i. Took (sinks t u k h f) (sinks t u k' h f) i (taken_at wanted s c ∷ [])) (sym few.0) (took_looks t u k k' h f (taken_at wanted s c) few.1 few.2)
 
--- it comes to a choice, with no more looks than that may take
+-- it comes to a choice, with no more looks than that may take, and no box is loaded behind it
 pub record Told (wanted : Wanted) (s : Stage) (to : List Choice → Stage) (text : List ℕ) (o : Outcome) (looks looks' : ℕ) : Type 0 where
-  pub came : Came wanted s to text o
+  pub came : Came wanted s to text o []
   pub few : FewLooks came.choice looks looks'
 
 module _ (wanted : Wanted) (s : Stage) (to : List Choice → Stage) (text : List ℕ) (o : Outcome) (t t' u : Option (List ℕ)) (k k' : ℕ) (h : Option (List FileRow)) (f : ℕ)
     (c : Told wanted s to text o k k') where
-  pub told_so : t' ≡ grown t text → IsTakenSo wanted o (with_ahead s) to (sinks t u k h f) (sinks t' u k' h f)
-  told_so said = came_so wanted s to text o c.came (sinks t u k h f) t t' u k' h f (few_took wanted s c.came.choice t u k k' h f c.few) said
+  pub told_so : t' ≡ grown t text → IsTakenSo wanted o [] (with_ahead s) to (sinks t u k h f) (sinks t' u k' h f)
+  told_so said = came_so wanted s to text o [] c.came (sinks t u k h f) t t' u k' h f (few_took wanted s c.came.choice t u k k' h f c.few) said
 
   pub told_part : TookPart t t' text → Stops (edit_taken wanted) (with_ahead s) (sinks t u k h f) (sinks t' u k' h f)
-  told_part part = came_part wanted s to text o c.came (sinks t u k h f) t t' u k' h f (few_took wanted s c.came.choice t u k k' h f c.few) part
+  told_part part = came_part wanted s to text o [] c.came (sinks t u k h f) t t' u k' h f (few_took wanted s c.came.choice t u k k' h f c.few) part
 
 -- ---- no edit is planned to be refused for a fault of the folder
 
@@ -279,6 +281,7 @@ module _ (wanted : Wanted) (path : List ℕ) (e : Edit) (is : IsWireEdit wanted 
     base = with_wire_count base (wires_told new.web);
     lines = loops_text new canvas;
     files = [];
+    loads = [];
     looks = most_looks d.rewired.plan old new;
   }
 
@@ -298,6 +301,7 @@ module _ (wanted : Wanted) (path : List ℕ) (e : Edit) (is : IsWireEdit wanted 
         base = refl;
         lines = refl;
         files = refl;
+        loads = refl;
         looks = refl;
       }
 
@@ -327,6 +331,7 @@ module _ (wanted : Wanted) (path : List ℕ) (e : Edit) (is : IsWireEdit wanted 
       text_is = ap (λ (c : EditRefusal). refusal_text (request_of wanted) (why_of c)) (sym d.short) ∙ refusal_is cause;
       stage = λ m. short_stage m d.same;
       answer = ap (λ (c : EditRefusal). edit_outcome (Err c)) (sym d.short);
+      loads_are = refl;
     };
     few = (refl, refl, omega arith);
   }
@@ -339,6 +344,7 @@ module _ (wanted : Wanted) (path : List ℕ) (e : Edit) (is : IsWireEdit wanted 
       text_is = refusal_is cause;
       stage = λ m. ap (λ (p : Patch). at p base m) (sym d.same) ∙ ap (λ (b : Base). at new b m) (as_many (ap (λ (p : Patch). wires_told p.web) d.same));
       answer = outcome_by cause;
+      loads_are = refl;
     };
     few = (refl, faultless old path e cause d.is_planned, omega arith);
   }
@@ -351,6 +357,7 @@ module _ (wanted : Wanted) (path : List ℕ) (e : Edit) (is : IsWireEdit wanted 
       text_is = refl;
       stage = λ m. ap (λ (n : ℕ). at new (with_wire_count base n) m) (sym now_is);
       answer = refl;
+      loads_are = refl;
     };
     few = (refl, refl, d.few_looks);
   }
@@ -372,15 +379,15 @@ module _ {E : Type 0} (r : Result Outcome E) (wanted : Wanted) (path : List ℕ)
   told = edited wanted path e is file names base time block_end fired tally old new wires was now_is done k k' before now edits
 
   so : t' ≡ grown t (edit_text new done) → (samples : Option (List ℕ)) (held : Option (List FileRow)) (faults : ℕ)
-      → IsTakenSo wanted (edit_outcome done) from to (sinks t samples k held faults) (sinks t' samples k' held faults)
+      → IsTakenSo wanted (edit_outcome done) [] from to (sinks t samples k held faults) (sinks t' samples k' held faults)
   so said samples held faults =
-      subst (λ (x : List Choice → Stage). IsTakenSo wanted (edit_outcome done) from x (sinks t samples k held faults) (sinks t' samples k' held faults)) (sym stands)
+      subst (λ (x : List Choice → Stage). IsTakenSo wanted (edit_outcome done) [] from x (sinks t samples k held faults) (sinks t' samples k' held faults)) (sym stands)
       (told_so wanted (from []) there (edit_text new done) (edit_outcome done) t t' samples k k' held faults told said)
 
   answered_so : (o : Outcome) → t' ≡ grown t (edit_text new done) → o ≡ edit_outcome done → (samples : Option (List ℕ)) (held : Option (List FileRow)) (faults : ℕ)
-      → IsTakenSo wanted o from to (sinks t samples k held faults) (sinks t' samples k' held faults)
+      → IsTakenSo wanted o [] from to (sinks t samples k held faults) (sinks t' samples k' held faults)
   answered_so o said answer samples held faults =
-      subst (λ (x : Outcome). IsTakenSo wanted x from to (sinks t samples k held faults) (sinks t' samples k' held faults)) (sym answer) (so said samples held faults)
+      subst (λ (x : Outcome). IsTakenSo wanted x [] from to (sinks t samples k held faults) (sinks t' samples k' held faults)) (sym answer) (so said samples held faults)
 
   pub says_edit : t' ≡ grown t (edit_text new done) → Says (edit_taken wanted) from to t t' k k'
   says_edit said = λ samples held faults. (so said samples held faults).comes
@@ -390,7 +397,7 @@ module _ {E : Type 0} (r : Result Outcome E) (wanted : Wanted) (path : List ℕ)
       told_part wanted (from []) there (edit_text new done) (edit_outcome done) t t' samples k k' held faults told part
 
   pub edited_so : OnOk r (t' ≡ grown t (edit_text new done)) → IfOk r (λ o. o ≡ edit_outcome done)
-      → IfOk r (λ o. (samples : Option (List ℕ)) (held : Option (List FileRow)) (faults : ℕ) → IsTakenSo wanted o from to (sinks t samples k held faults) (sinks t' samples k' held faults))
+      → IfOk r (λ o. (samples : Option (List ℕ)) (held : Option (List FileRow)) (faults : ℕ) → IsTakenSo wanted o [] from to (sinks t samples k held faults) (sinks t' samples k' held faults))
   edited_so said is = both_ok r (λ o a b samples held faults. answered_so o a b samples held faults) said is
 
   pub edited_part : OnErr r (TookPart t t' (edit_text new done)) → OnErr r (SaysPart (edit_taken wanted) from t t' k k')
@@ -482,7 +489,7 @@ always_faultless Redoes reason h = ap faults_of_why h
 pub always_told : (wanted : Wanted) (reason : Why) (s : Stage) (o : Outcome) (looks : ℕ) → IsAlwaysRefused wanted reason → o ≡ refused_as reason
     → Told wanted s (with_ahead s) (refusal_text (request_of wanted) reason) o looks looks
 always_told wanted reason s o looks h is = record {
-  came = record { choice = stage.Refuses reason; may = always_may wanted reason (with_ahead s []) h; text_is = refl; stage = λ m. refl; answer = sym is };
+  came = record { choice = stage.Refuses reason; may = always_may wanted reason (with_ahead s []) h; text_is = refl; stage = λ m. refl; answer = sym is; loads_are = refl };
   few = (refl, always_faultless wanted reason h, omega arith);
 }
 
@@ -514,7 +521,8 @@ module _ (wanted : Wanted) (path : List ℕ) (e : Edit) (is : IsBoxEdit wanted p
       base = base_of learned b.counts;
       lines = put_text more new b.key b.canvas;
       files = [];
-      looks = 0;
+      loads = loads_inside new b.key;
+      looks = put_looks new b.key;
     }
 
     pub put_is : IsPutIn (before []) path e put_made
@@ -534,16 +542,18 @@ module _ (wanted : Wanted) (path : List ℕ) (e : Edit) (is : IsBoxEdit wanted p
       within = within;
       lines = refl;
       files = refl;
+      loads = refl;
       looks = refl;
     }
 
-    abbrev pub put_came : Came wanted (before []) (stage_with file new more (base_of learned b.counts) time block_end fired tally) (put_text more new b.key b.canvas) Done
+    abbrev pub put_came : Came wanted (before []) (stage_with file new more (base_of learned b.counts) time block_end fired tally) (put_text more new b.key b.canvas) Done (loads_inside new b.key)
     put_came = record {
       choice = stage.Makes put_made;
       may = is.may (before []) (stage.Makes put_made) put_is;
       text_is = refl;
       stage = λ m. ap (λ (c : List Clock). record (stage_with file new more (base_of learned b.counts) time block_end fired tally m) { clocks = c }) (sym (came_clocks old new time d.added b.key d.put));
       answer = refl;
+      loads_are = refl;
     }
 
   -- it was refused
@@ -551,24 +561,26 @@ module _ (wanted : Wanted) (path : List ℕ) (e : Edit) (is : IsBoxEdit wanted p
   request_is c = ap (λ (r : Request). refusal_text r (why_of c)) is.request
 
   abbrev pub refused_came : (cause : EditRefusal) → IsReady old → new ≡ old → IsNotPut old counts file path e (known files names) cause
-      → Came wanted (before []) (stage_with file new names (base_of files counts) time block_end fired tally) (refusal_text request.Edit (why_of cause)) (edit_outcome (Err cause))
+      → Came wanted (before []) (stage_with file new names (base_of files counts) time block_end fired tally) (refusal_text request.Edit (why_of cause)) (edit_outcome (Err cause)) []
   refused_came cause ready same d = record {
     choice = stage.Refuses (why_of cause);
     may = is.may (before []) (stage.Refuses (why_of cause)) (record { patch = old; cause = cause; stands = stands_before ready; refused = d; reason_is = refl });
     text_is = request_is cause;
     stage = λ m. ap (λ (p : Patch). stage_with file p names (base_of files counts) time block_end fired tally m) (sym same);
     answer = outcome_by cause;
+    loads_are = refl;
   }
 
   -- memory was wanting to put it
   abbrev pub short_came : (cause : EditRefusal) → IsReady old → cause ≡ refusal.NoMemory → IsShortOfRoom old new counts file path e (known files names)
-      → Came wanted (before []) (stage_with file new names (base_of files counts) time block_end fired tally) (refusal_text request.Edit (why_of cause)) (edit_outcome (Err cause))
+      → Came wanted (before []) (stage_with file new names (base_of files counts) time block_end fired tally) (refusal_text request.Edit (why_of cause)) (edit_outcome (Err cause)) []
   short_came cause ready short d = record {
     choice = stage.Lacks (net_of new);
     may = is.may (before []) (stage.Lacks (net_of new)) (record { old = old; new = new; stands = stands_before ready; short = d; net_is = refl });
     text_is = ap (λ (c : EditRefusal). refusal_text (request_of wanted) (why_of c)) (sym short) ∙ request_is cause;
     stage = λ m. room_clocks file names (base_of files counts) time block_end fired tally old new d.room m;
     answer = ap (λ (c : EditRefusal). edit_outcome (Err c)) (sym short);
+    loads_are = refl;
   }
 
 -- ---- one line and then others

@@ -113,6 +113,7 @@ module _ (path : List ℕ) (number : ℕ) (x y : ℤ) (file : List ℕ) (names :
       base = base;
       lines = loops_text new d.canvas;
       files = [];
+      loads = [];
       looks = 0;
     }
 
@@ -130,6 +131,7 @@ module _ (path : List ℕ) (number : ℕ) (x y : ℤ) (file : List ℕ) (names :
       base = refl;
       lines = refl;
       files = refl;
+      loads = refl;
       looks = refl;
     }
 
@@ -141,6 +143,7 @@ module _ (path : List ℕ) (number : ℕ) (x y : ℤ) (file : List ℕ) (names :
         text_is = ap (λ (c : ℕ). loops_text new c) (sym same);
         stage = λ m. ap (λ (c : List Clock). record (to m) { clocks = c }) (sym (ap (λ t. t.clocks.clocks) d.rest.timers));
         answer = refl;
+        loads_are = refl;
       };
       few = (refl, refl, omega arith);
     }
@@ -154,6 +157,7 @@ module _ (path : List ℕ) (number : ℕ) (x y : ℤ) (file : List ℕ) (names :
       text_is = refl;
       stage = λ m. ap (λ (p : Patch). stage_with file p names base time block_end fired tally m) (sym d.0);
       answer = outcome_by cause;
+      loads_are = refl;
     };
     few = (refl, faultless old path number cause d.1, omega arith);
   }
@@ -163,12 +167,12 @@ module _ (path : List ℕ) (number : ℕ) (x y : ℤ) (file : List ℕ) (names :
       (told : (k : ℕ) → Told wanted (from []) to (edit_text new done) (edit_outcome done) k k) (leads : there ≡ to) where
     abbrev pub Answered : Outcome → Type 0
     Answered o = (samples : Option (List ℕ)) (looks : ℕ) (held : Option (List FileRow)) (faults : ℕ)
-        → IsEdited path (edit.Move number x y) o from there (sinks t samples looks held faults) (sinks t' samples looks held faults)
+        → IsEdited path (edit.Move number x y) o [] from there (sinks t samples looks held faults) (sinks t' samples looks held faults)
 
     so : (o : Outcome) → t' ≡ grown t (edit_text new done) → o ≡ edit_outcome done → Answered o
     so o said answer samples looks held faults =
-        subst (λ (z : List Choice → Stage). IsEdited path (edit.Move number x y) o from z (sinks t samples looks held faults) (sinks t' samples looks held faults)) (sym leads)
-        (subst (λ (z : Outcome). IsEdited path (edit.Move number x y) z from to (sinks t samples looks held faults) (sinks t' samples looks held faults)) (sym answer)
+        subst (λ (z : List Choice → Stage). IsEdited path (edit.Move number x y) o [] from z (sinks t samples looks held faults) (sinks t' samples looks held faults)) (sym leads)
+        (subst (λ (z : Outcome). IsEdited path (edit.Move number x y) z [] from to (sinks t samples looks held faults) (sinks t' samples looks held faults)) (sym answer)
         (told_so wanted (from []) to (edit_text new done) (edit_outcome done) t t' samples looks looks held faults (told looks) said))
 
     pub moved_so : OnOk r (t' ≡ grown t (edit_text new done)) → IfOk r (λ o. o ≡ edit_outcome done) → IfOk r Answered

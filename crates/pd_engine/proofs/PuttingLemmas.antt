@@ -1,4 +1,4 @@
--- What is told of a box that an edit ready, or of why none is put.
+-- What is told of a box that an edit put, or of why none is put.
 use Rattle.std.proofs.Common.{◌≡◌, ◌≤◌, ◌+◌, arith, true, ℕ, List, [], ◌∷◌, refl, sym, ◌∙◌, ap, subst, inl, inr, Option, Result, Ok, Err, OnErr, OnOk, IfOk}
 use Rattle.std.proofs.lemmas.Result.{on_err_weaker}
 use Rattle.pd_io.specs.Faults.{Rose}
@@ -18,14 +18,14 @@ use Rattle.pd_wiring.specs.declared.refusals.EditRefusal.TheVariants as refusal
 use Rattle.pd_adding.specs.declared.counts.Counts.{Counts}
 use Rattle.pd_adding.specs.Counts.{AreWithin}
 use Rattle.pd_gather.specs.Gather.{known}
-use Rattle.pd_putting.specs.Adds.{AddsBox, IsNotAdded}
+use Rattle.pd_putting.specs.Adds.{AddsBox, IsNotAdded, put_looks}
 use Rattle.pd_putting.specs.declared.adding.NewBox.{NewBox}
 use Rattle.pd_hearing.specs.Worlds.{net_of}
 use Rattle.pd_stage.specs.Choices.{base_of, Wanted, Asks, Choice, Refuses, Lacks, looks_of_choice}
 use Rattle.pd_stage.specs.Stages.{Stage, faults_of}
 use Rattle.pd_stage.specs.Lawful.{why_of}
-use Rattle.pd_stage.specs.Lines.{put_text}
-use Rattle.pd_stage.specs.Leads.{RoseBy, Sinks, sinks, Took, Comes, Stops}
+use Rattle.pd_stage.specs.Lines.{put_text, loads_inside}
+use Rattle.pd_stage.specs.Leads.{RoseBy, Sinks, sinks, Took, Stops}
 use Rattle.pd_stage.specs.Events.{edit_taken, files_put}
 use Rattle.pd_stage.proofs.EditLemmas.{taken_at}
 use Rattle.pd_stage.proofs.ItemLemmas.{no_lines, no_samples, held-none}
@@ -52,10 +52,6 @@ looking_took wanted s c t u k k' h h' f f' none few same rose =
       few_faults = rose;
     })
 
-quiet_took : (wanted : Wanted) (s : Stage) (c : Choice) (t u : Option (List ℕ)) (k : ℕ) (h h' : Option (List FileRow)) (f f' : ℕ) → files_put c ≡ [] → h' ≡ h
-    → RoseBy (faults_of (taken_at wanted s c ∷ [])) f f' → Took (sinks t u k h f) (sinks t u k h' f') (files_put c) (taken_at wanted s c ∷ [])
-quiet_took wanted s c t u k h h' f f' none same rose = looking_took wanted s c t u k k h h' f f' none (omega arith) same rose
-
 one_rose : (f f' : ℕ) → Rose f f' → RoseBy (1 + 0) f f'
 one_rose f f' (inl more) = inl (omega (arith, more))
 one_rose f f' (inr most) = inr (omega (arith, most))
@@ -79,30 +75,30 @@ refusal_rose wanted s refusal.TooMuchSound f f' rose low = inl (omega (arith, lo
 refusal_rose wanted s refusal.NoMemory f f' rose low = inl (omega (arith, low))
 
 module _ (wanted : Wanted) (path : List ℕ) (e : Edit) (one : IsBoxEdit wanted path e) (file : List ℕ) (names : Names) (files : List (ℕ × Answer)) (counts : Counts) (time block_end fired : ℕ) (tally : Tally) (old new : Patch)
-    (ready : IsReady old) (t u : Option (List ℕ)) (k : ℕ) (h h' : Option (List FileRow)) (f f' : ℕ) (same : h' ≡ h) (low : f ≤ f') where
+    (ready : IsReady old) (t u : Option (List ℕ)) (k k' : ℕ) (h h' : Option (List FileRow)) (f f' : ℕ) (same : h' ≡ h) (low : f ≤ f') where
   abbrev from : List Choice → Stage
   from = stage_with file old names (base_of files counts) time block_end fired tally
 
   -- it was put
   module _ (more : Names) (learned : List (ℕ × Answer)) (b : NewBox) (d : AddsBox old new counts file path time e (known files names) (known learned more) b) (onward : Extends names more)
-      (within : AreWithin b.counts) where
+      (within : AreWithin b.counts) (few : k' ≤ k + put_looks new b.key) where
     abbrev to : List Choice → Stage
     to = stage_with file new more (base_of learned b.counts) time block_end fired tally
 
-    abbrev came : Came wanted (from []) to (put_text more new b.key b.canvas) Done
+    abbrev came : Came wanted (from []) to (put_text more new b.key b.canvas) Done (loads_inside new b.key)
     came = put_came wanted path e one file names files counts time block_end fired tally old new more learned b ready d onward within
 
-    took : Took (sinks t u k h f) (sinks t u k h' f') (files_put came.choice) (taken_at wanted (from []) came.choice ∷ [])
-    took = quiet_took wanted (from []) came.choice t u k h h' f f' refl same (inl (omega (arith, low)))
+    took : Took (sinks t u k h f) (sinks t u k' h' f') (files_put came.choice) (taken_at wanted (from []) came.choice ∷ [])
+    took = looking_took wanted (from []) came.choice t u k k' h h' f f' refl few same (inl (omega (arith, low)))
 
-    pub put_so : (t' : Option (List ℕ)) → t' ≡ grown t (put_text more new b.key b.canvas) → IsTakenSo wanted Done from to (sinks t u k h f) (sinks t' u k h' f')
-    put_so t' said = came_so wanted (from []) to (put_text more new b.key b.canvas) Done came (sinks t u k h f) t t' u k h' f' took said
+    pub put_so : (t' : Option (List ℕ)) → t' ≡ grown t (put_text more new b.key b.canvas) → IsTakenSo wanted Done (loads_inside new b.key) from to (sinks t u k h f) (sinks t' u k' h' f')
+    put_so t' said = came_so wanted (from []) to (put_text more new b.key b.canvas) Done (loads_inside new b.key) came (sinks t u k h f) t t' u k' h' f' took said
 
-    pub put_part : (t' : Option (List ℕ)) → TookPart t t' (put_text more new b.key b.canvas) → Stops (edit_taken wanted) from (sinks t u k h f) (sinks t' u k h' f')
-    put_part t' part = came_part wanted (from []) to (put_text more new b.key b.canvas) Done came (sinks t u k h f) t t' u k h' f' took part
+    pub put_part : (t' : Option (List ℕ)) → TookPart t t' (put_text more new b.key b.canvas) → Stops (edit_taken wanted) from (sinks t u k h f) (sinks t' u k' h' f')
+    put_part t' part = came_part wanted (from []) to (put_text more new b.key b.canvas) Done (loads_inside new b.key) came (sinks t u k h f) t t' u k' h' f' took part
 
   -- it was refused
-  module _ (cause : EditRefusal) (rose : cause ≡ refusal.ShelfFault → Rose f f') where
+  module _ (cause : EditRefusal) (rose : cause ≡ refusal.ShelfFault → Rose f f') (looks : k' ≡ k) where
     abbrev left : List Choice → Stage
     left = stage_with file new names (base_of files counts) time block_end fired tally
 
@@ -110,85 +106,85 @@ module _ (wanted : Wanted) (path : List ℕ) (e : Edit) (one : IsBoxEdit wanted 
     text = refusal_text request.Edit (why_of cause)
 
     unput_by : (d : IsNotAdded old new counts file path e (known files names) cause)
-        → (c : Came wanted (from []) left text (edit_outcome (Err cause))) × Took (sinks t u k h f) (sinks t u k h' f') (files_put c.choice) (taken_at wanted (from []) c.choice ∷ [])
+        → (c : Came wanted (from []) left text (edit_outcome (Err cause)) []) × Took (sinks t u k h f) (sinks t u k' h' f') (files_put c.choice) (taken_at wanted (from []) c.choice ∷ [])
     unput_by (inl (is, d)) = (
       refused_came wanted path e one file names files counts time block_end fired tally old new cause ready is d,
-      quiet_took wanted (from []) (Refuses (why_of cause)) t u k h h' f f' refl same (refusal_rose wanted (from []) cause f f' rose low),
+      looking_took wanted (from []) (Refuses (why_of cause)) t u k k' h h' f f' refl (omega (arith, looks)) same (refusal_rose wanted (from []) cause f f' rose low),
     )
     unput_by (inr (short, d)) = (
       short_came wanted path e one file names files counts time block_end fired tally old new cause ready short d,
-      quiet_took wanted (from []) (Lacks (net_of new)) t u k h h' f f' refl same (inl (omega (arith, low))),
+      looking_took wanted (from []) (Lacks (net_of new)) t u k k' h h' f f' refl (omega (arith, looks)) same (inl (omega (arith, low))),
     )
 
     pub unput_so : (t' : Option (List ℕ)) → IsNotAdded old new counts file path e (known files names) cause → t' ≡ grown t text
-        → IsTakenSo wanted (edit_outcome (Err cause)) from left (sinks t u k h f) (sinks t' u k h' f')
-    unput_so t' d said = let x = unput_by d in came_so wanted (from []) left text (edit_outcome (Err cause)) x.0 (sinks t u k h f) t t' u k h' f' x.1 said
+        → IsTakenSo wanted (edit_outcome (Err cause)) [] from left (sinks t u k h f) (sinks t' u k' h' f')
+    unput_so t' d said = let x = unput_by d in came_so wanted (from []) left text (edit_outcome (Err cause)) [] x.0 (sinks t u k h f) t t' u k' h' f' x.1 said
 
     pub unput_part : (t' : Option (List ℕ)) → IsNotAdded old new counts file path e (known files names) cause → TookPart t t' text
-        → Stops (edit_taken wanted) from (sinks t u k h f) (sinks t' u k h' f')
-    unput_part t' d part = let x = unput_by d in came_part wanted (from []) left text (edit_outcome (Err cause)) x.0 (sinks t u k h f) t t' u k h' f' x.1 part
+        → Stops (edit_taken wanted) from (sinks t u k h f) (sinks t' u k' h' f')
+    unput_part t' d part = let x = unput_by d in came_part wanted (from []) left text (edit_outcome (Err cause)) [] x.0 (sinks t u k h f) t t' u k' h' f' x.1 part
 
--- it was told, and this is answered
+-- it was told, this is answered, and these boxes are loaded behind it
 module _ {E : Type 0} (r : Result Outcome E) (path : List ℕ) (e : Edit) (one : puts_box e ≡ true) (file : List ℕ) (names : Names) (files : List (ℕ × Answer)) (counts : Counts) (time block_end fired : ℕ) (tally : Tally)
-    (old new : Patch) (ready : IsReady old) (t t' : Option (List ℕ)) (k k' : ℕ) (looks : k' ≡ k) (h h' : Option (List FileRow)) (f f' : ℕ) (same : h' ≡ h) (low : f ≤ f') (to : List Choice → Stage) where
+    (old new : Patch) (ready : IsReady old) (t t' : Option (List ℕ)) (k k' : ℕ) (h h' : Option (List FileRow)) (f f' : ℕ) (same : h' ≡ h) (low : f ≤ f') (to : List Choice → Stage) (loads : List ℕ) where
   abbrev start : List Choice → Stage
   start = stage_with file old names (base_of files counts) time block_end fired tally
 
   abbrev Answered : Outcome → Type 0
-  Answered o = (wanted : Wanted) → IsOwn wanted path e → (samples : Option (List ℕ)) → IsTakenSo wanted o start to (sinks t samples k h f) (sinks t' samples k' h' f')
+  Answered o = (wanted : Wanted) → IsOwn wanted path e → (samples : Option (List ℕ)) → IsTakenSo wanted o loads start to (sinks t samples k h f) (sinks t' samples k' h' f')
 
   abbrev Torn : Type 0
   Torn = (wanted : Wanted) → IsOwn wanted path e → (samples : Option (List ℕ)) → Stops (edit_taken wanted) start (sinks t samples k h f) (sinks t' samples k' h' f')
 
-  ends_so : (o o' : Outcome) (there : List Choice → Stage) → to ≡ there → o ≡ o'
-      → ((wanted : Wanted) → IsOwn wanted path e → (u : Option (List ℕ)) → IsTakenSo wanted o' start there (sinks t u k h f) (sinks t' u k h' f')) → Answered o
-  ends_so o o' there stands answer so wanted own samples =
-      subst (λ (x : List Choice → Stage). IsTakenSo wanted o start x (sinks t samples k h f) (sinks t' samples k' h' f')) (sym stands)
-      (subst (λ (x : Outcome). IsTakenSo wanted x start there (sinks t samples k h f) (sinks t' samples k' h' f')) (sym answer)
-      (subst (λ (n : ℕ). IsTakenSo wanted o' start there (sinks t samples k h f) (sinks t' samples n h' f')) (sym looks) (so wanted own samples)))
-
-  torn_so : ((wanted : Wanted) → IsOwn wanted path e → (u : Option (List ℕ)) → Stops (edit_taken wanted) start (sinks t u k h f) (sinks t' u k h' f')) → Torn
-  torn_so so wanted own samples = subst (λ (n : ℕ). Stops (edit_taken wanted) start (sinks t samples k h f) (sinks t' samples n h' f')) (sym looks) (so wanted own samples)
+  ends_so : (o o' : Outcome) (told : List ℕ) (there : List Choice → Stage) → to ≡ there → o ≡ o' → loads ≡ told
+      → ((wanted : Wanted) → IsOwn wanted path e → (u : Option (List ℕ)) → IsTakenSo wanted o' told start there (sinks t u k h f) (sinks t' u k' h' f')) → Answered o
+  ends_so o o' told there stands answer are so wanted own samples =
+      subst (λ (x : List Choice → Stage). IsTakenSo wanted o loads start x (sinks t samples k h f) (sinks t' samples k' h' f')) (sym stands)
+      (subst (λ (x : Outcome). IsTakenSo wanted x loads start there (sinks t samples k h f) (sinks t' samples k' h' f')) (sym answer)
+      (subst (λ (l : List ℕ). IsTakenSo wanted o' l start there (sinks t samples k h f) (sinks t' samples k' h' f')) (sym are) (so wanted own samples)))
 
   -- a box was put
   module _ (more : Names) (learned : List (ℕ × Answer)) (b : NewBox) (d : AddsBox old new counts file path time e (known files names) (known learned more) b) (onward : Extends names more)
-      (within : AreWithin b.counts) where
-    pub put_answered : to ≡ stage_with file new more (base_of learned b.counts) time block_end fired tally → OnOk r (t' ≡ grown t (put_text more new b.key b.canvas)) → IfOk r (λ o. o ≡ Done)
-        → IfOk r Answered
-    put_answered stands said is =
+      (within : AreWithin b.counts) (few : k' ≤ k + put_looks new b.key) where
+    pub put_answered : to ≡ stage_with file new more (base_of learned b.counts) time block_end fired tally → loads ≡ loads_inside new b.key
+        → OnOk r (t' ≡ grown t (put_text more new b.key b.canvas)) → IfOk r (λ o. o ≡ Done) → IfOk r Answered
+    put_answered stands are said is =
         both_ok r
-        (λ o a x. ends_so o Done (stage_with file new more (base_of learned b.counts) time block_end fired tally) stands x
-        (λ wanted own u. put_so wanted path e (own_box wanted path e own one) file names files counts time block_end fired tally old new ready t u k h h' f f' same low more learned b d onward within t' a)) said is
+        (λ o a x. ends_so o Done (loads_inside new b.key) (stage_with file new more (base_of learned b.counts) time block_end fired tally) stands x are
+        (λ wanted own u. put_so wanted path e (own_box wanted path e own one) file names files counts time block_end fired tally old new ready t u k k' h h' f f' same low more learned b d onward within few t' a)) said is
 
     pub put_torn : OnErr r (TookPart t t' (put_text more new b.key b.canvas)) → OnErr r Torn
     put_torn part =
-        on_err_weaker r (λ a. torn_so (λ wanted own u. put_part wanted path e (own_box wanted path e own one) file names files counts time block_end fired tally old new ready t u k h h' f f' same low more learned b d onward within t' a)) part
+        on_err_weaker r
+        (λ a wanted own u. put_part wanted path e (own_box wanted path e own one) file names files counts time block_end fired tally old new ready t u k k' h h' f f' same low more learned b d onward within few t' a) part
 
   -- it was refused, and names and files are as before
-  module _ (cause : EditRefusal) (rose : cause ≡ refusal.ShelfFault → Rose f f') (d : IsNotAdded old new counts file path e (known files names) cause) where
-    pub unput_answered : (names' : Names) (files' : List (ℕ × Answer)) → names' ≡ names → files' ≡ files → to ≡ stage_with file new names' (base_of files' counts) time block_end fired tally
+  module _ (cause : EditRefusal) (rose : cause ≡ refusal.ShelfFault → Rose f f') (looks : k' ≡ k) (d : IsNotAdded old new counts file path e (known files names) cause) where
+    pub unput_answered : (names' : Names) (files' : List (ℕ × Answer)) → names' ≡ names → files' ≡ files → to ≡ stage_with file new names' (base_of files' counts) time block_end fired tally → loads ≡ []
         → OnOk r (t' ≡ grown t (refusal_text request.Edit (why_of cause))) → IfOk r (λ o. o ≡ edit_outcome (Err cause)) → IfOk r Answered
-    unput_answered names' files' named known_are stands said is =
+    unput_answered names' files' named known_are stands none said is =
         let there : to ≡ stage_with file new names (base_of files counts) time block_end fired tally =
         stands ∙ ap (λ (n : Names). stage_with file new n (base_of files' counts) time block_end fired tally) named
         ∙ ap (λ (x : List (ℕ × Answer)). stage_with file new names (base_of x counts) time block_end fired tally) known_are in
         both_ok r
-        (λ o a x. ends_so o (edit_outcome (Err cause)) (stage_with file new names (base_of files counts) time block_end fired tally) there x
-        (λ wanted own u. unput_so wanted path e (own_box wanted path e own one) file names files counts time block_end fired tally old new ready t u k h h' f f' same low cause rose t' d a)) said is
+        (λ o a x. ends_so o (edit_outcome (Err cause)) [] (stage_with file new names (base_of files counts) time block_end fired tally) there x none
+        (λ wanted own u. unput_so wanted path e (own_box wanted path e own one) file names files counts time block_end fired tally old new ready t u k k' h h' f f' same low cause rose looks t' d a)) said is
 
     pub unput_torn : OnErr r (TookPart t t' (refusal_text request.Edit (why_of cause))) → OnErr r Torn
-    unput_torn part = on_err_weaker r (λ a. torn_so (λ wanted own u. unput_part wanted path e (own_box wanted path e own one) file names files counts time block_end fired tally old new ready t u k h h' f f' same low cause rose t' d a)) part
+    unput_torn part =
+        on_err_weaker r
+        (λ a wanted own u. unput_part wanted path e (own_box wanted path e own one) file names files counts time block_end fired tally old new ready t u k k' h h' f f' same low cause rose looks t' d a) part
 
 -- a message asked for it: what holds whoever asks holds of that
-pub asked_so : {E : Type 0} (r : Result Outcome E) (from to : List Choice → Stage) (x y : Option (List ℕ) → Sinks) (p : List ℕ) (d : Edit) (Is : List ℕ → Edit → Type 0)
+pub asked_so : {E : Type 0} (r : Result Outcome E) (loads : List ℕ) (from to : List Choice → Stage) (x y : Option (List ℕ) → Sinks) (p : List ℕ) (d : Edit) (Is : List ℕ → Edit → Type 0)
     → ((path : List ℕ) (e : Edit) → Is path e → (p ≡ path) × (d ≡ e))
-    → IfOk r (λ o. (wanted : Wanted) → IsOwn wanted p d → (samples : Option (List ℕ)) → IsTakenSo wanted o from to (x samples) (y samples))
-    → OnOk r ((path : List ℕ) (e : Edit) → puts_box e ≡ true → Is path e → (samples : Option (List ℕ)) → Comes (edit_taken (Asks path e)) from to (x samples) (y samples))
-asked_so (Ok o) from to x y p d Is are h = λ path e one is samples.
+    → IfOk r (λ o. (wanted : Wanted) → IsOwn wanted p d → (samples : Option (List ℕ)) → IsTakenSo wanted o loads from to (x samples) (y samples))
+    → IfOk r (λ o. (path : List ℕ) (e : Edit) → puts_box e ≡ true → Is path e → (samples : Option (List ℕ)) → IsTakenSo (Asks path e) o loads from to (x samples) (y samples))
+asked_so (Ok o) loads from to x y p d Is are h = λ path e one is samples.
     let same = are path e is in
-    subst (λ (l : List ℕ). Comes (edit_taken (Asks l e)) from to (x samples) (y samples)) same.0
-    (subst (λ (f : Edit). Comes (edit_taken (Asks p f)) from to (x samples) (y samples)) same.1 (h (Asks p d) (inr refl) samples).comes)
-asked_so (Err z) from to x y p d Is are h = tt
+    subst (λ (l : List ℕ). IsTakenSo (Asks l e) o loads from to (x samples) (y samples)) same.0
+    (subst (λ (f : Edit). IsTakenSo (Asks p f) o loads from to (x samples) (y samples)) same.1 (h (Asks p d) (inr refl) samples))
+asked_so (Err z) loads from to x y p d Is are h = tt
 
 pub asked_torn : {E : Type 0} (r : Result Outcome E) (from : List Choice → Stage) (x y : Option (List ℕ) → Sinks) (p : List ℕ) (d : Edit) (Is : List ℕ → Edit → Type 0)
     → ((path : List ℕ) (e : Edit) → Is path e → (p ≡ path) × (d ≡ e))
@@ -200,13 +196,13 @@ asked_torn (Err z) from x y p d Is are h = λ path e one is samples.
     subst (λ (l : List ℕ). Stops (edit_taken (Asks l e)) from (x samples) (y samples)) same.0
     (subst (λ (f : Edit). Stops (edit_taken (Asks p f)) from (x samples) (y samples)) same.1 (h (Asks p d) (inr refl) samples))
 
--- the same where it holds of any edit that ready a box
-pub any_asked_so : {E : Type 0} (r : Result Outcome E) (from to : List Choice → Stage) (x y : Option (List ℕ) → Sinks) (Is : List ℕ → Edit → Type 0)
+-- the same where it holds of any edit that puts a box
+pub any_asked_so : {E : Type 0} (r : Result Outcome E) (loads : List ℕ) (from to : List Choice → Stage) (x y : Option (List ℕ) → Sinks) (Is : List ℕ → Edit → Type 0)
     → ((path : List ℕ) (e : Edit) → puts_box e ≡ true
-    → IfOk r (λ o. (wanted : Wanted) → IsOwn wanted path e → (samples : Option (List ℕ)) → IsTakenSo wanted o from to (x samples) (y samples)))
-    → OnOk r ((path : List ℕ) (e : Edit) → puts_box e ≡ true → Is path e → (samples : Option (List ℕ)) → Comes (edit_taken (Asks path e)) from to (x samples) (y samples))
-any_asked_so (Ok o) from to x y Is h = λ path e one is samples. (h path e one (Asks path e) (inr refl) samples).comes
-any_asked_so (Err z) from to x y Is h = tt
+    → IfOk r (λ o. (wanted : Wanted) → IsOwn wanted path e → (samples : Option (List ℕ)) → IsTakenSo wanted o loads from to (x samples) (y samples)))
+    → IfOk r (λ o. (path : List ℕ) (e : Edit) → puts_box e ≡ true → Is path e → (samples : Option (List ℕ)) → IsTakenSo (Asks path e) o loads from to (x samples) (y samples))
+any_asked_so (Ok o) loads from to x y Is h = λ path e one is samples. h path e one (Asks path e) (inr refl) samples
+any_asked_so (Err z) loads from to x y Is h = tt
 
 pub any_asked_torn : {E : Type 0} (r : Result Outcome E) (from : List Choice → Stage) (x y : Option (List ℕ) → Sinks) (Is : List ℕ → Edit → Type 0)
     → ((path : List ℕ) (e : Edit) → puts_box e ≡ true

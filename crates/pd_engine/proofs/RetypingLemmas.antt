@@ -94,6 +94,7 @@ module _ (path : List ℕ) (number : ℕ) (text : List Atom) (file : List ℕ) (
       base = base_of learned b.counts;
       lines = told;
       files = [];
+      loads = [];
       looks = looks_for b.canvas d.became.loosens.gone d.became.loose + refit_looks d.node.kind d.became.can.cell.kind;
     }
 
@@ -121,11 +122,12 @@ module _ (path : List ℕ) (number : ℕ) (text : List Atom) (file : List ℕ) (
       within = within;
       lines = refl;
       files = refl;
+      loads = refl;
       looks = refl;
     }
 
-    abbrev pub other_came : Came wanted (from []) (stage_with file new more (base_of learned b.counts) time block_end fired tally) told Done
-    other_came = record { choice = stage.Makes other; may = other_is; text_is = refl; stage = λ m. refl; answer = refl }
+    abbrev pub other_came : Came wanted (from []) (stage_with file new more (base_of learned b.counts) time block_end fired tally) told Done []
+    other_came = record { choice = stage.Makes other; may = other_is; text_is = refl; stage = λ m. refl; answer = refl; loads_are = refl }
 
   -- it was refused
   abbrev left : List Choice → Stage
@@ -133,7 +135,7 @@ module _ (path : List ℕ) (number : ℕ) (text : List Atom) (file : List ℕ) (
 
   module _ (cause : EditRefusal) (t u : Option (List ℕ)) (k k' : ℕ) (looks : k' ≡ k) (h h' : Option (List FileRow)) (f f' : ℕ) (same : h' ≡ h) (low : f ≤ f') (rose : cause ≡ refusal.ShelfFault → Rose f f') where
     abbrev IsStill : Type 0
-    IsStill = (c : Came wanted (from []) left (refusal_text request.Edit (why_of cause)) (edit_outcome (Err cause)))
+    IsStill = (c : Came wanted (from []) left (refusal_text request.Edit (why_of cause)) (edit_outcome (Err cause)) [])
         × Took (sinks t u k h f) (sinks t u k' h' f') (files_put c.choice) (taken_at wanted (from []) c.choice ∷ [])
 
     pub still_by : IsNotRetyped old new counts file path number text (known files names) cause → IsStill
@@ -144,6 +146,7 @@ module _ (path : List ℕ) (number : ℕ) (text : List Atom) (file : List ℕ) (
         text_is = refl;
         stage = λ m. ap (λ (p : Patch). stage_with file p names (base_of files counts) time block_end fired tally m) (sym is);
         answer = outcome_by cause;
+        loads_are = refl;
       },
       looking_took wanted (from []) (stage.Refuses (why_of cause)) t u k k' h h' f f' refl (omega (arith, looks)) same (refusal_rose wanted (from []) cause f f' rose low),
     )
@@ -154,6 +157,7 @@ module _ (path : List ℕ) (number : ℕ) (text : List Atom) (file : List ℕ) (
         text_is = ap (λ (c : EditRefusal). refusal_text request.Edit (why_of c)) (sym short);
         stage = λ m. room_clocks file names (base_of files counts) time block_end fired tally old new d.room m;
         answer = ap (λ (c : EditRefusal). edit_outcome (Err c)) (sym short);
+        loads_are = refl;
       },
       looking_took wanted (from []) (stage.Lacks (net_of new)) t u k k' h h' f f' refl (omega (arith, looks)) same (inl (omega (arith, low))),
     )
@@ -161,26 +165,26 @@ module _ (path : List ℕ) (number : ℕ) (text : List Atom) (file : List ℕ) (
   -- it was told, and this is answered
   module _ {E : Type 0} (r : Result Outcome E) (t t' : Option (List ℕ)) (k k' : ℕ) (h h' : Option (List FileRow)) (f f' : ℕ) (same : h' ≡ h) (low : f ≤ f') (there : List Choice → Stage) where
     abbrev pub Answered : Outcome → Type 0
-    Answered o = (samples : Option (List ℕ)) → IsEdited path (edit.Retype number text) o from there (sinks t samples k h f) (sinks t' samples k' h' f')
+    Answered o = (samples : Option (List ℕ)) → IsEdited path (edit.Retype number text) o [] from there (sinks t samples k h f) (sinks t' samples k' h' f')
 
     abbrev pub Torn : Type 0
     Torn = (samples : Option (List ℕ)) → Stops (edit_taken wanted) from (sinks t samples k h f) (sinks t' samples k' h' f')
 
     -- whoever took it
     module _ (to : List Choice → Stage) (said : List ℕ) (outcome : Outcome)
-        (came : (u : Option (List ℕ)) → (c : Came wanted (from []) to said outcome) × Took (sinks t u k h f) (sinks t u k' h' f') (files_put c.choice) (taken_at wanted (from []) c.choice ∷ [])) where
+        (came : (u : Option (List ℕ)) → (c : Came wanted (from []) to said outcome []) × Took (sinks t u k h f) (sinks t u k' h' f') (files_put c.choice) (taken_at wanted (from []) c.choice ∷ [])) where
       so : there ≡ to → (o : Outcome) → t' ≡ grown t said → o ≡ outcome → Answered o
       so leads o is answer samples =
           let x = came samples in
-          subst (λ (z : List Choice → Stage). IsEdited path (edit.Retype number text) o from z (sinks t samples k h f) (sinks t' samples k' h' f')) (sym leads)
-          (subst (λ (z : Outcome). IsEdited path (edit.Retype number text) z from to (sinks t samples k h f) (sinks t' samples k' h' f')) (sym answer)
-          (came_so wanted (from []) to said outcome x.0 (sinks t samples k h f) t t' samples k' h' f' x.1 is))
+          subst (λ (z : List Choice → Stage). IsEdited path (edit.Retype number text) o [] from z (sinks t samples k h f) (sinks t' samples k' h' f')) (sym leads)
+          (subst (λ (z : Outcome). IsEdited path (edit.Retype number text) z [] from to (sinks t samples k h f) (sinks t' samples k' h' f')) (sym answer)
+          (came_so wanted (from []) to said outcome [] x.0 (sinks t samples k h f) t t' samples k' h' f' x.1 is))
 
       by_all : there ≡ to → OnOk r (t' ≡ grown t said) → IfOk r (λ o. o ≡ outcome) → IfOk r Answered
       by_all leads is answer = both_ok r (λ o a b. so leads o a b) is answer
 
       by_part : OnErr r (TookPart t t' said) → OnErr r Torn
-      by_part part = on_err_weaker r (λ a samples. let x = came samples in came_part wanted (from []) to said outcome x.0 (sinks t samples k h f) t t' samples k' h' f' x.1 a) part
+      by_part part = on_err_weaker r (λ a samples. let x = came samples in came_part wanted (from []) to said outcome [] x.0 (sinks t samples k h f) t t' samples k' h' f' x.1 a) part
 
     -- it became another one
     module _ (more : Names) (learned : List (ℕ × Answer)) (b : RetypedBox) (d : RetypesBox old new counts file path number text time (known files names) (known learned more) k k' b)
@@ -192,7 +196,7 @@ module _ (path : List ℕ) (number : ℕ) (text : List Atom) (file : List ℕ) (
       said = retyped_text more new b.key b.canvas b.gone.items
 
       abbrev IsOther : Option (List ℕ) → Type 0
-      IsOther u = (c : Came wanted (from []) to said Done) × Took (sinks t u k h f) (sinks t u k' h' f') (files_put c.choice) (taken_at wanted (from []) c.choice ∷ [])
+      IsOther u = (c : Came wanted (from []) to said Done []) × Took (sinks t u k h f) (sinks t u k' h' f') (files_put c.choice) (taken_at wanted (from []) c.choice ∷ [])
 
       other_by : (u : Option (List ℕ)) → IsOther u
       other_by u = (

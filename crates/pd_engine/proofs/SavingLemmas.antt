@@ -51,16 +51,18 @@ module _ (file : List ℕ) (p : Patch) (names : Names) (base : Base) (time block
     base = base;
     lines = [];
     files = (file, text_of names (present_document p)) ∷ [];
+    loads = [];
     looks = 0;
   }
 
-  abbrev pub saved_came : IsTable names → StandOnce p.web → Came (Saves None) s (with_ahead s) [] Done
+  abbrev pub saved_came : IsTable names → StandOnce p.web → Came (Saves None) s (with_ahead s) [] Done []
   saved_came table once = record {
     choice = Makes saved;
-    may = record { patch = p; stands = stands; table = table; once = once; net = refl; states = refl; clocks = refl; names = refl; base = refl; lines = refl; files = refl; looks = refl };
+    may = record { patch = p; stands = stands; table = table; once = once; net = refl; states = refl; clocks = refl; names = refl; base = refl; lines = refl; files = refl; loads = refl; looks = refl };
     text_is = refl;
     stage = λ m. refl;
     answer = refl;
+    loads_are = refl;
   }
 
   saved_took : h' ≡ stored file (text_of names (present_document p)) h → Took (sinks t u k h f) (sinks t u k h' f') (files_put (Makes saved)) (taken_at (Saves None) s (Makes saved) ∷ [])
@@ -76,7 +78,7 @@ module _ (file : List ℕ) (p : Patch) (names : Names) (base : Base) (time block
 
   pub save_so : IsTable names → StandOnce p.web → h' ≡ stored file (text_of names (present_document p)) h → IsSavedSo Done (with_ahead s) (with_ahead s) (sinks t u k h f) (sinks t u k h' f')
   save_so table once put =
-      came_so (Saves None) s (with_ahead s) [] Done (saved_came table once) (sinks t u k h f) t t u k h' f' (saved_took put) (printed_nothing t [] refl)
+      came_so (Saves None) s (with_ahead s) [] Done [] (saved_came table once) (sinks t u k h f) t t u k h' f' (saved_took put) (printed_nothing t [] refl)
 
   -- it was refused
   refused_took : (reason : Why) → KeptOrUntold h h' → RoseBy (faults_of (taken_at (Saves None) s (Refuses reason) ∷ [])) f f'
@@ -93,14 +95,14 @@ module _ (file : List ℕ) (p : Patch) (names : Names) (base : Base) (time block
   fault_rose (inl more) = inl (omega (arith, more))
   fault_rose (inr most) = inr (omega (arith, most))
 
-  abbrev pub fault_came : Came (Saves None) s (with_ahead s) (refusal_text request.Save why.ShelfFault) (Refused refusal.ShelfFault)
-  fault_came = record { choice = Refuses why.ShelfFault; may = inl refl; text_is = refl; stage = λ m. refl; answer = refl }
+  abbrev pub fault_came : Came (Saves None) s (with_ahead s) (refusal_text request.Save why.ShelfFault) (Refused refusal.ShelfFault) []
+  fault_came = record { choice = Refuses why.ShelfFault; may = inl refl; text_is = refl; stage = λ m. refl; answer = refl; loads_are = refl }
 
   pub fault_took : KeptOrUntold h h' → Rose f f' → Took (sinks t u k h f) (sinks t u k h' f') [] (taken_at (Saves None) s (Refuses why.ShelfFault) ∷ [])
   fault_took kept rose = refused_took why.ShelfFault kept (fault_rose rose)
 
-  abbrev pub short_came : Came (Saves None) s (with_ahead s) (refusal_text request.Save why.NoMemory) (Refused refusal.NoMemory)
-  short_came = record { choice = Refuses why.NoMemory; may = inr refl; text_is = refl; stage = λ m. refl; answer = refl }
+  abbrev pub short_came : Came (Saves None) s (with_ahead s) (refusal_text request.Save why.NoMemory) (Refused refusal.NoMemory) []
+  short_came = record { choice = Refuses why.NoMemory; may = inr refl; text_is = refl; stage = λ m. refl; answer = refl; loads_are = refl }
 
   pub short_took : h' ≡ h → Took (sinks t u k h f) (sinks t u k h' f') [] (taken_at (Saves None) s (Refuses why.NoMemory) ∷ [])
   short_took same = refused_took why.NoMemory (inl same) (inl (omega arith))
@@ -110,12 +112,12 @@ module _ (file : List ℕ) (p : Patch) (names : Names) (base : Base) (time block
       → t' ≡ grown t (refusal_text request.Save (why_of (unsaved error))) → IsSavedSo (Refused (unsaved error)) (with_ahead s) (with_ahead s) (sinks t u k h f) (sinks t' u k h' f')
   refused_so shelf.Failed t' failed short said =
       let both : KeptOrUntold h h' × Rose f f' = failed refl in
-      came_so (Saves None) s (with_ahead s) _ _ fault_came (sinks t u k h f) t t' u k h' f' (fault_took both.0 both.1) said
-  refused_so shelf.NoMemory t' failed short said = came_so (Saves None) s (with_ahead s) _ _ short_came (sinks t u k h f) t t' u k h' f' (short_took (short refl)) said
+      came_so (Saves None) s (with_ahead s) _ _ _ fault_came (sinks t u k h f) t t' u k h' f' (fault_took both.0 both.1) said
+  refused_so shelf.NoMemory t' failed short said = came_so (Saves None) s (with_ahead s) _ _ _ short_came (sinks t u k h f) t t' u k h' f' (short_took (short refl)) said
 
   pub refused_part : (error : ShelfError) (t' : Option (List ℕ)) → (error ≡ shelf.Failed → KeptOrUntold h h' × Rose f f') → (error ≡ shelf.NoMemory → h' ≡ h)
       → TookPart t t' (refusal_text request.Save (why_of (unsaved error))) → Stops (edit_taken (Saves None)) (with_ahead s) (sinks t u k h f) (sinks t' u k h' f')
   refused_part shelf.Failed t' failed short part =
       let both : KeptOrUntold h h' × Rose f f' = failed refl in
-      came_part (Saves None) s (with_ahead s) _ _ fault_came (sinks t u k h f) t t' u k h' f' (fault_took both.0 both.1) part
-  refused_part shelf.NoMemory t' failed short part = came_part (Saves None) s (with_ahead s) _ _ short_came (sinks t u k h f) t t' u k h' f' (short_took (short refl)) part
+      came_part (Saves None) s (with_ahead s) _ _ _ fault_came (sinks t u k h f) t t' u k h' f' (fault_took both.0 both.1) part
+  refused_part shelf.NoMemory t' failed short part = came_part (Saves None) s (with_ahead s) _ _ _ short_came (sinks t u k h f) t t' u k h' f' (short_took (short refl)) part
