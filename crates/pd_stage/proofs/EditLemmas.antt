@@ -1,13 +1,12 @@
 -- Edits that are taken.
-use Rattle.std.proofs.Common.{◌≡◌, ◌≤◌, ◌+◌, ◌<◌, ◌⊎◌, inl, inr, drop, length, get_or, arith, ℕ, ℤ, suc, List, [], ◌∷◌, refl, sym, ◌∙◌, ap, subst, Option, Some, None}
-use Rattle.std.proofs.Math.Seq.{drop-cons}
+use Rattle.std.proofs.Common.{◌≡◌, ◌≤◌, ◌+◌, ◌⊎◌, inl, inr, arith, ℕ, ℤ, List, [], ◌∷◌, ◌++◌, refl, sym, ◌∙◌, ap, subst, Option, Some, None}
+use Rattle.std.specs.List.{AllByRecursion}
 use Rattle.std.specs.declared.vec.Vec.{Vec}
 use Rattle.std.specs.declared.alloc.Global.{Global}
 use Rattle.slab.specs.Slab.{get}
 use Rattle.pd_atom.specs.declared.Atom.{Atom}
 use Rattle.pd_canvas.specs.declared.edits.Edit.{Edit}
 use Rattle.pd_canvas.specs.declared.edits.Edit.TheVariants as edit
-use Rattle.pd_queue.specs.Queue.{Waiting}
 use Rattle.pd_io.specs.Stream.{grown, TookPart}
 use Rattle.pd_io.specs.declared.files.FileRow.{FileRow}
 use Rattle.pd_links.specs.declared.links.Links.{Links}
@@ -23,15 +22,17 @@ use Rattle.pd_boxes.specs.Room.{SameButRoom as RoomSet}
 use Rattle.pd_turns.specs.Turns.{World}
 use Rattle.pd_hearing.specs.Worlds.{Kept, Net, bare, net_of}
 use Rattle.pd_block.specs.Nets as block
+use Rattle.pd_walk.specs.Outcome.{all_loaded}
 use Rattle.pd_stage.specs.Choices.{Base, Wanted, Edits, Asks, Saves, Undoes, Redoes, Made, Choice, Refuses, Lacks, Makes, first_choice, later, text_of_choice, looks_of_choice, faults_of_choice}
-use Rattle.pd_stage.specs.Stages.{Stage, Taken, still, saying, with_ahead, followed_by}
-use Rattle.pd_stage.specs.Lawful.{StandsAt, with_wire_count, IsMade, IsShort, IsRewiringLawful, IsPutIn, IsUnputForRoom, IsPutLawful, IsTakenOut, IsLeftInForRoom, IsTakingLawful, IsMovedTo, IsMovingLawful, IsRetypedTo, IsUnretypedForRoom, IsRetypingLawful, IsEditLawful, IsSaved, MayCome, AreLawful}
+use Rattle.pd_stage.specs.Stages.{Stage, Taken, Passage, still, saying, with_ahead, followed_by}
+use Rattle.pd_stage.specs.Lawful.{StandsAt, with_wire_count, IsMade, IsShort, IsRewiringLawful, IsPutIn, IsUnputForRoom, IsPutLawful, IsTakenOut, IsLeftInForRoom, IsTakingLawful, IsMovedTo, IsMovingLawful, IsRetypedTo, IsUnretypedForRoom, IsRetypingLawful, IsEditLawful, IsSaved, MayCome, IsLawful, AreLawful}
 use Rattle.pd_stage.specs.Leads.{Sinks, sinks, Took, Leads, Comes, Stops}
-use Rattle.pd_stage.specs.Events.{Beginning, with_net, stage_by, files_put, edit_by, edit_taken, edit_asked, edits_taken, delivered, with_kept, event}
+use Rattle.pd_stage.specs.Events.{Beginning, Left, Loader, left_after, going_on, with_net, stage_by, files_put, edit_by, edit_taken, edit_loaded_by, edits_of_by, event_after_by, edit_event_by, delivered, with_kept, after_deliveries, event, edit_event}
 use Rattle.pd_stage.specs.Times.{with_wires, IsStageOf}
 use Rattle.pd_stage.proofs.FedLemmas.{KeepsFed, none_kept, kept_then, same_kept, edit_kept}
 use Rattle.pd_stage.proofs.CountedLemmas.{StaysCounted, none_counted, counted_then, edit_few}
-use Rattle.pd_stage.proofs.LeadLemmas.{leads_then, broke_after, written_leads, written_breaks, lawful_first, lawful_second}
+use Rattle.pd_stage.proofs.ThroughLemmas.{GoesOn, all_through, one_through, event_after_through, edit_event_through}
+use Rattle.pd_stage.proofs.LeadLemmas.{leads_then, broke_after, written_leads, written_breaks}
 use Rattle.pd_stage.proofs.ItemLemmas.{no_lines, no_samples, held-none, kept_same}
 
 -- an edit that comes to this
@@ -77,22 +78,6 @@ pub took_looks : (t u : Option (List ℕ)) (k k' : ℕ) (h : Option (List FileRo
     → Took (sinks t u k h f) (sinks t u k' h f) [] (e ∷ [])
 took_looks t u k k' h f e none few =
     record { lines_are = no_lines t; samples_are = no_samples u; few_looks = omega (arith, few); held_are = kept_same [] h (held-none h); few_faults = inl (omega (arith, none)) }
-
--- ---- the edits that wait
-
-edit_due : (waiting rest : Waiting) (asked : List ℕ × Edit) (s : Stage) → waiting ≡ asked ∷ rest → edits_taken waiting s ≡ followed_by (edit_asked asked s) (edits_taken rest)
-unfolding edits_taken
-edit_due waiting rest asked s e = ap (λ (x : Waiting). edits_taken x s) e
-
-pub edit_at : (waiting : Waiting) (i : ℕ) (d : List ℕ × Edit) (s : Stage) → i < length waiting
-    → edits_taken (drop i waiting) s ≡ followed_by (edit_asked (get_or waiting i d) s) (edits_taken (drop (i + 1) waiting))
-edit_at waiting i d s lt =
-    let e : suc i ≡ i + 1 = omega arith in
-    edit_due (drop i waiting) (drop (i + 1) waiting) (get_or waiting i d) s (drop-cons waiting i d lt ∙ ap (λ (k : ℕ). get_or waiting i d ∷ drop k waiting) e)
-
-pub no_edit : (waiting : Waiting) (s : Stage) → waiting ≡ [] → edits_taken waiting s ≡ still s
-unfolding edits_taken
-no_edit waiting s e = ap (λ (x : Waiting). edits_taken x s) e
 
 -- ---- what lawful edits leave
 
@@ -463,31 +448,50 @@ pub taken_alters : (wanted : Wanted) (s : Stage) → AreLawful (edit_taken wante
 unfolding edit_taken
 taken_alters wanted s h = choice_alters wanted s (later s.ahead) (first_choice s.ahead) h.0
 
--- a fact that no edit ends lasts through those that wait
-pub edits_keep : (P : Stage → Type 0) → ((s r : Stage) → Alters s r → P s → P r) → (waiting : Waiting) (s : Stage) → AreLawful (edits_taken waiting s).edits
-    → P s → P (edits_taken waiting s).stage
-unfolding edits_taken
-edits_keep P each [] s h p = p
-edits_keep P each (asked ∷ waiting) s h p =
-    let r : Stage = (edit_asked asked s).stage in
-    edits_keep P each waiting r (lawful_second (edit_asked asked s).edits (edits_taken waiting r).edits h)
-    (each s r (taken_alters (Asks asked.0 asked.1) s (lawful_first (edit_asked asked s).edits (edits_taken waiting r).edits h)) p)
+-- a fact that no edit ends, and that lasts through deliveries that load boxes, lasts through an event where each edit is such
+abbrev pub Lasts : (P : Stage → Type 0) → (Ok : Taken → Type 0) → Stage → Passage → Type 0
+Lasts P Ok s p = AllByRecursion Ok p.edits → P s → P p.stage
 
--- what holds of two stages with one edit between them, and goes on from one to the next, holds with those that wait between them
-pub edits_lead : (R : Stage → Stage → Type 0) → ((s : Stage) → R s s) → ((s r q : Stage) → R s r → R r q → R s q) → ((s r : Stage) → Alters s r → R s r)
-    → (waiting : Waiting) (s : Stage) → AreLawful (edits_taken waiting s).edits → R s (edits_taken waiting s).stage
-edits_lead R none on each waiting s h = edits_keep (λ (r : Stage). R s r) (λ q r a k. on s q r k (each q r a)) waiting s h (none s)
+abbrev pub LoadsKeep : Loader → (P : Stage → Type 0) → Type 0
+LoadsKeep load P = (boxes : List ℕ) (l : Left) (s : Stage) → P s → P (with_kept s (load s.net s.time (going_on s l) boxes).kept)
 
--- the same of an event: its deliveries come first
-pub event_keeps : (P : Stage → Type 0) → ((s r : Stage) → Alters s r → P s → P r) → (s : Stage) (b : Beginning) → AreLawful (event s b).edits
+all_first : (Ok : Taken → Type 0) (a b : List Taken) → AllByRecursion Ok (a ++ b) → AllByRecursion Ok a
+all_first Ok [] b h = tt
+all_first Ok (t ∷ a) b h = (h.0, all_first Ok a b h.1)
+
+all_second : (Ok : Taken → Type 0) (a b : List Taken) → AllByRecursion Ok (a ++ b) → AllByRecursion Ok b
+all_second Ok [] b h = h
+all_second Ok (t ∷ a) b h = all_second Ok a b h.1
+
+module _ (load : Loader) (Ok : Taken → Type 0) (P : Stage → Type 0) (edits : (wanted : Wanted) (s : Stage) → Lasts P Ok s (edit_taken wanted s)) (loads : LoadsKeep load P) where
+  lasts_on : (s : Stage) (p : Passage) (next : Stage → Passage) → Lasts P Ok s p → Lasts P Ok p.stage (next p.stage) → Lasts P Ok s (followed_by p next)
+  lasts_on s p next a b h k = b (all_second Ok p.edits (next p.stage).edits h) (a (all_first Ok p.edits (next p.stage).edits h) k)
+
+  one_lasts : (wanted : Wanted) (l : Left) (rest : Left → Stage → Passage) (s : Stage) → GoesOn load (Lasts P Ok) rest → Lasts P Ok s (edit_loaded_by load wanted l rest s)
+  one_lasts wanted l rest s = one_through load (Lasts P Ok) lasts_on (λ boxes v r h p. loads boxes v r p) edits wanted l rest s
+
+  edits_last : GoesOn load (Lasts P Ok) (edits_of_by load)
+  edits_last = all_through load (Lasts P Ok) (λ s h p. p) one_lasts
+
+  pub event_lasts : (s : Stage) (w : World Kept) → P (with_kept s w.kept) → AllByRecursion Ok (event_after_by load s w).edits → P (event_after_by load s w).stage
+  event_lasts s w first h = edits_last (left_after w) (with_kept s w.kept) h first
+
+  pub edit_event_lasts : (wanted : Wanted) (s : Stage) → Lasts P Ok s (edit_event_by load wanted s)
+  edit_event_lasts wanted s = edit_event_through load (Lasts P Ok) (λ r h p. p) one_lasts wanted s
+
+-- so it is of lawful edits, and of boxes that are loaded as they are
+pub taken_keeps : (P : Stage → Type 0) → ((s r : Stage) → Alters s r → P s → P r) → (wanted : Wanted) (s : Stage) → Lasts P IsLawful s (edit_taken wanted s)
+taken_keeps P each wanted s h p = each s (edit_taken wanted s).stage (taken_alters wanted s h) p
+
+pub event_keeps : (P : Stage → Type 0) → ((s r : Stage) → Alters s r → P s → P r) → LoadsKeep all_loaded P → (s : Stage) (b : Beginning) → AreLawful (event s b).edits
     → P (with_kept s (delivered s b).kept) → P (event s b).stage
 unfolding event
-event_keeps P each s b h p = let w : World Kept = delivered s b in edits_keep P each w.kept.queue (with_kept s w.kept) h p
+event_keeps P each loads s b h p = event_lasts all_loaded IsLawful P (taken_keeps P each) loads s (delivered s b) p h
 
-pub event_leads : (R : Stage → Stage → Type 0) → ((s : Stage) → R s s) → ((s r q : Stage) → R s r → R r q → R s q) → ((s r : Stage) → Alters s r → R s r)
-    → (s : Stage) (b : Beginning) → AreLawful (event s b).edits → R (with_kept s (delivered s b).kept) (event s b).stage
-unfolding event
-event_leads R none on each s b h = let w : World Kept = delivered s b in edits_lead R none on each w.kept.queue (with_kept s w.kept) h
+pub edit_event_keeps : (P : Stage → Type 0) → ((s r : Stage) → Alters s r → P s → P r) → LoadsKeep all_loaded P → (wanted : Wanted) (s : Stage) → AreLawful (edit_event wanted s).edits
+    → P s → P (edit_event wanted s).stage
+unfolding edit_event
+edit_event_keeps P each loads wanted s h p = edit_event_lasts all_loaded IsLawful P (taken_keeps P each) loads wanted s h p
 
 -- ---- a stage of a patch
 
@@ -560,16 +564,22 @@ edit_times wanted s = by_times wanted s (first_choice s.ahead)
 times_on : (s r q : Stage) → SameTimes s r → SameTimes r q → SameTimes s q
 times_on s r q a b = record { time = b.time ∙ a.time; block_end = b.block_end ∙ a.block_end; fired = b.fired ∙ a.fired }
 
-edits_times : (waiting : Waiting) (s : Stage) → SameTimes s (edits_taken waiting s).stage
-unfolding edits_taken
-edits_times [] s = record { time = refl; block_end = refl; fired = refl }
-edits_times (asked ∷ waiting) s =
-    let r : Stage = (edit_asked asked s).stage in
-    times_on s r (edits_taken waiting r).stage (edit_times _ s) (edits_times waiting r)
+abbrev Times : Stage → Passage → Type 0
+Times s p = SameTimes s p.stage
+
+times_after : (s : Stage) (w : World Kept) → Times s (after_deliveries s w)
+times_after s w = record { time = refl; block_end = refl; fired = refl }
+
+times_followed : (s : Stage) (p : Passage) (next : Stage → Passage) → Times s p → Times p.stage (next p.stage) → Times s (followed_by p next)
+times_followed s p next a b = times_on s p.stage (next p.stage).stage a b
+
+one_times : (wanted : Wanted) (l : Left) (rest : Left → Stage → Passage) (s : Stage) → GoesOn all_loaded Times rest → Times s (edit_loaded_by all_loaded wanted l rest s)
+one_times wanted l rest s = one_through all_loaded Times times_followed (λ boxes v r. times_after r (all_loaded r.net r.time (going_on r v) boxes)) edit_times wanted l rest s
+
+edits_times : GoesOn all_loaded Times (edits_of_by all_loaded)
+edits_times = all_through all_loaded Times (λ s. record { time = refl; block_end = refl; fired = refl }) one_times
 
 pub event_times : (s : Stage) (b : Beginning) → SameTimes s (event s b).stage
 unfolding event
 event_times s b =
-    let w : World Kept = delivered s b in
-    let e : SameTimes (with_kept s w.kept) (edits_taken w.kept.queue (with_kept s w.kept)).stage = edits_times w.kept.queue (with_kept s w.kept) in
-    record { time = e.time; block_end = e.block_end; fired = e.fired }
+    event_after_through all_loaded Times times_followed (λ boxes v r. times_after r (all_loaded r.net r.time (going_on r v) boxes)) edits_times s (delivered s b) (times_after s (delivered s b))

@@ -3,19 +3,20 @@ use Rattle.std.proofs.Common.{◌≡◌, ◌+◌, ◌-◌, ℕ, zero, suc, Bool,
 use Rattle.std.proofs.lemmas.List.{append-nil}
 use Rattle.std.specs.Prelude.{nat_le, nat_lt, if◌then◌else◌}
 use Rattle.pd_clock.specs.Queue.{Clock}
-use Rattle.pd_queue.specs.Queue.{Waiting}
 use Rattle.pd_turns.specs.Turns.{World}
 use Rattle.pd_hearing.specs.Worlds.{Kept}
+use Rattle.pd_walk.specs.Outcome.{all_loaded}
 use Rattle.pd_mix.specs.Samples.{block_bytes}
 use Rattle.pd_made.specs.Tallies.{nothing, tallied}
 use Rattle.pd_made.proofs.TallyLemmas.{tallied_join}
 use Rattle.pd_stage.specs.Items.{said, samples_of}
 use Rattle.pd_stage.specs.Choices.{Wanted, Choice, Refuses, Lacks, Makes, first_choice, later, text_of_choice}
 use Rattle.pd_stage.specs.Stages.{Stage, Passage, with_ahead, still, saying, joined, followed_by}
-use Rattle.pd_stage.specs.Events.{Beginning, after_deliveries, stage_by, put_of, files_put, edit_by, edit_taken, edit_asked, edits_taken, event, delivered}
+use Rattle.pd_stage.specs.Events.{Beginning, Left, going_on, after_deliveries, stage_by, put_of, files_put, edit_by, edit_taken, edit_loaded_by, edits_of_by, event, edit_event, delivered}
 use Rattle.pd_stage.specs.Times.{block_units, most_fired, taken_off, with_taken, with_fired, fires, fires_or_not, fires_below, next_clock, clocks_fire, played_at, block_sounds, block_runs, blocks_run, with_time, time_is, comes_to, advanced, finished}
 use Rattle.pd_stage.specs.Sums.{AddsUp}
 use Rattle.pd_stage.proofs.ItemLemmas.{samples-append, samples-none, samples-said, samples-heard, samples-put}
+use Rattle.pd_stage.proofs.ThroughLemmas.{GoesOn, all_through, one_through, event_after_through, edit_event_through}
 
 -- no samples are among these items, and the sum stays
 silent_adds : (s : Stage) (p : Passage) → p.stage.tally ≡ s.tally → samples_of p.items ≡ [] → AddsUp s p
@@ -58,19 +59,26 @@ pub edit_adds : (wanted : Wanted) (s : Stage) → AddsUp s (edit_taken wanted s)
 unfolding edit_taken
 edit_adds wanted s = by_adds wanted s (first_choice s.ahead)
 
-edits_add : (waiting : Waiting) (s : Stage) → AddsUp s (edits_taken waiting s)
-unfolding edits_taken
-edits_add [] s = still_adds s s refl
-edits_add (asked ∷ waiting) s =
-    let p : Passage = edit_asked asked s in
-    joined_adds s p (edits_taken waiting p.stage) (edit_adds _ s) (edits_add waiting p.stage)
+on_adds : (s : Stage) (p : Passage) (next : Stage → Passage) → AddsUp s p → AddsUp p.stage (next p.stage) → AddsUp s (followed_by p next)
+on_adds s p next a b = joined_adds s p (next p.stage) a b
+
+deliveries_add : (s : Stage) (w : World Kept) → AddsUp s (after_deliveries s w)
+deliveries_add s w = silent_adds s (after_deliveries s w) refl (samples-said w.said)
+
+one_adds : (wanted : Wanted) (l : Left) (rest : Left → Stage → Passage) (s : Stage) → GoesOn all_loaded AddsUp rest → AddsUp s (edit_loaded_by all_loaded wanted l rest s)
+one_adds wanted l rest s = one_through all_loaded AddsUp on_adds (λ boxes v r. deliveries_add r (all_loaded r.net r.time (going_on r v) boxes)) edit_adds wanted l rest s
+
+edits_add : GoesOn all_loaded AddsUp (edits_of_by all_loaded)
+edits_add = all_through all_loaded AddsUp (λ s. still_adds s s refl) one_adds
 
 pub event_adds : (s : Stage) (b : Beginning) → AddsUp s (event s b)
 unfolding event
 event_adds s b =
-    let w : World Kept = delivered s b in
-    let p : Passage = after_deliveries s w in
-    joined_adds s p (edits_taken w.kept.queue p.stage) (silent_adds s p refl (samples-said w.said)) (edits_add w.kept.queue p.stage)
+    event_after_through all_loaded AddsUp on_adds (λ boxes v r. deliveries_add r (all_loaded r.net r.time (going_on r v) boxes)) edits_add s (delivered s b) (deliveries_add s (delivered s b))
+
+pub edit_event_adds : (wanted : Wanted) (s : Stage) → AddsUp s (edit_event wanted s)
+unfolding edit_event
+edit_event_adds wanted s = edit_event_through all_loaded AddsUp (λ r. still_adds r r refl) one_adds wanted s
 
 -- ---- clocks and blocks
 

@@ -5,7 +5,7 @@ ghost use Rattle.pd_io.specs.Stream.{IsPrefix};
 ghost use Rattle.pd_stage.specs.Items.{Item, lines_of, samples_of, IsFront};
 ghost use Rattle.pd_stage.specs.Choices.{Wanted};
 ghost use Rattle.pd_stage.specs.Stages.{Stage, Passage, still, joined};
-ghost use Rattle.pd_stage.specs.Events.{Beginning, event, edit_taken};
+ghost use Rattle.pd_stage.specs.Events.{Beginning, event, edit_taken, edit_event};
 ghost use Rattle.pd_stage.specs.Times.{advanced, finished};
 ghost use Rattle.pd_stage.specs.Sums.{AddsUp};
 
@@ -25,6 +25,7 @@ pub fn fronts_are_fronts()
 pub fn samples_are_added_up()
     ensures edits { (wanted : Wanted) (s : Stage) → AddsUp s (edit_taken wanted s) }
     ensures events { (s : Stage) (b : Beginning) → AddsUp s (event s b) }
+    ensures edit_events { (wanted : Wanted) (s : Stage) → AddsUp s (edit_event wanted s) }
     ensures times { (to : ℕ) (s : Stage) → AddsUp s (advanced to s) }
     ensures ends { (s : Stage) → AddsUp s (finished s) }
 {}

@@ -9,19 +9,22 @@
 //! block of samples, and each file that is put under a name. Beside it stands the log of the edits that were taken,
 //! each with the stage that it found, what was asked for, and what it came to.
 //!
-//! The definitions: an event with its deliveries, 1,000,000 at most, and then the edits that canvases were asked for,
-//! one taken after the other; the clocks below a time, at most 10,000 between two blocks; a block; the way to a time;
-//! the last block of a run. What an edit leads to is told by what it came to: a made one gives how the patch stands
-//! after it, its lines, and the files that it puts; a refused one says why, and changes nothing; one that memory was
+//! The definitions: an event with its deliveries, and then the edits that canvases were asked for, one taken after the
+//! other, 256 at most; an edit by itself, which is an event too; the clocks below a time, at most 10,000 between two
+//! blocks; a block; the way to a time; the last block of a run. Behind each edit the load boxes are loaded that it
+//! made: these are deliveries of the same event, which has 1,000,000 at most, and what they ask for is taken last. What
+//! an edit leads to is told by what it came to: a made one gives how the patch stands after it, its lines, the files
+//! that it puts, and the boxes that are loaded; a refused one says why, and changes nothing; one that memory was
 //! wanting for changes nothing but how much room there is.
 //!
 //! What an edit may come to is one definition (`IsLawful`). An edit of wires of the patch's own document is planned by
 //! what the patch is (`pd_wiring`'s `planned`), and comes to no other end than that: it is made, and then all stays but
 //! the wires with their links and orders, and a loop of its canvas is told; or it is refused for the reason of the
 //! plan; or memory was wanting. An edit that puts a box comes to what `pd_putting` tells (`AddsBox`, `IsNotPut`): the
-//! box comes last into its canvas, and the box around gets the port that it is, if it is one; all other boxes keep what
-//! they kept, and it is told why the box could not be made, a loop of the canvas around where a port came, and a loop
-//! of its canvas; or it is refused for one of those reasons; or memory was wanting. An edit that deletes a box comes to
+//! box comes last into its canvas, with all that lies in it, and the box around gets the port that it is, if it is one;
+//! all other boxes keep what they kept, and it is told why boxes could not be made, which wires in it don't fit, a loop
+//! of the canvas around where a port came, and loops of its canvas and of those in it; the load boxes in it are loaded;
+//! or it is refused for one of those reasons; or memory was wanting. An edit that deletes a box comes to
 //! what `pd_deleting` tells (`DeletesBox`, `going`): the box goes with all that lies in it, with the wires and the
 //! clocks of these boxes, all other boxes keep what they kept, and a loop of its canvas is told; or it is refused; or
 //! memory was wanting. An edit that moves a box comes to what `pd_shifting` tells (`MovesBox`, `moving`): the box
