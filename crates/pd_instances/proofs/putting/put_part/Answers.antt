@@ -283,7 +283,7 @@ returns-clause-put g c =
       present = refl;
     })
 
-pub list_keys-requires : goal.list_keys-requires-clause-room
+pub list_keys-requires : goal.list_keys-requires
 list_keys-requires g c =
     let fits = (ready c.args.patch.now c.args.room c.args.symbols.now c.requires.can c.requires.plain c.requires.room c.put_box-key.new.self c.put_box-key.result c.put_box-key.new.seeds c.put_box-key.ensures.part c.put_box-key.ensures.stands c.put_box-key.ensures.uses c.put_box-key.ensures.root
     c.put_box-key.ensures.nodes_capacity c.put_box-key.ensures.boards_capacity c.keys_are_low.ensures.boxes c.keys_are_low.ensures.canvases c.tell_part.ensures.0 c.as_slice-spots.result.now (c.as_slice-spots.ensures.value ∙ c.tell_part.ensures.1) (c.tell_part.ensures.2, c.tell_part.ensures.3)).fits in
