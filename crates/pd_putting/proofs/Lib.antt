@@ -7,3 +7,4 @@ mod SeedLemmas
 mod PortLemmas
 mod AddLemmas
 pub mod SubLemmas
+pub mod WireLemmas
