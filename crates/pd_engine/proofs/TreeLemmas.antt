@@ -283,13 +283,13 @@ module _ (s : Stage) (t : HasTree s) (path : List ℕ) (e : Edit) (m : Made) (ah
   abbrev pub more_tree : Tree
   more_tree = put_at path a.boxes t.tree
 
-  stands_more : GroveStands h.new.grove more_tree.sheet more_tree.boxes
+  pub stands_more : GroveStands h.new.grove more_tree.sheet more_tree.boxes
   stands_more = grove_put ready.grove h.new.grove path a.canvas h.box.key t.tree a.boxes last ready_stands came.stands
 
   counted_more : m.base.counts ≡ with_boxes h.old.rate a.boxes s.base.counts
   counted_more = ap (λ (x : Base). x.counts) h.base ∙ h.adds.counts ∙ h.adds.grew.counts
 
-  boxes_more : m.base.counts.boxes ≡ weight more_tree.boxes
+  pub boxes_more : m.base.counts.boxes ≡ weight more_tree.boxes
   boxes_more =
       let along = path_along ready.grove path a.canvas t.tree ready_can.forest ready_stands last.leads in
       let one : m.base.counts.boxes ≡ s.base.counts.boxes + weight a.boxes = ap (λ (n : Counts). n.boxes) counted_more in
@@ -307,7 +307,7 @@ module _ (s : Stage) (t : HasTree s) (path : List ℕ) (e : Edit) (m : Made) (ah
       omega (arith, was, same, sum, none, net)
 
   -- its path has no more numbers than canvases lie in one another
-  low_more : deep more_tree.boxes ≤ 255
+  pub low_more : deep more_tree.boxes ≤ 255
   low_more =
       let low : deep t.tree.boxes ≤ 255 = t.shallow in
       let short : length path ≤ deep t.tree.boxes =

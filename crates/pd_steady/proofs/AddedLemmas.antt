@@ -1,5 +1,5 @@
 -- What is known of a box that an edit put: its kind is in order, and its table or delay line is small.
-use Rattle.std.proofs.Common.{arith, ◌≡◌, inl, inr, ℕ, zero, suc, ℤ, ◌+◌, ◌<◌, ◌≤◌, ◌-◌, Bool, true, false, cond, List, [], ◌∷◌, length, map, Option, Some, None, Result, Ok, Err, refl, sym, ap, subst, ◌∙◌, nat_lt, ◌&&◌}
+use Rattle.std.proofs.Common.{arith, ◌≡◌, inl, inr, ℕ, zero, suc, ℤ, ◌+◌, ◌≤◌, ◌-◌, Bool, true, false, cond, List, [], ◌∷◌, length, map, Option, Some, None, Result, Ok, Err, refl, sym, ap, subst, ◌∙◌, nat_lt, ◌&&◌}
 use Rattle.std.specs.List.{All, AllByRecursion}
 use Rattle.std.proofs.lemmas.Bool.Decides.{nat_tests}
 use Rattle.std.proofs.lemmas.Option.{none-some, same_Some}
@@ -40,7 +40,6 @@ use Rattle.pd_adding.specs.Counts.{with_boxes, stock_by}
 use Rattle.pd_adding.specs.Growing.{Added, growth_of, grown_to, gathered_to}
 use Rattle.pd_adding.specs.Adding.{growth_at, coming_to, ComesTo}
 use Rattle.pd_putting.specs.Adds.{HasCome}
-use Rattle.pd_regrowth_law.proofs.StepLemmas.{box_went, counted_takes}
 use Rattle.pd_guards.specs.Order.{HasFirst}
 use Rattle.pd_guards.specs.Growing.{IsBorn}
 use Rattle.pd_steady.proofs.NumberLemmas.{all_settled}
@@ -235,31 +234,3 @@ pub put_well : (old new : Patch) (n : Counts) (name path : List ℕ) (now : ℕ)
 put_well old new n name path now e k a key comes (inl h) first = leaf_well old n name path e k a h.plain.cell h.seed.row comes h.plain.single h.is_row h.suits first
 put_well old new n name path now e k a key comes (inr (inl h)) first = canvas_well a.known.names old.rate h.seed.row.kind h.shell.canvas
 put_well old new n name path now e k a key comes (inr (inr h)) first = leaf_well old n name path e k a h.port.cell h.seed.row comes h.port.single h.is_row h.suits first
-
--- ---- where it came, and that there was room for it
-
-growth_room : (own : ℕ) (n : Counts) (name : List ℕ) (left : ℕ) (e : Entry) (k : Known) (t : Trees) → (growth_of own n name left e k).answer ≡ Ok t → n.boxes < 16384
-unfolding growth_of
-growth_room own n name left e k t is =
-    let w : Stock = stock_by k.names n in
-    let lib = answer_in k.files in
-    let root = without_ending name in
-    let s : Step Trees = box_grown lib root left (inside_grown lib root left) (around_root own) e w in
-    let b = box_went lib root left (inside_grown lib root left) (around_root own) e w t s.stock (step_is s t is) in
-    has_room n.boxes b.start.room (counted_takes w b.start b.counted_is).room
-  where
-    has_room : (boxes rest : ℕ) → 16384 - boxes ≡ 1 + rest → boxes < 16384
-    has_room boxes rest e = omega (arith, e)
-
--- a path leads to the canvas, and there was room for one box more
-pub record IsAddedAt (p : Patch) (n : Counts) (path : List ℕ) (a : Added) : Type 0 where
-  pub leads : sub_reached p.grove (Some p.grove.root) path ≡ Some a.canvas
-  pub room : n.boxes < 16384
-
-pub added_at : (p : Patch) (n : Counts) (name path : List ℕ) (e : Edit) (k : Known) (a : Added) → ComesTo None p n name path e k (Ok a) → IsAddedAt p n path a
-added_at p n name path e k a comes =
-    let h = has_grown p n name path e k a comes in
-    record {
-      leads = h.leads ∙ ap (λ (c : ℕ). Some c) (sym h.grown.at);
-      room = growth_room (own_zero p) n name (255 - length path) h.entry h.grown.from a.boxes h.grown.is;
-    }

@@ -26,6 +26,5 @@ pub mod RunLemmas
 mod ToldLemmas
 mod LoopLemmas
 mod MadeLemmas
-mod AroundLemmas
 mod LastLemmas
 mod OwnersLemmas

@@ -1,5 +1,5 @@
--- Where a patch opens, the line of each signal loop tells all boxes of it.
-use Rattle.std.proofs.Common.{◌≡◌, ◌≤◌, ◌+◌, ℕ, Bool, true, List, [], ◌∷◌, ◌++◌, length, map, slice_get, Option, Some, None, IfSome, option_map, refl, sym, ap, subst, ◌∙◌, append_assoc, arith}
+-- Where a tree stands, the line of each signal loop tells all boxes of it.
+use Rattle.std.proofs.Common.{◌≡◌, ◌≤◌, ◌+◌, ℕ, zero, suc, Bool, true, List, [], ◌∷◌, ◌++◌, length, map, slice_get, Option, Some, None, IsSome, IfSome, option_map, refl, sym, ap, subst, ◌∙◌, append_assoc, arith}
 use Rattle.std.specs.Prelude.{option_and_then}
 use Rattle.std.specs.List.{AllByRecursion, cons_option, filter}
 use Rattle.std.proofs.lemmas.Option.{none-some, same_Some}
@@ -9,13 +9,17 @@ use Rattle.pd_order.specs.Listing.{Listing}
 use Rattle.pd_tree.specs.Trees.{Trees, Done, Leaf, Holder, Tree}
 use Rattle.pd_grove.specs.declared.nodes.Node.{Node}
 use Rattle.pd_grove.specs.declared.boards.Board.{Board}
+use Rattle.pd_grove.specs.declared.spots.Spot.{Spot}
+use Rattle.pd_grove.specs.Forest.{holder_in, IsForest}
 use Rattle.pd_grove.specs.Standing.{NodeSeen, node_seen, BoardSeen, board_seen, Stands, GroveStands}
 use Rattle.pd_grove.specs.Telling.{inner_in, keys_in, step_in, reached}
 use Rattle.pd_grove.specs.TextOrder.{deep, keys_standing, keys_of_spots, spots_in_order, keys_in_order}
 use Rattle.pd_grove.proofs.SpotLemmas.{grove_spots, keys_stand}
+use Rattle.pd_owning.proofs.StandLemmas.{stands}
 use Rattle.pd_patch.specs.declared.patch.Patch.{Patch}
 use Rattle.pd_patch.specs.declared.report.Remark.TheVariants.{NotMade, Unfit, Loop}
 use Rattle.pd_patch.specs.Report.{canvases_inside, canvases_by, has_fault, unmade_among, unfit_in, unfit_among, loops_among, notices_in}
+use Rattle.pd_patch.specs.Orders.{HasOrder, AreOrdered}
 use Rattle.pd_patch.specs.Telling.{order_in, is_looped}
 use Rattle.pd_patch.specs.Values.{stuck_by}
 use Rattle.pd_hearing.specs.Worlds.{net_of}
@@ -32,6 +36,11 @@ inner_seen (Some n) s h = ap (λ (x : NodeSeen). x.inner) (same_Some (node_seen 
 keys_seen : (o : Option Board) (s : BoardSeen) → option_map board_seen o ≡ Some s → keys_in o ≡ s.keys
 keys_seen None s h = absurd (none-some s h)
 keys_seen (Some b) s h = ap (λ (x : BoardSeen). x.keys) (same_Some (board_seen b) s h)
+
+-- a box that holds a canvas lives
+holds_live : (o : Option Node) (c : ℕ) → inner_in o ≡ Some c → IsSome o
+holds_live None c h = absurd (none-some c h)
+holds_live (Some n) c h = refl
 
 -- the place behind some keys
 behind : (before : List ℕ) (k : ℕ) (ks : List ℕ) → slice_get (before ++ k ∷ ks) (length before) ≡ Some k
@@ -102,14 +111,36 @@ module _ (p : Patch) where
   low : (n : ℕ) → n + 1 ≤ 256 → n ≤ 256
   low n l = omega arith
 
-  all_led : (t : Tree) → GroveStands p.grove t.sheet t.boxes → deep t.boxes + 1 ≤ 256 → AllByRecursion IsLed (canvases_by p.grove (keys_in_order p.grove))
-  all_led t G l =
+  boxes_led : (t : Tree) → GroveStands p.grove t.sheet t.boxes → deep t.boxes + 1 ≤ 256 → AllByRecursion HoldsLed (keys_in_order p.grove)
+  boxes_led t G l =
       let nodes = get p.grove.nodes in
       let boards = get p.grove.boards in
       let keys : keys_of_spots (spots_in_order p.grove) ≡ keys_standing nodes boards p.grove.root 0 G.keys t.boxes G.stands =
       ap keys_of_spots (grove_spots p.grove t.sheet t.boxes G (low (deep t.boxes) l)) ∙ keys_stand nodes boards p.grove.root 0 true G.keys t.boxes G.stands in
       let root : IsLed p.grove.root = ([], refl) in
-      (root, inside_led (keys_in_order p.grove) (subst (AllByRecursion HoldsLed) (sym keys) (standing_led p.grove.root 0 [] G.keys t.boxes G.stands (keys_seen (boards p.grove.root) _ G.root) root)))
+      subst (AllByRecursion HoldsLed) (sym keys) (standing_led p.grove.root 0 [] G.keys t.boxes G.stands (keys_seen (boards p.grove.root) _ G.root) root)
+
+  all_led : (t : Tree) → GroveStands p.grove t.sheet t.boxes → deep t.boxes + 1 ≤ 256 → AllByRecursion IsLed (canvases_by p.grove (keys_in_order p.grove))
+  all_led t G l = (([], refl), inside_led (keys_in_order p.grove) (boxes_led t G l))
+
+  spot_led : (ps : List Spot) (i : ℕ) (s : Spot) → AllByRecursion HoldsLed (keys_of_spots ps) → slice_get ps i ≡ Some s → HoldsLed s.node
+  spot_led [] i s led at = absurd (none-some s at)
+  spot_led (q ∷ qs) zero s led at = subst (λ (x : Spot). HoldsLed x.node) (same_Some q s at) led.0
+  spot_led (q ∷ qs) (suc i) s led at = spot_led qs i s led.1 at
+
+  -- so one leads to each canvas of a forest, which is the root or lies in a box
+  in_box_led : IsForest (get p.grove.nodes) (get p.grove.boards) p.grove.root → AllByRecursion HoldsLed (keys_in_order p.grove) → (c h : ℕ)
+      → inner_in (get p.grove.nodes h) ≡ Some c → IsLed c
+  in_box_led F led c h holds =
+      let at = stands (get p.grove.nodes) (get p.grove.boards) p.grove.root F h (holds_live (get p.grove.nodes h) c holds) in
+      subst (λ (x : Option ℕ). IfSome x IsLed) holds (spot_led (spots_in_order p.grove) at.0 _ led at.1)
+
+  canvas_led : IsForest (get p.grove.nodes) (get p.grove.boards) p.grove.root → AllByRecursion HoldsLed (keys_in_order p.grove) → (c : ℕ) → IsSome (get p.grove.boards c) → IsLed c
+  canvas_led F led c live = by (holder_in (get p.grove.boards c)) refl
+    where
+      by : (o : Option ℕ) → holder_in (get p.grove.boards c) ≡ o → IsLed c
+      by None e = ([], ap (λ (x : ℕ). Some x) (sym (F.alone c live e)))
+      by (Some h) e = in_box_led F led c h (F.held c h e)
 
   -- the orders of these canvases are short
   abbrev AreShort : Type 0
@@ -121,6 +152,17 @@ module _ (p : Patch) where
 
   loop_told : AreShort → (c : ℕ) → IsLed c → TellsLoop p (Loop c)
   loop_told short c h = stuck_told (order_in p.orders.items c) (λ x e. short h.0 c x h.1 e)
+
+  -- a canvas that doesn't live has no order
+  pub each_told : (t : Tree) → GroveStands p.grove t.sheet t.boxes → deep t.boxes + 1 ≤ 256 → IsForest (get p.grove.nodes) (get p.grove.boards) p.grove.root
+      → AreOrdered p.grove p.web p.orders.items → AreShort → (c : ℕ) → TellsLoop p (Loop c)
+  each_told t G l F ordered short c = by (get p.grove.boards c) refl
+    where
+      by : (o : Option Board) → get p.grove.boards c ≡ o → TellsLoop p (Loop c)
+      by None e =
+          let none : order_in p.orders.items c ≡ None = subst (λ (o : Option Board). HasOrder p.grove p.web o (order_in p.orders.items c)) e (ordered c) in
+          stuck_told (order_in p.orders.items c) (λ x f. absurd (none-some x (sym none ∙ f)))
+      by (Some b) e = loop_told short c (canvas_led F (boxes_led t G l) c (subst (λ (o : Option Board). IsSome o) (sym e) refl))
 
   -- only loops have numbers of boxes
   unmade_told : (ks : List ℕ) → AllByRecursion (TellsLoop p) (unmade_among p.grove ks)

@@ -1,5 +1,6 @@
 -- In a run the line that an edit tells of a signal loop tells all boxes of the loop.
-use Rattle.std.proofs.Common.{arith, ◌≡◌, ◌<◌, ◌≤◌, ◌+◌, ◌++◌, ℕ, ℤ, suc, Bool, true, false, List, [], ◌∷◌, length, Option, Some, None, IfSome, refl, sym, ap, subst, ◌∙◌}
+use Rattle.std.proofs.Common.{arith, ◌≡◌, ◌≤◌, ◌+◌, ◌++◌, ℕ, ℤ, suc, Bool, true, false, List, [], ◌∷◌, length, Option, Some, None, IfSome, refl, sym, ap, subst, ◌∙◌}
+use Rattle.std.specs.List.{AllByRecursion}
 use Rattle.std.specs.Prelude.{cond, option_and_then, option_map, slice_get, Result, Ok, Err}
 use Rattle.std.proofs.lemmas.Option.{none-some}
 use Rattle.slab.specs.Slab.{get}
@@ -10,13 +11,13 @@ use Rattle.pd_canvas.specs.declared.edits.Edit.{Edit}
 use Rattle.pd_canvas.specs.declared.edits.Edit.TheVariants as edit
 use Rattle.pd_canvas.specs.declared.wires.Wire.{Wire}
 use Rattle.pd_order.specs.Listing.{Listing}
-use Rattle.pd_tree.specs.Trees.{weight}
+use Rattle.pd_tree.specs.Trees.{Tree, weight}
 use Rattle.pd_grove.specs.declared.nodes.Node.{Node}
 use Rattle.pd_grove.specs.declared.boards.Board.{Board}
-use Rattle.pd_grove.specs.Standing.{board_seen}
+use Rattle.pd_grove.specs.Standing.{board_seen, GroveStands}
 use Rattle.pd_grove.specs.declared.grove.Grove.{Grove}
 use Rattle.pd_grove.specs.Telling.{keys_in, inner_in, step_in, reached}
-use Rattle.pd_grove.specs.TextOrder.{is_sub}
+use Rattle.pd_grove.specs.TextOrder.{is_sub, deep}
 use Rattle.pd_grove.specs.OwnPaths.{sub_in, sub_step_in, sub_reached}
 use Rattle.pd_web.specs.Canvases.{keys_at}
 use Rattle.pd_web.specs.declared.lines.Line.{Line}
@@ -30,7 +31,7 @@ use Rattle.pd_wiring.specs.declared.refusals.EditRefusal.TheVariants.{TooManyWir
 use Rattle.pd_wiring.specs.Changes.{CanRewire}
 use Rattle.pd_wiring.specs.Plans.{Plan, Attaches, Detaches, canvas_of, attaching, wire_found, detaching, connecting, disconnecting, planned, IsCarriedOut, IsRewired}
 use Rattle.pd_boxes.specs.declared.room.Place.{Place}
-use Rattle.pd_boxes.specs.Put.{keys_before}
+use Rattle.pd_boxes.specs.Put.{keys_before, CanPut}
 use Rattle.pd_boxes.proofs.PutLemmas.{longer_by_one}
 use Rattle.pd_clearing.specs.Clearing.{keys_past}
 use Rattle.pd_deleting.specs.Deletes.{going_box, going_in, is_plain}
@@ -38,23 +39,23 @@ use Rattle.pd_shifting.specs.Moves.{is_array_in, is_port_around, moving_box, mov
 use Rattle.pd_hearing.specs.Worlds.{Net, bare, net_of}
 use Rattle.pd_block.specs.Nets as block
 use Rattle.pd_stage.specs.Choices.{Made}
-use Rattle.pd_stage.specs.Stages.{Stage}
-use Rattle.pd_stage.specs.Lawful.{known_at, IsMade, IsPutIn, IsTakenOut, IsMovedTo, IsRetypedTo}
+use Rattle.pd_stage.specs.Stages.{Stage, with_ahead}
+use Rattle.pd_stage.specs.Lawful.{IsMade, IsPutIn, IsTakenOut, IsMovedTo, IsRetypedTo}
 use Rattle.pd_stage.specs.Trees.{HasTree}
 use Rattle.pd_stage.specs.Lines.{most_boxes}
 use Rattle.pd_stage.specs.Times.{with_wires, IsStageOf}
 use Rattle.pd_stage.proofs.EditLemmas.{AsksAlike}
 use Rattle.pd_engine.specs.Commands.{led_to}
 use Rattle.pd_engine.proofs.ShowLemmas.{led_is}
+use Rattle.pd_engine.proofs.TreeLemmas.{more_tree, stands_more, boxes_more, low_more}
 use Rattle.pd_steady.specs.Serving.{box_of}
 use Rattle.pd_steady.specs.Told.{TellsLoop}
-use Rattle.pd_steady.proofs.AddedLemmas.{added_at}
-use Rattle.pd_steady.proofs.ComeLemmas.{seen_keys, HasLonger, come_longer}
+use Rattle.pd_steady.proofs.ComeLemmas.{seen_keys, come_goes_on}
 use Rattle.pd_steady.proofs.NetLemmas.{TellsOf, same_net}
-use Rattle.pd_steady.proofs.ShortLemmas.{order_short, order_keys, canvas_few}
+use Rattle.pd_steady.proofs.ShortLemmas.{order_short, order_keys, orders_short, canvas_few}
 use Rattle.pd_steady.proofs.StandLemmas.{patch_now}
 use Rattle.pd_steady.proofs.ToldLemmas.{led_other}
-use Rattle.pd_steady.proofs.LoopLemmas.{stuck_told}
+use Rattle.pd_steady.proofs.LoopLemmas.{stuck_told, each_told}
 
 -- ---- a path that leads through subpatches alone leads there
 
@@ -183,43 +184,63 @@ made_at p s path e m at h =
 pub made_told : (q : Patch) (canvas : ℕ) → ((o : Listing) → order_in q.orders.items canvas ≡ Some o → length o.chain + length o.stuck ≤ most_boxes) → TellsLoop q (Loop canvas)
 made_told q canvas short = stuck_told q (order_in q.orders.items canvas) short
 
--- ---- the order of the canvas into which an edit put a box
+-- ---- the orders of a patch into which an edit put a box with all that lies in it
 
--- the boxes of a stage's canvases
-pub boards_same : (s : Stage) (t : HasTree s) (p : Patch) → s.net ≡ net_of p → p.grove.boards ≡ t.patch.grove.boards
+abbrev put_now : (s : Stage) (path : List ℕ) (e : Edit) (m : Made) → IsPutIn s path e m → IsPutIn (with_ahead s []) path e m
+put_now s path e m h = record {
+  old = h.old;
+  new = h.new;
+  after = h.after;
+  box = h.box;
+  stands = record { net = h.stands.net; states = h.stands.states; puts = h.stands.puts; meet = h.stands.meet };
+  adds = h.adds;
+  net = h.net;
+  states = h.states;
+  clocks = h.clocks;
+  names = h.names;
+  more = h.more;
+  base = h.base;
+  within = h.within;
+  lines = h.lines;
+  files = h.files;
+  loads = h.loads;
+  looks = h.looks;
+}
+
+-- so few boxes as the tree has
+few_more : (n m b : ℕ) → n ≤ m → b ≡ m → b ≤ 16384 → n ≤ most_boxes
+few_more n m b l g h = omega (arith, l, g, h)
+
+deep_more : (n : ℕ) → n ≤ 255 → n + 1 ≤ 256
+deep_more n l = omega (arith, l)
+
+-- the line of a loop of each canvas tells all its boxes
+pub put_told : (s : Stage) (path : List ℕ) (e : Edit) (m : Made) → HasTree s → (h : IsPutIn s path e m) → (c : ℕ) → TellsLoop h.new (Loop c)
+put_told s path e m t h c =
+    let q : Patch = h.new in
+    let k : IsPutIn (with_ahead s []) path e m = put_now s path e m h in
+    let can : CanPut q = come_goes_on h.old q s.time h.adds.added h.box.key h.adds.put in
+    let after : Tree = more_tree s t path e m [] k in
+    let stand : GroveStands q.grove after.sheet after.boxes = stands_more s t path e m [] k in
+    each_told q after stand (deep_more (deep after.boxes) (low_more s t path e m [] k)) can.forest can.runs.orders
+    (λ way canvas o leads order. few_more (length o.chain + length o.stuck) (weight after.boxes) m.base.counts.boxes
+    (orders_short q after stand can.runs.orders way canvas o leads order) (boxes_more s t path e m [] k) h.within.boxes) c
+
+pub all_put_told : (s : Stage) (path : List ℕ) (e : Edit) (m : Made) → HasTree s → (h : IsPutIn s path e m) → (cs : List ℕ) → AllByRecursion (λ c. TellsLoop h.new (Loop c)) cs
+all_put_told s path e m t h [] = tt
+all_put_told s path e m t h (c ∷ cs) = (put_told s path e m t h c, all_put_told s path e m t h cs)
+
+-- ---- the boxes of a stage's canvases
+
+boards_same : (s : Stage) (t : HasTree s) (p : Patch) → s.net ≡ net_of p → p.grove.boards ≡ t.patch.grove.boards
 boards_same s t p e = sym (ap (λ (n : Net). n.boards) e) ∙ ap (λ (n : block.Net). n.boards) t.of.net
-
--- so they are few
-few_put : (n m k a : ℕ) → k ≤ m → n ≡ m → n < 16384 → a ≡ k + 1 → a ≤ 16384
-few_put n m k a l e h g = omega (arith, l, e, h, g)
 
 -- those that are left are no more than there were
 few_left : (n m k b : ℕ) → k ≡ suc n → k ≤ m → b ≡ m → b ≤ 16384 → n ≤ 16384
 few_left n m k b e l g h = omega (arith, e, l, g, h)
 
-pub through : (n a : ℕ) → n ≤ a → a ≤ 16384 → n ≤ most_boxes
+through : (n a : ℕ) → n ≤ a → a ≤ 16384 → n ≤ most_boxes
 through n a l h = omega (arith, l, h)
-
-pub put_short : (s : Stage) (path : List ℕ) (e : Edit) (m : Made) → HasTree s → (h : IsPutIn s path e m) → (o : Listing) → order_in h.new.orders.items h.box.canvas ≡ Some o
-    → length o.chain + length o.stuck ≤ most_boxes
-put_short s path e m t h o order =
-    let p : Patch = h.old in
-    let q : Patch = h.new in
-    let a = h.adds.added in
-    let c : ℕ = a.canvas in
-    let came = added_at p s.base.counts s.file path e (known_at s) a h.adds.comes in
-    let leads : reached p.grove (Some p.grove.root) path ≡ Some c = sub_leads p.grove path (Some p.grove.root) c came.leads in
-    let there : reached t.patch.grove (Some t.patch.grove.root) path ≡ Some c = led_at (patch_now s t) p s path c h.stands.net t.of.net leads in
-    let few : length (keys_at t.patch.grove c) ≤ weight t.tree.boxes = canvas_few t.patch.grove t.tree t.stands path c there in
-    let same : keys_at p.grove c ≡ keys_at t.patch.grove c = ap (λ (boards : Slab Board). keys_in (get boards c)) (boards_same s t p h.stands.net) in
-    let k : HasLonger p q c = come_longer p q s.time a h.box.key h.adds.put in
-    let all : length k.after.nodes.items ≤ 16384 =
-    few_put s.base.counts.boxes (weight t.tree.boxes) (length (keys_at p.grove c)) (length k.after.nodes.items)
-    (subst (λ (ks : List ℕ). length ks ≤ weight t.tree.boxes) (sym same) few) t.boxes came.room k.longer in
-    let here : order_in q.orders.items c ≡ Some o = ap (λ (x : ℕ). order_in q.orders.items x) (sym h.adds.canvas) ∙ order in
-    let short : length o.chain + length o.stuck ≤ length k.after.nodes.items =
-    order_short q.grove q.web (get q.grove.boards c) (board_seen k.after) (order_in q.orders.items c) o (ap (λ (x : Option Board). option_map board_seen x) k.is) k.order here in
-    through (length o.chain + length o.stuck) (length k.after.nodes.items) short all
 
 -- ---- the order of the canvas from which an edit took a box
 
@@ -303,7 +324,7 @@ moving_at g number None x h = absurd (cc)
 moving_at g number (Some c) x h = ap (λ (y : ℕ). Some y) (moving_from g c number (slice_get (keys_at g c) number) x h)
 
 -- as many as there are in the tree are few
-pub few_there : (n m b : ℕ) → n ≤ m → b ≡ m → b ≤ 16384 → n ≤ 16384
+few_there : (n m b : ℕ) → n ≤ m → b ≡ m → b ≤ 16384 → n ≤ 16384
 few_there n m b l g h = omega (arith, l, g, h)
 
 pub move_short : (s : Stage) (path : List ℕ) (number : ℕ) (x y : ℤ) (m : Made) → HasTree s → (h : IsMovedTo s path number x y m) → (o : Listing)

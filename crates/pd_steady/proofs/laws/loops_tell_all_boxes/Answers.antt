@@ -5,8 +5,7 @@ use Rattle.pd_wiring.specs.Changes.{CanRewire}
 use Rattle.pd_stage.specs.Times.{with_wires}
 use Rattle.pd_steady.proofs.ToldLemmas.{tree_short}
 use Rattle.pd_steady.proofs.LoopLemmas.{notices_told}
-use Rattle.pd_steady.proofs.MadeLemmas.{rewires_with, made_at, made_told, put_short, take_short, move_short, retype_short}
-use Rattle.pd_steady.proofs.AroundLemmas.{around_short}
+use Rattle.pd_steady.proofs.MadeLemmas.{rewires_with, made_at, made_told, put_told, all_put_told, take_short, move_short, retype_short}
 use Rattle.pd_steady.proofs.laws.loops_tell_all_boxes.Goals as goal
 
 pub returns : goal.returns
@@ -18,8 +17,9 @@ returns c = record {
         let q : Patch = with_wires t.patch made.new.web made.new.links made.new.orders in
         let can : CanRewire q = rewires_with c.rewiring_asks_alike.ensures t.patch s path e m t.of made in
         made_told made.new made.canvas (λ o order. tree_short s t q refl can.orders path made.canvas o (made_at t.patch s path e m t.of made) order);
-    put = λ path e m made. made_told made.new made.box.canvas (λ o order. put_short s path e m t made o order);
-    around = λ path e m canvas made at. made_told made.new canvas (λ o order. around_short s path e m t made canvas at o order);
+    put = λ path e m made. put_told s path e m t made made.box.canvas;
+    around = λ path e m canvas made at. put_told s path e m t made canvas;
+    within = λ path e m made. all_put_told s path e m t made _;
     taken = λ path number m made. made_told made.new made.box.canvas (λ o order. take_short s path number m t made o order);
     moved = λ path number x y m made. made_told made.new made.moves.canvas (λ o order. move_short s path number x y m t made o order);
     retyped = λ path number text m made. made_told made.new made.box.canvas (λ o order. retype_short s path number text m t made o order);
