@@ -3,7 +3,6 @@ use Rattle.std.proofs.Common.{◌≡◌, ◌<◌, ◌≤◌, ◌+◌, ◌-◌, �
 use Rattle.std.proofs.lemmas.Bool.{leb-true, ltb-true}
 use Rattle.pd_atom.specs.Names.{Names, Extends}
 use Rattle.pd_canvas.specs.declared.edits.Edit.{Edit}
-use Rattle.pd_queue.specs.Queue as queue
 use Rattle.pd_clock.specs.declared.times.Rate.{Rate}
 use Rattle.pd_clock.specs.Queue.{Clock}
 use Rattle.pd_kind.specs.declared.states.State.{State}
@@ -42,7 +41,7 @@ use Rattle.pd_guards.specs.Worlds.{IsInOrder}
 use Rattle.pd_steady.specs.Runs.{own_ways, finished_by}
 use Rattle.pd_steady.specs.Steady.{IsSteady, IsCommand}
 use Rattle.pd_steady.specs.Steps.{Step, Does, Learns, Comes, AreSteps, step_by, steps_by, run_by}
-use Rattle.pd_steady.proofs.EventLemmas.{Guards, Begins, start_of, starts, outcome_is, owned_at, altered_steady, delivered_steady}
+use Rattle.pd_steady.proofs.EventLemmas.{Guards, Begins, start_of, starts, outcome_is, owned_at, altered_steady, left_steady}
 use Rattle.pd_steady.proofs.ExtendLemmas.{outcome_extends}
 use Rattle.pd_steady.proofs.FairLemmas.{AreFair, fair_first, fair_second, taken_left}
 use Rattle.pd_steady.proofs.OwnLemmas.{commanded_own, advanced_own, finished_own}
@@ -174,7 +173,7 @@ module _ (library : List (ℕ × Answer)) (rate : Rate) (name : List ℕ) where
           states = h.steady.order.states;
         } in
         record {
-          steady = delivered_steady g most s l b h.steady k;
+          steady = left_steady g most s l b h.steady k;
           stands = record {
             file = h.stands.file;
             rates = h.stands.rates;
@@ -221,7 +220,7 @@ module _ (library : List (ℕ × Answer)) (rate : Rate) (name : List ℕ) where
     edits_lead (suc n) place l s = asked_leads (edits_taken_by all_loaded n (place + 1)) (edits_lead n (place + 1)) l s (slice_get l.asked place)
 
     all_lead : (l : Left) (s : Stage) → Leads s (edits_of_by all_loaded l s)
-    all_lead l s = edits_lead queue.most 0 l s
+    all_lead l s = edits_lead _ 0 l s
 
     event_leads : (s : Stage) (b : Beginning) → (IsSteady most s → Begins s.names b) → Leads s (event s b)
     unfolding event

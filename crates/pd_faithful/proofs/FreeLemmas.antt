@@ -101,8 +101,8 @@ module _ (laws : Laws) where
 
   -- a command is carried out
   pub carried_free : (p : Point) (c : Command) → IsSteadyAt p → IsCommand p.stage.names c → AreFair (reached p).edits
-      → IsFree most_units (commanded c (reached p).stage) (commanded_by free_ways c (reached p).stage)
-  carried_free p c h k w = commanded_free laws.guards most_units c (reached p).stage ((reached_free p h w).steady w) (reached_command p c h k w)
+      → AreFair (commanded c (reached p).stage).edits → IsFree most_units (commanded c (reached p).stage) (commanded_by free_ways c (reached p).stage)
+  carried_free p c h k w v = commanded_free laws.guards most_units c (reached p).stage ((reached_free p h w).steady w) (reached_command p c h k w) v
 
   -- the run comes to its end
   done_free : (s : Stage) → IsSteady most_units s → AreFair (done s).passage.edits → done_by free_ways s ≡ done s
@@ -113,8 +113,9 @@ module _ (laws : Laws) where
   said_free (script.Run c) p h k = λ w.
       let part : Passage = commanded c (reached p).stage in
       let first : AreFair (reached p).edits = fair_first (reached p).edits part.edits w in
-      let a : IsFree most_units part (commanded_by free_ways c (reached p).stage) = carried_free p c h k first in
-      (carried_same free_ways c p (reached_free p h first).same a.same, record { stage = a.steady (fair_second (reached p).edits part.edits w); rate = h.rate; time = h.time })
+      let second : AreFair part.edits = fair_second (reached p).edits part.edits w in
+      let a : IsFree most_units part (commanded_by free_ways c (reached p).stage) = carried_free p c h k first second in
+      (carried_same free_ways c p (reached_free p h first).same a.same, record { stage = a.steady second; rate = h.rate; time = h.time })
   said_free script.End p h k = λ w.
       let end : Run = done (reached p).stage in
       let first : AreFair (reached p).edits = fair_first (reached p).edits end.passage.edits w in

@@ -1,29 +1,20 @@
 -- No name of the table is lost as time goes on, where the edits on the way are fair.
-use Rattle.std.proofs.Common.{◌≡◌, ◌<◌, ◌≤◌, ◌+◌, ◌-◌, ◌^◌, ℕ, zero, suc, Bool, true, false, nat_lt, nat_le, if◌then◌else◌, length, Option, Some, None, IfSome, refl, sym, subst, arith}
+use Rattle.std.proofs.Common.{◌≡◌, ◌<◌, ◌≤◌, ◌+◌, ◌-◌, ◌^◌, ℕ, zero, suc, Bool, true, false, nat_lt, nat_le, if◌then◌else◌, List, length, Option, Some, None, IfSome, refl, arith}
 use Rattle.std.proofs.lemmas.Bool.{leb-true, ltb-true}
 use Rattle.pd_atom.specs.Names.{Names}
 use Rattle.pd_clock.specs.Queue.{Clock}
-use Rattle.pd_turns.specs.Turns.{World}
-use Rattle.pd_hearing.specs.Worlds.{Net, Kept}
-use Rattle.pd_hearing.specs.Deeds.{done}
-use Rattle.pd_walk.specs.declared.walker.Start.{Start}
 use Rattle.pd_walk.specs.declared.walker.Start.TheVariants as start
-use Rattle.pd_stack.specs.Tasks.{Task, Nobody}
-use Rattle.pd_walk.specs.Acts.{kept_after, rules}
-use Rattle.pd_walk.specs.Outcome.{outcome}
-use Rattle.pd_guards.specs.Order.{IsName}
-use Rattle.pd_guards.specs.Worlds.{IsInOrder, IsTask, IsStart}
+use Rattle.pd_walk.specs.Outcome.{outcome, all_loaded}
 use Rattle.pd_guards.proofs.FactLemmas.{either_by}
 use Rattle.pd_guards.proofs.MoreLemmas.{longer}
-use Rattle.pd_guards.proofs.SameTurns.{Agree}
-use Rattle.pd_guards.proofs.WalkLemmas.{name_in, asked_in, done_in, done_names, IsTaskAt, stays_in, others_in, follow_in, Delivers, outcome_ends}
-use Rattle.pd_stage.specs.Stages.{Stage, Passage, kept_at, still, followed_by}
-use Rattle.pd_stage.specs.Events.{Firing, begun, delivered, event}
+use Rattle.pd_stage.specs.Stages.{Stage, Passage, still, followed_by}
+use Rattle.pd_stage.specs.Events.{Firing, Left, going_on, begun, delivered, event}
 use Rattle.pd_stage.specs.Times.{most_fired, first_clock, if_below, next_clock, taken_off, with_taken, with_fired, fires, fires_or_not, fires_below, clocks_fire, block_sounds, block_runs, blocks_run, time_is, comes_to, advanced}
 use Rattle.pd_stage.proofs.EditLemmas.{Alters}
 use Rattle.pd_steady.specs.Steady.{IsSteady}
 use Rattle.pd_steady.proofs.FairLemmas.{AreFair, fair_first, fair_second, altered_extends, event_keeps}
-use Rattle.pd_steady.proofs.EventLemmas.{Guards, event_free}
+use Rattle.pd_steady.proofs.EventLemmas.{Guards, event_free, loads_extend}
+use Rattle.pd_steady.proofs.ExtendLemmas.{outcome_extends}
 use Rattle.pd_steady.proofs.TimeLemmas.{fired_steady, block_free}
 
 -- numbers apart, since tactics read all that is in scope
@@ -36,72 +27,22 @@ below a b c h k = omega arith
 same : (n : ℕ) → n ≤ n
 same n = omega arith
 
-last_below : (n : ℕ) → n < suc n
-last_below n = omega arith
-
-next_to : (n m : ℕ) → n < m → suc n ≤ m
-next_to n m l = omega arith
-
-least : (m : ℕ) → zero ≤ m
-least m = omega arith
-
-covers : (n m : ℕ) → ((k : ℕ) → k < n → k < m) → n ≤ m
-covers zero m h = least m
-covers (suc n) m h = next_to n m (h n (last_below n))
-
--- deliveries
-module _ (net : Net) (now : ℕ) (names : Names) where
-  -- all is in order, and each name of a table is there
-  record Holds (kept : Kept) : Type 0 where
-    order : IsInOrder net now kept
-    known : (name : ℕ) → IsName names name → IsName kept.names name
-
-  task_holds : (kept : Kept) (t : Task) → Holds kept → IsTask kept.names t → Holds (kept_after net now kept t)
-  task_holds kept t h m = record {
-    order = stays_in net now kept t h.order m;
-    known = λ name k. others_in net now kept t h.order m (Nobody name) (h.known name k);
-  }
-
-  deed_holds : (kept : Kept) (after : Kept) → IsInOrder net now after → after.names ≡ kept.names → Holds kept → Holds after
-  deed_holds kept after o e h = record { order = o; known = λ name k. subst (λ (n : Names). IsName n name) (sym e) (h.known name k) }
-
-  agree : Agree (rules net now) (rules net now) Holds (IsTaskAt net now)
-  agree = record {
-    kept = λ kept t h m. refl;
-    said = λ kept t h m. refl;
-    caused = λ kept t h m. refl;
-    costs = λ t. refl;
-    cut = refl;
-    stays = task_holds;
-    others = λ kept t h m. others_in net now kept t h.order m;
-    follow = λ kept t h m. follow_in net now kept t h.order m;
-  }
-
-  delivers : Delivers net now (rules net now) Holds (IsTaskAt net now)
-  delivers = record {
-    agree = agree;
-    order = λ kept h. h.order;
-    deeds = λ kept node d h k. deed_holds kept (done net now node d kept) (done_in net now node d kept h.order k) (done_names net now node d kept) h;
-    asks = λ kept node said k. asked_in kept.names net 0 node said k;
-    names = λ kept selector atoms name m k. name_in kept.names net 1 0 selector atoms name true m k;
-  }
-
-outcome_names : (net : Net) (now : ℕ) (w : World Kept) (s : Start) → IsInOrder net now w.kept → IsStart w.kept.names s → length w.kept.names ≤ length (outcome net now w s).kept.names
-outcome_names net now w s h k =
-    let e : Holds net now w.kept.names (outcome net now w s).kept =
-    (outcome_ends net now (rules net now) (Holds net now w.kept.names) (IsTaskAt net now) (delivers net now w.kept.names) w s (record { order = h; known = λ name j. j }) k).1 in
-    covers (length w.kept.names) (length (outcome net now w s).kept.names) e.known
-
 -- what deliveries leave of the table, each edit goes on from
-kept_names : (s : Stage) (owner : ℕ) → IsInOrder s.net s.time (kept_at s) → length s.names ≤ length (delivered s (Firing owner)).kept.names
+kept_names : (s : Stage) (owner : ℕ) → length s.names ≤ length (delivered s (Firing owner)).kept.names
 unfolding outcome
-kept_names s owner h = outcome_names s.net s.time (begun s) (start.Clock owner) h tt
+kept_names s owner = longer s.names (delivered s (Firing owner)).kept.names (outcome_extends s.net s.time (begun s) (start.Clock owner))
+
+loaded_names : (s r : Stage) (l : Left) (boxes : List ℕ) → length s.names ≤ length r.names
+    → length s.names ≤ length (all_loaded r.net r.time (going_on r l) boxes).kept.names
+loaded_names s r l boxes h =
+    let to : Names = (all_loaded r.net r.time (going_on r l) boxes).kept.names in
+    within (length s.names) (length r.names) (length to) h (longer r.names to (loads_extend r l boxes))
 
 altered_names : (s r q : Stage) → Alters r q → length s.names ≤ length r.names → length s.names ≤ length q.names
 altered_names s r q a l = within (length s.names) (length r.names) (length q.names) l (longer r.names q.names (altered_extends r q a))
 
-fired_names : (s : Stage) (owner : ℕ) → IsInOrder s.net s.time (kept_at s) → AreFair (event s (Firing owner)).edits → length s.names ≤ length (event s (Firing owner)).stage.names
-fired_names s owner h w = event_keeps (λ (r : Stage). length s.names ≤ length r.names) (altered_names s) s (Firing owner) w (kept_names s owner h)
+fired_names : (s : Stage) (owner : ℕ) → AreFair (event s (Firing owner)).edits → length s.names ≤ length (event s (Firing owner)).stage.names
+fired_names s owner w = event_keeps (λ (r : Stage). length s.names ≤ length r.names) (altered_names s) (loaded_names s) s (Firing owner) w (kept_names s owner)
 
 -- a clock that is next is below the limit
 below_limit : (limit : ℕ) (o : Option Clock) → IfSome (if_below limit o) (λ (c : Clock). c.time < limit)
@@ -126,7 +67,7 @@ module _ (g : Guards) (most : ℕ) (top : most ≤ 2 ^ 101) where
   fires_keep s c l h w =
       let r : Stage = with_fired (with_taken s (taken_off s.clocks)) c.time in
       let k : IsSteady most r = fired_steady g most top s c l h in
-      record { steady = (event_free g most r (Firing c.owner) k tt).steady w; names = fired_names r c.owner k.order w }
+      record { steady = (event_free g most r (Firing c.owner) k tt w).steady w; names = fired_names r c.owner w }
 
   clock_keeps : (s : Stage) (rest : Stage → Passage) (limit : ℕ) (o : Option Clock) → limit ≤ most → IfSome o (λ (c : Clock). c.time < limit)
       → ((r : Stage) → IsSteady most r → AreFair (rest r).edits → Keeps most r (rest r).stage) → IsSteady most s → AreFair (fires_or_not s rest o).edits

@@ -76,7 +76,7 @@ module _ (laws : Laws) where
         let first : AreFair (reached p).edits = fair_first (reached p).edits part.edits both in
         let second : AreFair part.edits = fair_second (reached p).edits part.edits both in
         let on : IsStepped most_units q.stage (rest q) =
-        goes q (record { stage = (carried_free laws p c h k first).steady second; rate = h.rate; time = h.time }) (fair_second ((reached p).edits ++ part.edits) (rest q).passage.edits w) in
+        goes q (record { stage = (carried_free laws p c h k first second).steady second; rate = h.rate; time = h.time }) (fair_second ((reached p).edits ++ part.edits) (rest q).passage.edits w) in
         let does : IsStepped most_units r (behind part (rest q)) = part_first (Does c) r part (rest q) (commanded_own c r) (reached_command laws p c h k first) on in
         subst (λ (x : Run). IsStepped most_units p.stage x) (sym (behind_assoc (reached p) part (rest q))) (time_first p (behind part (rest q)) h does)
     said_stepped script.End p h k w = time_first p (done (reached p).stage) h (done_stepped (reached p).stage)

@@ -1,5 +1,5 @@
 -- Each edit of a run takes the first of what is ahead. So the edits behind those that are told are refused.
-use Rattle.std.proofs.Common.{◌≡◌, ◌+◌, ◌-◌, ◌*◌, ◌==◌, ℕ, ℤ, zero, suc, Bool, true, false, nat_lt, nat_le, if◌then◌else◌, inl, inr, List, [], ◌∷◌, ◌++◌, length, Option, Some, None, refl, sym, ap, subst, ◌∙◌}
+use Rattle.std.proofs.Common.{◌≡◌, ◌+◌, ◌-◌, ◌*◌, ◌==◌, ℕ, ℤ, zero, suc, Bool, true, false, nat_lt, nat_le, if◌then◌else◌, inl, inr, List, [], ◌∷◌, ◌++◌, length, slice_get, Option, Some, None, refl, sym, ap, subst, ◌∙◌}
 use Rattle.std.proofs.lemmas.List.{append-nil}
 use Rattle.pd_atom.specs.Names.{Names}
 use Rattle.pd_canvas.specs.declared.edits.Edit.{Edit}
@@ -15,11 +15,12 @@ use Rattle.pd_script.specs.declared.commands.Script.{Script}
 use Rattle.pd_script.specs.declared.commands.Script.TheVariants as script
 use Rattle.pd_patch.specs.declared.patch.Patch.{Patch}
 use Rattle.pd_turns.specs.Turns.{World}
+use Rattle.pd_walk.specs.Outcome.{all_loaded}
 use Rattle.pd_hearing.specs.Worlds.{Kept}
-use Rattle.pd_stage.specs.Choices.{Base, Wanted, Choice, Refuses, Lacks, Makes, first_choice, later}
+use Rattle.pd_stage.specs.Choices.{Base, Wanted, Asks, Choice, Refuses, Lacks, Makes, first_choice, later, loads_of_choice}
 use Rattle.pd_stage.specs.Stages.{Stage, Taken, choices_of, Passage, with_names, with_ahead, still, joined, followed_by}
 use Rattle.pd_stage.specs.Lawful.{AreLawful}
-use Rattle.pd_stage.specs.Events.{Beginning, Firing, stage_by, edit_taken, edit_asked, edits_taken, delivered, with_kept, event}
+use Rattle.pd_stage.specs.Events.{Beginning, Firing, Left, whole, left_after, going_on, after_deliveries, stage_by, edit_taken, loaded_by, edit_loaded_by, asked_by, edits_taken_by, edits_of_by, delivered, with_kept, event, edit_event}
 use Rattle.pd_stage.specs.Times.{most_fired, block_units, next_clock, taken_off, with_taken, with_fired, fires, fires_or_not, fires_below, clocks_fire, block_sounds, block_runs, blocks_run, time_is, comes_to, advanced, finished}
 use Rattle.pd_stage.specs.Leads.{Sinks}
 use Rattle.pd_engine.specs.Commands.{commanded}
@@ -77,19 +78,40 @@ taken_takes : (wanted : Wanted) (s : Stage) → Takes s.ahead (edit_taken wanted
 unfolding edit_taken
 taken_takes wanted s = record { follow = (refl, tt); left = left_by (with_ahead s (later s.ahead)) (first_choice s.ahead) }
 
-edits_take : (waiting : List (List ℕ × Edit)) (s : Stage) → Takes s.ahead (edits_taken waiting s)
-unfolding edits_taken
-edits_take [] s = still_takes s
-edits_take (asked ∷ waiting) s =
-    let p : Passage = edit_asked asked s in
-    joined_take s.ahead p (edits_taken waiting p.stage) (taken_takes _ s) (edits_take waiting p.stage)
+-- deliveries, and then the rest of the event
+come_take : (s : Stage) (w : World Kept) (rest : Left → Stage → Passage) → ((l : Left) (r : Stage) → Takes r.ahead (rest l r))
+    → Takes s.ahead (followed_by (after_deliveries s w) (rest (left_after w)))
+come_take s w rest f =
+    joined_take s.ahead (after_deliveries s w) (rest (left_after w) (with_kept s w.kept)) (record { follow = tt; left = refl }) (f (left_after w) (with_kept s w.kept))
+
+loaded_take : (wanted : Wanted) (l : Left) (rest : Left → Stage → Passage) → ((l : Left) (r : Stage) → Takes r.ahead (rest l r)) → (s : Stage)
+    → Takes s.ahead (edit_loaded_by all_loaded wanted l rest s)
+loaded_take wanted l rest f s =
+    let p : Passage = edit_taken wanted s in
+    let boxes : List ℕ = loads_of_choice (first_choice s.ahead) in
+    joined_take s.ahead p (loaded_by all_loaded boxes l rest p.stage) (taken_takes wanted s)
+    (come_take p.stage (all_loaded p.stage.net p.stage.time (going_on p.stage l) boxes) rest f)
+
+asked_take : (rest : Left → Stage → Passage) → ((l : Left) (r : Stage) → Takes r.ahead (rest l r)) → (l : Left) (s : Stage) (o : Option (List ℕ × Edit))
+    → Takes s.ahead (asked_by all_loaded rest l s o)
+asked_take rest f l s None = still_takes s
+asked_take rest f l s (Some asked) = loaded_take (Asks asked.0 asked.1) l rest f s
+
+edits_take : (n place : ℕ) (l : Left) (s : Stage) → Takes s.ahead (edits_taken_by all_loaded n place l s)
+unfolding edits_taken_by
+edits_take zero place l s = still_takes s
+edits_take (suc n) place l s = asked_take (edits_taken_by all_loaded n (place + 1)) (edits_take n (place + 1)) l s (slice_get l.asked place)
+
+all_take : (l : Left) (s : Stage) → Takes s.ahead (edits_of_by all_loaded l s)
+all_take l s = edits_take _ 0 l s
 
 event_takes : (s : Stage) (b : Beginning) → Takes s.ahead (event s b)
 unfolding event
-event_takes s b =
-    let w : World Kept = delivered s b in
-    let e : Takes s.ahead (edits_taken w.kept.queue (with_kept s w.kept)) = edits_take w.kept.queue (with_kept s w.kept) in
-    record { follow = e.follow; left = e.left }
+event_takes s b = come_take s (delivered s b) (edits_of_by all_loaded) all_take
+
+edit_takes : (wanted : Wanted) (s : Stage) → Takes s.ahead (edit_event wanted s)
+unfolding edit_event
+edit_takes wanted s = loaded_take wanted whole (edits_of_by all_loaded) all_take s
 
 -- ---- clocks and blocks
 
@@ -140,11 +162,11 @@ finished_takes s = if_takes (nat_lt s.block_end (s.time + block_units)) s.ahead 
 commanded_takes : (c : Command) (s : Stage) → Takes s.ahead (commanded c s)
 unfolding commanded
 commanded_takes (command.Send name atoms) s = let e = event_takes s _ in record { follow = e.follow; left = e.left }
-commanded_takes (command.Edit place edit) s = taken_takes _ s
-commanded_takes (command.Save document) s = taken_takes _ s
+commanded_takes (command.Edit place edit) s = edit_takes _ s
+commanded_takes (command.Save document) s = edit_takes _ s
 commanded_takes (command.Show path) s = record { follow = tt; left = refl }
-commanded_takes command.Undo s = taken_takes _ s
-commanded_takes command.Redo s = taken_takes _ s
+commanded_takes command.Undo s = edit_takes _ s
+commanded_takes command.Redo s = edit_takes _ s
 
 opened_takes : (file : List ℕ) (p : Patch) (names : Names) (base : Base) (ahead : List Choice) → Takes ahead (opened file p names base ahead)
 opened_takes file p names base ahead = let e = event_takes (first_stage file p names base ahead) _ in record { follow = e.follow; left = e.left }

@@ -45,7 +45,7 @@ pub record Opens : Type 0 where
   pub steady : (holds : Option (List FileRow)) (name : List ℕ) (rate : Rate) (d : Page) (names table : Names) (p : Patch) (base : Base) (most : ℕ) (edits : List Choice) → Grows holds name rate d names p table base
       → AreLawful (opened name p table base edits).edits → IsSteady most (opened name p table base edits).stage
   pub freely : (holds : Option (List FileRow)) (name : List ℕ) (rate : Rate) (d : Page) (names table : Names) (p : Patch) (base : Base) (edits : List Choice) → Grows holds name rate d names p table base
-      → opened_by free_ways name p table base edits ≡ opened name p table base edits
+      → AreLawful (opened name p table base edits).edits → opened_by free_ways name p table base edits ≡ opened name p table base edits
 
 -- numbers apart
 early : (n : ℕ) → 0 ≤ n
@@ -91,7 +91,7 @@ module _ (opens : Opens) where
       → AreFair (run_of ending text (start (opened name p table base edits).stage (samples rate))).passage.edits
       → played_by free_ways name p table base edits (samples rate) ending text ≡ own_run name p table base edits (samples rate) ending text
   whole_free holds name rate d names table p base edits ending text g l w =
-      ap (λ (x : Passage). behind x (run_of_by free_ways ending text (start x.stage (samples rate)))) (opens.freely holds name rate d names table p base edits g)
+      ap (λ (x : Passage). behind x (run_of_by free_ways ending text (start x.stage (samples rate)))) (opens.freely holds name rate d names table p base edits g l)
       ∙ ap (λ (r : Run). behind (opened name p table base edits) r)
       (run_free opens.laws ending text (start (opened name p table base edits).stage (samples rate))
       (starts_steady (opened name p table base edits).stage rate (opens.steady holds name rate d names table p base most_units edits g l)) w)
