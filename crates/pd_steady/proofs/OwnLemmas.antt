@@ -1,4 +1,4 @@
--- With pd_engine's own events a run is pd_engine's.
+-- With pd_engine's own events and edits a run is pd_engine's.
 use Rattle.std.proofs.Common.{◌≡◌, ◌+◌, ◌-◌, ℕ, zero, suc, Bool, nat_lt, nat_le, if◌then◌else◌, List, Option, Some, None, refl, ap, ◌∙◌}
 use Rattle.pd_clock.specs.Queue.{Clock}
 use Rattle.pd_atom.specs.Names.{Names}

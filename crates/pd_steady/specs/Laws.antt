@@ -21,7 +21,7 @@ use Rattle.pd_steady.specs.Serving.{OwnersServe, StayAlike}
 use Rattle.pd_steady.specs.Told.{TellsOrders, GrowthTellsLoops, EditsTellLoops}
 use Rattle.pd_steady.specs.Steps.{Step, AreSteps, NamesGoOn, steps_by, run_by}
 
--- with pd_engine's own events and blocks the definitions of a run are pd_engine's
+-- with pd_engine's own events, edits and blocks the definitions of a run are pd_engine's
 pub record RunsAreByEvents : Type 0 where
   pub commanded : (c : Command) (s : Stage) → commanded_by own_ways c s ≡ commanded c s
   pub advanced : (to : ℕ) (s : Stage) → advanced_by own_ways to s ≡ advanced to s

@@ -1,7 +1,7 @@
 //! Laws of whole runs.
 ghost use Rattle.pd_steady.specs.Laws.{RunsAreByEvents, CommandsStaySteady, TimeStaysSteady, NamesStaySteady, OpeningIsSteady, RunsPassNothingOver, LinesTellAllBoxes, LoopsTellAllBoxes, OwnersGoOn};
 
-/// With pd_engine's own events and blocks the definitions of a run are pd_engine's.
+/// With pd_engine's own events, edits and blocks the definitions of a run are pd_engine's.
 pub fn runs_are_by_events()
     ensures { RunsAreByEvents }
 {}

@@ -7,29 +7,31 @@
 //! runs twice in a block. Where a patch opens the stage is steady
 //! (`opening_is_steady`); it stays so through commands whose names are of the table (`commands_stay_steady`), names
 //! that records bring (`names_stay_steady`) and time (`time_stays_steady`), in a run in which each edit is lawful:
-//! edits of wires and saves leave all that steadiness speaks of; a box that an edit puts, also a subpatch without
-//! boxes or a port of the box around, is of a kind in order and keeps what its kind keeps at first, and so does one
+//! edits of wires and saves leave all that steadiness speaks of; a box that an edit puts, with all that lies in it,
+//! also a port of the box around, is of a kind in order and keeps what its kind keeps at first, and so does one
 //! that another box becomes, whatever ports the two have and whatever wires don't fit any more; where wires follow
 //! a port that came, each inlet has wires as it had them; where an edit takes a box out with all that lies in it,
 //! all others keep what they kept, and their names have their owners; and where one moves a box all keep what they
 //! kept. So it is with those that a script asks for and with those that messages ask for, which are taken at the
-//! end of their event.
+//! end of their event; and the boxes that are loaded behind an edit, with what is left of its event, leave a steady
+//! stage steady as its deliveries do.
 //!
 //! So a whole run in which each edit is lawful, from where a patch opens to its end, is the one in which each event
 //! is the depth-first recursion over the objects' own definitions, and in each block each box runs its own row
 //! (`free_block` of `pd_sound_law`, in which nothing is looked at). Nothing is ever
 //! passed over in it, in lines, samples, files that are put, edits and where it leads (`runs_pass_nothing_over`).
-//! With pd_engine's own events and blocks these runs are pd_engine's (`runs_are_by_events`). In a run the lines of a
+//! With pd_engine's own events, edits and blocks these runs are pd_engine's (`runs_are_by_events`). In a run the lines of a
 //! canvas's order tell all its boxes (`lines_tell_all_boxes`), and so does the line of each signal loop, where a
-//! patch opens and where an edit makes one, in its canvas or in the one around (`loops_tell_all_boxes`).
+//! patch opens and where an edit makes one, in its canvas, in the one around or in those in the box that it puts
+//! (`loops_tell_all_boxes`).
 //!
 //! Where each edit is lawful, what each box keeps is of the objects of what it kept at first, until an edit deletes
 //! it, or a box in which it lies, or makes it another one. And a box that looks for a bus, a sum or a delay line finds
 //! one in the first owner of its name, wherever a run has come to in which each table of names that is read goes on
 //! (`owners_go_on`).
 //!
-//! Definitions: `Steady`, `Runs` and `Steps` (a run where it is given what events and blocks come to), `Freely`
-//! (events and blocks where nothing is passed over), `Told`, `Serving`.
+//! Definitions: `Steady`, `Runs` and `Steps` (a run where it is given what events, edits and blocks come to), `Freely`
+//! (events, edits and blocks where nothing is passed over), `Told`, `Serving`.
 #![tactic(auto)]
 
 mod laws;
