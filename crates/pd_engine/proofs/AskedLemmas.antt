@@ -147,7 +147,7 @@ module _ (net : Net) (now : ℕ) where
       let said = loaded_at net w.kept.states node in
       loaded_asked (told_by net now node said w) nodes (told_asked node said w h)
 
-  -- where nothing else waits, what an event asks for is such
+  -- where what waits is such, what an event asks for is too
   pub outcome_asked : (w : World Kept) (s : Start) → Are w → Are (outcome net now w s)
   unfolding outcome
   outcome_asked w (start.Name name message) h = ran_asked w (named_tasks net name message.selector message.atoms.now) h
@@ -155,9 +155,8 @@ module _ (net : Net) (now : ℕ) where
   outcome_asked w (start.Loads boxes) h = loaded_asked w boxes.now h
 
 -- and so are those that an event left
-pub left_asked : (net : Net) (now : ℕ) (w : World Kept) (s : Start) (k : Kept) → w.kept.queue ≡ [] → k ≡ (outcome net now w s).kept → AreAskedFor k.queue
-left_asked net now w s k none is =
-    subst (λ (x : Kept). AreAskedFor x.queue) (sym is) (outcome_asked net now w s (subst (λ (q : Waiting). AreAskedFor q) (sym none) tt))
+pub left_asked : (net : Net) (now : ℕ) (w : World Kept) (s : Start) (k : Kept) → AreAskedFor w.kept.queue → k ≡ (outcome net now w s).kept → AreAskedFor k.queue
+left_asked net now w s k are is = subst (λ (x : Kept). AreAskedFor x.queue) (sym is) (outcome_asked net now w s are)
 
 same_pair : (a b : List ℕ × Edit) → Some a ≡ Some b → a ≡ b
 same_pair a b e = cc

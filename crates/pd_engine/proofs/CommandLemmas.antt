@@ -1,6 +1,6 @@
 -- Commands.
-use Rattle.std.proofs.Common.{◌≡◌, ℕ, Bool, List, ◌++◌, length, nat_lt, sym, ◌∙◌, ap, subst, Option, Result, Ok, Err, OnOk, OnErr, IfOk}
-use Rattle.std.proofs.lemmas.Result.{on_ok_weaker}
+use Rattle.std.proofs.Common.{◌≡◌, ℕ, Bool, List, [], ◌++◌, length, nat_lt, sym, ◌∙◌, ap, subst, Option, Result, Ok, Err, OnOk, OnErr, IfOk}
+use Rattle.std.proofs.lemmas.Result.{on_ok_weaker, on_err_weaker}
 use Rattle.pd_io.specs.Stream.{grown, TookPart}
 use Rattle.pd_io.specs.declared.files.FileRow.{FileRow}
 use Rattle.pd_atom.specs.declared.Atom.{Atom}
@@ -9,13 +9,18 @@ use Rattle.pd_script.specs.declared.commands.Command.{Command}
 use Rattle.pd_stage.specs.Choices.{Wanted, Choice}
 use Rattle.pd_stage.specs.Stages.{Stage, Taken, Passage, saying, choices_of}
 use Rattle.pd_stage.specs.Leads.{Sinks, sinks, Comes, Stops, Says, SaysPart}
-use Rattle.pd_stage.specs.Events.{event, Message, edit_taken}
+use Rattle.pd_stage.specs.Events.{event, Message, edit_taken, edit_event}
 use Rattle.pd_engine.specs.declared.refusals.Outcome.{Outcome}
 use Rattle.pd_engine.specs.declared.refusals.Outcome.TheVariants.{Done}
 use Rattle.pd_engine.specs.Messages.{message_in}
 use Rattle.pd_engine.specs.Commands.{cut_line, cut_text, sent, commanded, first_outcome, answered, IsCarriedOut}
-use Rattle.pd_engine.specs.Edits.{IsTakenSo}
+use Rattle.pd_engine.specs.Edits.{IsTakenSo, IsEvent}
 use Rattle.pd_stage.proofs.LeadLemmas.{broke_same, written_leads, written_breaks, comes_then, stops_first, stops_then}
+use Rattle.pd_engine.proofs.FollowLemmas.{alone_so, event_broke_first}
+
+pub if_ok_weaker : {A E : Type 0} {P Q : A → Type 0} (r : Result A E) → ((a : A) → P a → Q a) → IfOk r P → IfOk r Q
+if_ok_weaker (Ok a) f h = f a h
+if_ok_weaker (Err e) f h = tt
 
 -- a message that is sent by a command
 module _ (s s₁ s₂ : List Choice → Stage) (name selector : ℕ) (atoms given : List Atom) (is_cut : Bool) (t₁ t₂ u : Option (List ℕ)) (k : ℕ) (h : Option (List FileRow)) (f : ℕ) (z : Sinks)
@@ -82,19 +87,23 @@ pub says_carried : {E : Type 0} (r : Result Outcome E) (cmd : Command) (part : S
 says_carried r cmd part from to t t' k k' h f e done says is =
     comes_carried r cmd part from to (λ samples. sinks t samples k h f) (λ samples. sinks t' samples k' h f) e done (on_ok_weaker r (λ x samples. x samples h f) says) is
 
--- it is one edit that is taken, and answers what that came to
-pub taken_carried : {E : Type 0} (r : Result Outcome E) (cmd : Command) (wanted : Wanted) (from to : List Choice → Stage) (x y : Option (List ℕ) → Sinks)
-    → ((s : Stage) → commanded cmd s ≡ edit_taken wanted s) → ((edits : List Taken) → answered cmd edits ≡ first_outcome edits)
-    → IfOk r (λ o. (samples : Option (List ℕ)) → IsTakenSo wanted o from to (x samples) (y samples))
+-- it is an edit that is an event, and answers what that came to
+pub event_carried : {E : Type 0} (r : Result Outcome E) (cmd : Command) (wanted : Wanted) (from to : List Choice → Stage) (x y : Option (List ℕ) → Sinks)
+    → ((s : Stage) → commanded cmd s ≡ edit_event wanted s) → ((edits : List Taken) → answered cmd edits ≡ first_outcome edits)
+    → IfOk r (λ o. (samples : Option (List ℕ)) → IsEvent wanted o from to (x samples) (y samples))
     → IfOk r (λ o. (samples : Option (List ℕ)) → IsCarriedOut cmd o from to (x samples) (y samples))
-taken_carried (Ok o) cmd wanted from to x y e answers so = λ samples.
-    let so : IsTakenSo wanted o from to (x samples) (y samples) = so samples in
-    carried cmd o (edit_taken wanted) from to (x samples) (y samples) e so.comes (so.answer ∙ sym (answers so.comes.edits))
-taken_carried (Err z) cmd wanted from to x y e answers so = tt
+event_carried (Ok o) cmd wanted from to x y e answers so = λ samples.
+    let is : IsEvent wanted o from to (x samples) (y samples) = so samples in
+    carried cmd o (edit_event wanted) from to (x samples) (y samples) e is.comes (is.answer ∙ sym (answers is.comes.edits))
+event_carried (Err z) cmd wanted from to x y e answers so = tt
 
-pub if_ok_weaker : {A E : Type 0} {P Q : A → Type 0} (r : Result A E) → ((a : A) → P a → Q a) → IfOk r P → IfOk r Q
-if_ok_weaker (Ok a) f h = f a h
-if_ok_weaker (Err e) f h = tt
+-- nothing follows from it
+pub alone_carried : {E : Type 0} (r : Result Outcome E) (cmd : Command) (wanted : Wanted) (from to : List Choice → Stage) (x y : Option (List ℕ) → Sinks)
+    → ((s : Stage) → commanded cmd s ≡ edit_event wanted s) → ((edits : List Taken) → answered cmd edits ≡ first_outcome edits)
+    → IfOk r (λ o. (samples : Option (List ℕ)) → IsTakenSo wanted o [] from to (x samples) (y samples))
+    → IfOk r (λ o. (samples : Option (List ℕ)) → IsCarriedOut cmd o from to (x samples) (y samples))
+alone_carried r cmd wanted from to x y e answers so =
+    event_carried r cmd wanted from to x y e answers (if_ok_weaker r (λ o is samples. alone_so wanted o from to (x samples) (y samples) (is samples)) so)
 
 pub if_ok_both : {A E : Type 0} (P Q : A → Type 0) (r : Result A E) → IfOk r P → IfOk r Q → IfOk r (λ a. P a × Q a)
 if_ok_both P Q (Ok a) p q = (p, q)
@@ -113,3 +122,10 @@ pub taken_stops : {A E : Type 0} (r : Result A E) (cmd : Command) (part : Stage 
     → OnErr r ((samples : Option (List ℕ)) → Stops (commanded cmd) from (x samples) (y samples))
 taken_stops (Ok z) cmd part from x y e broke = tt
 taken_stops (Err z) cmd part from x y e broke = λ samples. broke_same (λ m. part (from m)) (λ m. commanded cmd (from m)) (x samples) (y samples) (λ m. e (from m)) (broke samples)
+
+-- an edit broke off, and so did its event
+pub alone_stops : {A E : Type 0} (r : Result A E) (cmd : Command) (wanted : Wanted) (from : List Choice → Stage) (x y : Option (List ℕ) → Sinks)
+    → ((s : Stage) → commanded cmd s ≡ edit_event wanted s) → OnErr r ((samples : Option (List ℕ)) → Stops (edit_taken wanted) from (x samples) (y samples))
+    → OnErr r ((samples : Option (List ℕ)) → Stops (commanded cmd) from (x samples) (y samples))
+alone_stops r cmd wanted from x y e broke =
+    taken_stops r cmd (edit_event wanted) from x y e (on_err_weaker r (λ k samples. event_broke_first wanted from (x samples) (y samples) (k samples)) broke)

@@ -3,6 +3,7 @@ pub mod ClockLemmas
 pub mod CommandLemmas
 pub mod AskedLemmas
 pub mod EventLemmas
+pub mod FollowLemmas
 pub mod MakingLemmas
 pub mod OpeningLemmas
 pub mod RewireLemmas

@@ -15,9 +15,9 @@ use Rattle.pd_clock.specs.declared.times.Rate.{Rate}
 use Rattle.pd_clock.specs.Queue.{Clock}
 use Rattle.pd_tree.specs.declared.rows.Sheet.{Sheet}
 use Rattle.pd_tree.specs.Trees.{Trees, Tree, weight}
-use Rattle.pd_queue.specs.Queue.{Waiting}
 use Rattle.pd_turns.specs.Turns.{World}
 use Rattle.pd_hearing.specs.Worlds.{Kept}
+use Rattle.pd_walk.specs.Outcome.{all_loaded}
 use Rattle.pd_grove.specs.Standing.{GroveStands}
 use Rattle.pd_grove.specs.TextOrder.{deep, keys_in_order}
 use Rattle.pd_patch.specs.declared.patch.Patch.{Patch}
@@ -33,17 +33,17 @@ use Rattle.pd_wiring.proofs.BuiltLemmas.{runs_rewire}
 use Rattle.pd_stage.specs.Choices.{Base, Wanted, Choice}
 use Rattle.pd_stage.specs.Lawful.{AreLawful}
 use Rattle.pd_stage.specs.Stages.{Stage, Taken, Passage, still, followed_by}
-use Rattle.pd_stage.specs.Events.{Beginning, Message, Loading, Firing, with_kept, delivered, edit_taken, edits_taken, event}
+use Rattle.pd_stage.specs.Events.{Beginning, Message, Loading, Firing, with_kept, going_on, delivered, event, edit_event}
 use Rattle.pd_web.specs.Changes.{wires_told}
 use Rattle.pd_adding.specs.Counts.{AreWithin}
 use Rattle.pd_stage.specs.Times.{with_wires, with_played, with_time, block_units, block_net, sound_at, played_at, taken_off, with_taken, with_fired, fires, fires_or_not, fires_below, next_clock, most_fired, clocks_fire, block_sounds, block_runs, blocks_run, comes_to, advanced, finished}
 use Rattle.pd_stage.proofs.LeadLemmas.{lawful_first, lawful_second}
 use Rattle.pd_stage.specs.Trees.{HasTree, HasOwners}
-use Rattle.pd_stage.proofs.EditLemmas.{taken_alters, edits_keep}
+use Rattle.pd_stage.proofs.EditLemmas.{LoadsKeep, event_keeps, edit_event_keeps}
 use Rattle.pd_engine.specs.Messages.{message_in}
 use Rattle.pd_engine.specs.Commands.{commanded}
 use Rattle.pd_engine.specs.Opening.{Grows, opened, first_stage}
-use Rattle.pd_engine.proofs.TreeLemmas.{altered_tree, HasBoth, altered_both, named_owners}
+use Rattle.pd_engine.proofs.TreeLemmas.{altered_tree, HasBoth, named_owners}
 
 -- where only clocks, times, names, blocks of outlets and what boxes keep are others
 pub tree_on : (s r : Stage) → block_net r ≡ block.with_clocks (block_net s) r.clocks → r.base ≡ s.base → HasTree s → HasTree r
@@ -86,31 +86,15 @@ then_of s q next first rest h lawful =
 
 -- edits and events
 
-pub taken_of : (wanted : Wanted) (s : Stage) → Stays s (edit_taken wanted s)
-taken_of wanted s h lawful = altered_tree s (edit_taken wanted s).stage (taken_alters wanted s lawful) h
-
-pub edits_of : (waiting : Waiting) (s : Stage) → Stays s (edits_taken waiting s)
-edits_of waiting s h lawful = edits_keep HasTree (λ r q a k. altered_tree r q a k) waiting s lawful h
+-- deliveries leave the tree as it is
+loads_of : LoadsKeep all_loaded HasTree
+loads_of boxes l s h = let w : World Kept = all_loaded s.net s.time (going_on s l) boxes in tree_on s (with_kept s w.kept) refl refl h
 
 pub event_of : (s : Stage) (b : Beginning) → Stays s (event s b)
-unfolding event
-event_of s b h lawful =
-    let w : World Kept = delivered s b in
-    edits_of w.kept.queue (with_kept s w.kept) (tree_on s (with_kept s w.kept) refl refl h) lawful
+event_of s b h lawful = event_keeps HasTree (λ r q a k. altered_tree r q a k) loads_of s b lawful (tree_on s (with_kept s (delivered s b).kept) refl refl h)
 
--- the same with the owners of names: an edit, and an event whose deliveries only add names
-
-pub taken_both : (wanted : Wanted) (s : Stage) → AreLawful (edit_taken wanted s).edits → HasBoth s → HasBoth (edit_taken wanted s).stage
-taken_both wanted s lawful t = altered_both s (edit_taken wanted s).stage (taken_alters wanted s lawful) t
-
-pub edits_both : (waiting : Waiting) (s : Stage) → AreLawful (edits_taken waiting s).edits → HasBoth s → HasBoth (edits_taken waiting s).stage
-edits_both waiting s lawful t = edits_keep HasBoth (λ r q a h. altered_both r q a h) waiting s lawful t
-
-pub event_both : (s : Stage) (b : Beginning) → Extends s.names (delivered s b).kept.names → AreLawful (event s b).edits → HasBoth s → HasBoth (event s b).stage
-unfolding event
-event_both s b more lawful t =
-    let w : World Kept = delivered s b in
-    edits_both w.kept.queue (with_kept s w.kept) lawful (both_on s (with_kept s w.kept) refl refl refl more t)
+pub edit_event_of : (wanted : Wanted) (s : Stage) → Stays s (edit_event wanted s)
+edit_event_of wanted s h lawful = edit_event_keeps HasTree (λ r q a k. altered_tree r q a k) loads_of wanted s lawful h
 
 -- clocks and blocks
 
@@ -160,11 +144,11 @@ finished_of s h lawful = either_of s (nat_lt s.block_end (s.time + block_units))
 pub commanded_of : (c : Command) (s : Stage) → Stays s (commanded c s)
 unfolding commanded
 commanded_of (command.Send name atoms) s h lawful = event_of s (Message name (message_in atoms).selector (cut_atoms (message_in atoms).atoms)) h lawful
-commanded_of (command.Edit place edit) s h lawful = taken_of _ s h lawful
-commanded_of (command.Save document) s h lawful = taken_of _ s h lawful
+commanded_of (command.Edit place edit) s h lawful = edit_event_of _ s h lawful
+commanded_of (command.Save document) s h lawful = edit_event_of _ s h lawful
 commanded_of (command.Show path) s h lawful = h
-commanded_of command.Undo s h lawful = taken_of _ s h lawful
-commanded_of command.Redo s h lawful = taken_of _ s h lawful
+commanded_of command.Undo s h lawful = edit_event_of _ s h lawful
+commanded_of command.Redo s h lawful = edit_event_of _ s h lawful
 
 -- ---- where a patch opens
 
