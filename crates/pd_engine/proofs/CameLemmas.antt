@@ -1,45 +1,43 @@
--- A box that an edit put: without a canvas, as a subpatch without boxes, or as a port of the box around.
-use Rattle.std.proofs.Common.{◌≡◌, ◌≤◌, ◌+◌, ℕ, zero, suc, Bool, true, List, [], ◌∷◌, drop, take, length, Option, Some, None, inl, inr, refl, sym, ap, ◌∙◌, subst, arith}
+-- A box that an edit put: with all that lies in it, or as a port of the box around.
+use Rattle.std.proofs.Common.{◌≡◌, ◌≤◌, ◌<◌, ◌+◌, ℕ, Bool, true, List, [], ◌∷◌, drop, take, length, Option, Some, None, inl, inr, refl, sym, ap, ◌∙◌, subst, arith}
 use Rattle.std.proofs.Math.Seq.{take-length, drop-length}
-use Rattle.std.proofs.lemmas.Option.{same_Some}
+use Rattle.std.proofs.lemmas.Option.{none-some, same_Some}
 use Rattle.std.specs.Prelude.{◌-◌, is_some, option_map, IfSome, filter}
-use Rattle.std.specs.List.{All, AllByRecursion}
+use Rattle.std.specs.List.{AllByRecursion}
 use Rattle.slab.specs.Slab.{get}
 use Rattle.pd_atom.specs.declared.Atom.{Atom}
-use Rattle.pd_atom.specs.Atoms.{IsOf}
 use Rattle.pd_atom.specs.Names.{Names, Extends}
 use Rattle.pd_canvas.specs.declared.edits.Edit.{Edit}
 use Rattle.pd_canvas.specs.declared.wires.Wire.{Wire}
-use Rattle.pd_canvas.specs.Pages.{Entry}
+use Rattle.pd_canvas.specs.Pages.{Boxes, End, Entry}
 use Rattle.pd_canvas.specs.Proper.{AreReady}
-use Rattle.pd_library.specs.declared.answers.Answer.{Answer}
 use Rattle.pd_library.specs.Files.{answer_in}
 use Rattle.pd_fit.specs.Fitting.{wires_inside}
 use Rattle.pd_tree.specs.declared.rows.Sheet.{Sheet}
 use Rattle.pd_tree.specs.Ports.{fits}
-use Rattle.pd_tree.specs.Trees.{Cell, Trees, Done, Leaf, Holder, Stand, stand_of}
-use Rattle.pd_growth.specs.Growth.{around_root, box_grown, without_ending}
+use Rattle.pd_tree.specs.Trees.{Cell, Trees, Done, Leaf, Holder, Stand, stand_of, width}
+use Rattle.pd_growth.specs.Growth.{Inner, around_root, box_grown, without_ending}
 use Rattle.pd_growth.specs.Growing.{inside_grown}
 use Rattle.pd_growth.specs.Steps.{gives}
-use Rattle.pd_growth.specs.Suits.{RowSuits}
+use Rattle.pd_grove.specs.declared.boards.Board.{Board}
 use Rattle.pd_grove.specs.declared.grove.Grove.{Grove}
 use Rattle.pd_grove.specs.declared.seeds.Seed.{Seed}
 use Rattle.pd_grove.specs.Forest.{IsForest}
 use Rattle.pd_grove.specs.Grafts.{HasBoxMore, HasPartMore}
 use Rattle.pd_grove.specs.OwnPaths.{sub_reached}
-use Rattle.pd_grove.specs.Standing.{node_seen, Stands, depth_of}
+use Rattle.pd_grove.specs.Standing.{BoardSeen, board_seen, node_seen, Stands, depth_of}
 use Rattle.pd_grove.specs.TextOrder.{deep, Placed, placed_in_order}
 use Rattle.pd_grove.proofs.ComeLemmas.{part_more}
 use Rattle.pd_grove.proofs.GraftLemmas.{forest_more}
 use Rattle.pd_bind.specs.Naming.{owned_by}
 use Rattle.pd_web.specs.declared.web.Web.{Web}
-use Rattle.pd_web.specs.Canvases.{keys_at}
+use Rattle.pd_web.specs.Canvases.{HoldersAreNoPorts, keys_at}
 use Rattle.pd_web.specs.Changes.{line_told, wires_told}
 use Rattle.pd_web.proofs.CountLemmas.{held_alike}
 use Rattle.pd_patch.specs.declared.patch.Patch.{Patch}
-use Rattle.pd_regrowth_law.specs.Suits.{AreOf}
+use Rattle.pd_patch.proofs.GrowthLemmas.{box_shallow, grown_box_fits}
+use Rattle.pd_regrowth_law.specs.Suits.{AreOf, IsEntryOf, TextsOf}
 use Rattle.pd_regrowth_law.proofs.ExpandLemmas.{are_of_more}
-use Rattle.pd_regrowth_law.proofs.TakeLemmas.{InnerTakes, inner_takes}
 use Rattle.pd_boxes.specs.declared.room.Place.{Place}
 use Rattle.pd_boxes.specs.Put.{CanPut, HasOwners, ComesIn, node_of, keys_before, keys_behind}
 use Rattle.pd_boxes.specs.Room.{SameButRoom}
@@ -47,31 +45,39 @@ use Rattle.pd_boxes.proofs.RoomLemmas.{keys_same, room_put}
 use Rattle.pd_subpatches.specs.Shell.{ShellComesIn}
 use Rattle.pd_subpatches.proofs.PartLemmas.{comes_as_part, stands_as_box}
 use Rattle.pd_gather.specs.Gather.{Known}
+use Rattle.pd_gather.proofs.KnownLemmas.{library_of}
 use Rattle.pd_adding.specs.declared.counts.Counts.{Counts}
-use Rattle.pd_adding.specs.Boxes.{CanBeWritten}
+use Rattle.pd_adding.specs.Boxes.{CanBeWritten, settled_edit}
 use Rattle.pd_adding.specs.Coming.{own_zero}
 use Rattle.pd_adding.specs.Counts.{stock_by}
 use Rattle.pd_adding.specs.Growing.{Added}
 use Rattle.pd_adding.proofs.GrowLemmas.{growth_is}
-use Rattle.pd_alike_law.proofs.NameLemmas.{leaf_steady}
-use Rattle.pd_putting.specs.Adds.{last_place, IsSub, IsBoxPut, IsSubPut, IsPortBoxPut, HasCome, AddsBox}
+use Rattle.pd_adding.proofs.SingleLemmas.{same_inner}
+use Rattle.pd_alike_law.proofs.NameLemmas.{box_alike}
+use Rattle.pd_putting.specs.Adds.{last_place, IsBoxPut, IsSubPut, IsPortBoxPut, IsPartBoxPut, HasCome, AddsBox}
 use Rattle.pd_putting.specs.declared.adding.NewBox.{NewBox}
+use Rattle.pd_putting.proofs.WireLemmas.{part_wires}
 use Rattle.pd_stage.proofs.FedLemmas.{told_some}
-use Rattle.pd_engine.proofs.ComingLemmas.{ComesFrom, comes_from, low_path}
-use Rattle.pd_engine.proofs.PutLemmas.{owned_anywhere}
-use Rattle.pd_engine.proofs.SubLemmas.{form_same, holder_steady}
+use Rattle.pd_engine.proofs.ComingLemmas.{ComesFrom, comes_from, low_levels, put_empty}
+use Rattle.pd_engine.proofs.PutLemmas.{all_anywhere}
 
--- What came into a patch in which room was set aside: the last box of a canvas, with what lies in it, but no wire.
+-- What came into a patch in which room was set aside: the last box of a canvas, with what lies in it, and the wires that fit in it.
 pub record CameIn (old new : Patch) (a : Added) (key : ℕ) : Type 0 where
   pub ready : Patch
   pub room : SameButRoom old ready
   pub part : HasPartMore (get ready.grove.nodes) (get new.grove.nodes) (get ready.grove.boards) (get new.grove.boards) a.canvas key (keys_at ready.grove a.canvas) []
   pub root : new.grove.root ≡ ready.grove.root
   pub stands : Stands (get new.grove.nodes) (get new.grove.boards) a.canvas (depth_of (get ready.grove.boards a.canvas)) (key ∷ []) a.boxes
-  pub wires : wires_told new.web ≡ wires_told ready.web
+  pub wires : wires_told new.web ≡ wires_told ready.web + wires_inside a.boxes
   pub owners : (file : List ℕ) → HasOwners ready a.known.names file → HasOwners new a.known.names file
-  pub no_wires : wires_inside a.boxes ≡ 0
   pub goes_on : CanPut new
+
+-- a canvas lies as deep where all that is seen of it is as before
+seen_alike : (o q : Option Board) → option_map board_seen q ≡ option_map board_seen o → depth_of q ≡ depth_of o
+seen_alike None None h = refl
+seen_alike (Some b) None h = absurd (none-some (board_seen b) h)
+seen_alike None (Some c) h = absurd (none-some (board_seen c) (sym h))
+seen_alike (Some b) (Some c) h = ap (λ (s : BoardSeen). s.depth) (same_Some (board_seen c) (board_seen b) h)
 
 -- as many wires
 pub lines_as_many : (w w' : Web) → ((k : ℕ) → line_told w' k ≡ line_told w k) → wires_told w' ≡ wires_told w
@@ -85,6 +91,10 @@ owners_kept p q table file names grove o = λ class name. rw (names, grove) (o c
 none_fit : (ws : List Wire) → length (filter (fits []) ws) ≡ 0
 none_fit [] = refl
 none_fit (w ∷ ws) = none_fit ws
+
+-- no wire came, and none fits in what did
+no_more : (w w' : Web) (t : Trees) → wires_told w' ≡ wires_told w → wires_inside t ≡ 0 → wires_told w' ≡ wires_told w + wires_inside t
+no_more w w' t same none = omega (arith, same, none)
 
 module _ (old new : Patch) (now : ℕ) (a : Added) (key : ℕ) where
   abbrev place : Place
@@ -132,9 +142,8 @@ module _ (old new : Patch) (now : ℕ) (a : Added) (key : ℕ) where
       part = last_part ready R leaf_part;
       root = root;
       stands = subst (λ (x : Trees). Stands (get new.grove.nodes) (get new.grove.boards) a.canvas (depth_of (get ready.grove.boards a.canvas)) (key ∷ []) x) (sym single) (leaf_seen, tt);
-      wires = wires;
+      wires = no_more ready.web new.web a.boxes wires (ap wires_inside single);
       owners = owners;
-      no_wires = ap wires_inside single;
       goes_on = goes_on;
     }
 
@@ -177,28 +186,49 @@ module _ (old new : Patch) (now : ℕ) (a : Added) (key : ℕ) where
           root = D.root;
           stands = subst (λ (x : Trees). Stands (get new.grove.nodes) (get new.grove.boards) a.canvas (depth_of (get g.boards a.canvas)) (key ∷ []) x) sub_is
               (stands_as_box (get g.nodes) (get new.grove.nodes) (get g.boards) (get new.grove.boards) g.root a.canvas key D.canvas b.seed D.board (keys_before b.ready place) (keys_behind b.ready place) D.grove);
-          wires = lines_as_many b.ready.web new.web D.ports.lines;
+          wires = no_more b.ready.web new.web a.boxes (lines_as_many b.ready.web new.web D.ports.lines)
+              (let e = ap wires_inside b.sub.single in let z = none_fit b.sub.sheet.wires in omega (arith, e, z));
           owners = D.owners;
-          no_wires = (let e = ap wires_inside b.sub.single in let z = none_fit b.sub.sheet.wires in omega (arith, e, z));
           goes_on = b.goes_on;
         }
 
-  pub came_in : CanPut old → HasCome old new now a key → CameIn old new a key
-  came_in can (inl b) = plain_in can b
-  came_in can (inr (inl b)) = sub_in can b
-  came_in can (inr (inr b)) = port_in can b
+  -- a box that holds a canvas, with all that lies in it
+  module _ (bare : HoldersAreNoPorts a.boxes) (b : IsPartBoxPut old new now a key) where
+    wide : width a.boxes ≡ 1
+    wide = ap width b.holder.single
+
+    depth_ready : depth_of (get b.ready.grove.boards a.canvas) ≡ depth_of (get old.grove.boards a.canvas)
+    depth_ready = seen_alike (get old.grove.boards a.canvas) (get b.ready.grove.boards a.canvas) (b.room.grove.boards a.canvas)
+
+    low_ready : depth_of (get b.ready.grove.boards a.canvas) + deep a.boxes < 257
+    low_ready = subst (λ (n : ℕ). n + deep a.boxes < 257) (sym depth_ready) b.holder.shallow
+
+    part_in : CameIn old new a key
+    part_in = record {
+      ready = b.ready;
+      room = b.room;
+      part = last_part b.ready b.room b.put.grove;
+      root = b.put.root;
+      stands = b.put.stands a.boxes b.are_rows wide;
+      wires = part_wires b.ready new a.known.names place b.seed b.seeds key b.steps b.steps' a.boxes b.put b.are_rows wide bare low_ready;
+      owners = b.put.owners;
+      goes_on = b.goes_on;
+    }
+
+  pub came_in : CanPut old → HoldersAreNoPorts a.boxes → HasCome old new now a key → CameIn old new a key
+  came_in can bare (inl b) = plain_in can b
+  came_in can bare (inr (inl b)) = sub_in can b
+  came_in can bare (inr (inr (inl b))) = port_in can b
+  came_in can bare (inr (inr (inr b))) = part_in bare b
 
   -- a box more leaves the clocks of messages
   pub came_clocks : HasCome old new now a key → new.timers.clocks.clocks ≡ old.timers.clocks.clocks
   came_clocks (inl b) = ap (λ x. x.clocks.clocks) b.put.comes.clocks ∙ b.room.clocks
   came_clocks (inr (inl b)) = ap (λ x. x.clocks.clocks) b.put.comes.clocks ∙ b.room.clocks
-  came_clocks (inr (inr b)) = ap (λ x. x.clocks.clocks) (b.put.rest.clocks ∙ b.put.comes.clocks) ∙ b.room.clocks
+  came_clocks (inr (inr (inl b))) = ap (λ x. x.clocks.clocks) (b.put.rest.clocks ∙ b.put.comes.clocks) ∙ b.room.clocks
+  came_clocks (inr (inr (inr b))) = ap (λ x. x.clocks.clocks) b.put.clocks ∙ b.room.clocks
 
 -- ---- the box that grew
-
-pub all_by : {X : Type 0} (P : X → Type 0) (xs : List X) → All P xs → AllByRecursion P xs
-all_by P [] h = tt
-all_by P (x ∷ xs) h = (h 0 x (omega arith), all_by P xs (λ k d lt. h (suc k) d (omega (arith, lt))))
 
 ready_of : (names : Names) (text : List Atom) → AreReady names text → AreOf names text
 ready_of names [] h = tt
@@ -227,66 +257,42 @@ module _ (old new : Patch) (n : Counts) (name path : List ℕ) (now : ℕ) (e : 
   names_are : X.grew.after.names ≡ a.known.names
   names_are = sym (ap (λ (x : Known). x.names) X.grew.known_is)
 
-  inner_takes_here : (lib : ℕ → Option Answer) (root : List ℕ) (m : ℕ) → InnerTakes (inside_grown lib root m)
-  inner_takes_here lib root zero = inner_takes lib root zero
-  inner_takes_here lib root (suc m) = inner_takes lib root (suc m)
+  none_in : entry.page.boxes ≡ End
+  none_in = put_empty (settled_edit k.names e) entry comes.put
 
-  held : (S : IsSub old a) → box_grown (answer_in X.files.files) (without_ending name) left (inside_grown (answer_in X.files.files) (without_ending name) left) (around_root (own_zero old)) entry
-      (stock_by X.files.names n) ≡ gives (Holder S.cell S.sheet Done Done) X.grew.after
-  held S = grew ∙ ap (λ (t : Trees). gives t X.grew.after) S.single
+  -- no box in it that holds a canvas is a port
+  pub bare : HoldersAreNoPorts a.boxes
+  bare = (grown_box_fits (answer_in X.files.files) (without_ending name) left (around_root (own_zero old)) entry (stock_by X.files.names n) X.grew.after a.boxes grew).1
 
   -- no canvas lies too deep
-  sub_low : IsSub old a → length path ≤ 254
-  sub_low S =
-      let form = form_same (answer_in X.files.files) (without_ending name) left (inside_grown (answer_in X.files.files) (without_ending name) left) (around_root (own_zero old)) entry
-      (stock_by X.files.names n) X.grew.after S.cell S.sheet Done Done (held S) in
-      low_path entry.head.form (length path) (form ∙ S.form) comes.low
-
-  low_by : HasCome old new now a b.key → length path ≤ 255 → length path + deep a.boxes ≤ 255
-  low_by (inl p) short = let none : deep a.boxes ≡ 0 = ap deep p.plain.single in omega (arith, none, short)
-  low_by (inr (inr p)) short = let none : deep a.boxes ≡ 0 = ap deep p.port.single in omega (arith, none, short)
-  low_by (inr (inl s)) short = let one : deep a.boxes ≡ 1 = ap deep s.sub.single in let l = sub_low s.sub in omega (arith, one, l)
-
   pub low : length path ≤ 255 → length path + deep a.boxes ≤ 255
-  low short = low_by X.put short
+  low short =
+      let most : deep a.boxes ≤ left =
+      box_shallow (answer_in X.files.files) (without_ending name) left (around_root (own_zero old)) entry (stock_by X.files.names n) X.grew.after a.boxes
+      (low_levels entry.head.form entry.page.boxes (length path) none_in comes.low) grew in
+      omega (arith, short, most)
 
   -- it owns the same in each table that goes on
   abbrev Same : Names → Placed → Type 0
   Same more p = owned_by more p.is_top p.cell ≡ owned_by a.known.names p.is_top p.cell
 
-  abbrev Steady : Cell → Type 0
-  Steady c = (more : Names) → Extends a.known.names more → owned_by more true c ≡ owned_by a.known.names true c
-
-  leaf_own : (c : Cell) → a.boxes ≡ Leaf c Done → (seed : Seed) → stand_of seed.row ≡ record { cell = c; sheet = None; boxes = 0 } → RowSuits a.known.names seed.row → Steady c
-  leaf_own c single seed is_row suits =
-      let leaf = grew ∙ ap (λ (t : Trees). gives t X.grew.after) single in
-      let row : AreOf a.known.names seed.row.text = all_by (IsOf a.known.names) seed.row.text suits.0.0 in
-      let text : AreOf a.known.names c.text = subst (λ (x : Stand). AreOf a.known.names x.cell.text) is_row row in
-      let own : AreOf X.grew.after.names c.text = subst (λ (m : Names). AreOf m c.text) (sym names_are) text in
-      subst (λ (m : Names). (more : Names) → Extends m more → owned_by more true c ≡ owned_by m true c) names_are
-      (leaf_steady (answer_in X.files.files) (without_ending name) left (inside_grown (answer_in X.files.files) (without_ending name) left) (around_root (own_zero old)) entry
-      (stock_by X.files.names n) X.grew.after c own leaf)
-
   written : AreReady k.names entry.head.text
   written = (subst (λ (o : Option Entry). IfSome o (CanBeWritten k.names)) comes.put X.written).text
 
-  sub_own : (S : IsSub old a) → Steady S.cell
-  sub_own S =
-      let text : AreOf X.files.names entry.head.text = are_of_more k.names X.files.names X.grew.extends entry.head.text (ready_of k.names entry.head.text written) in
-      subst (λ (m : Names). (more : Names) → Extends m more → owned_by more true S.cell ≡ owned_by m true S.cell) names_are
-      (holder_steady (answer_in X.files.files) (without_ending name) left (inside_grown (answer_in X.files.files) (without_ending name) left) (around_root (own_zero old)) entry
-      (stock_by X.files.names n) X.grew.after S.cell S.sheet Done Done (held S) (inner_takes_here (answer_in X.files.files) (without_ending name) left) refl
-      (record { arguments = tt; inside = tt }) text S.form)
+  entry_of : IsEntryOf X.files.names entry
+  entry_of = record {
+    text = are_of_more k.names X.files.names X.grew.extends entry.head.text (ready_of k.names entry.head.text written);
+    inner = subst (λ (x : Boxes). TextsOf X.files.names x) (sym none_in) tt;
+  }
 
-  single_own : (c : Cell) → a.boxes ≡ Leaf c Done → Steady c → (more : Names) → Extends a.known.names more → (top : Bool) → AllByRecursion (Same more) (placed_in_order top a.boxes)
-  single_own c single own more x top =
-      subst (λ (t : Trees). AllByRecursion (Same more) (placed_in_order top t)) (sym single) (owned_anywhere a.known.names more c (own more x) top, tt)
-
-  own_by : HasCome old new now a b.key → (more : Names) → Extends a.known.names more → (top : Bool) → AllByRecursion (Same more) (placed_in_order top a.boxes)
-  own_by (inl p) more x top = single_own p.plain.cell p.plain.single (leaf_own p.plain.cell p.plain.single p.seed p.is_row p.suits) more x top
-  own_by (inr (inl s)) more x top =
-      subst (λ (t : Trees). AllByRecursion (Same more) (placed_in_order top t)) (sym s.sub.single) (owned_anywhere a.known.names more s.sub.cell (sub_own s.sub more x) top, tt)
-  own_by (inr (inr p)) more x top = single_own p.port.cell p.port.single (leaf_own p.port.cell p.port.single p.seed p.is_row p.suits) more x top
+  own_here : (more : Names) → Extends X.grew.after.names more → AllByRecursion (λ (p : Placed). owned_by more p.is_top p.cell ≡ owned_by X.grew.after.names p.is_top p.cell) (placed_in_order true a.boxes)
+  own_here more x =
+      box_alike (answer_in X.files.files) (without_ending name) left (around_root (own_zero old)) entry (stock_by X.files.names n) X.grew.after a.boxes more
+      (library_of X.files.names X.files.files X.grew.found) (record { arguments = tt; inside = tt }) entry_of
+      (subst (λ (i : Inner). box_grown (answer_in X.files.files) (without_ending name) left i (around_root (own_zero old)) entry (stock_by X.files.names n) ≡ gives a.boxes X.grew.after)
+      (same_inner (answer_in X.files.files) (without_ending name) left) grew) x
 
   pub own_steady : (more : Names) → Extends a.known.names more → (top : Bool) → AllByRecursion (Same more) (placed_in_order top a.boxes)
-  own_steady more x top = own_by X.put more x top
+  own_steady more x top =
+      all_anywhere a.known.names more a.boxes top
+      (subst (λ (m : Names). (more : Names) → Extends m more → AllByRecursion (λ (p : Placed). owned_by more p.is_top p.cell ≡ owned_by m p.is_top p.cell) (placed_in_order true a.boxes)) names_are own_here more x)

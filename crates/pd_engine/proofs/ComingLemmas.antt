@@ -1,9 +1,15 @@
 -- What comes of an edit that puts a box, before the box grows.
-use Rattle.std.proofs.Common.{◌≡◌, ◌≤◌, ℕ, Bool, true, false, ◌&&◌, List, length, nat_lt, if◌then◌else◌, Option, Some, None, Result, Ok, Err, refl, ap, ◌∙◌, subst, arith}
+use Rattle.std.proofs.Common.{◌≡◌, ◌≤◌, ◌-◌, ℕ, zero, suc, ℤ, Bool, true, false, ◌&&◌, List, ◌∷◌, length, nat_lt, if◌then◌else◌, Option, Some, None, Result, Ok, Err, refl, sym, ap, ◌∙◌, subst, arith}
 use Rattle.std.proofs.lemmas.Bool.Decides.{nat_tests}
+use Rattle.std.proofs.lemmas.Option.{none-some, same_Some}
+use Rattle.pd_atom.specs.declared.Atom.{Atom}
+use Rattle.pd_atom.specs.declared.Atom.TheVariants.{Symbol}
 use Rattle.pd_atom.specs.Names.{Names}
 use Rattle.pd_canvas.specs.declared.edits.Edit.{Edit}
-use Rattle.pd_canvas.specs.Pages.{Shape, Sub, Entry}
+use Rattle.pd_canvas.specs.declared.edits.Edit.TheVariants as edit
+use Rattle.pd_canvas.specs.Edits.{begins_with_pd, element, new_header, object, pd}
+use Rattle.pd_canvas.specs.Pages.{Shape, Obj, Msg, Comment, FloatBox, SymbolBox, Sub, Array, Other, Boxes, End, Entry, empty_page, page_with_header}
+use Rattle.pd_canvas.specs.Proper.{levels, levels_of}
 use Rattle.pd_grove.specs.OwnPaths.{sub_reached}
 use Rattle.pd_grove.specs.TextOrder.{is_sub}
 use Rattle.pd_patch.specs.declared.patch.Patch.{Patch}
@@ -50,7 +56,46 @@ module _ (names : Names) (p : Patch) (path : List ℕ) (e : Edit) (canvas : ℕ)
   pub comes_from : coming names p path e ≡ Ok (canvas, b) → ComesFrom names p path e canvas b
   comes_from h = by_box (box_put (settled_edit names e)) refl h
 
--- a subpatch that comes lies no deeper than it may
-pub low_path : (form : Shape) (depth : ℕ) → form ≡ Sub → (is_sub form && nat_lt 254 depth) ≡ false → depth ≤ 254
-low_path Sub depth is h = grind (arith, nat_tests)
-low_path form depth is h = cc
+-- ---- the element of the edit
+
+abbrev IsEmpty : Entry → Type 0
+IsEmpty b = b.page.boxes ≡ End
+
+same_put : (x b : Entry) → Some x ≡ Some b → IsEmpty x → IsEmpty b
+same_put x b h none = subst IsEmpty (same_Some x b h) none
+
+object_empty : (b : Bool) (x y : ℤ) (text : List Atom) → IsEmpty (if b then element Sub (page_with_header (new_header text)) x y text else element Obj empty_page x y text)
+object_empty true x y text = refl
+object_empty false x y text = refl
+
+no_element : (n : ℕ) → box_put (edit.Delete n) ≡ None
+no_element zero = refl
+no_element (suc n) = refl
+
+-- it holds no boxes
+pub put_empty : (e : Edit) (b : Entry) → box_put e ≡ Some b → b.page.boxes ≡ End
+put_empty (edit.Obj x y text) b h = same_put (object x y text) b h (object_empty (begins_with_pd text) x y text)
+put_empty (edit.Msg x y text) b h = same_put _ b h refl
+put_empty (edit.Comment x y text) b h = same_put _ b h refl
+put_empty (edit.FloatBox x y text) b h = same_put _ b h refl
+put_empty (edit.SymbolBox x y text) b h = same_put _ b h refl
+put_empty (edit.Sub x y name) b h = same_put (object x y (Symbol pd ∷ name)) b h (object_empty (begins_with_pd (Symbol pd ∷ name)) x y (Symbol pd ∷ name))
+put_empty (edit.Connect wire) b h = absurd (none-some b h)
+put_empty (edit.Disconnect wire) b h = absurd (none-some b h)
+put_empty (edit.Delete n) b h = absurd (none-some b (sym (no_element n) ∙ h))
+put_empty (edit.Retype n text) b h = absurd (none-some b h)
+put_empty (edit.Move n x y) b h = absurd (none-some b h)
+
+sub_low : (depth : ℕ) → nat_lt 254 depth ≡ false → depth ≤ 254
+sub_low depth h = grind (arith, nat_tests)
+
+-- and a subpatch that comes lies no deeper than it may
+pub low_levels : (form : Shape) (boxes : Boxes) (depth : ℕ) → boxes ≡ End → (is_sub form && nat_lt 254 depth) ≡ false → levels_of form (levels boxes) ≤ 255 - depth
+low_levels Sub boxes depth none high = let l = ap levels none in let d = sub_low depth high in omega (arith, l, d)
+low_levels Obj boxes depth none high = omega arith
+low_levels Msg boxes depth none high = omega arith
+low_levels Comment boxes depth none high = omega arith
+low_levels FloatBox boxes depth none high = omega arith
+low_levels SymbolBox boxes depth none high = omega arith
+low_levels (Array values) boxes depth none high = omega arith
+low_levels (Other s) boxes depth none high = omega arith

@@ -22,7 +22,6 @@ pub mod LessLemmas
 pub mod PartLemmas
 pub mod ShiftLemmas
 pub mod MovingLemmas
-pub mod SubLemmas
 pub mod CameLemmas
 pub mod RetypingLemmas
 pub mod RetypedLemmas

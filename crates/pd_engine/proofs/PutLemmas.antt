@@ -117,3 +117,25 @@ kind_anywhere names more c kind.Unmade h false = refl
 
 pub owned_anywhere : (names more : Names) (c : Cell) → owned_by more true c ≡ owned_by names true c → (top : Bool) → owned_by more top c ≡ owned_by names top c
 owned_anywhere names more c h top = kind_anywhere names more c c.kind h top
+
+module _ (names more : Names) where
+  abbrev OwnsSame : Placed → Type 0
+  OwnsSame p = owned_by more p.is_top p.cell ≡ owned_by names p.is_top p.cell
+
+  outside_by : (inner : Trees) (b : Bool) → (AllByRecursion OwnsSame (placed_in_order true inner) → AllByRecursion OwnsSame (placed_in_order false inner)) → AllByRecursion OwnsSame (placed_in_order b inner)
+      → AllByRecursion OwnsSame (placed_in_order false inner)
+  outside_by inner true f h = f h
+  outside_by inner false f h = h
+
+  -- so do boxes with all that lies in them
+  all_outside : (t : Trees) → AllByRecursion OwnsSame (placed_in_order true t) → AllByRecursion OwnsSame (placed_in_order false t)
+  all_outside Done h = tt
+  all_outside (Leaf c rest) h = (owned_anywhere names more c h.0 false, all_outside rest h.1)
+  all_outside (Holder c s inner rest) h =
+      let within : Bool = is_sub c.head.form in
+      let parts : AllByRecursion OwnsSame (placed_in_order within inner) × AllByRecursion OwnsSame (placed_in_order true rest) = all_split OwnsSame (placed_in_order within inner) (placed_in_order true rest) h.1 in
+      (owned_anywhere names more c h.0 false, all_append OwnsSame (placed_in_order false inner) (placed_in_order false rest) (outside_by inner within (all_outside inner) parts.0) (all_outside rest parts.1))
+
+  pub all_anywhere : (t : Trees) (top : Bool) → AllByRecursion OwnsSame (placed_in_order true t) → AllByRecursion OwnsSame (placed_in_order top t)
+  all_anywhere t true h = h
+  all_anywhere t false h = all_outside t h

@@ -72,7 +72,7 @@ use Rattle.pd_shifted_law.specs.Shifts.{cell_at, shifted_at}
 use Rattle.pd_shifted_law.proofs.CountLemmas.{weight_same}
 use Rattle.pd_shifted_law.proofs.OwnerLemmas.{owned_placed, owners_stay}
 use Rattle.pd_shifted_law.proofs.StandLemmas.{grove_shifted}
-use Rattle.pd_engine.proofs.CameLemmas.{CameIn, came_in, leads, low as low_here, own_steady, owners_kept}
+use Rattle.pd_engine.proofs.CameLemmas.{CameIn, bare as bare_boxes, came_in, leads, low as low_here, own_steady, owners_kept}
 use Rattle.pd_engine.proofs.LessLemmas.{all_taken, box_weight, deep_taken, weight_alone, weight_out, weight_taken}
 use Rattle.pd_engine.proofs.PartLemmas.{part_weight}
 use Rattle.pd_engine.proofs.PutLemmas.{deep_put, weight_put, all_both, all_put}
@@ -254,7 +254,8 @@ module _ (s : Stage) (t : HasTree s) (path : List ℕ) (e : Edit) (m : Made) (ah
 
   -- what came in
   came : CameIn h.old h.new a h.box.key
-  came = came_in h.old h.new s.time a h.box.key h.stands.puts h.adds.put
+  came =
+      came_in h.old h.new s.time a h.box.key h.stands.puts (bare_boxes h.old h.new s.base.counts s.file path s.time e (known_at s) h.after h.box h.adds) h.adds.put
 
   abbrev ready : Patch
   ready = came.ready
@@ -300,11 +301,10 @@ module _ (s : Stage) (t : HasTree s) (path : List ℕ) (e : Edit) (m : Made) (ah
   wires_more : m.base.counts.wires ≡ wires_told m.net.web
   wires_more =
       let was : s.base.counts.wires ≡ wires_told ready.web = room_wires s t h.old stands_at ready came.room in
-      let same : wires_told h.new.web ≡ wires_told ready.web = came.wires in
+      let more : wires_told h.new.web ≡ wires_told ready.web + wires_inside a.boxes = came.wires in
       let sum : m.base.counts.wires ≡ s.base.counts.wires + wires_inside a.boxes = ap (λ (n : Counts). n.wires) counted_more in
-      let none : wires_inside a.boxes ≡ 0 = came.no_wires in
       let net : wires_told m.net.web ≡ wires_told h.new.web = ap (λ (n : Net). wires_told n.web) h.net in
-      omega (arith, was, same, sum, none, net)
+      omega (arith, was, more, sum, net)
 
   -- its path has no more numbers than canvases lie in one another
   pub low_more : deep more_tree.boxes ≤ 255
