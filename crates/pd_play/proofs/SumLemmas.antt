@@ -19,7 +19,7 @@ use Rattle.pd_stage.specs.Choices.{Base, Choice}
 use Rattle.pd_stage.specs.Stages.{Stage, Passage, with_names, saying}
 use Rattle.pd_stage.specs.Events.{event, Message, Loading}
 use Rattle.pd_stage.specs.Sums.{AddsUp}
-use Rattle.pd_stage.proofs.SumLemmas.{still_adds, saying_adds, joined_adds, edit_adds, event_adds, advanced_adds, finished_adds}
+use Rattle.pd_stage.proofs.SumLemmas.{still_adds, saying_adds, joined_adds, event_adds, edit_event_adds, advanced_adds, finished_adds}
 use Rattle.pd_engine.specs.Messages.{message_in}
 use Rattle.pd_engine.specs.Commands.{cut_text, commanded}
 use Rattle.pd_engine.specs.Opening.{first_stage, opened}
@@ -32,11 +32,11 @@ unfolding commanded
 commanded_adds (command.Send name atoms) s =
     let lines : Passage = saying s (cut_text (message_in atoms).atoms) in
     joined_adds s lines (event s (Message name (message_in atoms).selector (cut_atoms (message_in atoms).atoms))) (saying_adds s _) (event_adds s _)
-commanded_adds (command.Edit place edit) s = edit_adds _ s
-commanded_adds (command.Save document) s = edit_adds _ s
+commanded_adds (command.Edit place edit) s = edit_event_adds _ s
+commanded_adds (command.Save document) s = edit_event_adds _ s
 commanded_adds (command.Show path) s = saying_adds s _
-commanded_adds command.Undo s = edit_adds _ s
-commanded_adds command.Redo s = edit_adds _ s
+commanded_adds command.Undo s = edit_event_adds _ s
+commanded_adds command.Redo s = edit_event_adds _ s
 
 -- a run adds up from a stage
 abbrev Adds : Stage → Run → Type 0
