@@ -4,6 +4,7 @@ pub mod GrowLemmas
 pub mod ReadLemmas
 pub mod GatherLemmas
 pub mod GrewLemmas
+pub mod ShallowLemmas
 pub mod CountLemmas
 pub mod AddLemmas
 pub mod SingleLemmas

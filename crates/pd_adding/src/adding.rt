@@ -1,14 +1,19 @@
 //! An edit that puts a box, decided, and its box grown aside.
 
-ghost use Rattle.std.specs.Prelude.{◌≡◌, ◌≢◌, ◌≤◌, Ok, Err, IfOk, IfErr, IfSome, OnErr};
+ghost use Rattle.std.specs.Prelude.{◌≡◌, ◌≢◌, ◌<◌, ◌≤◌, ◌+◌, Ok, Err, IfOk, IfErr, IfSome, OnErr};
+ghost use Rattle.slab.specs.Slab.{get};
 ghost use Rattle.pd_io.specs.Faults.{Rose};
 ghost use Rattle.pd_atom.specs.Names.{Extends};
 ghost use Rattle.pd_gather.specs.Gather.{known, GoesOn, AreProper};
+ghost use Rattle.pd_grove.specs.Forest.{IsForest};
+ghost use Rattle.pd_grove.specs.Standing.{depth_of};
+ghost use Rattle.pd_grove.specs.TextOrder.{deep};
 ghost use Rattle.pd_wiring.specs.declared.refusals.EditRefusal.TheVariants.{ShelfFault, NoMemory};
 ghost use Rattle.pd_adding.specs.Boxes.{IsKnown, settled_edit, box_put, CanBeWritten};
 ghost use Rattle.pd_adding.specs.Coming.{IsComing, coming, own_zero};
 ghost use Rattle.pd_adding.specs.Counts.{AreWithin};
-ghost use Rattle.pd_adding.specs.Adding.{ComesTo, Grows};
+ghost use Rattle.pd_adding.specs.Adding.{ComesTo, Grows, IsAdded};
+ghost use Rattle.pd_adding.specs.Growing.{Added};
 
 use crate::coming::{box_to_come, zero_of};
 use crate::counting::counts_with;
@@ -57,6 +62,8 @@ pub fn grow_aside<H: Shelf>(
     ensures grown { IfOk result (λ g. Grows (H.holds shelf.old) patch.now counts name.now path.now edit.now (known library.old symbols.old) (known library.new symbols.new) g) }
     ensures written { IfOk result (λ g. IfSome (box_put (settled_edit symbols.old edit.now)) (CanBeWritten symbols.old)) }
     ensures within { IfOk result (λ g. AreWithin g.counts) }
+    ensures shallow { IfOk result (λ g. (a : Added) → IsAdded g a → IsForest (get patch.now.grove.nodes) (get patch.now.grove.boards) patch.now.grove.root →
+        depth_of (get patch.now.grove.boards g.canvas) + deep a.boxes < 257) }
     ensures refused { IfErr result (λ why. why ≢ NoMemory → why ≢ ShelfFault →
         ComesTo (H.holds shelf.old) patch.now counts name.now path.now edit.now (known library.old symbols.old) (Err why)) }
     ensures asks { result ≡ Err ShelfFault → IsComing (coming symbols.old patch.now path.now edit.now) }

@@ -6,4 +6,3 @@ pub mod LawLemmas
 pub mod PutLemmas
 pub mod OrderLemmas
 pub mod PartLemmas
-pub mod PathLemmas

@@ -1,4 +1,5 @@
-use Rattle.std.proofs.Common.{ℕ, ◌-◌, List, length, Ok, refl, sym, ap, ◌∙◌, subst, arith}
+use Rattle.std.proofs.Common.{ℕ, ◌<◌, ◌+◌, ◌-◌, List, length, Ok, refl, sym, ap, ◌∙◌, subst, arith}
+use Rattle.slab.specs.Slab.{get}
 use Rattle.pd_atom.specs.Names.{Extends}
 use Rattle.pd_atom.proofs.NameLemmas.{six_names}
 use Rattle.pd_canvas.specs.Views.{entry_of}
@@ -7,6 +8,8 @@ use Rattle.pd_tree.specs.Trees.{Trees, stands_in}
 use Rattle.pd_growth.specs.Steps.{Step}
 use Rattle.pd_growth.specs.Growing.{stock}
 use Rattle.pd_gather.specs.Gather.{Known, known, GoesOn}
+use Rattle.pd_grove.specs.Standing.{depth_of}
+use Rattle.pd_grove.specs.TextOrder.{deep}
 use Rattle.pd_gather.proofs.AskLemmas.{names_cut}
 use Rattle.pd_gather.proofs.GatherLemmas.{behind_same}
 use Rattle.pd_adding.specs.Coming.{own_zero}
@@ -14,6 +17,7 @@ use Rattle.pd_adding.specs.Growing.{Added, GrowsTo}
 use Rattle.pd_adding.specs.Adding.{growth_at}
 use Rattle.pd_adding.proofs.AddLemmas.{growth_there, grown_comes, grown_takes, files_cut, extends_same}
 use Rattle.pd_adding.proofs.GrewLemmas.{grew_with}
+use Rattle.pd_adding.proofs.ShallowLemmas.{same_tree, fits_there, grown_shallow}
 use Rattle.pd_adding.proofs.adding.grow_aside.Goals as goal
 
 pub returns-in-Ok-counts_with-clause-grown : goal.returns-in-Ok-counts_with-clause-grown
@@ -69,6 +73,22 @@ returns-in-Ok-counts_with-clause-within g c =
     let takes = grown_takes holds (own_zero p) n name (255 - length path) b k files rows w G in
     let totals = c.in-Ok-counts_with.ensures.totals G.gives.boxes (ap stands_in c.as_slice.ensures.value ∙ G.gives.rows) takes.zeros takes.room in
     totals.0
+
+pub returns-in-Ok-counts_with-clause-shallow : goal.returns-in-Ok-counts_with-clause-shallow
+returns-in-Ok-counts_with-clause-shallow g c =
+    let p = c.args.patch.now in
+    let n = c.args.counts in
+    let name = c.args.name.now in
+    let path = c.args.path.now in
+    let b = entry_of c.in_ok-coming.coming.element in
+    let left = c.in_ok-coming.coming.left in
+    let G = c.in-Ok.ensures.grown in
+    let low = grown_shallow c.zero_of-zero.result n name left b c.grow_coming-grown.new.library G.names G.gives.boxes (stock c.grow_coming-grown.new.symbols c.in-Ok.crop.left)
+    c.in_ok-coming.ensures.suits.2 G.gives.step in
+    λ a A F.
+    let same = same_tree a.boxes G.gives.boxes (sym A.rows ∙ G.gives.rows) (A.one ∙ sym G.gives.wide) in
+    let fits = fits_there p path c.in_ok-coming.coming.canvas b F c.args.symbols.now c.args.edit.now left (deep G.gives.boxes) c.in_ok-coming.ensures.comes c.in_ok-coming.ensures.left low in
+    subst (λ t. depth_of (get p.grove.boards c.in_ok-coming.coming.canvas) + deep t < 257) (sym same) fits
 
 pub forget-requires : goal.forget-requires
 forget-requires g c =
