@@ -4,8 +4,9 @@
 //! the box that the document gets, with its text settled, or the first reason against it. `grow_coming` grows that box aside
 //! with the files for which it asks; a refusal leaves names and files as they were. `counts_with` adds up what there would be,
 //! or names the limit that is passed; what growth learned stays then. `grow_aside` makes all three, and forgets what growth
-//! learned where `counts_with` refuses; what grew so isn't too deep for its canvas (`shallow`). The patch stays in any case. What grew so grows again with the files that were gathered
-//! for it (`GrewWith`), and its element can be written and read again (`CanBeWritten`).
+//! learned where `counts_with` refuses; what grew so isn't too deep for its canvas (`shallow`). The patch stays in any case.
+//! What grew so grows again with the files that were gathered for it (`GrewWith`), and its element can be written and read
+//! again (`CanBeWritten`).
 //!
 //! The caller keeps `Counts` from one edit to the next, so that no edit counts boxes, wires or values (`AreCounted` says
 //! what they are). `count_patch` counts a patch that has just grown, which is within the limits (`grown_patches_are_limited`).
