@@ -1,4 +1,4 @@
--- Events and blocks in which nothing is passed over: each box does with each message what its object's definition says, and runs its own row
+-- Events, edits and blocks in which nothing is passed over: each box does with each message what its object's definition says, and runs its own row
 -- in each block.
 use Rattle.std.specs.Prelude.{ℕ, ◌-◌, true}
 use Rattle.pd_turns.specs.Turns.{World}
