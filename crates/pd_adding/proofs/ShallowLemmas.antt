@@ -18,7 +18,7 @@ use Rattle.pd_grove.specs.OwnPaths.{sub_reached}
 use Rattle.pd_grove.specs.Standing.{depth_of}
 use Rattle.pd_grove.specs.TextOrder.{deep, is_sub}
 use Rattle.pd_patch.specs.declared.patch.Patch.{Patch}
-use Rattle.pd_patch.proofs.DepthLemmas.{path_deep}
+use Rattle.pd_wiring.proofs.DepthLemmas.{path_deep}
 use Rattle.pd_patch.proofs.GrowthLemmas.{box_shallow}
 use Rattle.pd_wiring.specs.declared.refusals.EditRefusal.{EditRefusal}
 use Rattle.pd_wiring.specs.declared.refusals.EditRefusal.TheVariants.{NoDocument, NoCanvas, TextTooLong, TooDeep}

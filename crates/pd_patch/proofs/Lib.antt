@@ -4,7 +4,6 @@ pub mod MakingLemmas
 pub mod ListingLemmas
 pub mod SoundLemmas
 pub mod PathLemmas
-pub mod DepthLemmas
 pub mod PushLemmas
 pub mod NumberLemmas
 pub mod OrderLemmas

@@ -10,3 +10,4 @@ pub mod PlaceLemmas
 pub mod FeedLemmas
 pub mod AlikeLemmas
 pub mod AskingLemmas
+pub mod DepthLemmas

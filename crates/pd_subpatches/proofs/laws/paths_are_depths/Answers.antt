@@ -1,5 +1,5 @@
 use Rattle.std.proofs.Common.{arith}
-use Rattle.pd_patch.proofs.DepthLemmas.{path_deep}
+use Rattle.pd_wiring.proofs.DepthLemmas.{path_deep}
 use Rattle.pd_subpatches.proofs.laws.paths_are_depths.Goals as goal
 
 pub returns : goal.returns
