@@ -266,10 +266,6 @@ module _ (g : Guards) (most : ℕ) where
   unfolding edit_event edit_freely
   edit_event_free wanted s h w = edit_free wanted whole (edits_of_by own_loaded) (edits_of_by all_loaded) (λ l r m v. edits_free last 0 l r m v) s h w
 
--- what deliveries leave
-pub delivered_steady : (g : Guards) (most : ℕ) (s : Stage) (b : Beginning) → IsSteady most s → Begins s.names b → IsSteady most (with_kept s (delivered s b).kept)
-delivered_steady g most s b h k = left_steady g most s whole b h k
-
 -- boxes that are loaded leave what is of the same objects, and names go on
 pub loads_alike : (s : Stage) (l : Left) (boxes : List ℕ) → AreAlike s.states (own_loaded s.net s.time (going_on s l) boxes).kept.states
 loads_alike s l boxes =

@@ -84,7 +84,7 @@ module _ (load : Loader) (P : Stage → Type 0) (each : (s r : Stage) → Alters
   asked_keep rest keeps l s None h p = p
   asked_keep rest keeps l s (Some asked) h p = edit_keeps (Asks asked.0 asked.1) l rest keeps s h p
 
-  pub edits_keep : (n place : ℕ) (l : Left) (s : Stage) → AreFair (edits_taken_by load n place l s).edits → P s → P (edits_taken_by load n place l s).stage
+  edits_keep : (n place : ℕ) (l : Left) (s : Stage) → AreFair (edits_taken_by load n place l s).edits → P s → P (edits_taken_by load n place l s).stage
   unfolding edits_taken_by
   edits_keep zero place l s h p = p
   edits_keep (suc n) place l s h p =

@@ -59,7 +59,7 @@ use Rattle.pd_steady.proofs.LoopLemmas.{stuck_told, each_told}
 
 -- ---- a path that leads through subpatches alone leads there
 
-pub kept_cond : (b : Bool) (o : Option ℕ) (c : ℕ) → cond b o None ≡ Some c → o ≡ Some c
+kept_cond : (b : Bool) (o : Option ℕ) (c : ℕ) → cond b o None ≡ Some c → o ≡ Some c
 kept_cond true o c h = h
 kept_cond false o c h = absurd (none-some c h)
 
@@ -84,7 +84,7 @@ from_step : (g : Grove) (path : List ℕ) (c : ℕ) (s r : Option ℕ) → ((x :
 from_step g path c None r f P h = absurd (none-some c (sym (nowhere g path) ∙ h))
 from_step g path c (Some x) r f P h = subst (λ (o : Option ℕ). reached g o path ≡ Some c) (sym (f x refl)) (P (Some x) h)
 
-pub sub_leads : (g : Grove) (path : List ℕ) (here : Option ℕ) (c : ℕ) → sub_reached g here path ≡ Some c → reached g here path ≡ Some c
+sub_leads : (g : Grove) (path : List ℕ) (here : Option ℕ) (c : ℕ) → sub_reached g here path ≡ Some c → reached g here path ≡ Some c
 sub_leads g [] here c h = h
 sub_leads g (n ∷ path) here c h =
     from_step g path c (option_and_then (λ canvas. sub_step_in g canvas n) here) (option_and_then (λ canvas. step_in g canvas n) here)
@@ -170,7 +170,7 @@ rewires_with asks p s path e m at h =
     }) k.rewires
 
 -- a path leads where it leads in a patch whose net the stage has
-pub led_at : (p q : Patch) (s : Stage) (path : List ℕ) (c : ℕ) → s.net ≡ net_of q → TellsOf p s → reached q.grove (Some q.grove.root) path ≡ Some c → reached p.grove (Some p.grove.root) path ≡ Some c
+led_at : (p q : Patch) (s : Stage) (path : List ℕ) (c : ℕ) → s.net ≡ net_of q → TellsOf p s → reached q.grove (Some q.grove.root) path ≡ Some c → reached p.grove (Some p.grove.root) path ≡ Some c
 led_at p q s path c stands tells e =
     let there : led_to s.net (Some s.net.root) path ≡ Some c =
     subst (λ (n : Net). led_to n (Some n.root) path ≡ Some c) (sym stands) (led_is q (Some q.grove.root) path ∙ e) in
