@@ -1,16 +1,21 @@
 -- Why an edit puts no box, and what is counted where it puts one.
-use Rattle.std.proofs.Common.{◌≡◌, ◌≢◌, ◌⊎◌, ◌+◌, ℕ, List, [], ◌∷◌, filter, length, Option, Result, Ok, Err, IfSome, inl, inr, refl, sym, ap, ◌∙◌, subst, arith}
+use Rattle.std.proofs.Common.{◌≡◌, ◌≢◌, ◌⊎◌, ◌+◌, ◌-◌, ℕ, List, [], ◌∷◌, filter, length, Option, Result, Ok, Err, IfSome, inl, inr, refl, sym, ap, ◌∙◌, subst, arith}
 use mathlib.Core.Logic.{⊎_elim}
 use Rattle.pd_io.specs.declared.files.FileRow.{FileRow}
 use Rattle.pd_atom.specs.Names.{Names, IsTable}
 use Rattle.pd_canvas.specs.declared.edits.Edit.{Edit}
 use Rattle.pd_library.specs.declared.answers.Answer.{Answer}
+use Rattle.pd_library.specs.Files.{answer_in}
+use Rattle.pd_growth.specs.Growth.{around_root, without_ending}
 use Rattle.pd_canvas.specs.declared.wires.Wire.{Wire}
+use Rattle.pd_tree.specs.Trees.{width}
 use Rattle.pd_tree.specs.Ports.{fits}
 use Rattle.pd_fit.specs.Fitting.{wires_inside}
 use Rattle.pd_gather.specs.Gather.{Known, known, AreProper}
+use Rattle.pd_web.specs.Canvases.{HoldersAreNoPorts}
 use Rattle.pd_web.specs.Changes.{wires_told}
 use Rattle.pd_patch.specs.declared.patch.Patch.{Patch}
+use Rattle.pd_patch.proofs.GrowthLemmas.{grown_box_fits}
 use Rattle.pd_wiring.specs.declared.refusals.EditRefusal.{EditRefusal}
 use Rattle.pd_wiring.specs.declared.refusals.EditRefusal.TheVariants.{NoDocument, ShelfFault, NoMemory}
 use Rattle.pd_boxes.specs.Room.{SameButRoom}
@@ -18,14 +23,16 @@ use Rattle.pd_boxes.specs.Put.{CanPut}
 use Rattle.pd_adding.specs.declared.adding.Grown.{Grown}
 use Rattle.pd_adding.specs.declared.counts.Counts.{Counts}
 use Rattle.pd_adding.specs.Boxes.{IsKnown, CanBeWritten, settled_edit, box_put}
-use Rattle.pd_adding.specs.Coming.{coming, IsComing}
-use Rattle.pd_adding.specs.Counts.{with_boxes}
-use Rattle.pd_adding.specs.Growing.{Added}
-use Rattle.pd_adding.specs.Adding.{ComesTo, Grows}
+use Rattle.pd_adding.specs.Coming.{coming, own_zero, IsComing}
+use Rattle.pd_adding.specs.Counts.{stock_by, with_boxes}
+use Rattle.pd_adding.specs.Growing.{Added, growth_of}
+use Rattle.pd_adding.specs.Adding.{ComesTo, GrewWith, Grows}
 use Rattle.pd_putting.specs.declared.adding.NewBox.{NewBox}
-use Rattle.pd_putting.specs.Adds.{CanCome, IsBoxPut, IsSubPut, IsPortBoxPut, HasCome, AddsBox, IsNotPut, IsNotAdded}
-use Rattle.pd_putting.specs.Last.{HasGrown, StaysOut}
+use Rattle.pd_putting.specs.Adds.{last_place, CanCome, IsBoxPut, IsSubPut, IsPortBoxPut, IsPartBoxPut, HasCome, AddsBox, IsNotPut, IsNotAdded}
+use Rattle.pd_putting.specs.Last.{FitsIn, HasGrown, StaysOut}
 use Rattle.pd_putting.proofs.ComingLemmas.{comes_anyhow, counts_are}
+use Rattle.pd_putting.proofs.PartLemmas.{part_wires}
+use Rattle.pd_putting.proofs.StayLemmas.{more_wires, room_depth, room_wires, shell_wires}
 
 -- the text isn't of the table
 pub not_known : (p : Patch) (n : Counts) (name path : List ℕ) (e : Edit) (k : Known) → (IsKnown k.names e → ⊥) → IsNotAdded p p n name path e k NoDocument
@@ -73,33 +80,60 @@ none_fit : (ws : List Wire) → length (filter (fits []) ws) ≡ 0
 none_fit [] = refl
 none_fit (w ∷ ws) = none_fit ws
 
--- in what came no wire is
-no_wires : (p q : Patch) (now : ℕ) (a : Added) (key : ℕ) → HasCome p q now a key → wires_inside a.boxes ≡ 0
-no_wires p q now a key put = ⊎_elim
-    (λ (P : IsBoxPut p q now a key). ap wires_inside P.plain.single)
-    (λ (o : IsSubPut p q now a key ⊎ IsPortBoxPut p q now a key). ⊎_elim
-    (λ (S : IsSubPut p q now a key). (let e = ap wires_inside S.sub.single in let z = none_fit S.sub.sheet.wires in omega (arith, e, z)))
-    (λ (P : IsPortBoxPut p q now a key). ap wires_inside P.port.single) o) put
+none_more : (p q r : Patch) (n : ℕ) → wires_told r.web ≡ wires_told q.web → wires_told q.web ≡ wires_told p.web → n ≡ 0 → wires_told r.web ≡ wires_told p.web + n
+none_more p q r n e f z = omega (arith, e, f, z)
+
+-- as many wires came as fit in the box that came
+pub wires_came : (p q : Patch) (now : ℕ) (a : Added) (key : ℕ) → HoldersAreNoPorts a.boxes → HasCome p q now a key → wires_told q.web ≡ wires_told p.web + wires_inside a.boxes
+wires_came p q now a key bare put = ⊎_elim
+    (λ (P : IsBoxPut p q now a key).
+    none_more p P.ready q (wires_inside a.boxes) (more_wires P.ready q a.known.names (last_place p a.canvas) P.seed key P.put.comes) (room_wires p P.ready P.room) (ap wires_inside P.plain.single))
+    (λ (o : IsSubPut p q now a key ⊎ (IsPortBoxPut p q now a key ⊎ IsPartBoxPut p q now a key)). ⊎_elim
+    (λ (S : IsSubPut p q now a key). let e = ap wires_inside S.sub.single in let z = none_fit S.sub.sheet.wires in
+    none_more p S.ready q (wires_inside a.boxes) (shell_wires S.ready q a.known.names (last_place p a.canvas) S.seed key S.put.comes) (room_wires p S.ready S.room) (omega (arith, e, z)))
+    (λ (r : IsPortBoxPut p q now a key ⊎ IsPartBoxPut p q now a key). ⊎_elim
+    (λ (P : IsPortBoxPut p q now a key). none_more p P.ready q (wires_inside a.boxes) P.put.wires (room_wires p P.ready P.room) (ap wires_inside P.port.single))
+    (λ (P : IsPartBoxPut p q now a key). part_came P) r) o) put
+  where
+    part_came : IsPartBoxPut p q now a key → wires_told q.web ≡ wires_told p.web + wires_inside a.boxes
+    part_came P =
+        let d = room_depth p P.ready P.room a.canvas in
+        let low = P.holder.shallow in
+        let single : width a.boxes ≡ 1 = ap width P.holder.single in
+        let more = part_wires P.ready q a.known.names (last_place p a.canvas) P.seed P.seeds key P.steps P.steps' P.put a.boxes P.are_rows single bare (omega (arith, d, low)) in
+        let same = room_wires p P.ready P.room in
+        omega (arith, more, same)
+
+-- no box of what grew that holds a canvas is a port
+pub grown_bare : (p : Patch) (n : Counts) (name path : List ℕ) (e : Edit) (k files : Known) (a : Added) → GrewWith p n name path e k files a → HoldersAreNoPorts a.boxes
+unfolding growth_of
+grown_bare p n name path e k files a G =
+    (grown_box_fits (answer_in files.files) (without_ending name) (255 - length path) (around_root (own_zero p)) G.entry (stock_by files.names n) G.after a.boxes G.grew).1
+
+-- so an edit that put a box brought as many wires as fit in it
+pub wires_added : (old new : Patch) (n : Counts) (name path : List ℕ) (now : ℕ) (e : Edit) (k after : Known) (b : NewBox) → (X : AddsBox old new n name path now e k after b)
+    → wires_told new.web ≡ wires_told old.web + wires_inside X.added.boxes
+wires_added old new n name path now e k after b X = wires_came old new now X.added b.key (grown_bare old n name path e k X.files X.added X.grew) X.put
 
 -- wires are as many as were counted
-wires_counted : (p q : Patch) (n m : Counts) (a : Added) → n.wires ≡ wires_told p.web → m ≡ a.counts → a.counts ≡ with_boxes p.rate a.boxes n → wires_inside a.boxes ≡ 0 → wires_told q.web ≡ wires_told p.web → m.wires ≡ wires_told q.web
-wires_counted p q n m a counted same with z as_many =
+wires_counted : (p q : Patch) (n m : Counts) (a : Added) → n.wires ≡ wires_told p.web → m ≡ a.counts → a.counts ≡ with_boxes p.rate a.boxes n → wires_told q.web ≡ wires_told p.web + wires_inside a.boxes → m.wires ≡ wires_told q.web
+wires_counted p q n m a counted same with came =
     let x : m.wires ≡ a.counts.wires = ap (λ (c : Counts). c.wires) same in
     let y : a.counts.wires ≡ n.wires + wires_inside a.boxes = ap (λ (c : Counts). c.wires) with in
-    omega (arith, counted, x, y, z, as_many)
+    omega (arith, counted, x, y, came)
 
 module _ (holds : Option (List FileRow)) (p : Patch) (n : Counts) (name path : List ℕ) (e : Edit) (k : Known) (files : List (ℕ × Answer)) (names : Names) (g : Grown)
     (G : Grows holds p n name path e k (known files names) g) where
   pub names_grown : G.added.known.names ≡ names
   names_grown = sym (ap (λ (x : Known). x.names) G.known)
 
-  pub has_grown : HasGrown g names
-  has_grown = record { added = G.added; is = G.is; names_are = names_grown }
+  pub has_grown : FitsIn p G.added → HasGrown p g names
+  has_grown fits = record { added = G.added; is = G.is; names_are = names_grown; fits = fits }
 
-  pub count_grown : (q : Patch) (now : ℕ) (b : NewBox) → n.wires ≡ wires_told p.web → b.counts ≡ g.counts → HasCome p q now G.added b.key → wires_told q.web ≡ wires_told p.web
-      → b.counts.wires ≡ wires_told q.web
-  count_grown q now b counted same put as_many =
-      wires_counted p q n b.counts G.added counted (same ∙ G.is.counts) (counts_are holds p n name path e k G.added G.comes) (no_wires p q now G.added b.key put) as_many
+  pub count_grown : (q : Patch) (now : ℕ) (b : NewBox) → n.wires ≡ wires_told p.web → b.counts ≡ g.counts → HasCome p q now G.added b.key → b.counts.wires ≡ wires_told q.web
+  count_grown q now b counted same put =
+      wires_counted p q n b.counts G.added counted (same ∙ G.is.counts) (counts_are holds p n name path e k G.added G.comes)
+      (wires_came p q now G.added b.key (grown_bare p n name path e k G.files G.added G.grew) put)
 
   pub adds_box : (q : Patch) (now : ℕ) (b : NewBox) (last : Names) → AreProper k.names k.files → IsKnown k.names e → IfSome (box_put (settled_edit k.names e)) (CanBeWritten k.names)
       → HasCome p q now G.added b.key → b.canvas ≡ g.canvas → b.counts ≡ g.counts → last ≡ names → AddsBox p q n name path now e k (known files last) b

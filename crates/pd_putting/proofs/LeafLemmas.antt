@@ -19,8 +19,8 @@ use Rattle.pd_adding.specs.declared.adding.Grown.{Grown}
 use Rattle.pd_adding.specs.Growing.{Added}
 use Rattle.pd_adding.specs.Adding.{IsAdded}
 use Rattle.pd_adding.specs.Single.{IsSingle}
-use Rattle.pd_putting.specs.Adds.{last_place, CanCome, HasCome, IsPlain, IsSub, IsPort, IsBoxPut, IsPortBoxPut}
-use Rattle.pd_putting.specs.Last.{IsPortIn, PutsLast, PutsLeafLast, PutsPortLast}
+use Rattle.pd_putting.specs.Adds.{last_place, CanCome, HasCome, IsPlain, IsSub, IsPort, IsHolder, IsBoxPut, IsPortBoxPut}
+use Rattle.pd_putting.specs.Last.{IsAlone, IsPortIn, PutsLast, PutsLeafLast, PutsPortLast}
 use Rattle.pd_putting.proofs.PlaceLemmas.{port_or_not}
 
 -- the box of a cell that holds no canvas
@@ -72,14 +72,19 @@ module _ (p : Patch) (a : Added) where
   pub single_comes : IsSingle a.boxes → CanCome p a
   single_comes S = ⊎_elim
       (λ (free : IsNoPort p (last_place p a.canvas) S.cell.kind). inl (record { cell = S.cell; single = S.is; no_port = free }))
-      (λ (port : IsPortIn p a.canvas S.cell.kind). inr (inr (record { cell = S.cell; single = S.is; holder = port.0; side = port.1; at = port.2 })))
+      (λ (port : IsPortIn p a.canvas S.cell.kind). inr (inr (inl (record { cell = S.cell; single = S.is; holder = port.0; side = port.1; at = port.2 }))))
       (port_or_not p a.canvas S.cell.kind)
 
-  -- what can come is one box without a canvas, or a subpatch
-  pub single_or_sub : CanCome p a → IsSingle a.boxes ⊎ IsSub p a
-  single_or_sub C = ⊎_elim
-      (λ (P : IsPlain p a). inl (record { cell = P.cell; is = P.single }))
-      (λ (o : IsSub p a ⊎ IsPort p a). ⊎_elim (λ (S : IsSub p a). inr S) (λ (P : IsPort p a). inl (record { cell = P.cell; is = P.single })) o) C
+  -- what can come is one box in which no boxes lie, or one that holds a canvas
+  pub alone_or_holder : CanCome p a → IsAlone p a ⊎ IsHolder p a
+  alone_or_holder C = ⊎_elim
+      (λ (P : IsPlain p a). inl (inl (record { cell = P.cell; is = P.single })))
+      (λ (o : IsSub p a ⊎ (IsPort p a ⊎ IsHolder p a)). ⊎_elim
+      (λ (S : IsSub p a). inl (inr S))
+      (λ (r : IsPort p a ⊎ IsHolder p a). ⊎_elim (λ (P : IsPort p a). inl (inl (record { cell = P.cell; is = P.single }))) (λ (H : IsHolder p a). inr H) r) o) C
+
+  pub alone_comes : IsAlone p a → CanCome p a
+  alone_comes A = ⊎_elim single_comes (λ (S : IsSub p a). inr (inl S)) A
 
 -- ---- seeds
 
@@ -155,4 +160,4 @@ module _ (g : Grown) (a : Added) (A : IsAdded g a) (S : IsSingle a.boxes) (seed 
     pub leaf_put : PutsLeafLast p q table g.canvas seed key → HasCome p q now a key
     leaf_put L = ⊎_elim
         (λ (b : IsNoPort p (last_place p g.canvas) seed.row.kind × PutsLast p q table g.canvas seed key). inl (box_put b.0 b.1))
-        (λ (o : PutsPortLast p q table g.canvas seed key). inr (inr (port_put o))) L
+        (λ (o : PutsPortLast p q table g.canvas seed key). inr (inr (inl (port_put o)))) L

@@ -5,6 +5,9 @@ mod StayLemmas
 mod LeafLemmas
 mod SeedLemmas
 mod PortLemmas
-mod AddLemmas
+pub mod KeyLemmas
+pub mod PartLemmas
+mod HolderLemmas
+pub mod AddLemmas
 pub mod SubLemmas
 pub mod WireLemmas

@@ -16,7 +16,7 @@ use Rattle.pd_grove.specs.declared.seeds.Seed.{Seed}
 use Rattle.pd_grove.specs.Forest.{holder_in, IsForest}
 use Rattle.pd_grove.specs.Grafts.{HasOtherKeys}
 use Rattle.pd_grove.specs.Ports.{port_signal}
-use Rattle.pd_grove.specs.Standing.{BoardSeen, board_seen}
+use Rattle.pd_grove.specs.Standing.{BoardSeen, board_seen, depth_of}
 use Rattle.pd_tree.specs.declared.rows.Sheet.{Sheet}
 use Rattle.pd_web.specs.declared.jacks.Jack.{Jack}
 use Rattle.pd_web.specs.declared.web.Web.{Web}
@@ -71,7 +71,16 @@ zero_seen None (Some b') e = absurd (none-some (board_seen b') (sym e))
 zero_seen (Some b) None e = absurd (none-some (board_seen b) e)
 zero_seen (Some b) (Some b') e = ap (λ (s : BoardSeen). s.sheet.zero) (same_Some (board_seen b') (board_seen b) e)
 
+depth_seen : (o o' : Option Board) → option_map board_seen o' ≡ option_map board_seen o → depth_of o' ≡ depth_of o
+depth_seen None None e = refl
+depth_seen None (Some b') e = absurd (none-some (board_seen b') (sym e))
+depth_seen (Some b) None e = absurd (none-some (board_seen b) e)
+depth_seen (Some b) (Some b') e = ap (λ (s : BoardSeen). s.depth) (same_Some (board_seen b') (board_seen b) e)
+
 module _ (p q : Patch) (S : SameButRoom p q) where
+  pub room_depth : (c : ℕ) → depth_of (get q.grove.boards c) ≡ depth_of (get p.grove.boards c)
+  room_depth c = depth_seen (get p.grove.boards c) (get q.grove.boards c) (S.grove.boards c)
+
   pub room_lives : (c : ℕ) → IsSome (get p.grove.boards c) → IsSome (get q.grove.boards c)
   room_lives c h = live_seen (get p.grove.boards c) (get q.grove.boards c) (S.grove.boards c) h
 

@@ -22,9 +22,9 @@ use Rattle.pd_adding.specs.declared.adding.Grown.{Grown}
 use Rattle.pd_adding.specs.Growing.{Added}
 use Rattle.pd_adding.specs.Adding.{IsAdded}
 use Rattle.pd_adding.specs.Single.{IsSingle}
-use Rattle.pd_putting.specs.Adds.{last_place, IsSub, CanCome, IsSubPut}
-use Rattle.pd_putting.specs.Last.{PutsSubLast, IsReady}
-use Rattle.pd_putting.proofs.LeafLemmas.{rows_one, single_or_sub, seed_leaf, seed_suits}
+use Rattle.pd_putting.specs.Adds.{last_place, IsSub, IsSubPut}
+use Rattle.pd_putting.specs.Last.{IsAlone, PutsSubLast, IsReady}
+use Rattle.pd_putting.proofs.LeafLemmas.{rows_one, seed_leaf, seed_suits}
 
 abbrev holding : Cell → Sheet → Stand
 holding cell sheet = record { cell = cell; sheet = Some sheet; boxes = 0 }
@@ -100,8 +100,8 @@ module _ (p : Patch) (g : Grown) (a : Added) (A : IsAdded g a) where
   pub sub_shallow : IsSub p a → depth_of (get p.grove.boards g.canvas) + 1 < 257
   sub_shallow S = subst (λ (c : ℕ). IsShallow p (last_place p c)) (sym A.canvas) S.shallow
 
-  pub one_box : CanCome p a → length g.rows.items ≡ 1
-  one_box C = ⊎_elim (λ (S : IsSingle a.boxes). rows_one g a A S) (λ (S : IsSub p a). sub_one S) (single_or_sub p a C)
+  pub one_box : IsAlone p a → length g.rows.items ≡ 1
+  one_box C = ⊎_elim (λ (S : IsSingle a.boxes). rows_one g a A S) (λ (S : IsSub p a). sub_one S) C
 
   module _ (seed : Seed) (is : stand_of seed.row ∷ [] ≡ stands_in g.rows.items) where
     pub sub_seed : (S : IsSub p a) → stand_of seed.row ≡ holding S.cell S.sheet
@@ -115,10 +115,10 @@ module _ (p : Patch) (g : Grown) (a : Added) (A : IsAdded g a) where
     seed_shell shell S = shell (seed_sheet S) (ap (λ (s : Stand). s.boxes) (sub_seed S)) (ap (λ (s : Stand). s.cell.kind) (sub_seed S) ∙ S.canvas)
 
     pub seed_ready : (seed.row.sheet ≡ None → seed.row.boxes ≡ 0 → IsLeaf seed) → (IsSome seed.row.sheet → seed.row.boxes ≡ 0 → seed.row.kind ≡ kind.Canvas → IsShell seed)
-        → CanCome p a → IsReady p g.canvas seed
+        → IsAlone p a → IsReady p g.canvas seed
     seed_ready leaf shell C = ⊎_elim
         (λ (S : IsSingle a.boxes). inl (seed_leaf g a A S seed is leaf))
-        (λ (S : IsSub p a). inr (seed_shell shell S, sub_shallow S)) (single_or_sub p a C)
+        (λ (S : IsSub p a). inr (seed_shell shell S, sub_shallow S)) C
 
     -- what came in is the box that grew
     pub sub_put : (q : Patch) (now : ℕ) (table : Names) (key : ℕ) → (S : IsSub p a) → a.known.names ≡ table → IsShell seed → IsFresh p.rate now seed → CanPut q

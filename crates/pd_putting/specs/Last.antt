@@ -1,20 +1,29 @@
 -- A box that comes in as the last one of its canvas, and one that doesn't.
-use Rattle.std.specs.Prelude.{◌≡◌, ◌⊎◌, ℕ}
+use Rattle.std.specs.Prelude.{◌≡◌, ◌⊎◌, ◌+◌, ◌<◌, ℕ, List, [], ◌∷◌, IsSome}
+use Rattle.slab.specs.Slab.{get}
 use Rattle.pd_atom.specs.Names.{Names}
 use Rattle.pd_object.specs.declared.kinds.Kind.{Kind}
+use Rattle.pd_object.specs.declared.kinds.Kind.TheVariants as kind
+use Rattle.pd_tree.specs.Trees.{Stand}
 use Rattle.pd_grove.specs.declared.ports.Side.{Side}
 use Rattle.pd_grove.specs.declared.seeds.Seed.{Seed}
+use Rattle.pd_grove.specs.Planting.{one, seed_stand, stands_ready}
+use Rattle.pd_grove.specs.Standing.{depth_of}
+use Rattle.pd_grove.specs.States.{AreFresh, SeedsSmall}
+use Rattle.pd_grove.specs.TextOrder.{deep}
 use Rattle.pd_patch.specs.declared.patch.Patch.{Patch}
 use Rattle.pd_wiring.specs.declared.refusals.EditRefusal.{EditRefusal}
 use Rattle.pd_wiring.specs.declared.refusals.EditRefusal.TheVariants.{NoDocument, NoMemory}
 use Rattle.pd_boxes.specs.Room.{SameButRoom}
 use Rattle.pd_boxes.specs.Put.{IsLeaf, IsNoPort, IsPut}
 use Rattle.pd_following.specs.Ports.{CanPutPort, IsPortAt, IsPortPut}
+use Rattle.pd_instances.specs.Part.{IsPartPut}
 use Rattle.pd_subpatches.specs.Shell.{AddsShell, IsShallow, IsShell}
 use Rattle.pd_adding.specs.declared.adding.Grown.{Grown}
 use Rattle.pd_adding.specs.Growing.{Added}
 use Rattle.pd_adding.specs.Adding.{IsAdded}
-use Rattle.pd_putting.specs.Adds.{last_place, CanCome}
+use Rattle.pd_adding.specs.Single.{IsSingle}
+use Rattle.pd_putting.specs.Adds.{last_place, CanCome, IsSub}
 
 -- room was set aside, and then a box of a seed came in as the last one of a canvas
 pub record PutsLast (old new : Patch) (table : Names) (canvas : ℕ) (s : Seed) (key : ℕ) : Type 0 where
@@ -45,17 +54,42 @@ PutsLeafLast old new table canvas s key =
 abbrev pub PutsSubLast : Patch → Patch → Names → ℕ → Seed → ℕ → Type 0
 PutsSubLast old new table canvas s key = AddsShell old new table (last_place old canvas) s key
 
+-- The same of a box with all that lies in it: these boxes in text order.
+pub record PutsPartLast (old new : Patch) (table : Names) (canvas now : ℕ) (ss : List Stand) (key steps steps' : ℕ) : Type 0 where
+  pub ready : Patch
+  pub room : SameButRoom old ready
+  pub seed : Seed
+  pub seeds : List Seed
+  pub are_rows : one (seed_stand seed) (stands_ready seeds) ≡ ss
+  pub small : SeedsSmall (seed ∷ seeds)
+  pub fresh : AreFresh old.rate now (seed ∷ seeds)
+  pub put : IsPartPut ready new table (last_place old canvas) seed seeds key steps steps'
+
+-- the first of these boxes holds a canvas, and is of the kind of boxes that do
+abbrev pub HoldsCanvas : List Stand → Type 0
+HoldsCanvas [] = ⊥
+HoldsCanvas (s ∷ ss) = IsSome s.sheet × (s.cell.kind ≡ kind.Canvas)
+
 -- a seed whose box can come in last
 abbrev pub IsReady : Patch → ℕ → Seed → Type 0
 IsReady p canvas s = IsLeaf s ⊎ (IsShell s × IsShallow p (last_place p canvas))
 
--- what grew aside is this, with these names
-pub record HasGrown (g : Grown) (names : Names) : Type 0 where
+-- what grew isn't too deep for its canvas
+abbrev pub FitsIn : Patch → Added → Type 0
+FitsIn p a = depth_of (get p.grove.boards a.canvas) + deep a.boxes < 257
+
+-- what grew is one box in which no boxes lie
+abbrev pub IsAlone : Patch → Added → Type 0
+IsAlone p a = IsSingle a.boxes ⊎ IsSub p a
+
+-- what grew aside is this, with these names, and isn't too deep
+pub record HasGrown (p : Patch) (g : Grown) (names : Names) : Type 0 where
   pub added : Added
   pub is : IsAdded g added
   pub names_are : added.known.names ≡ names
+  pub fits : FitsIn p added
 
--- What grew doesn't come in: memory was wanting, and there may be more room; or it is a box that isn't put yet, and the patch stays.
+-- What grew doesn't come in: memory was wanting, and there may be more room; or it is a box that isn't put, and the patch stays.
 abbrev pub StaysOut : Patch → Patch → Added → EditRefusal → Type 0
 StaysOut old new a why =
     ((why ≡ NoMemory) × (CanCome old a × SameButRoom old new)) ⊎ ((why ≡ NoDocument) × ((new ≡ old) × (CanCome old a → ⊥)))

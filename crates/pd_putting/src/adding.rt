@@ -1,6 +1,6 @@
 //! A box that an edit puts, grown aside and put in.
 
-ghost use Rattle.std.specs.Prelude.{◌≡◌, ◌≤◌, Err, IfOk, IfErr, OnErr};
+ghost use Rattle.std.specs.Prelude.{◌≡◌, ◌≤◌, ◌+◌, Err, IfOk, IfErr, OnErr};
 ghost use Rattle.pd_io.specs.Faults.{Rose};
 ghost use Rattle.pd_atom.specs.Names.{Extends};
 ghost use Rattle.pd_gather.specs.Gather.{known, AreProper};
@@ -9,7 +9,7 @@ ghost use Rattle.pd_wiring.specs.declared.refusals.EditRefusal.TheVariants.{Shel
 ghost use Rattle.pd_boxes.specs.Put.{CanPut};
 ghost use Rattle.pd_adding.specs.Coming.{own_zero};
 ghost use Rattle.pd_adding.specs.Counts.{AreWithin};
-ghost use Rattle.pd_putting.specs.Adds.{AddsBox, IsNotAdded};
+ghost use Rattle.pd_putting.specs.Adds.{keys_within, put_looks, AddsBox, IsNotAdded};
 
 use crate::known::is_known;
 use crate::placing::put_grown;
@@ -24,22 +24,24 @@ use pd_wiring::EditRefusal;
 use std::alloc::Global;
 use std::sync::ledger::Ledger;
 
-/// A box that an edit put: its key, the key of its canvas, and the counts of the patch with it.
-#[derive(Clone, Copy, Debug, PartialEq, Eq)]
+/// A box that an edit put: its key, the key of its canvas, the counts of the patch with it, and the keys of the box and of all that lies in it,
+/// in text order.
+#[derive(Debug, Drop)]
 pub struct NewBox {
     pub key: u32,
     pub canvas: u32,
     pub counts: Counts,
+    pub part: Vec<u32>,
 }
 
-/// Puts a box that an edit names last into a canvas of the patch's own document: one without a canvas inside, with the port of the box around
-/// that it is, or a subpatch without boxes. `counts` are the counts of the patch.
+/// Puts a box that an edit names last into a canvas of the patch's own document: with all that lies in it, or with the port of the box around
+/// that it is. `counts` are the counts of the patch. Looks at signal wires are counted in `steps`.
 ///
 /// # Errors
 ///
 /// The first reason against it: `NoDocument` for an edit that puts no box or whose text isn't of the table, `NoCanvas`, `TextTooLong`,
 /// `TooDeep`; then `ShelfFault`, `SymbolsFull` or `TooManyBoxes`, whichever growth comes to first; then `TooManyWires` and `TooMuchSound`;
-/// then `NoDocument` for a box that isn't put yet. `NoMemory` may come in place of any. Names and files are then as before.
+/// then `NoDocument`, should what grew be no such box. `NoMemory` may come in place of any. Names and files are then as before.
 pub fn add_box<H: Shelf, L: Ledger>(
     alloc: Global,
     patch: &mut Patch,
@@ -72,7 +74,9 @@ pub fn add_box<H: Shelf, L: Ledger>(
     ensures kept { H.holds shelf.new ≡ H.holds shelf.old }
     ensures cause { result ≡ Err ShelfFault → Rose (H.faults shelf.old) (H.faults shelf.new) }
     ensures shelf_counted { H.faults shelf.old ≤ H.faults shelf.new }
-    ensures looks { steps.new ≡ steps.old }
+    ensures part { IfOk result (λ b. b.part.items ≡ keys_within patch.new b.key) }
+    ensures looks { IfOk result (λ b. steps.new ≤ steps.old + put_looks patch.new b.key) }
+    ensures no_looks { OnErr result (steps.new ≡ steps.old) }
 {
     if !is_known(symbols, edit) {
         return Err(EditRefusal::NoDocument);

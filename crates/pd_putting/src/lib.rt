@@ -1,12 +1,13 @@
 //! An edit that puts a box into a canvas of the patch's own document, made on the running patch.
 //!
 //! `add_box` makes `obj`, `msg`, `text`, `floatatom`, `symbolatom` and `sub`: the box grows aside, asking for the files that are not
-//! known yet, and then comes in as the last one of its canvas (`AddsBox`). It puts a box that grew without a canvas inside, and a subpatch
-//! that has no boxes; an `inlet` or `outlet` in a canvas that a box holds gives that box the port that it is, and the wires at the ports
-//! behind it follow. All else of the patch stays, there are as many wires, and no signal wire is looked at. An object that is an
-//! abstraction, also one without boxes, which has a `$0` of its own, it refuses with `NoDocument`. A refused edit (`IsNotAdded`) leaves the
-//! patch, the names and the files that are known as they were; where memory ran out there may be more room in the patch, and all that it
-//! tells stays.
+//! known yet, and then comes in as the last one of its canvas (`AddsBox`). Any box comes: one without a canvas inside, a subpatch, and an
+//! abstraction with all that lies in it, as it would have grown with the patch: under new keys, with its wires that fit, its names, its
+//! `$0` numbers and the orders of its canvases. An `inlet` or `outlet` in a canvas that a box holds gives that box the port that it is, and
+//! the wires at the ports behind it follow. All else of the patch stays, there are as many wires more as fit inside the box, and signal wires
+//! are looked at for a box that holds boxes or is an abstraction alone, no more often than `put_looks` tells. A refused edit (`IsNotAdded`)
+//! leaves the patch, the names and the files that are known as they were; where memory ran out there may be more room in the patch, and
+//! all that it tells stays.
 //!
 //! The caller keeps the counts of the patch from one edit to the next, so that no edit counts boxes, wires or values.
 //!
@@ -17,6 +18,7 @@
 
 mod adding;
 mod known;
+mod parts;
 mod placing;
 
 pub use adding::{NewBox, add_box};

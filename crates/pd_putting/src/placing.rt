@@ -1,6 +1,6 @@
 //! What grew aside, put into its canvas as the last box.
 
-ghost use Rattle.std.specs.Prelude.{◌≡◌, ◌||◌, ◌∷◌, [], true, false, nat_lt, length, is_some, None, IsSome, IfOk, IfErr, OnErr};
+ghost use Rattle.std.specs.Prelude.{◌≡◌, ◌≤◌, ◌+◌, ◌||◌, ◌∷◌, [], true, false, nat_lt, length, is_some, None, IsSome, IfOk, IfErr, OnErr};
 ghost use Rattle.slab.specs.Slab.{get, ContainsKey};
 ghost use Rattle.pd_canvas.specs.Pages.{Sub};
 ghost use Rattle.pd_canvas.specs.Views.{shape_of};
@@ -20,10 +20,11 @@ ghost use Rattle.pd_adding.specs.Coming.{own_zero};
 ghost use Rattle.pd_adding.specs.Growing.{Added};
 ghost use Rattle.pd_adding.specs.Single.{IsSingle};
 ghost use Rattle.pd_subpatches.specs.Shell.{IsShallow, IsShell};
-ghost use Rattle.pd_putting.specs.Adds.{last_place, CanCome, HasCome, IsSub};
-ghost use Rattle.pd_putting.specs.Last.{HasGrown, IsPortIn, IsReady, PutsLast, PutsLeafLast, PutsPortLast, PutsSubLast, StaysOut};
+ghost use Rattle.pd_putting.specs.Adds.{keys_within, last_place, put_looks, HasCome, IsSub};
+ghost use Rattle.pd_putting.specs.Last.{FitsIn, HasGrown, IsAlone, IsPortIn, IsReady, PutsLast, PutsLeafLast, PutsPortLast, PutsSubLast, StaysOut};
 
 use crate::adding::NewBox;
+use crate::parts::{is_holder, put_whole};
 use pd_adding::{Grown, single_boxes};
 use pd_atom::Symbols;
 use pd_boxes::{Place, patches_run_on, put, reserve_box, room_changes_nothing};
@@ -41,11 +42,11 @@ use pd_wiring::EditRefusal;
 use std::alloc::{AllocError, Global};
 use std::sync::ledger::Ledger;
 
-/// Puts what grew aside into its canvas as the last box, where it is one box, which has no canvas inside or is a subpatch without boxes.
+/// Puts what grew aside into its canvas as the last box.
 ///
 /// # Errors
 ///
-/// `NoDocument` for any other box; `NoMemory` where memory ran out, or where the canvas has as many boxes as can be counted.
+/// `NoDocument` for what is no such box; `NoMemory` where memory ran out, or where the canvas or the patch has as many boxes as can be counted.
 pub(crate) fn put_grown<L: Ledger>(
     alloc: Global,
     patch: &mut Patch,
@@ -57,8 +58,49 @@ pub(crate) fn put_grown<L: Ledger>(
     requires can { CanPut patch.old }
     requires meet { Meet patch.old.web }
     requires here { ContainsKey patch.old.grove.boards grown.canvas }
-    requires grown { HasGrown grown symbols.old }
+    requires grown { HasGrown patch.old grown symbols.old }
+    ensures put { IfOk result (λ b. (a : Added) → IsAdded grown a → FitsIn patch.old a → a.known.names ≡ symbols.old → HasCome patch.old patch.new now a b.key) }
+    ensures part { IfOk result (λ b. b.part.items ≡ keys_within patch.new b.key) }
+    ensures canvas { IfOk result (λ b. b.canvas ≡ grown.canvas) }
+    ensures counts { IfOk result (λ b. b.counts ≡ grown.counts) }
+    ensures refused { IfErr result (λ why. (a : Added) → IsAdded grown a → FitsIn patch.old a → StaysOut patch.old patch.new a why) }
+    ensures goes_on { CanPut patch.new }
+    ensures meet { Meet patch.new.web }
+    ensures as_many { OnErr result (wires_told patch.new.web ≡ wires_told patch.old.web) }
+    ensures zero { own_zero patch.new ≡ own_zero patch.old }
+    ensures table { symbols.new ≡ symbols.old }
+    ensures looks { IfOk result (λ b. steps.new ≤ steps.old + put_looks patch.new b.key) }
+    ensures no_looks { OnErr result (steps.new ≡ steps.old) }
+{
+    if is_alone(patch, &grown) {
+        put_alone(alloc, patch, grown, now, symbols, steps)
+    } else if is_holder(&grown) {
+        put_whole(alloc, patch, grown, now, symbols, steps)
+    } else {
+        Err(EditRefusal::NoDocument)
+    }
+}
+
+/// Puts what grew aside into its canvas as the last box, where it is one box in which no boxes lie.
+///
+/// # Errors
+///
+/// `NoMemory` where memory ran out, or where the canvas has as many boxes as can be counted.
+fn put_alone<L: Ledger>(
+    alloc: Global,
+    patch: &mut Patch,
+    grown: Grown,
+    now: Time,
+    symbols: &mut Symbols,
+    steps: &mut Steps<L>,
+) -> Result<NewBox, EditRefusal>
+    requires can { CanPut patch.old }
+    requires meet { Meet patch.old.web }
+    requires here { ContainsKey patch.old.grove.boards grown.canvas }
+    requires grown { HasGrown patch.old grown symbols.old }
+    requires alone { (a : Added) → IsAdded grown a → IsAlone patch.old a }
     ensures put { IfOk result (λ b. (a : Added) → IsAdded grown a → a.known.names ≡ symbols.old → HasCome patch.old patch.new now a b.key) }
+    ensures part { IfOk result (λ b. b.part.items ≡ keys_within patch.new b.key) }
     ensures canvas { IfOk result (λ b. b.canvas ≡ grown.canvas) }
     ensures counts { IfOk result (λ b. b.counts ≡ grown.counts) }
     ensures refused { IfErr result (λ why. (a : Added) → IsAdded grown a → StaysOut patch.old patch.new a why) }
@@ -69,28 +111,30 @@ pub(crate) fn put_grown<L: Ledger>(
     ensures table { symbols.new ≡ symbols.old }
     ensures looks { steps.new ≡ steps.old }
 {
-    if !can_come(patch, &grown) {
-        return Err(EditRefusal::NoDocument);
-    }
     let canvas = grown.canvas;
     let counts = grown.counts;
+    let Ok(mut part) = Vec::with_capacity(alloc, 1) else {
+        return Err(EditRefusal::NoMemory);
+    };
     let Ok(seed) = seed_of(alloc, grown.rows, patch.rate, now) else {
         return Err(EditRefusal::NoMemory);
     };
     let Ok(key) = put_seed(alloc, patch, canvas, seed, symbols, steps) else {
         return Err(EditRefusal::NoMemory);
     };
+    part.push_reserved(key);
     Ok(NewBox {
         key,
         canvas,
         counts,
+        part,
     })
 }
 
-/// Whether what grew is one box that can be put.
-fn can_come(patch: &Patch, grown: &Grown) -> bool
-    ensures yes { result ≡ true → (a : Added) → IsAdded grown.now a → CanCome patch.now a }
-    ensures no { result ≡ false → (a : Added) → IsAdded grown.now a → CanCome patch.now a → ⊥ }
+/// Whether what grew is one box in which no boxes lie: it has no canvas inside, or is a subpatch without boxes.
+fn is_alone(patch: &Patch, grown: &Grown) -> bool
+    ensures yes { result ≡ true → (a : Added) → IsAdded grown.now a → IsAlone patch.now a }
+    ensures no { result ≡ false → (a : Added) → IsAdded grown.now a → IsAlone patch.now a → ⊥ }
 {
     is_single(grown) || is_sub(patch, grown)
 }
@@ -140,7 +184,7 @@ fn is_subpatch(form: &Form) -> bool
 }
 
 /// Whether the boxes of a kind hold canvases.
-fn is_canvas(kind: &Kind) -> bool
+pub(crate) fn is_canvas(kind: &Kind) -> bool
     ensures yes { result ≡ true → kind.now ≡ Canvas }
     ensures no { result ≡ false → kind.now ≡ Canvas → ⊥ }
 {
@@ -354,7 +398,7 @@ fn put_port_last<L: Ledger>(
 /// # Errors
 ///
 /// `AllocError` where that is no number of 32 bits.
-fn next_number(patch: &Patch, canvas: u32) -> Result<u32, AllocError>
+pub(crate) fn next_number(patch: &Patch, canvas: u32) -> Result<u32, AllocError>
     ensures { IfOk result (λ number. number ≡ length (keys_at patch.now.grove canvas)) }
 {
     match u32::try_from(boxes_in(patch, canvas)) {

@@ -1,0 +1,145 @@
+-- Which of what grew is one box that holds a canvas, with whatever lies in it, and such a box that came in.
+use Rattle.std.proofs.Common.{◌≡◌, ◌≢◌, ◌⊎◌, ◌+◌, ◌<◌, ℕ, true, false, is_some, List, [], ◌∷◌, length, get_or, Option, Some, None, IsSome, inl, inr, refl, sym, ap, ◌∙◌, subst, arith}
+use Rattle.std.specs.List.{AllByRecursion}
+use Rattle.std.proofs.lemmas.Bool.{false≢true}
+use mathlib.Core.Logic.{⊎_elim}
+use Rattle.slab.specs.Slab.{get}
+use Rattle.pd_atom.specs.Names.{Names}
+use Rattle.pd_object.specs.declared.kinds.Kind.{Kind}
+use Rattle.pd_object.specs.declared.kinds.Kind.TheVariants as kind
+use Rattle.pd_object.specs.Ports.{IsSmallKind}
+use Rattle.pd_tree.specs.declared.rows.Row.{Row}
+use Rattle.pd_tree.specs.declared.rows.Sheet.{Sheet}
+use Rattle.pd_tree.specs.Trees.{Cell, Stand, Trees, Done, Leaf, Holder, width, stand_of, stands_of, stands_in}
+use Rattle.pd_growth.specs.Suits.{TextSuits, RowSuits}
+use Rattle.pd_grove.specs.declared.seeds.Seed.{Seed}
+use Rattle.pd_grove.specs.declared.ports.Side.{Side}
+use Rattle.pd_grove.specs.declared.ports.Side.TheVariants.{Inlets, Outlets}
+use Rattle.pd_grove.specs.Planting.{one, seed_stand, stands_ready}
+use Rattle.pd_grove.specs.Ports.{port_signal}
+use Rattle.pd_grove.specs.Standing.{depth_of}
+use Rattle.pd_grove.specs.TextOrder.{deep}
+use Rattle.pd_web.specs.Canvases.{keys_at}
+use Rattle.pd_patch.specs.declared.patch.Patch.{Patch}
+use Rattle.pd_boxes.specs.declared.room.Place.{Place}
+use Rattle.pd_boxes.specs.Put.{IsNoPort}
+use Rattle.pd_instances.specs.Part.{IsPartPut}
+use Rattle.pd_instances.specs.Room.{IsOnePart}
+use Rattle.pd_adding.specs.declared.adding.Grown.{Grown}
+use Rattle.pd_adding.specs.Growing.{Added}
+use Rattle.pd_adding.specs.Adding.{IsAdded}
+use Rattle.pd_putting.specs.Adds.{last_place, IsHolder, CanCome, IsPartBoxPut}
+use Rattle.pd_putting.specs.Last.{FitsIn, HasGrown, HoldsCanvas, IsAlone, PutsPartLast}
+
+-- ---- by the first row
+
+-- what the first row of a list holds
+pub holds_canvas : (rows : List Row) (row : Row) → length rows ≢ 0 → row ≡ get_or rows 0 row → is_some row.sheet ≡ true → row.kind ≡ kind.Canvas → HoldsCanvas (stands_in rows)
+holds_canvas [] row many at some canvas = absurd (many refl)
+holds_canvas (x ∷ rows) row many at some canvas = (sym (ap (λ (r : Row). is_some r.sheet) at) ∙ some, sym (ap (λ (r : Row). r.kind) at) ∙ canvas)
+
+pub none_holds : (rows : List Row) → length rows ≡ 0 → HoldsCanvas (stands_in rows) → ⊥
+none_holds [] none h = h
+none_holds (x ∷ rows) none h = absurd (omega (arith, none))
+
+pub first_holds : (rows : List Row) (row : Row) → length rows ≢ 0 → row ≡ get_or rows 0 row → HoldsCanvas (stands_in rows) → (is_some row.sheet ≡ true) × (row.kind ≡ kind.Canvas)
+first_holds [] row many at h = absurd (many refl)
+first_holds (x ∷ rows) row many at h = (ap (λ (r : Row). is_some r.sheet) at ∙ h.0, ap (λ (r : Row). r.kind) at ∙ h.1)
+
+pub not_some : (row : Row) → is_some row.sheet ≡ false → is_some row.sheet ≡ true → ⊥
+not_some row f t = false≢true (sym f ∙ t)
+
+-- ---- by the tree
+
+-- boxes that are none
+none_wide : (t : Trees) → width t ≡ 0 → t ≡ Done
+none_wide Done e = refl
+none_wide (Leaf c rest) e = absurd (omega (arith, e))
+none_wide (Holder c s inner rest) e = absurd (omega (arith, e))
+
+-- one box that holds a canvas
+record Holds (t : Trees) : Type 0 where
+  cell : Cell
+  sheet : Sheet
+  inner : Trees
+  is : t ≡ Holder cell sheet inner Done
+  canvas : cell.kind ≡ kind.Canvas
+
+holds_by : (t : Trees) → width t ≡ 1 → HoldsCanvas (stands_of t) → Holds t
+holds_by Done one h = absurd h
+holds_by (Leaf c rest) one h = absurd (false≢true h.0)
+holds_by (Holder c s inner rest) one h =
+    record { cell = c; sheet = s; inner = inner; is = ap (Holder c s inner) (none_wide rest (omega (arith, one))); canvas = h.1 }
+
+module _ (g : Grown) (a : Added) (A : IsAdded g a) where
+  pub holder_is : (p : Patch) → HoldsCanvas (stands_in g.rows.items) → FitsIn p a → IsHolder p a
+  holder_is p h fits =
+      let H = holds_by a.boxes A.one (subst HoldsCanvas A.rows h) in
+      record { cell = H.cell; sheet = H.sheet; inner = H.inner; single = H.is; canvas = H.canvas; shallow = fits }
+
+  pub holder_holds : (p : Patch) → IsHolder p a → HoldsCanvas (stands_in g.rows.items)
+  holder_holds p H = subst HoldsCanvas (sym (A.rows ∙ ap stands_of H.single)) (refl, H.canvas)
+
+  -- what can come is one box in which no boxes lie, or holds a canvas
+  pub none_comes : (p : Patch) → (IsAlone p a → ⊥) → (HoldsCanvas (stands_in g.rows.items) → ⊥) → (CanCome p a → IsAlone p a ⊎ IsHolder p a) → CanCome p a → ⊥
+  none_comes p alone holds by C = ⊎_elim alone (λ (H : IsHolder p a). holds (holder_holds p H)) (by C)
+
+-- what grew is one box with all that lies in it, not too deep for its place
+pub one_part : (p : Patch) (g : Grown) (names : Names) → HasGrown p g names → IsOnePart p (last_place p g.canvas) (stands_in g.rows.items)
+one_part p g names h = record {
+  tree = h.added.boxes;
+  is_tree = h.is.rows;
+  single = h.is.one;
+  shallow = subst (λ (c : ℕ). depth_of (get p.grove.boards c) + deep h.added.boxes < 257) (sym h.is.canvas) h.fits;
+}
+
+pub part_there : (p : Patch) (canvas number : ℕ) (ss : List Stand) → IsOnePart p (last_place p canvas) ss → IsOnePart p (record { canvas = canvas; number = number }) ss
+part_there p canvas number ss P = record { tree = P.tree; is_tree = P.is_tree; single = P.single; shallow = P.shallow }
+
+-- it is no port of a box around
+pub holder_no_port : (p : Patch) (at : Place) (ss : List Stand) (s : Seed) (seeds : List Seed) → one (seed_stand s) (stands_ready seeds) ≡ ss → HoldsCanvas ss → IsNoPort p at s.row.kind
+holder_no_port p at ss s seeds e h =
+    let holds : HoldsCanvas (one (seed_stand s) (stands_ready seeds)) = subst HoldsCanvas (sym e) h in
+    inr (λ side. ap (port_signal side) holds.1 ∙ no_port side)
+  where
+    no_port : (side : Side) → port_signal side kind.Canvas ≡ None
+    no_port Inlets = refl
+    no_port Outlets = refl
+
+-- ---- seeds
+
+-- each row of what grew suits the table, and so does each seed that was made of one
+suit_all : (names : Names) (seeds : List Seed) (rows : List Row) → stands_ready seeds ≡ stands_in rows → AllByRecursion (RowSuits names) rows → AllByRecursion (λ (s : Seed). RowSuits names s.row) seeds
+suit_all names [] rows e h = tt
+suit_all names (s ∷ seeds) [] e h = absurd (omega (arith, ap (λ (ss : List Stand). length ss) e))
+suit_all names (s ∷ seeds) (row ∷ rows) e h =
+    let same : stand_of s.row ≡ stand_of row = ap (first (stand_of row)) e in
+    (subst (λ (x : Stand). TextSuits names x.cell.text × IsSmallKind x.cell.kind) (sym same) h.0, suit_all names seeds rows (ap rest_of e) h.1)
+  where
+    first : Stand → List Stand → Stand
+    first d [] = d
+    first d (x ∷ xs) = x
+
+    rest_of : List Stand → List Stand
+    rest_of [] = []
+    rest_of (x ∷ xs) = xs
+
+module _ (g : Grown) (a : Added) (A : IsAdded g a) (p q : Patch) (now : ℕ) (table : Names) (key steps steps' : ℕ) (names : a.known.names ≡ table) where
+  -- what came in is the box that grew
+  pub part_put : IsHolder p a → PutsPartLast p q table g.canvas now (stands_in g.rows.items) key steps steps' → IsPartBoxPut p q now a key
+  part_put H L = record {
+    holder = H;
+    ready = L.ready;
+    room = L.room;
+    seed = L.seed;
+    seeds = L.seeds;
+    are_rows = L.are_rows ∙ A.rows;
+    suit = suit_all a.known.names (L.seed ∷ L.seeds) g.rows.items L.are_rows A.suit;
+    small = L.small;
+    fresh = L.fresh;
+    steps = steps;
+    steps' = steps';
+    put = subst (λ (t : Names). IsPartPut L.ready q t (last_place p a.canvas) L.seed L.seeds key steps steps') (sym names)
+        (subst (λ (c : ℕ). IsPartPut L.ready q table (last_place p c) L.seed L.seeds key steps steps') A.canvas L.put);
+    goes_on = L.put.can;
+  }
