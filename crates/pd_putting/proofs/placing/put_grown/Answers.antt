@@ -1,46 +1,23 @@
-use Rattle.std.proofs.Common.{inl, inr, refl, ap}
-use mathlib.Core.Logic.{⊎_elim}
-use Rattle.pd_tree.specs.Trees.{Stand}
-use Rattle.pd_adding.specs.Single.{IsSingle}
-use Rattle.pd_putting.specs.Adds.{IsSub}
-use Rattle.pd_putting.proofs.LeafLemmas.{rows_small, seed_stand, seed_leaf, single_or_sub, leaf_put}
-use Rattle.pd_putting.proofs.SubLemmas.{one_box, seed_ready, seed_shell, seed_sheet, sub_put}
-use Rattle.pd_putting.proofs.StayLemmas.{same_patch}
+use Rattle.std.proofs.Common.{inl, inr, refl, arith}
+use Rattle.pd_putting.proofs.LeafLemmas.{alone_or_holder}
+use Rattle.pd_putting.proofs.HolderLemmas.{none_comes}
 use Rattle.pd_putting.proofs.placing.put_grown.Goals as goal
 
-pub seed_of-requires-clause-small : goal.seed_of-requires-clause-small
-seed_of-requires-clause-small g c = rows_small c.requires.grown.added.known.names c.args.grown.rows.items c.requires.grown.is.suit
+pub put_alone-requires-clause-alone : goal.put_alone-requires-clause-alone
+put_alone-requires-clause-alone g c = c.is_alone.ensures.yes c.if-is_alone.true
 
-pub seed_of-requires-clause-one : goal.seed_of-requires-clause-one
-seed_of-requires-clause-one g c =
-    let h = c.requires.grown in
-    one_box c.args.patch.now c.args.grown h.added h.is (c.can_come.ensures.yes c.if-not-can_come.false h.added h.is)
+pub put_whole-requires-clause-holder : goal.put_whole-requires-clause-holder
+put_whole-requires-clause-holder g c = c.is_holder.ensures.yes c.if-is_holder.true
 
-pub put_seed-requires-clause-ready : goal.put_seed-requires-clause-ready
-put_seed-requires-clause-ready g c =
-    let h = c.requires.grown in
-    seed_ready c.args.patch.now c.args.grown h.added h.is c.in-Ok.seed c.in-Ok.ensures.stand c.in-Ok.ensures.leaf c.in-Ok.ensures.shell
-    (c.can_come.ensures.yes c.if-not-can_come.false h.added h.is)
+pub returns-then-is_alone-clause-put : goal.returns-then-is_alone-clause-put
+returns-then-is_alone-clause-put g c = ?
 
-pub returns-then-not-can_come-clause-refused : goal.returns-then-not-can_come-clause-refused
-returns-then-not-can_come-clause-refused g c = λ a A. inr (refl, (refl, c.can_come.ensures.no c.if-not-can_come.true a A))
+pub returns-then-is_alone-clause-refused : goal.returns-then-is_alone-clause-refused
+returns-then-is_alone-clause-refused g c = ?
 
-pub returns-clause-put : goal.returns-clause-put
-returns-clause-put g c = λ a A names.
-    let p = c.args.patch.now in
-    let seed = c.in-Ok.seed in
-    let stand = c.in-Ok.ensures.stand in
-    ⊎_elim
-    (λ (S : IsSingle a.boxes). leaf_put c.args.grown a A S seed stand p c.put_seed.new.patch c.args.now c.args.symbols.now c.in-Ok-put_seed.key names
-    (seed_leaf c.args.grown a A S seed stand c.in-Ok.ensures.leaf) c.in-Ok.ensures.fresh c.put_seed.ensures.goes_on
-    (c.in-Ok-put_seed.ensures.put (ap (λ (s : Stand). s.sheet) (seed_stand c.args.grown a A S seed stand))))
-    (λ (S : IsSub p a). inr (inl (sub_put p c.args.grown a A seed stand c.put_seed.new.patch c.args.now c.args.symbols.now c.in-Ok-put_seed.key S names
-    (seed_shell p c.args.grown a A seed stand c.in-Ok.ensures.shell S) c.in-Ok.ensures.fresh c.put_seed.ensures.goes_on
-    (c.in-Ok-put_seed.ensures.sub (seed_sheet p c.args.grown a A seed stand S)))))
-    (single_or_sub p a (c.can_come.ensures.yes c.if-not-can_come.false a A))
+pub returns-then-is_alone-clause-looks : goal.returns-then-is_alone-clause-looks
+returns-then-is_alone-clause-looks g c = ?
 
-pub returns-in_default-clause-refused : goal.returns-in_default-clause-refused
-returns-in_default-clause-refused g c = λ a A. inl (refl, (c.can_come.ensures.yes c.if-not-can_come.false a A, same_patch c.args.patch.now))
-
-pub returns-in_default-put_seed-clause-refused : goal.returns-in_default-put_seed-clause-refused
-returns-in_default-put_seed-clause-refused g c = λ a A. inl (refl, (c.can_come.ensures.yes c.if-not-can_come.false a A, c.in_default-put_seed.ensures.short))
+pub returns-clause-refused : goal.returns-clause-refused
+returns-clause-refused g c = λ a A fits.
+    inr (refl, (refl, none_comes c.args.grown a A c.args.patch.now (c.is_alone.ensures.no c.if-is_alone.false a A) (c.is_holder.ensures.no c.if-is_holder.false) (alone_or_holder c.args.patch.now a)))

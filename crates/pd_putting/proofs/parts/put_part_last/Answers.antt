@@ -1,0 +1,69 @@
+use Rattle.std.proofs.Common.{◌≡◌, ◌≤◌, length, sym, ◌∙◌, subst, arith}
+use Rattle.std.specs.Prelude.{IsSome}
+use Rattle.std.proofs.lemmas.Result.{err_from_is_err_and}
+use Rattle.slab.specs.Slab.{get}
+use Rattle.pd_web.specs.Canvases.{keys_at}
+use Rattle.pd_boxes.specs.declared.room.Place.{Place}
+use Rattle.pd_boxes.proofs.RoomLemmas.{room_put}
+use Rattle.pd_putting.proofs.StayLemmas.{same_patch, room_lives, room_zero, room_wires, room_last, room_meets, is_ordered}
+use Rattle.pd_putting.proofs.HolderLemmas.{part_there, holder_no_port}
+use Rattle.pd_putting.proofs.PartLemmas.{part_zero, part_looks}
+use Rattle.pd_putting.proofs.parts.put_part_last.Goals as goal
+
+pub reserve_part-requires-clause-ordered : goal.reserve_part-requires-clause-ordered
+reserve_part-requires-clause-ordered g c = is_ordered c.args.patch.now c.args.canvas c.requires.can c.requires.here
+
+pub reserve_part-requires-clause-part : goal.reserve_part-requires-clause-part
+reserve_part-requires-clause-part g c = part_there c.args.patch.now c.args.canvas c.in_ok-number.number _ c.requires.part
+
+pub returns-in_err-number-clause-short : goal.returns-in_err-number-clause-short
+returns-in_err-number-clause-short g c =
+    let p = err_from_is_err_and c.from_residual.result c.from_residual.ensures.1 in
+    rw p.1 (same_patch c.args.patch.now)
+
+pub returns-in_err-room-clause-goes_on : goal.returns-in_err-room-clause-goes_on
+returns-in_err-room-clause-goes_on g c = room_put c.args.patch.now c.reserve_part.new.patch c.reserve_part.ensures.same c.requires.can
+
+pub returns-in_err-room-clause-meet : goal.returns-in_err-room-clause-meet
+returns-in_err-room-clause-meet g c = room_meets c.args.patch.now c.reserve_part.new.patch c.reserve_part.ensures.same c.requires.meet
+
+pub returns-in_err-room-clause-as_many : goal.returns-in_err-room-clause-as_many
+returns-in_err-room-clause-as_many g c =
+    let p = err_from_is_err_and c.from_residual.result c.from_residual.ensures.1 in
+    rw p.1 (room_wires c.args.patch.now c.reserve_part.new.patch c.reserve_part.ensures.same)
+
+pub returns-in_err-room-clause-zero : goal.returns-in_err-room-clause-zero
+returns-in_err-room-clause-zero g c = room_zero c.args.patch.now c.reserve_part.new.patch c.reserve_part.ensures.same
+
+pub put_part-requires-clause-can : goal.put_part-requires-clause-can
+put_part-requires-clause-can g c = room_put c.args.patch.now c.reserve_part.new.patch c.reserve_part.ensures.same c.requires.can
+
+pub put_part-requires-clause-here : goal.put_part-requires-clause-here
+put_part-requires-clause-here g c =
+    subst (λ (at : Place). IsSome (get c.reserve_part.new.patch.grove.boards at.canvas)) (sym c.in_ok-room.ensures.place)
+    (room_lives c.args.patch.now c.reserve_part.new.patch c.reserve_part.ensures.same c.args.canvas c.requires.here)
+
+pub put_part-requires-clause-number : goal.put_part-requires-clause-number
+put_part-requires-clause-number g c =
+    subst (λ (at : Place). at.number ≤ length (keys_at c.reserve_part.new.patch.grove at.canvas)) (sym c.in_ok-room.ensures.place)
+    (omega (arith, c.in_ok-number.ensures, room_last c.args.patch.now c.reserve_part.new.patch c.reserve_part.ensures.same c.args.canvas))
+
+pub put_part-requires-clause-plain : goal.put_part-requires-clause-plain
+put_part-requires-clause-plain g c =
+    holder_no_port c.reserve_part.new.patch c.in_ok-room.room.place _ c.in_ok-room.room.seed _ c.in_ok-room.ensures.boxes c.requires.holder
+
+pub returns-clause-put : goal.returns-clause-put
+returns-clause-put g c = ?
+
+pub returns-clause-meet : goal.returns-clause-meet
+returns-clause-meet g c = c.put_part.ensures.put.meet (room_meets c.args.patch.now c.reserve_part.new.patch c.reserve_part.ensures.same c.requires.meet)
+
+pub returns-clause-zero : goal.returns-clause-zero
+returns-clause-zero g c =
+    let p = c.args.patch.now in
+    let q = c.reserve_part.new.patch in
+    part_zero q c.put_part.new.patch _ _ _ _ c.put_part.result.key _ _ c.put_part.ensures.put (room_put p q c.reserve_part.ensures.same c.requires.can)
+    ∙ room_zero p q c.reserve_part.ensures.same
+
+pub returns-clause-looks : goal.returns-clause-looks
+returns-clause-looks g c = ?
