@@ -29,7 +29,7 @@ use Rattle.pd_adding.specs.Growing.{Added, growth_of}
 use Rattle.pd_adding.specs.Adding.{ComesTo, GrewWith, Grows}
 use Rattle.pd_putting.specs.declared.adding.NewBox.{NewBox}
 use Rattle.pd_putting.specs.Adds.{last_place, CanCome, IsBoxPut, IsSubPut, IsPortBoxPut, IsPartBoxPut, HasCome, AddsBox, IsNotPut, IsNotAdded}
-use Rattle.pd_putting.specs.Last.{FitsIn, HasGrown, StaysOut}
+use Rattle.pd_putting.specs.Last.{HasGrown, StaysOut}
 use Rattle.pd_putting.proofs.ComingLemmas.{comes_anyhow, counts_are}
 use Rattle.pd_putting.proofs.PartLemmas.{part_wires}
 use Rattle.pd_putting.proofs.StayLemmas.{more_wires, room_depth, room_wires, shell_wires}
@@ -127,8 +127,8 @@ module _ (holds : Option (List FileRow)) (p : Patch) (n : Counts) (name path : L
   pub names_grown : G.added.known.names ≡ names
   names_grown = sym (ap (λ (x : Known). x.names) G.known)
 
-  pub has_grown : FitsIn p G.added → HasGrown p g names
-  has_grown fits = record { added = G.added; is = G.is; names_are = names_grown; fits = fits }
+  pub has_grown : HasGrown g names
+  has_grown = record { added = G.added; is = G.is; names_are = names_grown }
 
   pub count_grown : (q : Patch) (now : ℕ) (b : NewBox) → n.wires ≡ wires_told p.web → b.counts ≡ g.counts → HasCome p q now G.added b.key → b.counts.wires ≡ wires_told q.web
   count_grown q now b counted same put =

@@ -15,21 +15,25 @@ use Rattle.pd_growth.specs.Suits.{TextSuits, RowSuits}
 use Rattle.pd_grove.specs.declared.seeds.Seed.{Seed}
 use Rattle.pd_grove.specs.declared.ports.Side.{Side}
 use Rattle.pd_grove.specs.declared.ports.Side.TheVariants.{Inlets, Outlets}
-use Rattle.pd_grove.specs.Planting.{one, seed_stand, stands_ready}
+use Rattle.pd_grove.specs.Planting.{one, seed_stand, seeds_in, stands_ready}
 use Rattle.pd_grove.specs.Ports.{port_signal}
 use Rattle.pd_grove.specs.Standing.{depth_of}
+use Rattle.pd_grove.specs.States.{AreFresh}
 use Rattle.pd_grove.specs.TextOrder.{deep}
 use Rattle.pd_web.specs.Canvases.{keys_at}
 use Rattle.pd_patch.specs.declared.patch.Patch.{Patch}
 use Rattle.pd_boxes.specs.declared.room.Place.{Place}
 use Rattle.pd_boxes.specs.Put.{IsNoPort}
+use Rattle.pd_boxes.specs.Room.{SameButRoom}
 use Rattle.pd_instances.specs.Part.{IsPartPut}
-use Rattle.pd_instances.specs.Room.{IsOnePart}
+use Rattle.pd_instances.specs.declared.room.PartRoom.{PartRoom}
+use Rattle.pd_instances.specs.Room.{stands_for, IsOnePart, TakesPart}
 use Rattle.pd_adding.specs.declared.adding.Grown.{Grown}
 use Rattle.pd_adding.specs.Growing.{Added}
 use Rattle.pd_adding.specs.Adding.{IsAdded}
 use Rattle.pd_putting.specs.Adds.{last_place, IsHolder, CanCome, IsPartBoxPut}
 use Rattle.pd_putting.specs.Last.{FitsIn, HasGrown, HoldsCanvas, IsAlone, PutsPartLast}
+use Rattle.pd_putting.proofs.StayLemmas.{last_is}
 
 -- ---- by the first row
 
@@ -72,10 +76,17 @@ holds_by (Holder c s inner rest) one h =
     record { cell = c; sheet = s; inner = inner; is = ap (Holder c s inner) (none_wide rest (omega (arith, one))); canvas = h.1 }
 
 module _ (g : Grown) (a : Added) (A : IsAdded g a) where
-  pub holder_is : (p : Patch) → HoldsCanvas (stands_in g.rows.items) → FitsIn p a → IsHolder p a
+  pub holder_is : (p : Patch) → HoldsCanvas (stands_in g.rows.items) → FitsIn p g → IsHolder p a
   holder_is p h fits =
       let H = holds_by a.boxes A.one (subst HoldsCanvas A.rows h) in
-      record { cell = H.cell; sheet = H.sheet; inner = H.inner; single = H.is; canvas = H.canvas; shallow = fits }
+      record {
+        cell = H.cell;
+        sheet = H.sheet;
+        inner = H.inner;
+        single = H.is;
+        canvas = H.canvas;
+        shallow = subst (λ (c : ℕ). depth_of (get p.grove.boards c) + deep a.boxes < 257) A.canvas (fits a A);
+      }
 
   pub holder_holds : (p : Patch) → IsHolder p a → HoldsCanvas (stands_in g.rows.items)
   holder_holds p H = subst HoldsCanvas (sym (A.rows ∙ ap stands_of H.single)) (refl, H.canvas)
@@ -85,13 +96,8 @@ module _ (g : Grown) (a : Added) (A : IsAdded g a) where
   none_comes p alone holds by C = ⊎_elim alone (λ (H : IsHolder p a). holds (holder_holds p H)) (by C)
 
 -- what grew is one box with all that lies in it, not too deep for its place
-pub one_part : (p : Patch) (g : Grown) (names : Names) → HasGrown p g names → IsOnePart p (last_place p g.canvas) (stands_in g.rows.items)
-one_part p g names h = record {
-  tree = h.added.boxes;
-  is_tree = h.is.rows;
-  single = h.is.one;
-  shallow = subst (λ (c : ℕ). depth_of (get p.grove.boards c) + deep h.added.boxes < 257) (sym h.is.canvas) h.fits;
-}
+pub one_part : (p : Patch) (g : Grown) (names : Names) → HasGrown g names → FitsIn p g → IsOnePart p (last_place p g.canvas) (stands_in g.rows.items)
+one_part p g names h fits = record { tree = h.added.boxes; is_tree = h.is.rows; single = h.is.one; shallow = fits h.added h.is }
 
 pub part_there : (p : Patch) (canvas number : ℕ) (ss : List Stand) → IsOnePart p (last_place p canvas) ss → IsOnePart p (record { canvas = canvas; number = number }) ss
 part_there p canvas number ss P = record { tree = P.tree; is_tree = P.is_tree; single = P.single; shallow = P.shallow }
@@ -123,6 +129,22 @@ suit_all names (s ∷ seeds) (row ∷ rows) e h =
     rest_of : List Stand → List Stand
     rest_of [] = []
     rest_of (x ∷ xs) = xs
+
+-- the box of the room came in
+pub puts_part : (p q r : Patch) (names table : Names) (canvas number now : ℕ) (ss : List Stand) (room : PartRoom) (taken : Names) (key steps steps' : ℕ) → SameButRoom p q
+    → names ≡ table → number ≡ length (keys_at p.grove canvas) → room.place ≡ record { canvas = canvas; number = number } → stands_for room ≡ ss → AreFresh p.rate now (room.seed ∷ seeds_in room.inside)
+    → TakesPart q room taken → IsPartPut q r names room.place room.seed (seeds_in room.inside) key steps steps' → PutsPartLast p r table canvas now ss key steps steps'
+puts_part p q r names table canvas number now ss room taken key steps steps' same e last at is fresh takes I = record {
+  ready = q;
+  room = same;
+  seed = room.seed;
+  seeds = seeds_in room.inside;
+  are_rows = is;
+  small = takes.small;
+  fresh = fresh;
+  put = subst (λ (t : Names). IsPartPut q r t (last_place p canvas) room.seed (seeds_in room.inside) key steps steps') e
+      (subst (λ (x : Place). IsPartPut q r names x room.seed (seeds_in room.inside) key steps steps') (at ∙ last_is p canvas number last) I);
+}
 
 module _ (g : Grown) (a : Added) (A : IsAdded g a) (p q : Patch) (now : ℕ) (table : Names) (key steps steps' : ℕ) (names : a.known.names ≡ table) where
   -- what came in is the box that grew

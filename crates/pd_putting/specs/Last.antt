@@ -74,20 +74,19 @@ HoldsCanvas (s ∷ ss) = IsSome s.sheet × (s.cell.kind ≡ kind.Canvas)
 abbrev pub IsReady : Patch → ℕ → Seed → Type 0
 IsReady p canvas s = IsLeaf s ⊎ (IsShell s × IsShallow p (last_place p canvas))
 
--- what grew isn't too deep for its canvas
-abbrev pub FitsIn : Patch → Added → Type 0
-FitsIn p a = depth_of (get p.grove.boards a.canvas) + deep a.boxes < 257
+-- what grew aside isn't too deep for its canvas
+abbrev pub FitsIn : Patch → Grown → Type 0
+FitsIn p g = (a : Added) → IsAdded g a → depth_of (get p.grove.boards g.canvas) + deep a.boxes < 257
 
 -- what grew is one box in which no boxes lie
 abbrev pub IsAlone : Patch → Added → Type 0
 IsAlone p a = IsSingle a.boxes ⊎ IsSub p a
 
--- what grew aside is this, with these names, and isn't too deep
-pub record HasGrown (p : Patch) (g : Grown) (names : Names) : Type 0 where
+-- what grew aside is this, with these names
+pub record HasGrown (g : Grown) (names : Names) : Type 0 where
   pub added : Added
   pub is : IsAdded g added
   pub names_are : added.known.names ≡ names
-  pub fits : FitsIn p added
 
 -- What grew doesn't come in: memory was wanting, and there may be more room; or it is a box that isn't put, and the patch stays.
 abbrev pub StaysOut : Patch → Patch → Added → EditRefusal → Type 0

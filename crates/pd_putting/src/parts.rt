@@ -60,13 +60,14 @@ pub(crate) fn put_whole<L: Ledger>(
     requires can { CanPut patch.old }
     requires meet { Meet patch.old.web }
     requires here { ContainsKey patch.old.grove.boards grown.canvas }
-    requires grown { HasGrown patch.old grown symbols.old }
+    requires grown { HasGrown grown symbols.old }
+    requires shallow { FitsIn patch.old grown }
     requires holder { HoldsCanvas (stands_in grown.rows.items) }
-    ensures put { IfOk result (λ b. (a : Added) → IsAdded grown a → FitsIn patch.old a → a.known.names ≡ symbols.old → HasCome patch.old patch.new now a b.key) }
+    ensures put { IfOk result (λ b. (a : Added) → IsAdded grown a → a.known.names ≡ symbols.old → HasCome patch.old patch.new now a b.key) }
     ensures part { IfOk result (λ b. b.part.items ≡ keys_within patch.new b.key) }
     ensures canvas { IfOk result (λ b. b.canvas ≡ grown.canvas) }
     ensures counts { IfOk result (λ b. b.counts ≡ grown.counts) }
-    ensures refused { IfErr result (λ why. (a : Added) → IsAdded grown a → FitsIn patch.old a → StaysOut patch.old patch.new a why) }
+    ensures refused { IfErr result (λ why. (a : Added) → IsAdded grown a → StaysOut patch.old patch.new a why) }
     ensures goes_on { CanPut patch.new }
     ensures meet { Meet patch.new.web }
     ensures as_many { OnErr result (wires_told patch.new.web ≡ wires_told patch.old.web) }

@@ -27,6 +27,9 @@ put_grown-requires-clause-grown g c =
     has_grown (g.H.Shelf.holds c.args.shelf.now) c.args.patch.now c.args.counts c.args.site.name.now c.args.site.path.now c.args.edit.now
     (known c.args.library.now c.args.symbols.now) c.grow_aside.new.library c.grow_aside.new.symbols c.in_ok-grown.grown c.in_ok-grown.ensures.grown
 
+pub put_grown-requires-clause-shallow : goal.put_grown-requires-clause-shallow
+put_grown-requires-clause-shallow g c = λ a A. c.in_ok-grown.ensures.shallow a A c.requires.can.forest
+
 pub forget-requires : goal.forget-requires
 forget-requires g c =
     let six = six_names c.args.symbols.now c.len-names.ensures.table in
@@ -58,7 +61,7 @@ returns-in-Ok-clause-counted g c =
     let path = c.args.site.path.now in
     let names = names_grown holds c.args.patch.now c.args.counts name path c.args.edit.now k c.grow_aside.new.library c.grow_aside.new.symbols c.in_ok-grown.grown G in
     count_grown holds c.args.patch.now c.args.counts name path c.args.edit.now k c.grow_aside.new.library c.grow_aside.new.symbols c.in_ok-grown.grown G
-    c.put_grown.new.patch c.args.site.now c.in-Ok.put c.requires.counted c.in-Ok.ensures.counts (c.in-Ok.ensures.put G.added G.is names) c.put_grown.ensures.as_many
+    c.put_grown.new.patch c.args.site.now c.in-Ok.put c.requires.counted c.in-Ok.ensures.counts (c.in-Ok.ensures.put G.added G.is names)
 
 pub returns-in-Ok-clause-within : goal.returns-in-Ok-clause-within
 returns-in-Ok-clause-within g c = subst AreWithin (sym c.in-Ok.ensures.counts) c.in_ok-grown.ensures.within

@@ -6,7 +6,8 @@ use Rattle.pd_web.specs.Canvases.{keys_at}
 use Rattle.pd_boxes.specs.declared.room.Place.{Place}
 use Rattle.pd_boxes.proofs.RoomLemmas.{room_put}
 use Rattle.pd_putting.proofs.StayLemmas.{same_patch, room_lives, room_zero, room_wires, room_last, room_meets, is_ordered}
-use Rattle.pd_putting.proofs.HolderLemmas.{part_there, holder_no_port}
+use Rattle.pd_putting.specs.Last.{HoldsCanvas}
+use Rattle.pd_putting.proofs.HolderLemmas.{part_there, holder_no_port, puts_part}
 use Rattle.pd_putting.proofs.PartLemmas.{part_zero, part_looks}
 use Rattle.pd_putting.proofs.parts.put_part_last.Goals as goal
 
@@ -29,7 +30,7 @@ returns-in_err-room-clause-meet g c = room_meets c.args.patch.now c.reserve_part
 
 pub returns-in_err-room-clause-as_many : goal.returns-in_err-room-clause-as_many
 returns-in_err-room-clause-as_many g c =
-    let p = err_from_is_err_and c.from_residual.result c.from_residual.ensures.1 in
+    let p = err_from_is_err_and c.from_residual-in_err-room.result c.from_residual-in_err-room.ensures.1 in
     rw p.1 (room_wires c.args.patch.now c.reserve_part.new.patch c.reserve_part.ensures.same)
 
 pub returns-in_err-room-clause-zero : goal.returns-in_err-room-clause-zero
@@ -53,7 +54,10 @@ put_part-requires-clause-plain g c =
     holder_no_port c.reserve_part.new.patch c.in_ok-room.room.place _ c.in_ok-room.room.seed _ c.in_ok-room.ensures.boxes c.requires.holder
 
 pub returns-clause-put : goal.returns-clause-put
-returns-clause-put g c = ?
+returns-clause-put g c =
+    puts_part c.args.patch.now c.reserve_part.new.patch c.put_part.new.patch c.reserve_part.new.symbols c.args.symbols.now c.args.canvas c.in_ok-number.number c.args.now _ c.in_ok-room.room _
+    c.put_part.result.key c.args.steps.now c.put_part.new.steps c.reserve_part.ensures.same c.reserve_part.ensures.table c.in_ok-number.ensures c.in_ok-room.ensures.place
+    c.in_ok-room.ensures.boxes c.in_ok-room.ensures.fresh c.in_ok-room.ensures.room c.put_part.ensures.put
 
 pub returns-clause-meet : goal.returns-clause-meet
 returns-clause-meet g c = c.put_part.ensures.put.meet (room_meets c.args.patch.now c.reserve_part.new.patch c.reserve_part.ensures.same c.requires.meet)
@@ -66,4 +70,7 @@ returns-clause-zero g c =
     ∙ room_zero p q c.reserve_part.ensures.same
 
 pub returns-clause-looks : goal.returns-clause-looks
-returns-clause-looks g c = ?
+returns-clause-looks g c =
+    let part = c.requires.part in
+    part_looks c.reserve_part.new.patch c.put_part.new.patch _ _ _ _ c.put_part.result.key c.args.steps.now c.put_part.new.steps c.put_part.ensures.put part.tree
+    (c.in_ok-room.ensures.boxes ∙ part.is_tree) part.single (subst HoldsCanvas part.is_tree c.requires.holder)

@@ -8,14 +8,14 @@ pub put_part_last-requires-clause-small : goal.put_part_last-requires-clause-sma
 put_part_last-requires-clause-small g c = rows_small c.requires.grown.added.known.names c.args.grown.rows.items c.requires.grown.is.suit
 
 pub put_part_last-requires-clause-part : goal.put_part_last-requires-clause-part
-put_part_last-requires-clause-part g c = one_part c.args.patch.now c.args.grown c.args.symbols.now c.requires.grown
+put_part_last-requires-clause-part g c = one_part c.args.patch.now c.args.grown c.args.symbols.now c.requires.grown c.requires.shallow
 
 pub returns-in_default-clause-refused : goal.returns-in_default-clause-refused
-returns-in_default-clause-refused g c = λ a A fits.
-    inl (refl, (inr (inr (inr (holder_is c.args.grown a A c.args.patch.now c.requires.holder fits))), c.in_default.ensures.short))
+returns-in_default-clause-refused g c = λ a A.
+    inl (refl, (inr (inr (inr (holder_is c.args.grown a A c.args.patch.now c.requires.holder c.requires.shallow))), c.in_default.ensures.short))
 
 pub returns-clause-put : goal.returns-clause-put
-returns-clause-put g c = λ a A fits names.
+returns-clause-put g c = λ a A names.
     let p = c.args.patch.now in
     inr (inr (inr (part_put c.args.grown a A p c.put_part_last.new.patch c.args.now c.args.symbols.now c.in-Ok.put.key c.args.steps.now c.put_part_last.new.steps names
-    (holder_is c.args.grown a A p c.requires.holder fits) c.in-Ok.ensures.put)))
+    (holder_is c.args.grown a A p c.requires.holder c.requires.shallow) c.in-Ok.ensures.put)))

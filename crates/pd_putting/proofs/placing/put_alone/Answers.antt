@@ -1,4 +1,4 @@
-use Rattle.std.proofs.Common.{List, ◌++◌, ◌∷◌, [], inl, inr, refl, sym, ap, ◌∙◌, arith}
+use Rattle.std.proofs.Common.{ℕ, List, ◌++◌, ◌∷◌, [], inl, inr, refl, sym, ap, ◌∙◌, arith}
 use mathlib.Core.Logic.{⊎_elim}
 use Rattle.pd_tree.specs.Trees.{Stand}
 use Rattle.pd_adding.specs.Single.{IsSingle}
@@ -46,4 +46,18 @@ pub returns-in_default-put_seed-clause-refused : goal.returns-in_default-put_see
 returns-in_default-put_seed-clause-refused g c = λ a A. inl (refl, (alone_comes c.args.patch.now a (c.requires.alone a A), c.in_default-put_seed.ensures.short))
 
 pub returns-clause-part : goal.returns-clause-part
-returns-clause-part g c = ?
+returns-clause-part g c =
+    let p = c.args.patch.now in
+    let q = c.put_seed.new.patch in
+    let table = c.args.symbols.now in
+    let canvas = c.args.grown.canvas in
+    let seed = c.in-Ok-seed_of.seed in
+    let key = c.in-Ok-put_seed.key in
+    let h = c.requires.grown in
+    let stand = c.in-Ok-seed_of.ensures.stand in
+    c.push_reserved.ensures.items ∙ ap (λ (ks : List ℕ). ks ++ key ∷ []) c.in-Ok.ensures.items
+    ∙ sym (⊎_elim
+    (λ (S : IsSingle h.added.boxes). leaf_last_alone p q table canvas seed key
+    (c.in-Ok-put_seed.ensures.put (ap (λ (s : Stand). s.sheet) (seed_stand c.args.grown h.added h.is S seed stand))))
+    (λ (S : IsSub p h.added). sub_last_alone p q table canvas seed key (c.in-Ok-put_seed.ensures.sub (seed_sheet p c.args.grown h.added h.is seed stand S)))
+    (c.requires.alone h.added h.is))
