@@ -31,8 +31,8 @@ use Rattle.pd_putting.specs.declared.adding.NewBox.{NewBox}
 use Rattle.pd_putting.specs.Adds.{last_place, CanCome, IsBoxPut, IsSubPut, IsPortBoxPut, IsPartBoxPut, HasCome, AddsBox, IsNotPut, IsNotAdded}
 use Rattle.pd_putting.specs.Last.{HasGrown, StaysOut}
 use Rattle.pd_putting.proofs.ComingLemmas.{comes_anyhow, counts_are}
-use Rattle.pd_putting.proofs.PartLemmas.{part_wires}
 use Rattle.pd_putting.proofs.StayLemmas.{more_wires, room_depth, room_wires, shell_wires}
+use Rattle.pd_putting.proofs.WireLemmas.{part_wires}
 
 -- the text isn't of the table
 pub not_known : (p : Patch) (n : Counts) (name path : List ℕ) (e : Edit) (k : Known) → (IsKnown k.names e → ⊥) → IsNotAdded p p n name path e k NoDocument
@@ -100,7 +100,7 @@ wires_came p q now a key bare put = ⊎_elim
         let d = room_depth p P.ready P.room a.canvas in
         let low = P.holder.shallow in
         let single : width a.boxes ≡ 1 = ap width P.holder.single in
-        let more = part_wires P.ready q a.known.names (last_place p a.canvas) P.seed P.seeds key P.steps P.steps' P.put a.boxes P.are_rows single bare (omega (arith, d, low)) in
+        let more = part_wires P.ready q a.known.names (last_place p a.canvas) P.seed P.seeds key P.steps P.steps' a.boxes P.put P.are_rows single bare (omega (arith, d, low)) in
         let same = room_wires p P.ready P.room in
         omega (arith, more, same)
 
@@ -116,7 +116,8 @@ pub wires_added : (old new : Patch) (n : Counts) (name path : List ℕ) (now : �
 wires_added old new n name path now e k after b X = wires_came old new now X.added b.key (grown_bare old n name path e k X.files X.added X.grew) X.put
 
 -- wires are as many as were counted
-wires_counted : (p q : Patch) (n m : Counts) (a : Added) → n.wires ≡ wires_told p.web → m ≡ a.counts → a.counts ≡ with_boxes p.rate a.boxes n → wires_told q.web ≡ wires_told p.web + wires_inside a.boxes → m.wires ≡ wires_told q.web
+wires_counted : (p q : Patch) (n m : Counts) (a : Added) → n.wires ≡ wires_told p.web → m ≡ a.counts → a.counts ≡ with_boxes p.rate a.boxes n
+    → wires_told q.web ≡ wires_told p.web + wires_inside a.boxes → m.wires ≡ wires_told q.web
 wires_counted p q n m a counted same with came =
     let x : m.wires ≡ a.counts.wires = ap (λ (c : Counts). c.wires) same in
     let y : a.counts.wires ≡ n.wires + wires_inside a.boxes = ap (λ (c : Counts). c.wires) with in

@@ -1,11 +1,10 @@
 -- Which of what grew is one box that holds a canvas, with whatever lies in it, and such a box that came in.
-use Rattle.std.proofs.Common.{◌≡◌, ◌≢◌, ◌⊎◌, ◌+◌, ◌<◌, ℕ, true, false, is_some, List, [], ◌∷◌, length, get_or, Option, Some, None, IsSome, inl, inr, refl, sym, ap, ◌∙◌, subst, arith}
+use Rattle.std.proofs.Common.{◌≡◌, ◌≢◌, ◌⊎◌, ◌+◌, ◌<◌, ℕ, true, false, is_some, List, [], ◌∷◌, length, get_or, None, inr, refl, sym, ap, ◌∙◌, subst, arith}
 use Rattle.std.specs.List.{AllByRecursion}
 use Rattle.std.proofs.lemmas.Bool.{false≢true}
 use mathlib.Core.Logic.{⊎_elim}
 use Rattle.slab.specs.Slab.{get}
 use Rattle.pd_atom.specs.Names.{Names}
-use Rattle.pd_object.specs.declared.kinds.Kind.{Kind}
 use Rattle.pd_object.specs.declared.kinds.Kind.TheVariants as kind
 use Rattle.pd_object.specs.Ports.{IsSmallKind}
 use Rattle.pd_tree.specs.declared.rows.Row.{Row}

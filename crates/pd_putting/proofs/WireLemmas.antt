@@ -6,7 +6,6 @@ use Rattle.std.proofs.lemmas.List.Concat.{flat_map-append}
 use Rattle.std.proofs.lemmas.Option.{none-some, same_Some}
 use Rattle.slab.specs.Slab.{get}
 use Rattle.pd_atom.specs.Names.{Names}
-use Rattle.pd_tree.specs.declared.rows.Sheet.{Sheet}
 use Rattle.pd_tree.specs.Ports.{trimmed_sheet}
 use Rattle.pd_tree.specs.Trees.{Trees, Done, Leaf, Holder, Tree, stands_of, width}
 use Rattle.pd_fit.specs.Fitting.{wires_inside}

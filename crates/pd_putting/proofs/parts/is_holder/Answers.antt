@@ -1,5 +1,4 @@
 use Rattle.std.proofs.Common.{List, sym, ◌∙◌, subst}
-use Rattle.std.proofs.lemmas.Bool.{not-true}
 use Rattle.pd_tree.specs.declared.rows.Row.{Row}
 use Rattle.pd_tree.specs.Trees.{stands_in}
 use Rattle.pd_putting.specs.Last.{HoldsCanvas}

@@ -1,7 +1,6 @@
 use Rattle.std.proofs.Common.{inl, inr, refl}
 use Rattle.pd_putting.proofs.LeafLemmas.{rows_small}
 use Rattle.pd_putting.proofs.HolderLemmas.{one_part, holder_is, part_put}
-use Rattle.pd_putting.proofs.StayLemmas.{same_patch}
 use Rattle.pd_putting.proofs.parts.put_whole.Goals as goal
 
 pub put_part_last-requires-clause-small : goal.put_part_last-requires-clause-small

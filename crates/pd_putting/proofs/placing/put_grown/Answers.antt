@@ -1,9 +1,3 @@
-use Rattle.std.proofs.Common.{◌≡◌, ◌≤◌, ◌+◌, ℕ, inl, inr, refl, arith}
-use Rattle.std.proofs.lemmas.Result.{IfOk-weaker}
-use Rattle.pd_putting.specs.declared.adding.NewBox.{NewBox}
-use Rattle.pd_putting.specs.Adds.{put_looks}
-use Rattle.pd_putting.proofs.LeafLemmas.{alone_or_holder}
-use Rattle.pd_putting.proofs.HolderLemmas.{none_comes}
 use Rattle.pd_putting.proofs.placing.put_grown.Goals as goal
 
 pub put_alone-requires-clause-alone : goal.put_alone-requires-clause-alone
