@@ -1,8 +1,9 @@
 -- What follows behind an edit: the boxes that are loaded, and the edits that were asked for.
-use Rattle.std.proofs.Common.{◌≡◌, ℕ, zero, suc, ◌+◌, List, [], ◌∷◌, ◌++◌, refl, sym, ◌∙◌, ap, subst, Option, Some, None, slice_get}
+use Rattle.std.proofs.Common.{◌≡◌, false, ℕ, zero, suc, ◌+◌, List, [], ◌∷◌, ◌++◌, refl, sym, ◌∙◌, ap, subst, Option, Some, None, slice_get}
 use Rattle.std.proofs.lemmas.List.{append-nil}
 use Rattle.pd_canvas.specs.declared.edits.Edit.{Edit}
-use Rattle.pd_queue.specs.Queue.{most}
+use Rattle.pd_queue.specs.Queue.{Waiting, most}
+use Rattle.pd_walk.specs.declared.walker.Budget.{Budget}
 use Rattle.pd_walk.specs.Outcome.{all_loaded}
 use Rattle.pd_stage.specs.Items.{said}
 use Rattle.pd_stage.specs.Choices.{Wanted, Asks, Choice, first_choice, loads_of_choice}
@@ -12,7 +13,7 @@ use Rattle.pd_stage.specs.Events.{Left, whole, edit_taken, loaded_by, edit_loade
 use Rattle.pd_stage.proofs.LeadLemmas.{after-joined, begins_more, leads_begin, leads_then, leads_same, leads_to, broke_after, broke_same}
 use Rattle.pd_engine.specs.declared.refusals.Outcome.{Outcome}
 use Rattle.pd_engine.specs.Commands.{first_outcome}
-use Rattle.pd_engine.specs.Edits.{first_loads, IsTakenSo, IsEvent, IsLoadedSo, IsLoadedPart, IsAskedSo, IsAskedPart}
+use Rattle.pd_engine.specs.Edits.{first_loads, left_of, IsTakenSo, IsEvent, IsLoadedSo, IsLoadedPart, IsAskedSo, IsAskedPart}
 
 -- ---- where nothing is loaded, and nothing was asked for
 
@@ -164,3 +165,26 @@ module _ (first : Left) (n place : ℕ) (l : Left) (from mid : List Choice → S
 pub way_full : (first : Left) (place : ℕ) (l : Left) (from mid : List Choice → Stage) (x y : Sinks) → Way first zero place l from mid x y → Comes (edits_of_by all_loaded first) from mid x y
 way_full first place l from mid x y h =
     leads_to (λ m. edits_of_by all_loaded first (from m)) (λ m. edits_taken_by all_loaded zero place l (mid m)) (λ m. still (mid m)) x y (λ m. no_more_asked place l (mid m)) h
+
+-- ---- what follows an edit that is an event
+
+module _ (loads : List ℕ) (b : Budget) (q : Waiting) (from : List Choice → Stage) (x y z : Sinks) (full : b ≡ record { left = 1000000; cut = false }) (none : q ≡ []) where
+  abbrev follows : Left → Stage → Passage
+  follows l = loaded_by all_loaded loads l (edits_of_by all_loaded)
+
+  first_left : left_of b q ≡ whole
+  first_left = rw (full, none) refl
+
+  pub follow_broke_first : IsLoadedPart loads (left_of b q) from x y → Stops (follows whole) from x y
+  follow_broke_first k = subst (λ (l : Left). Stops (follows l) from x y) first_left (k (edits_of_by all_loaded))
+
+  module _ (l : Left) (mid : List Choice → Stage) (k : IsLoadedSo loads (left_of b q) l from mid x y) where
+    pub follow_so : (to : List Choice → Stage) → Comes (edits_of_by all_loaded l) mid to y z → Comes (follows whole) from to x z
+    follow_so to e =
+        subst (λ (v : Left). Comes (follows v) from to x z) first_left
+        (leads_then (λ m. follows (left_of b q) (from m)) (λ m. edits_of_by all_loaded l (mid m)) (λ m. still (to m)) x y z (k (edits_of_by all_loaded)) e)
+
+    pub follow_broke : Stops (edits_of_by all_loaded l) mid y z → Stops (follows whole) from x z
+    follow_broke e =
+        subst (λ (v : Left). Stops (follows v) from x z) first_left
+        (broke_after (λ m. follows (left_of b q) (from m)) (λ m. edits_of_by all_loaded l (mid m)) x y z (k (edits_of_by all_loaded)) e)

@@ -1,11 +1,13 @@
 use Rattle.pd_stage.specs.Choices.{base_of}
-use Rattle.std.proofs.Common.{refl, [], subst, ℕ, List, Option}
+use Rattle.std.proofs.Common.{refl, sym, [], subst, ℕ, List, Option}
 use Rattle.std.proofs.lemmas.Result.{err_from_is_err_and, on_ok_weaker, on_err_weaker}
 use Rattle.pd_hearing.specs.Worlds.{net_of, kept_of}
 use Rattle.pd_walk.specs.Outcome.{world}
 use Rattle.pd_stage.specs.Stages.{Stage, with_ahead}
 use Rattle.pd_stage.specs.Leads.{sinks, Comes, Stops}
 use Rattle.pd_stage.specs.Events.{event, beginning_of}
+use Rattle.pd_queue.specs.Queue.{Waiting}
+use Rattle.pd_engine.specs.Edits.{AreAskedFor}
 use Rattle.pd_engine.specs.Stages.{stage_at}
 use Rattle.pd_engine.proofs.ClockLemmas.{now_set, stage_with}
 use Rattle.pd_engine.proofs.EventLemmas.{event_comes, event_breaks, event_breaks_late}
@@ -24,7 +26,7 @@ pub take_queued-requires : goal.take_queued-requires
 take_queued-requires g c =
     let e = c.args.self.now in
     left_asked (net_of c.set_now.new.self) e.time (world (kept_of c.set_now.new.self e.symbols c.clear.new.self) c.new-budget.result []) c.args.start.now
-    (kept_of c.deliver-delivered.new.patch c.deliver-delivered.new.symbols c.deliver-delivered.new.queue) c.clear.ensures c.in_ok-delivered.ensures.ok.kept_is
+    (kept_of c.deliver-delivered.new.patch c.deliver-delivered.new.symbols c.deliver-delivered.new.queue) (subst (λ (q : Waiting). AreAskedFor q) (sym c.clear.ensures) tt) c.in_ok-delivered.ensures.ok.kept_is
 
 pub returns-in_err-delivered-clause-err : goal.returns-in_err-delivered-clause-err
 returns-in_err-delivered-clause-err g c =
