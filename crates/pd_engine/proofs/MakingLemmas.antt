@@ -384,13 +384,10 @@ module _ {E : Type 0} (r : Result Outcome E) (wanted : Wanted) (path : List ℕ)
       subst (λ (x : List Choice → Stage). IsTakenSo wanted (edit_outcome done) [] from x (sinks t samples k held faults) (sinks t' samples k' held faults)) (sym stands)
       (told_so wanted (from []) there (edit_text new done) (edit_outcome done) t t' samples k k' held faults told said)
 
-  answered_so : (o : Outcome) → t' ≡ grown t (edit_text new done) → o ≡ edit_outcome done → (samples : Option (List ℕ)) (held : Option (List FileRow)) (faults : ℕ)
+  pub edit_so : (o : Outcome) → t' ≡ grown t (edit_text new done) → o ≡ edit_outcome done → (samples : Option (List ℕ)) (held : Option (List FileRow)) (faults : ℕ)
       → IsTakenSo wanted o [] from to (sinks t samples k held faults) (sinks t' samples k' held faults)
-  answered_so o said answer samples held faults =
+  edit_so o said answer samples held faults =
       subst (λ (x : Outcome). IsTakenSo wanted x [] from to (sinks t samples k held faults) (sinks t' samples k' held faults)) (sym answer) (so said samples held faults)
-
-  pub says_edit : t' ≡ grown t (edit_text new done) → Says (edit_taken wanted) from to t t' k k'
-  says_edit said = λ samples held faults. (so said samples held faults).comes
 
   pub part_edit : TookPart t t' (edit_text new done) → SaysPart (edit_taken wanted) from t t' k k'
   part_edit part = λ samples held faults.
@@ -398,7 +395,7 @@ module _ {E : Type 0} (r : Result Outcome E) (wanted : Wanted) (path : List ℕ)
 
   pub edited_so : OnOk r (t' ≡ grown t (edit_text new done)) → IfOk r (λ o. o ≡ edit_outcome done)
       → IfOk r (λ o. (samples : Option (List ℕ)) (held : Option (List FileRow)) (faults : ℕ) → IsTakenSo wanted o [] from to (sinks t samples k held faults) (sinks t' samples k' held faults))
-  edited_so said is = both_ok r (λ o a b samples held faults. answered_so o a b samples held faults) said is
+  edited_so said is = both_ok r (λ o a b samples held faults. edit_so o a b samples held faults) said is
 
   pub edited_part : OnErr r (TookPart t t' (edit_text new done)) → OnErr r (SaysPart (edit_taken wanted) from t t' k k')
   edited_part part = on_err_weaker r (λ a. part_edit a) part
