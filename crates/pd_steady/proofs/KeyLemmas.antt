@@ -261,18 +261,3 @@ more_keeps p q r key n more kept = record {
   vacant = more.vacant;
   low = more.low;
 }
-
--- what boxes keep is of their kinds, where what the new box keeps is of its kind
-pub new_objects : (p q : Patch) (key : ℕ) (n : Node) → HasOneNew p q key n → option_map blank n.state ≡ Some (blank_of n.kind) → KeepsOfKind (λ k. kind_in ((net_of p).nodes k)) (states_of p)
-    → KeepsOfKind (λ k. kind_in ((net_of q).nodes k)) (states_of q)
-new_objects p q key n new objects old =
-    by_key (λ k. option_map blank (states_of q k) ≡ option_map blank_of (kind_in ((net_of q).nodes k))) key
-    (subst (λ (o : Option Node). option_map blank (state_in o) ≡ option_map blank_of (kind_in (bare o))) (sym new.is) objects)
-    (λ k other. subst (λ (o : Option Node). option_map blank (state_in o) ≡ option_map blank_of (kind_in (bare o))) (sym (new.others k other)) (old k))
-
--- each box that was there keeps what it kept
-pub more_alike : (p q : Patch) (key : ℕ) (n : Node) → HasOneMore p q key n → (k : ℕ) → IsSome (states_of p k) → option_map blank (states_of q k) ≡ option_map blank (states_of p k)
-more_alike p q key n more =
-    by_key (λ k. IsSome (states_of p k) → option_map blank (states_of q k) ≡ option_map blank (states_of p k)) key
-    (λ there. absurd (true≢false (sym there ∙ ap (λ (o : Option Node). is_some (state_in o)) more.vacant)))
-    (λ k other there. ap (λ (o : Option Node). option_map blank (state_in o)) (more.new.others k other))

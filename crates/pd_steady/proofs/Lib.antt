@@ -1,5 +1,3 @@
-pub mod NumberLemmas
-pub mod BornLemmas
 pub mod AddedLemmas
 pub mod ServeLemmas
 pub mod NearLemmas
@@ -7,6 +5,7 @@ pub mod ShortLemmas
 pub mod StartLemmas
 pub mod NetLemmas
 pub mod KeyLemmas
+pub mod NewLemmas
 pub mod FollowLemmas
 pub mod ComeLemmas
 pub mod LessLemmas

@@ -5,6 +5,9 @@ use Rattle.std.proofs.lemmas.Option.{same_Some}
 use Rattle.pd_atom.specs.Names.{Names, Extends}
 use Rattle.pd_canvas.specs.declared.edits.Edit.{Edit}
 use Rattle.pd_gather.specs.Gather.{Known}
+use Rattle.pd_library.specs.declared.answers.Answer.{Answer}
+use Rattle.pd_adding.specs.declared.counts.Counts.{Counts}
+use Rattle.pd_web.specs.Changes.{wires_told}
 use Rattle.pd_clock.specs.Queue.{Clock}
 use Rattle.pd_clock.specs.declared.times.Rate.{Rate}
 use Rattle.pd_object.specs.declared.kinds.Kind.{Kind}
@@ -15,7 +18,6 @@ use Rattle.pd_kind.specs.States.{size_of, start_of}
 use Rattle.pd_kind.specs.Tables.{started}
 use Rattle.pd_vline.specs.Rows.{IsOpen}
 use Rattle.pd_grove.specs.declared.nodes.Node.{Node}
-use Rattle.pd_grove.specs.declared.seeds.Seed.{Seed}
 use Rattle.pd_grove.specs.Telling.{kind_in, state_in}
 use Rattle.pd_patch.specs.declared.patch.Patch.{Patch}
 use Rattle.pd_boxes.specs.Room.{SameButRoom}
@@ -29,7 +31,7 @@ use Rattle.pd_sized.specs.Kinds.{blank_of, KeepsOfKind}
 use Rattle.pd_sized.specs.Sizes.{HasSizes, IsBlock}
 use Rattle.pd_sized.proofs.StartLemmas.{made_sized}
 use Rattle.pd_ends_law.proofs.OpenLemmas.{all_open, first_open}
-use Rattle.pd_stage.specs.Choices.{Base, Made, Choice, Makes}
+use Rattle.pd_stage.specs.Choices.{Base, base_of, Made, Choice, Makes}
 use Rattle.pd_stage.specs.Stages.{Stage, with_ahead}
 use Rattle.pd_stage.specs.Events.{with_net, stage_by}
 use Rattle.pd_stage.specs.Times.{block_units}
@@ -37,9 +39,10 @@ use Rattle.pd_stage.specs.Lawful.{known_at, IsPutIn}
 use Rattle.pd_stage.proofs.EditLemmas.{HasMoreRoom}
 use Rattle.pd_steady.specs.Steady.{IsSteady}
 use Rattle.pd_steady.proofs.StartLemmas.{first_blank, started_kept, started_values, small_few}
-use Rattle.pd_steady.proofs.AddedLemmas.{IsAddedWell, put_well}
-use Rattle.pd_steady.proofs.ComeLemmas.{node_with, come_seed, come_inner, come_node, come_fresh, come_small, come_more}
-use Rattle.pd_steady.proofs.KeyLemmas.{by_key, HasOneNew, HasOneMore, new_objects, room_blocks, room_fed, room_all}
+use Rattle.pd_steady.proofs.AddedLemmas.{IsAddedWell, added_well}
+use Rattle.pd_steady.proofs.ComeLemmas.{IsFirst, come_new}
+use Rattle.pd_steady.proofs.KeyLemmas.{room_blocks, room_fed, room_all}
+use Rattle.pd_steady.proofs.NewLemmas.{HasNew, new_weaker, all_new, new_objects}
 use Rattle.pd_steady.proofs.StandLemmas.{tree_near, tree_serves}
 use Rattle.pd_engine.proofs.TreeLemmas.{HasBoth}
 
@@ -63,20 +66,12 @@ small_size n l = omega arith
 no_more : (n : ℕ) → n ≤ 16777216 → n ≤ 2 ^ 32
 no_more n l = omega arith
 
--- no key of a box is so far off
-abbrev pub IsLow : ℕ → Type 0
-IsLow key = (k : ℕ) → 2 ^ 32 ≤ k → k ≢ key
-
-far_off : (k key : ℕ) → 2 ^ 32 ≤ k → key < 2 ^ 32 → k ≡ key → ⊥
-far_off k key far low e = omega (arith, far, low, e)
-
-pub new_well : (rate : Rate) (now : ℕ) (names : Names) (canvas : ℕ) (s : Seed) (inner : Option ℕ) → s.state ≡ started (start_of s.row.kind rate) now → HasFewChannels s.row.kind
-    → IsAddedWell names rate s.row.kind → IsWell names now (node_with canvas s inner)
-new_well rate now names canvas s inner fresh few w =
-    let k : Kind = s.row.kind in
+pub new_well : (rate : Rate) (now : ℕ) (names : Names) (n : Node) → n.state ≡ Some (started (start_of n.kind rate) now) → HasFewChannels n.kind → IsAddedWell names rate n.kind → IsWell names now n
+new_well rate now names n fresh few w =
+    let k : Kind = n.kind in
     record {
       state = started (start_of k rate) now;
-      is = ap (λ (x : State). Some x) fresh;
+      is = fresh;
       is_kind = w.born.kind;
       kept = started_kept names now now (start_of k rate) (w.born.kept now rate (small_size (size_of k rate) w.small));
       values = started_values (start_of k rate) now (w.born.values rate);
@@ -86,34 +81,38 @@ new_well rate now names canvas s inner fresh few w =
       opens = λ t e. subst (λ (j : Kind). IsOpen t (started (start_of j rate) now)) (sym e) (first_open rate now t);
     }
 
+-- under no key that is too far off
+abbrev pub IsWellAt : Names → ℕ → ℕ → Node → Type 0
+IsWellAt names now k n = IsWell names now n × (k < 2 ^ 32)
+
+too_far : (k : ℕ) → k < 2 ^ 32 → 2 ^ 32 ≤ k → ⊥
+too_far k low far = omega (arith, low, far)
+
 -- ---- all boxes
 
-module _ (p q : Patch) (names : Names) (now key : ℕ) (n : Node) (new : HasOneNew p q key n) (well : IsWell names now n) where
-  all_states : (P : State → Type 0) → P well.state → ((k : ℕ) → IfSome (states_of p k) P) → (k : ℕ) → IfSome (states_of q k) P
-  all_states P here old =
-      by_key (λ k. IfSome (states_of q k) P) key
-      (subst (λ (o : Option Node). IfSome (state_in o) P) (sym new.is) (subst (λ (o : Option State). IfSome o P) (sym well.is) here))
-      (λ k other. subst (λ (o : Option Node). IfSome (state_in o) P) (sym (new.others k other)) (old k))
+module _ (p q : Patch) (names : Names) (now : ℕ) (new : HasNew p q (IsWellAt names now)) where
+  abbrev all : (T : ℕ → Option Node → Type 0) → ((k : ℕ) (n : Node) → IsWellAt names now k n → T k (Some n)) → ((k : ℕ) → T k (get p.grove.nodes k)) → (k : ℕ) → T k (get q.grove.nodes k)
+  all = all_new p q (IsWellAt names now) new
 
-  all_kinds : (P : Kind → Type 0) → P n.kind → ((k : ℕ) → IfSome (kind_in ((net_of p).nodes k)) P) → (k : ℕ) → IfSome (kind_in ((net_of q).nodes k)) P
-  all_kinds P here old =
-      by_key (λ k. IfSome (kind_in ((net_of q).nodes k)) P) key
-      (subst (λ (o : Option Node). IfSome (kind_in (bare o)) P) (sym new.is) here)
-      (λ k other. subst (λ (o : Option Node). IfSome (kind_in (bare o)) P) (sym (new.others k other)) (old k))
+  all_states : (P : State → Type 0) → ((k : ℕ) (n : Node) → (w : IsWellAt names now k n) → P w.0.state) → ((k : ℕ) → IfSome (states_of p k) P) → (k : ℕ) → IfSome (states_of q k) P
+  all_states P here old = all (λ k o. IfSome (state_in o) P) (λ k n w. subst (λ (o : Option State). IfSome o P) (sym w.0.is) (here k n w)) old
+
+  all_kinds : (P : Kind → Type 0) → ((k : ℕ) (n : Node) → IsWellAt names now k n → P n.kind) → ((k : ℕ) → IfSome (kind_in ((net_of p).nodes k)) P)
+      → (k : ℕ) → IfSome (kind_in ((net_of q).nodes k)) P
+  all_kinds P here old = all (λ k o. IfSome (kind_in (bare o)) P) here old
 
   all_objects : KeepsOfKind (λ k. kind_in ((net_of p).nodes k)) (states_of p) → KeepsOfKind (λ k. kind_in ((net_of q).nodes k)) (states_of q)
-  all_objects old = new_objects p q key n new (ap (option_map blank) well.is ∙ ap (λ (x : State). Some x) well.objects) old
+  all_objects = new_objects p q (IsWellAt names now) new (λ k n w. ap (option_map blank) w.0.is ∙ ap (λ (x : State). Some x) w.0.objects)
 
-  all_keys : IsLow key → ((k : ℕ) → 2 ^ 32 ≤ k → states_of p k ≡ None) → (k : ℕ) → 2 ^ 32 ≤ k → states_of q k ≡ None
-  all_keys low old k far = ap (λ (o : Option Node). state_in o) (new.others k (low k far)) ∙ old k far
+  all_keys : ((k : ℕ) → 2 ^ 32 ≤ k → states_of p k ≡ None) → (k : ℕ) → 2 ^ 32 ≤ k → states_of q k ≡ None
+  all_keys old = all (λ k o. 2 ^ 32 ≤ k → state_in o ≡ None) (λ k n w far. absurd (too_far k w.1 far)) old
 
   all_ends : (t : ℕ) → KeepsOfKind (λ k. kind_in ((net_of q).nodes k)) (states_of q) → ((k : ℕ) → IfSome (states_of p k) (IsOpen t)) → (k : ℕ) → IfSome (states_of q k) (IsOpen t)
   all_ends t kinds old =
       all_open t (λ k. kind_in ((net_of q).nodes k)) (states_of q) kinds
-      (by_key (λ k. kind_in ((net_of q).nodes k) ≡ Some kind.Vline → IfSome (states_of q k) (IsOpen t)) key
-      (subst (λ (o : Option Node). kind_in (bare o) ≡ Some kind.Vline → IfSome (state_in o) (IsOpen t)) (sym new.is)
-      (λ e. subst (λ (o : Option State). IfSome o (IsOpen t)) (sym well.is) (well.opens t (same_Some n.kind kind.Vline e))))
-      (λ k other e. subst (λ (o : Option Node). IfSome (state_in o) (IsOpen t)) (sym (new.others k other)) (old k)))
+      (all (λ k o. kind_in (bare o) ≡ Some kind.Vline → IfSome (state_in o) (IsOpen t))
+      (λ k n w e. subst (λ (o : Option State). IfSome o (IsOpen t)) (sym w.0.is) (w.0.opens t (same_Some n.kind kind.Vline e)))
+      (λ k e. old k))
 
 -- ---- stages
 
@@ -171,12 +170,15 @@ pub named_is : (s : Stage) (q : Patch) (names : Names) (ahead : List Choice) (m 
     → stage_by (with_ahead s ahead) (Makes m) ≡ put_stage s q m.clocks names m.base ahead
 named_is s q names ahead m net states told = rw (net, states, told) refl
 
--- a patch with a new box stands
-pub new_steady : (most : ℕ) (s : Stage) (p q : Patch) (clocks : List Clock) (names : Names) (base : Base) (ahead : List Choice) (key : ℕ) (n : Node) → IsSteady most (standing s p)
-    → Extends s.names names → HasOneNew p q key n → IsLow key → IsWell names s.time n → HasBoth (put_stage s q clocks names base ahead) → IsSteady most (put_stage s q clocks names base ahead)
-new_steady most s p q clocks names base ahead key n h on new low well tree =
+no_more_wires : (n m : ℕ) → n ≡ m → n ≤ 65536 → m ≤ 65536
+no_more_wires n m e l = omega (arith, e, l)
+
+-- a patch with new boxes stands
+pub new_steady : (most : ℕ) (s : Stage) (p q : Patch) (clocks : List Clock) (names : Names) (base : Base) (ahead : List Choice) → IsSteady most (standing s p)
+    → Extends s.names names → HasNew p q (IsWellAt names s.time) → HasBoth (put_stage s q clocks names base ahead) → IsSteady most (put_stage s q clocks names base ahead)
+new_steady most s p q clocks names base ahead h on new tree =
     let l = longer s.names names on in
-    let objects : KeepsOfKind (λ k. kind_in ((net_of q).nodes k)) (states_of q) = all_objects p q names s.time key n new well h.ready.kinds in
+    let objects : KeepsOfKind (λ k. kind_in ((net_of q).nodes k)) (states_of q) = all_objects p q names s.time new h.ready.kinds in
     record {
       time = h.time;
       near = tree_near (put_stage s q clocks names base ahead) tree.tree tree.owners;
@@ -184,56 +186,59 @@ new_steady most s p q clocks names base ahead key n h on new low well tree =
         time = h.order.time;
         first = first_more s.names names l h.order.first;
         kinds =
-            all_kinds p q names s.time key n new well (IsKind names) well.is_kind
+            all_kinds p q names s.time new (IsKind names) (λ k n w. w.0.is_kind)
             (λ k. some-weaker (IsKind s.names) (IsKind names) (kind_more s.names names l) (kind_in ((net_of p).nodes k)) (h.order.kinds k));
         states =
-            all_states p q names s.time key n new well (IsKept names s.time) well.kept
+            all_states p q names s.time new (IsKept names s.time) (λ k n w. w.0.kept)
             (λ k. some-weaker (IsKept s.names s.time) (IsKept names s.time) (kept_more s.names names l s.time) (states_of p k) (h.order.states k));
       };
       values = record {
-        states = all_states p q names s.time key n new well HasValues well.values h.values.states;
+        states = all_states p q names s.time new HasValues (λ k n w. w.0.values) h.values.states;
         blocks = new.values h.values.blocks;
       };
       ready = record {
         kinds = objects;
         whole = record {
-          states = all_states p q names s.time key n new well HasSizes well.sizes h.ready.whole.states;
+          states = all_states p q names s.time new HasSizes (λ k n w. w.0.sizes) h.ready.whole.states;
           blocks = new.sizes h.ready.whole.blocks;
         };
         owners = tree_serves (put_stage s q clocks names base ahead) tree.tree tree.owners objects;
-        channels = all_kinds p q names s.time key n new well HasFewChannels well.few h.ready.channels;
-        keys = all_keys p q names s.time key n new well low h.ready.keys;
-        fed = new.fed h.ready.fed;
+        channels = all_kinds p q names s.time new HasFewChannels (λ k n w. w.0.few) h.ready.channels;
+        keys = all_keys p q names s.time new h.ready.keys;
+        fed = new.fed (no_more_wires base.counts.wires (wires_told q.web) tree.tree.wires tree.tree.within.wires) h.ready.fed;
         blocks = new.blocks h.ready.blocks;
       };
       block = h.block;
-      ends = record { each = all_ends p q names s.time key n new well (s.block_end - block_units) objects h.ends.each };
+      ends = record { each = all_ends p q names s.time new (s.block_end - block_units) objects h.ends.each };
       tree = tree.tree;
       owners = tree.owners;
     }
+
+-- no more values than a patch may have
+sound_few : (m : Base) (files : List (ℕ × Answer)) (b c : Counts) → m ≡ base_of files b → b ≡ c → m.counts.sound ≤ 16777216 → c.sound ≤ 16777216
+sound_few m files b c e f l = subst (λ (x : Counts). x.sound ≤ 16777216) f (subst (λ (x : Base). x.counts.sound ≤ 16777216) e l)
 
 -- an edit that put a box
 pub put_steady : (most : ℕ) (s : Stage) (ahead : List Choice) (path : List ℕ) (e : Edit) (m : Made) → IsSteady most s → IsPutIn (with_ahead s []) path e m → HasBoth (stage_by (with_ahead s ahead) (Makes m))
     → IsSteady most (stage_by (with_ahead s ahead) (Makes m))
 put_steady most s ahead path e m h put tree =
-    let came = put.adds.put in
     let a = put.adds.added in
-    let key : ℕ = put.box.key in
-    let seed : Seed = come_seed put.old put.new s.time a key came in
-    let n : Node = come_node put.old put.new s.time a key came in
+    let old : Patch = put.old in
     let names : Names = a.known.names in
     let told : m.names ≡ names = put.names ∙ ap (λ (k : Known). k.names) put.adds.known_is in
     let on : Extends s.names names = subst (Extends s.names) told put.more in
     let is = named_is s put.new names ahead m put.net put.states told in
-    let was : IsSteady most (standing s put.old) = subst (IsSteady most) (is_standing s put.old put.stands.net put.stands.states) h in
-    let first : HasFirst names = first_more s.names names (longer s.names names on) h.order.first in
-    let well : IsWell names s.time n =
-    new_well put.old.rate s.time names a.canvas seed (come_inner put.old put.new s.time a key came) (come_fresh put.old put.new s.time a key came)
-    (small_few seed.row.kind (come_small put.old put.new s.time a key came))
-    (put_well put.old put.new s.base.counts s.file path s.time e (known_at s) a key put.adds.comes came first) in
-    let more : HasOneMore put.old put.new key n = come_more put.old put.new s.time a key came in
-    subst (IsSteady most) (sym is)
-    (new_steady most s put.old put.new m.clocks names m.base ahead key n was on more.new (λ k far e. far_off k key far more.low e) well (subst HasBoth is tree))
+    let was : IsSteady most (standing s old) = subst (IsSteady most) (is_standing s old put.stands.net put.stands.states) h in
+    let few : a.counts.sound ≤ 16777216 = sound_few m.base put.after.files put.box.counts a.counts put.base put.adds.counts put.within.sound in
+    let well : (k : ℕ) (n : Node) → IsFirst old s.time a k n → IsWellAt names s.time k n =
+    λ k n x.
+        let added : IsAddedWell names old.rate n.kind =
+        subst (IsAddedWell names old.rate) (sym x.kind)
+        (added_well old s.base.counts s.file path e (known_at s) put.adds.files a put.adds.grew h.order.first put.adds.written few x.cell x.of) in
+        (new_well old.rate s.time names n x.fresh (small_few n.kind x.small) added, x.low) in
+    let new : HasNew old put.new (IsWellAt names s.time) =
+    new_weaker old put.new (IsFirst old s.time a) (IsWellAt names s.time) (come_new old put.new s.time a put.box.key put.adds.put) well in
+    subst (IsSteady most) (sym is) (new_steady most s old put.new m.clocks names m.base ahead was on new (subst HasBoth is tree))
 
 -- ---- where room alone was set aside
 
