@@ -1,5 +1,5 @@
 -- What is known of boxes that an edit put: their kinds are in order, and their tables and delay lines are small.
-use Rattle.std.proofs.Common.{arith, ◌≡◌, inl, inr, ℕ, zero, suc, ℤ, ◌+◌, ◌<◌, ◌≤◌, ◌-◌, Bool, true, false, cond, List, [], ◌∷◌, length, map, Option, Some, None, IfSome, Result, Ok, Err, refl, sym, ap, subst, ◌∙◌, nat_lt, ◌&&◌}
+use Rattle.std.proofs.Common.{arith, ◌≡◌, ℕ, zero, suc, ℤ, ◌+◌, ◌≤◌, ◌-◌, Bool, true, false, cond, List, ◌∷◌, length, map, Option, Some, None, IfSome, Result, Ok, Err, refl, sym, ap, subst, nat_lt, ◌&&◌}
 use Rattle.std.proofs.lemmas.Bool.Decides.{nat_tests}
 use Rattle.std.proofs.lemmas.Option.{none-some, same_Some}
 use Rattle.pd_atom.specs.declared.Atom.{Atom}
@@ -12,16 +12,16 @@ use Rattle.pd_object.specs.declared.kinds.Kind.{Kind}
 use Rattle.pd_kind.specs.States.{size_of}
 use Rattle.pd_canvas.specs.declared.edits.Edit.{Edit}
 use Rattle.pd_canvas.specs.declared.edits.Edit.TheVariants as edit
-use Rattle.pd_canvas.specs.Pages.{Shape, Obj, Sub, Array, Boxes, End, Entry, empty_page, page_with_header}
+use Rattle.pd_canvas.specs.Pages.{Shape, Obj, Sub, Array, End, Entry, empty_page, page_with_header}
 use Rattle.pd_canvas.specs.Edits.{pd, begins_with_pd, new_header, element, object}
 use Rattle.pd_canvas.specs.Proper.{IsReady, AreReady}
 use Rattle.pd_library.specs.declared.answers.Answer.{Answer}
 use Rattle.pd_library.specs.Files.{answer_in}
-use Rattle.pd_tree.specs.Trees.{Cell, Trees}
+use Rattle.pd_tree.specs.Trees.{Cell}
 use Rattle.pd_grove.specs.OwnPaths.{sub_reached}
 use Rattle.pd_grove.specs.Standing.{HasCell}
 use Rattle.pd_grove.specs.TextOrder.{is_sub}
-use Rattle.pd_growth.specs.Steps.{Stock, Step, gives}
+use Rattle.pd_growth.specs.Steps.{Stock, gives}
 use Rattle.pd_growth.specs.Making.{Around}
 use Rattle.pd_growth.specs.Growth.{Inner, box_grown, around_root, without_ending}
 use Rattle.pd_growth.specs.Growing.{inside_grown}

@@ -1,5 +1,5 @@
 -- What came with an edit: a box without a canvas inside, one that holds a canvas without boxes, a port of the box around, or a box with all that lies in it.
-use Rattle.std.proofs.Common.{◌≡◌, ◌⊎◌, inl, inr, ◌≢◌, ◌<◌, ◌≤◌, ◌^◌, ◌+◌, ◌++◌, ℕ, suc, List, [], ◌∷◌, length, slice_get, Option, Some, None, IfSome, IsSome, is_some, option_map, refl, sym, ap, subst, ◌∙◌, append-nil, arith, true≢false}
+use Rattle.std.proofs.Common.{◌≡◌, ◌⊎◌, inl, inr, ◌<◌, ◌^◌, ℕ, List, ◌∷◌, slice_get, Option, Some, None, IfSome, IsSome, is_some, option_map, refl, sym, ap, subst, ◌∙◌, append-nil, arith}
 use Rattle.std.specs.List.{AllByRecursion}
 use Rattle.std.proofs.lemmas.Option.{none-some, same_Some}
 use Rattle.slab.specs.Slab.{get}
@@ -8,26 +8,18 @@ use Rattle.pd_kind.specs.declared.states.State.{State}
 use Rattle.pd_kind.specs.States.{start_of}
 use Rattle.pd_kind.specs.Tables.{started}
 use Rattle.pd_tree.specs.declared.rows.Sheet.{Sheet}
-use Rattle.pd_tree.specs.Trees.{Cell, Stand, Trees, Done, Leaf, Holder, stand_of}
+use Rattle.pd_tree.specs.Trees.{Cell, Stand, Trees, stand_of}
 use Rattle.pd_grove.specs.declared.boards.Board.{Board}
-use Rattle.pd_grove.specs.declared.grove.Grove.{Grove}
 use Rattle.pd_grove.specs.declared.nodes.Node.{Node}
 use Rattle.pd_grove.specs.declared.seeds.Seed.{Seed}
-use Rattle.pd_grove.specs.Forest.{holder_in}
-use Rattle.pd_grove.specs.Grafts.{HasOtherKeys}
 use Rattle.pd_grove.specs.Planting.{seed_stand, IsMadeOf}
 use Rattle.pd_grove.specs.Standing.{BoardSeen, board_seen, HasCell}
 use Rattle.pd_grove.specs.States.{IsFresh}
 use Rattle.pd_grove.specs.Telling.{keys_in}
 use Rattle.pd_grove.proofs.TreeBoxes.{seeds_of}
-use Rattle.pd_web.specs.Canvases.{keys_at}
 use Rattle.pd_patch.specs.declared.patch.Patch.{Patch}
-use Rattle.pd_patch.specs.Orders.{HasOrder}
-use Rattle.pd_patch.specs.Telling.{order_in}
 use Rattle.pd_boxes.specs.declared.room.Place.{Place}
-use Rattle.pd_boxes.specs.Room.{SameButRoom}
-use Rattle.pd_boxes.specs.Put.{keys_before, keys_behind, CanPut}
-use Rattle.pd_boxes.proofs.PutLemmas.{longer_by_one}
+use Rattle.pd_boxes.specs.Put.{CanPut}
 use Rattle.pd_adding.specs.Growing.{Added}
 use Rattle.pd_putting.specs.Adds.{last_place, IsBoxPut, IsSubPut, IsPortBoxPut, IsPartBoxPut, HasCome}
 use Rattle.pd_subpatches.proofs.LawLemmas.{small_canvas}
@@ -36,7 +28,7 @@ use Rattle.pd_guards.proofs.FactLemmas.{all-at}
 use Rattle.pd_guards.proofs.SignalLemmas.{silent_values}
 use Rattle.pd_sized.specs.Sizes.{IsBlock}
 use Rattle.pd_sized.proofs.StartLemmas.{silent_count}
-use Rattle.pd_steady.proofs.KeyLemmas.{by_key, HasOneMore, KeepsBoxes, room_keeps, box_under, shell_under, one_more, more_keeps}
+use Rattle.pd_steady.proofs.KeyLemmas.{HasOneMore, KeepsBoxes, room_keeps, box_under, shell_under, one_more, more_keeps}
 use Rattle.pd_steady.proofs.FollowLemmas.{port_keeps}
 use Rattle.pd_steady.proofs.NewLemmas.{IsNew, HasNew, one_by, once_fed, part_blocks, part_each}
 

@@ -1,18 +1,16 @@
 -- A patch with a new box, one more or one in the place of another: what holds of all boxes of the old one and of the new box holds of all.
-use Rattle.std.proofs.Common.{arith, ◌≡◌, ◌≢◌, ℕ, ℤ, zero, suc, ◌<◌, ◌≤◌, ◌^◌, ◌==◌, true, List, [], ◌∷◌, ◌++◌, length, replicate, slice_get, Option, Some, None, IfSome, IsSome, is_some, option_map, refl, sym, ap, subst, ◌∙◌, true≢false}
+use Rattle.std.proofs.Common.{arith, ◌≡◌, ◌≢◌, ℕ, ℤ, zero, suc, ◌<◌, ◌≤◌, ◌^◌, ◌==◌, true, List, [], ◌∷◌, ◌++◌, length, replicate, slice_get, Option, Some, None, IfSome, IsSome, is_some, refl, sym, ap, subst, ◌∙◌, true≢false}
 use Rattle.std.specs.Prelude.{option_and_then}
 use Rattle.std.specs.List.{AllByRecursion}
 use Rattle.std.proofs.lemmas.Option.{none-some, slice_get-get_or}
 use Rattle.std.proofs.lemmas.List.{length-replicate}
 use Rattle.slab.specs.Slab.{get}
-use Rattle.pd_kind.specs.Fit.{blank}
 use Rattle.pd_kind.specs.States.{silent_block}
 use Rattle.pd_order.specs.Graph.{tally}
 use Rattle.pd_order.proofs.Basics.{by_test, same_node, other_node}
 use Rattle.pd_grove.specs.declared.nodes.Node.{Node}
 use Rattle.pd_grove.specs.declared.ports.Side.TheVariants.{Outlets}
 use Rattle.pd_grove.specs.Standing.{with_inner}
-use Rattle.pd_grove.specs.Telling.{kind_in, state_in}
 use Rattle.pd_web.specs.declared.jacks.Jack.{Jack}
 use Rattle.pd_web.specs.declared.web.Hop.{Hop}
 use Rattle.pd_web.specs.declared.web.Web.{Web}
@@ -23,7 +21,6 @@ use Rattle.pd_patch.specs.declared.patch.Patch.{Patch}
 use Rattle.pd_patch.specs.Fed.{keys_of, AreFed}
 use Rattle.pd_patch.specs.Values.{Blocks, block_count, block_at, blocks_told, first_blocks}
 use Rattle.pd_patch.proofs.BlockLemmas.{blocks_some}
-use Rattle.pd_hearing.specs.Worlds.{bare, net_of, states_of}
 use Rattle.pd_boxes.specs.declared.room.Place.{Place}
 use Rattle.pd_boxes.specs.Rows.{IsLonger, PutsUnder}
 use Rattle.pd_boxes.specs.Room.{SameButRoom}
@@ -36,7 +33,6 @@ use Rattle.pd_guards.specs.Sounds.{AreValues}
 use Rattle.pd_guards.proofs.SignalLemmas.{all-same, silent_values}
 use Rattle.pd_sized.specs.Sizes.{IsBlock}
 use Rattle.pd_sized.proofs.StartLemmas.{silent_count}
-use Rattle.pd_sized.specs.Kinds.{blank_of, KeepsOfKind}
 use Rattle.pd_sound_law.specs.Ready.{HasBlocks}
 use Rattle.pd_atom.specs.Names.{Names}
 

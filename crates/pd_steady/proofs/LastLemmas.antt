@@ -40,8 +40,9 @@ use Rattle.pd_steady.specs.Runs.{own_ways}
 use Rattle.pd_steady.specs.Steps.{Step, Does, Learns, Comes, step_by, steps_by}
 use Rattle.pd_steady.specs.Serving.{EndsIn, Ends, LeavesBox, LeaveBox, StayAlike}
 use Rattle.pd_steady.proofs.EventLemmas.{start_of, outcome_is, loads_alike}
-use Rattle.pd_steady.proofs.ComeLemmas.{come_node, come_more}
-use Rattle.pd_steady.proofs.KeyLemmas.{HasOneNew, HasOneMore, more_alike}
+use Rattle.pd_steady.proofs.ComeLemmas.{IsFirst, come_new}
+use Rattle.pd_steady.proofs.KeyLemmas.{HasOneNew}
+use Rattle.pd_steady.proofs.NewLemmas.{HasNew, new_alike}
 use Rattle.pd_steady.proofs.LessLemmas.{HasLess}
 use Rattle.pd_steady.proofs.MadeLemmas.{take_at, retype_at}
 use Rattle.pd_steady.proofs.TakeLemmas.{taken_less}
@@ -124,11 +125,10 @@ put_same s ahead path e (Makes m) h k there =
     let p = h.old in
     let q = h.new in
     let a = h.adds.added in
-    let n : Node = come_node p q s.time a h.box.key h.adds.put in
-    let more : HasOneMore p q h.box.key n = come_more p q s.time a h.box.key h.adds.put in
+    let new : HasNew p q (IsFirst p s.time a) = come_new p q s.time a h.box.key h.adds.put in
     subst (λ (states : ℕ → Option State). option_map blank (states k) ≡ option_map blank (s.states k)) (sym h.states)
     (subst (λ (states : ℕ → Option State). IsSome (states k) → option_map blank (states_of q k) ≡ option_map blank (states k)) (sym h.stands.states)
-    (more_alike p q h.box.key n more k) there)
+    (new_alike p q (IsFirst p s.time a) new (λ j n x. x.vacant) k) there)
 
 -- a box that went, with all that lay in it
 take_same : (s : Stage) (ahead : List Choice) (path : List ℕ) (number : ℕ) (wanted : Wanted) (c : Choice) → IsTakingLawful (with_ahead s []) path number c

@@ -1,10 +1,8 @@
 -- A patch with new boxes: what holds of all boxes of the old one and of the new boxes holds of all.
-use Rattle.std.proofs.Common.{arith, ◌≡◌, ◌≢◌, ◌⊎◌, inl, inr, ◌<◌, ◌≤◌, ℕ, ℤ, Bool, true, false, List, length, map, slice_get, Option, Some, None, IfSome, IsSome, is_some, option_map, option_and_then, refl, sym, ap, subst, ◌∙◌, true≢false}
+use Rattle.std.proofs.Common.{arith, ◌≡◌, ◌≢◌, ◌⊎◌, inl, inr, ◌<◌, ◌≤◌, ℕ, ℤ, Bool, true, false, List, length, slice_get, Option, Some, None, IfSome, IsSome, is_some, option_map, option_and_then, refl, sym, ap, subst, ◌∙◌, true≢false}
 use Rattle.std.specs.List.{AllByRecursion}
-use Rattle.std.proofs.lemmas.Option.{none-some, slice_get-get_or}
 use Rattle.std.proofs.lemmas.List.{length-map}
 use Rattle.slab.specs.Slab.{get}
-use Rattle.pd_kind.specs.declared.states.State.{State}
 use Rattle.pd_kind.specs.Fit.{blank}
 use Rattle.pd_kind.specs.States.{silent_block}
 use Rattle.pd_order.specs.Graph.{tally}
@@ -19,7 +17,7 @@ use Rattle.pd_web.specs.Hops.{ports_told, jack_told, signal_in, feed_hops, feed_
 use Rattle.pd_web.specs.Changes.{line_told, wires_told}
 use Rattle.pd_patch.specs.declared.patch.Patch.{Patch}
 use Rattle.pd_patch.specs.Fed.{keys_of, AreFed}
-use Rattle.pd_patch.specs.Values.{block_at, block_count, blocks_told, first_blocks}
+use Rattle.pd_patch.specs.Values.{block_at, block_count, blocks_told}
 use Rattle.pd_patch.proofs.FedLemmas.{told_keys, apart_once, found_live}
 use Rattle.pd_hearing.specs.Worlds.{bare, net_of, states_of}
 use Rattle.pd_instances.specs.Part.{AreFedOnce, HasPartPorts, HasPartBlocks}

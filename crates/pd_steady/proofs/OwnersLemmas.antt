@@ -14,7 +14,6 @@ use Rattle.pd_kind.specs.Tables.{started}
 use Rattle.pd_script.specs.declared.commands.Command.{Command}
 use Rattle.pd_script.specs.declared.commands.Command.TheVariants as command
 use Rattle.pd_grove.specs.declared.nodes.Node.{Node}
-use Rattle.pd_grove.specs.declared.seeds.Seed.{Seed}
 use Rattle.pd_grove.specs.Telling.{kind_in}
 use Rattle.pd_turns.specs.Turns.{World}
 use Rattle.pd_walk.specs.Outcome.{all_loaded}
@@ -41,12 +40,12 @@ use Rattle.pd_steady.specs.Serving.{OwnersServe}
 use Rattle.pd_steady.proofs.EventLemmas.{start_of as start_at, outcome_is, loads_alike, loads_extend}
 use Rattle.pd_steady.proofs.ExtendLemmas.{outcome_extends}
 use Rattle.pd_steady.proofs.FairLemmas.{lawful_fair, event_keeps, edit_event_keeps}
-use Rattle.pd_steady.proofs.ComeLemmas.{come_seed, come_node, come_fresh, come_more}
-use Rattle.pd_steady.proofs.KeyLemmas.{HasOneNew, new_objects}
+use Rattle.pd_steady.proofs.ComeLemmas.{IsFirst, come_new}
+use Rattle.pd_steady.proofs.NewLemmas.{HasNew, one_by, new_objects}
 use Rattle.pd_steady.proofs.LessLemmas.{left_objects}
 use Rattle.pd_steady.proofs.TakeLemmas.{taken_less}
 use Rattle.pd_steady.proofs.MoveLemmas.{moved_objects}
-use Rattle.pd_steady.proofs.RetypeLemmas.{retyped_node, retyped_new}
+use Rattle.pd_steady.proofs.RetypeLemmas.{retyped_node, retyped_new, retyped_fresh}
 use Rattle.pd_steady.proofs.OwnLemmas.{commanded_own, advanced_own, finished_own}
 use Rattle.pd_steady.proofs.StandLemmas.{tree_serves}
 use Rattle.pd_steady.proofs.StartLemmas.{first_blank}
@@ -80,27 +79,25 @@ alike_kinds s r kinds alike h k = alike k ∙ h k ∙ ap (option_map blank_of) (
 wires_kinds : (s r : Stage) → ButWires s r → AreOfKinds s → AreOfKinds r
 wires_kinds s r e h = subst AreOfKinds (sym e.is) h
 
--- a box that came
-fresh_objects : (s : Seed) (rate : Rate) (now : ℕ) → s.state ≡ started (start_of s.row.kind rate) now → Some (blank s.state) ≡ Some (blank_of s.row.kind)
-fresh_objects s rate now fresh = ap (λ (x : State). Some (blank x)) fresh ∙ ap (λ (x : State). Some x) (first_blank s.row.kind rate now)
+-- what a new box keeps at first is of its kind
+fresh_objects : (n : Node) (rate : Rate) (now : ℕ) → n.state ≡ Some (started (start_of n.kind rate) now) → option_map blank n.state ≡ Some (blank_of n.kind)
+fresh_objects n rate now fresh = ap (option_map blank) fresh ∙ ap (λ (x : State). Some x) (first_blank n.kind rate now)
 
+-- a box that came, with all that lies in it
 box_kinds : (s r : Stage) → HasNewBox s r → AreOfKinds s → AreOfKinds r
 box_kinds s r x h =
     let put = x.put in
     let p = put.old in
     let q = put.new in
     let a = put.adds.added in
-    let key : ℕ = put.box.key in
-    let came = put.adds.put in
-    let n : Node = come_node p q s.time a key came in
-    let new : HasOneNew p q key n = (come_more p q s.time a key came).new in
+    let new : HasNew p q (IsFirst p s.time a) = come_new p q s.time a put.box.key put.adds.put in
     let was : KeepsOfKind (λ k. kind_in ((net_of p).nodes k)) (states_of p) =
     subst (λ (y : ℕ → Option State). KeepsOfKind (λ k. kind_in ((net_of p).nodes k)) y) put.stands.states
     (subst (λ (y : Net). KeepsOfKind (λ k. kind_in (y.nodes k)) s.states) put.stands.net h) in
     let now : KeepsOfKind (λ k. kind_in (x.made.net.nodes k)) x.made.states =
     subst (λ (y : ℕ → Option State). KeepsOfKind (λ k. kind_in (x.made.net.nodes k)) y) (sym put.states)
     (subst (λ (y : Net). KeepsOfKind (λ k. kind_in (y.nodes k)) (states_of q)) (sym put.net)
-    (new_objects p q key n new (fresh_objects (come_seed p q s.time a key came) p.rate s.time (come_fresh p q s.time a key came)) was)) in
+    (new_objects p q (IsFirst p s.time a) new (λ k n f. fresh_objects n p.rate s.time f.fresh) was)) in
     subst AreOfKinds (sym x.is) now
 
 -- a box that went
@@ -130,21 +127,24 @@ moved_kinds s r x h =
     subst AreOfKinds (sym x.is) now
 
 -- a box that became another one
+abbrev KeepsOwn : ℕ → Node → Type 0
+KeepsOwn k n = option_map blank n.state ≡ Some (blank_of n.kind)
+
 retyped_kinds : (s r : Stage) → HasRetypedBox s r → AreOfKinds s → AreOfKinds r
 retyped_kinds s r x h =
     let to = x.retyped in
     let p = to.old in
     let q = to.new in
-    let b = to.retypes.became in
     let n : Node = retyped_node (with_ahead s []) x.path x.number x.text x.made to in
-    let new : HasOneNew p q to.box.key n = retyped_new (with_ahead s []) x.path x.number x.text x.made to in
+    let objects : option_map blank n.state ≡ Some (blank_of n.kind) = fresh_objects n p.rate s.time (retyped_fresh (with_ahead s []) x.path x.number x.text x.made to) in
+    let new : HasNew p q KeepsOwn = one_by p q KeepsOwn to.box.key n (retyped_new (with_ahead s []) x.path x.number x.text x.made to) objects in
     let was : KeepsOfKind (λ k. kind_in ((net_of p).nodes k)) (states_of p) =
     subst (λ (y : ℕ → Option State). KeepsOfKind (λ k. kind_in ((net_of p).nodes k)) y) to.stands.states
     (subst (λ (y : Net). KeepsOfKind (λ k. kind_in (y.nodes k)) s.states) to.stands.net h) in
     let now : KeepsOfKind (λ k. kind_in (x.made.net.nodes k)) x.made.states =
     subst (λ (y : ℕ → Option State). KeepsOfKind (λ k. kind_in (x.made.net.nodes k)) y) (sym to.states)
     (subst (λ (y : Net). KeepsOfKind (λ k. kind_in (y.nodes k)) (states_of q)) (sym to.net)
-    (new_objects p q to.box.key n new (fresh_objects b.seed p.rate s.time b.fresh) was)) in
+    (new_objects p q KeepsOwn new (λ k m own. own) was)) in
     subst AreOfKinds (sym x.is) now
 
 -- a box that could come, or become another one

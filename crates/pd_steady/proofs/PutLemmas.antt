@@ -1,7 +1,8 @@
 -- An edit that puts a box leaves a steady stage steady, where a tree and its owners stand after it.
-use Rattle.std.proofs.Common.{arith, ◌≡◌, ◌≢◌, ◌<◌, ◌≤◌, ◌^◌, ◌-◌, ℕ, List, [], Option, Some, None, IfSome, option_map, refl, sym, ap, subst, ◌∙◌}
+use Rattle.std.proofs.Common.{arith, ◌≡◌, ◌<◌, ◌≤◌, ◌^◌, ◌-◌, ℕ, List, [], Option, Some, None, IfSome, option_map, refl, sym, ap, subst, ◌∙◌}
 use Rattle.std.specs.List.{AllByRecursion}
 use Rattle.std.proofs.lemmas.Option.{same_Some}
+use Rattle.slab.specs.Slab.{get}
 use Rattle.pd_atom.specs.Names.{Names, Extends}
 use Rattle.pd_canvas.specs.declared.edits.Edit.{Edit}
 use Rattle.pd_gather.specs.Gather.{Known}
@@ -23,7 +24,7 @@ use Rattle.pd_patch.specs.declared.patch.Patch.{Patch}
 use Rattle.pd_boxes.specs.Room.{SameButRoom}
 use Rattle.pd_hearing.specs.Worlds.{Net, bare, net_of, states_of}
 use Rattle.pd_channels_law.specs.Channels.{HasFewChannels}
-use Rattle.pd_guards.specs.Order.{HasFirst, IsKept, IsKind}
+use Rattle.pd_guards.specs.Order.{IsKept, IsKind}
 use Rattle.pd_guards.specs.Sounds.{AreValues, HasValues}
 use Rattle.pd_guards.proofs.FactLemmas.{some-weaker}
 use Rattle.pd_guards.proofs.MoreLemmas.{longer, first_more, kind_more, kept_more}
@@ -232,10 +233,10 @@ put_steady most s ahead path e m h put tree =
     let few : a.counts.sound ≤ 16777216 = sound_few m.base put.after.files put.box.counts a.counts put.base put.adds.counts put.within.sound in
     let well : (k : ℕ) (n : Node) → IsFirst old s.time a k n → IsWellAt names s.time k n =
     λ k n x.
-        let added : IsAddedWell names old.rate n.kind =
-        subst (IsAddedWell names old.rate) (sym x.kind)
-        (added_well old s.base.counts s.file path e (known_at s) put.adds.files a put.adds.grew h.order.first put.adds.written few x.cell x.of) in
-        (new_well old.rate s.time names n x.fresh (small_few n.kind x.small) added, x.low) in
+    let added : IsAddedWell names old.rate n.kind =
+    subst (IsAddedWell names old.rate) (sym x.kind)
+    (added_well old s.base.counts s.file path e (known_at s) put.adds.files a put.adds.grew h.order.first put.adds.written few x.cell x.of) in
+    (new_well old.rate s.time names n x.fresh (small_few n.kind x.small) added, x.low) in
     let new : HasNew old put.new (IsWellAt names s.time) =
     new_weaker old put.new (IsFirst old s.time a) (IsWellAt names s.time) (come_new old put.new s.time a put.box.key put.adds.put) well in
     subst (IsSteady most) (sym is) (new_steady most s old put.new m.clocks names m.base ahead was on new (subst HasBoth is tree))
