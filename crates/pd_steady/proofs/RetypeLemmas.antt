@@ -10,15 +10,11 @@ use Rattle.pd_kind.specs.declared.states.State.{State}
 use Rattle.pd_kind.specs.Fit.{blank}
 use Rattle.pd_kind.specs.States.{start_of}
 use Rattle.pd_kind.specs.Tables.{started}
-use Rattle.pd_canvas.specs.declared.edits.Edit.{Edit}
 use Rattle.pd_canvas.specs.Pages.{Entry}
-use Rattle.pd_canvas.specs.Views.{entry_of}
 use Rattle.pd_tree.specs.Trees.{Cell, Stand, Trees}
 use Rattle.pd_grove.specs.Standing.{HasCell}
 use Rattle.pd_adding.specs.declared.counts.Counts.{Counts}
 use Rattle.pd_adding.specs.Boxes.{CanBeWritten}
-use Rattle.pd_retyping.specs.Asking.{put_instead}
-use Rattle.pd_retyping.specs.Retypes.{counts_but}
 use Rattle.pd_grove.specs.declared.nodes.Node.{Node}
 use Rattle.pd_grove.specs.Telling.{kind_in}
 use Rattle.pd_patch.specs.declared.patch.Patch.{Patch}
@@ -68,11 +64,10 @@ module _ (s : Stage) (path : List ℕ) (number : ℕ) (text : List Atom) (m : Ma
       let x = to.retypes in
       let b = x.became in
       let c : Cell = b.can.cell in
-      let e : Edit = put_instead (entry_of x.node.element) text in
       let few : x.added.counts.sound ≤ 16777216 =
       subst (λ (y : Counts). y.sound ≤ 16777216) x.counts (subst (λ (y : Base). y.counts.sound ≤ 16777216) to.base to.within.sound) in
       let added : IsAddedWell x.added.known.names to.old.rate c.kind =
-      added_well to.old (counts_but to.old.rate x.node s.base.counts) s.file path e (known_at s) x.files x.added x.grew first
+      added_well to.old _ s.file path _ (known_at s) x.files x.added x.grew first
       (subst (λ (o : Option Entry). IfSome o (CanBeWritten s.names)) (sym x.new_entry) x.written) few c (subst (λ (t : Trees). HasCell t c) (sym b.can.single) (inl refl)) in
       new_well to.old.rate s.time x.added.known.names retyped_node retyped_fresh (small_few b.seed.row.kind b.leaf.small)
       (subst (IsAddedWell x.added.known.names to.old.rate) (sym (ap (λ (y : Stand). y.cell.kind) b.is_row)) added)
