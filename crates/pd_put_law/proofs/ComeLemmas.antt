@@ -1,6 +1,6 @@
 -- The box that an edit put stands last in its canvas, and the tree with it runs and grows again.
 use Rattle.std.proofs.Common.{◌≡◌, ◌≢◌, ◌≤◌, ◌+◌, ◌-◌, ℕ, zero, suc, Bool, true, false, max, ◌&&◌, nat_lt, if◌then◌else◌, ◌==◌, List, [], ◌∷◌, ◌++◌, length, Option, Some, None, Result, Ok, Err, IfSome, ◌⊎◌, inl, inr, refl, sym, ap, ◌∙◌, subst, arith, true≢false}
-use Rattle.std.specs.Prelude.{option_map}
+use Rattle.std.specs.Prelude.{filter, option_map}
 use mathlib.Core.Logic.{⊎_elim}
 use Rattle.std.proofs.lemmas.Bool.Decides.{nat_tests}
 use Rattle.std.proofs.lemmas.Option.{none-some, same_Some}
@@ -8,29 +8,36 @@ use Rattle.slab.specs.Slab.{get}
 use Rattle.pd_atom.specs.declared.Atom.{Atom}
 use Rattle.pd_atom.specs.Names.{Names, Extends}
 use Rattle.pd_atom.proofs.NameLemmas.{six_names}
+use Rattle.pd_object.specs.declared.kinds.Kind.TheVariants as kind
 use Rattle.pd_kind.specs.States.{start_of}
 use Rattle.pd_kind.specs.Tables.{started}
 use Rattle.pd_canvas.specs.declared.edits.Edit.{Edit}
 use Rattle.pd_canvas.specs.declared.edits.Edit.TheVariants as edit
 use Rattle.pd_canvas.specs.Pages.{Shape, Obj, Msg, Comment, FloatBox, SymbolBox, Sub, Array, Other, Boxes, End, Entry}
+use Rattle.pd_canvas.specs.declared.wires.Wire.{Wire}
 use Rattle.pd_canvas.specs.Proper.{levels, levels_of, AreReady}
 use Rattle.pd_library.specs.Files.{answer_in}
 use Rattle.pd_library.specs.declared.answers.Answer.{Answer}
 use Rattle.pd_tree.specs.declared.rows.Sheet.{Sheet}
+use Rattle.pd_tree.specs.Ports.{fits}
 use Rattle.pd_tree.specs.Trees.{Cell, Stand, Trees, Done, Leaf, Holder, Tree, stand_of, document_boxes}
 use Rattle.pd_growth.specs.Steps.{gives}
+use Rattle.pd_growth.specs.Growing.{inside_grown}
 use Rattle.pd_growth.specs.Growth.{Inner, around_root, box_grown, without_ending}
 use Rattle.pd_grove.specs.declared.boards.Board.{Board}
 use Rattle.pd_grove.specs.declared.grove.Grove.{Grove}
 use Rattle.pd_grove.specs.declared.nodes.Node.{Node}
 use Rattle.pd_grove.specs.declared.seeds.Seed.{Seed}
 use Rattle.pd_grove.specs.OwnPaths.{sub_reached}
-use Rattle.pd_grove.specs.Standing.{BoardSeen, board_seen, node_seen, with_inner, depth_of, Stands}
+use Rattle.pd_grove.specs.Standing.{BoardSeen, NodeSeen, board_seen, node_seen, with_inner, depth_of, Stands}
 use Rattle.pd_grove.specs.States.{IsFresh}
 use Rattle.pd_grove.specs.TextOrder.{is_sub}
 use Rattle.pd_web.specs.declared.jacks.Jack.{Jack}
+use Rattle.pd_web.specs.Canvases.{HoldersAreNoPorts}
 use Rattle.pd_web.specs.Changes.{wires_told}
 use Rattle.pd_patch.specs.declared.patch.Patch.{Patch}
+use Rattle.pd_patch.proofs.GrowthLemmas.{grown_box_fits}
+use Rattle.pd_fit.specs.Fitting.{wires_inside}
 use Rattle.pd_wiring.specs.declared.refusals.EditRefusal.{EditRefusal}
 use Rattle.pd_wiring.specs.declared.refusals.EditRefusal.TheVariants.{TextTooLong, TooDeep}
 use Rattle.pd_gather.specs.Gather.{Known, known, GoesOn}
@@ -49,9 +56,9 @@ use Rattle.pd_inside_law.specs.Inside.{HoldsWires}
 use Rattle.pd_putting_law.specs.Again.{StandsAgain}
 use Rattle.pd_putting_law.specs.Edits.{PutsBox}
 use Rattle.pd_putting_law.specs.Puts.{put_at}
-use Rattle.pd_putting_law.specs.Putting.{IsBare, element_put}
+use Rattle.pd_putting_law.specs.Putting.{ComeFresh, IsBare, IsNewBox, element_put}
 use Rattle.pd_putting_law.proofs.AgainLemmas.{stands_on}
-use Rattle.pd_putting_law.proofs.GrownLemmas.{put_bare, put_runs, put_again}
+use Rattle.pd_putting_law.proofs.GrownLemmas.{new_grown, put_bare, put_runs, put_again}
 use Rattle.pd_putting_law.proofs.StandLemmas.{path_along}
 use Rattle.pd_putting_law.proofs.WithinLemmas.{ChangesWithin, path_within, around_levels}
 use Rattle.pd_following.specs.Ports.{port_jack}
@@ -64,10 +71,11 @@ use Rattle.pd_adding.specs.Adding.{GrewWith}
 use Rattle.pd_adding.proofs.GrowLemmas.{growth_is}
 use Rattle.pd_adding.proofs.SingleLemmas.{same_inner}
 use Rattle.pd_putting.specs.declared.adding.NewBox.{NewBox}
-use Rattle.pd_putting.specs.Adds.{last_place, IsBoxPut, IsSubPut, IsPortBoxPut, HasCome, AddsBox}
+use Rattle.pd_putting.specs.Adds.{last_place, IsBoxPut, IsSubPut, IsPortBoxPut, IsPartBoxPut, HasCome, AddsBox}
 use Rattle.pd_put_law.proofs.RoomLemmas.{room_runs}
-use Rattle.pd_put_law.proofs.LastLemmas.{ComesLast, keeps, last, come_fresh, leaf_last, shell_last}
-use Rattle.pd_put_law.proofs.InsideLemmas.{come_wires}
+use Rattle.pd_put_law.proofs.WholeLemmas.{ComesWhole, keeps, last}
+use Rattle.pd_put_law.proofs.LastLemmas.{ComesLast, as_whole, come_fresh, last_wires, leaf_last, shell_last}
+use Rattle.pd_put_law.proofs.PartLemmas.{part_stands, part_fresh, part_wires, part_whole}
 use Rattle.pd_put_law.proofs.AroundLemmas.{fits_followed, holds_followed}
 use Rattle.pd_put_law.proofs.PortLemmas.{port_last, port_followed}
 
@@ -210,22 +218,42 @@ pub record StaysWired (p q : Patch) : Type 0 where
 all_stays : (p : Patch) → StaysWired p p
 all_stays p = record { grove = refl; holds = λ t h. h; fits = λ f. f }
 
--- What came in, by this node, is a box of a cell: one without a canvas, or a subpatch, which has no boxes. Room was set aside for it; and the box around
+-- What came in, by this node, is a box of a cell: one without a canvas, or one that holds one. Room was set aside for it; and the box around
 -- may have got a port after that.
 pub record HasComeIn (old new : Patch) (now : ℕ) (a : Added) (path : List ℕ) (key : ℕ) : Type 0 where
   pub ready : Patch
   pub room : SameButRoom old ready
   pub done : Patch
-  pub last : ComesLast ready done path a.canvas key
+  pub whole : ComesWhole ready done path a.canvas key
   pub around : StaysWired done new
-  pub wires : wires_told new.web ≡ wires_told ready.web
+  pub wires : wires_told new.web ≡ wires_told ready.web + wires_inside a.boxes
+  pub fresh : ComeFresh old.rate now (get ready.grove.nodes) (get done.grove.nodes)
   pub node : Node
   pub is : get done.grove.nodes key ≡ Some node
   pub state : node.state ≡ Some (started (start_of node.kind old.rate) now)
   pub stands : Stands (get done.grove.nodes) (get done.grove.boards) a.canvas (depth_of (get ready.grove.boards a.canvas)) (key ∷ []) a.boxes
   pub cell : Cell
   pub is_cell : (node_seen node).cell ≡ cell
-  pub sort : (a.boxes ≡ Leaf cell Done) ⊎ (cell.head.form ≡ Sub)
+  pub sort : (a.boxes ≡ Leaf cell Done) ⊎ (cell.kind ≡ kind.Canvas)
+
+-- no wire of a canvas without boxes fits
+none_fit : (ws : List Wire) → length (filter (fits []) ws) ≡ 0
+none_fit [] = refl
+none_fit (w ∷ ws) = none_fit ws
+
+-- as many wires where none came
+none_more : (n m i : ℕ) → n ≡ m → i ≡ 0 → n ≡ m + i
+none_more n m i e z = omega (arith, e, z)
+
+-- the node of a box that is seen
+record NodeHere (o : Option Node) (c : Cell) : Type 0 where
+  node : Node
+  is : o ≡ Some node
+  same : (node_seen node).cell ≡ c
+
+node_here : (o : Option Node) (x : NodeSeen) → option_map node_seen o ≡ Some x → NodeHere o x.cell
+node_here None x h = absurd (none-some x h)
+node_here (Some n) x h = record { node = n; is = refl; same = ap (λ (y : NodeSeen). y.cell) (same_Some (node_seen n) x h) }
 
 module _ (old new : Patch) (now : ℕ) (a : Added) (path : List ℕ) (key : ℕ) (can : CanPut old) (leads : sub_reached old.grove (Some old.grove.root) path ≡ Some a.canvas) where
   -- a box without a canvas
@@ -240,9 +268,10 @@ module _ (old new : Patch) (now : ℕ) (a : Added) (path : List ℕ) (key : ℕ)
         ready = ready;
         room = room;
         done = done;
-        last = last;
+        whole = as_whole ready done path a.canvas key last;
         around = around;
-        wires = wires;
+        wires = none_more (wires_told new.web) (wires_told ready.web) (wires_inside a.boxes) wires (ap wires_inside single);
+        fresh = come_fresh ready done path a.canvas key last old.rate now n is (ap (λ x. Some x) fresh);
         node = n;
         is = is;
         state = ap (λ x. Some x) fresh;
@@ -256,7 +285,7 @@ module _ (old new : Patch) (now : ℕ) (a : Added) (path : List ℕ) (key : ℕ)
   leaf_in : IsBoxPut old new now a key → HasComeIn old new now a path key
   leaf_in P =
       let C = leaf_last old P.ready new a.known.names path a.canvas key P.seed P.room can P.goes_on.forest P.goes_on.runs.numbers leads P.put.comes in
-      leaf_by P.ready new P.seed P.plain.cell P.room P.plain.single P.is_row P.fresh P.put.comes C (all_stays new) (come_wires P.ready new path a.canvas key C)
+      leaf_by P.ready new P.seed P.plain.cell P.room P.plain.single P.is_row P.fresh P.put.comes C (all_stays new) (last_wires P.ready new path a.canvas key C)
 
   port_in : IsPortBoxPut old new now a key → HasComeIn old new now a path key
   port_in P =
@@ -279,15 +308,16 @@ module _ (old new : Patch) (now : ℕ) (a : Added) (path : List ℕ) (key : ℕ)
       same_Some P.put.comes.board.sheet P.sub.sheet (sym P.put.comes.sheet ∙ ap (λ (x : Stand). x.sheet) P.is_row) in
       let boxes : Holder (stand_of P.seed.row).cell P.put.comes.board.sheet Done Done ≡ a.boxes =
       ap (λ (x : Cell). Holder x P.put.comes.board.sheet Done Done) same ∙ ap (λ (s : Sheet). Holder P.sub.cell s Done Done) sheet ∙ sym P.sub.single in
-      let C = shell_last old P.ready new a.known.names path a.canvas key P.seed P.room can P.goes_on.forest P.goes_on.runs.numbers leads
-      (ap (λ (x : Cell). x.head.form) same ∙ P.sub.form) P.put in
+      let C = shell_last old P.ready new a.known.names path a.canvas key P.seed P.room can P.goes_on.forest P.goes_on.runs.numbers leads P.put in
+      let none : wires_inside a.boxes ≡ 0 = (let e = ap wires_inside P.sub.single in let z = none_fit P.sub.sheet.wires in omega (arith, e, z)) in
       record {
         ready = P.ready;
         room = P.room;
         done = new;
-        last = C;
+        whole = as_whole P.ready new path a.canvas key C;
         around = all_stays new;
-        wires = come_wires P.ready new path a.canvas key C;
+        wires = none_more (wires_told new.web) (wires_told P.ready.web) (wires_inside a.boxes) (last_wires P.ready new path a.canvas key C) none;
+        fresh = come_fresh P.ready new path a.canvas key C old.rate now n G.canvas.is (ap (λ x. Some x) P.fresh);
         node = n;
         is = G.canvas.is;
         state = ap (λ x. Some x) P.fresh;
@@ -296,11 +326,38 @@ module _ (old new : Patch) (now : ℕ) (a : Added) (path : List ℕ) (key : ℕ)
             P.put.comes.board (keys_before P.ready (last_place old a.canvas)) (keys_behind P.ready (last_place old a.canvas)) G);
         cell = P.sub.cell;
         is_cell = same;
-        sort = inr P.sub.form;
+        sort = inr P.sub.canvas;
       }
 
-  pub come_in : HasCome old new now a key → HasComeIn old new now a path key
-  come_in put = ⊎_elim leaf_in (λ (other : IsSubPut old new now a key ⊎ IsPortBoxPut old new now a key). ⊎_elim sub_in_it port_in other) put
+  part_in : IsPartBoxPut old new now a key → IsNewBox a.boxes → HoldersAreNoPorts a.boxes → HasComeIn old new now a path key
+  part_in P is_new bare =
+      let S = part_stands old new now a path key can leads P is_new bare in
+      let H : Stands (get new.grove.nodes) (get new.grove.boards) a.canvas (depth_of (get P.ready.grove.boards a.canvas)) (key ∷ []) (Holder P.holder.cell P.holder.sheet P.holder.inner Done) =
+      subst (Stands (get new.grove.nodes) (get new.grove.boards) a.canvas (depth_of (get P.ready.grove.boards a.canvas)) (key ∷ [])) P.holder.single S in
+      let N : NodeHere (get new.grove.nodes key) P.holder.cell = node_here (get new.grove.nodes key) _ H.2 in
+      let W = part_whole old new now a path key can leads P is_new bare in
+      let F = part_fresh old new now a path key can leads P is_new bare in
+      record {
+        ready = P.ready;
+        room = P.room;
+        done = new;
+        whole = W;
+        around = all_stays new;
+        wires = part_wires old new now a path key can leads P is_new bare;
+        fresh = F;
+        node = N.node;
+        is = N.is;
+        state = F key N.node W.part.vacant N.is;
+        stands = S;
+        cell = P.holder.cell;
+        is_cell = N.same;
+        sort = inr P.holder.canvas;
+      }
+
+  pub come_in : HasCome old new now a key → IsNewBox a.boxes → HoldersAreNoPorts a.boxes → HasComeIn old new now a path key
+  come_in put is_new bare = ⊎_elim leaf_in
+      (λ (other : IsSubPut old new now a key ⊎ (IsPortBoxPut old new now a key ⊎ IsPartBoxPut old new now a key)). ⊎_elim sub_in_it
+      (λ (more : IsPortBoxPut old new now a key ⊎ IsPartBoxPut old new now a key). ⊎_elim port_in (λ (P : IsPartBoxPut old new now a key). part_in P is_new bare) more) other) put
 
 -- ---- an edit that put a box
 
@@ -337,9 +394,6 @@ module _ (old new : Patch) (n : Counts) (name path : List ℕ) (now : ℕ) (e : 
   pub written : CanBeWritten k.names element
   written = if_some (CanBeWritten k.names) (box_put (settled_edit k.names e)) element may.is X.written
 
-  pub came : CanPut old → HasComeIn old new now X.added path b.key
-  came can = come_in old new now X.added path b.key can may.leads X.put
-
   pub known_names : after.names ≡ grew_so.after.names
   known_names = ap (λ (x : Known). x.names) (X.known_is ∙ grew_so.known_is)
 
@@ -348,6 +402,29 @@ module _ (old new : Patch) (n : Counts) (name path : List ℕ) (now : ℕ) (e : 
 
   pub low : levels_of element.head.form (levels element.page.boxes) ≤ 255 - length path
   low = levels_fit element.head.form element.page.boxes (length path) bare.boxes may.low
+
+  -- it grew in its canvas
+  own_grew : box_grown (answer_in files.files) (without_ending name) (255 - length path) (inside_grown (answer_in files.files) (without_ending name) (255 - length path)) (around_root (own_zero old)) element
+      (stock_by files.names n) ≡ gives box grew_so.after
+  own_grew = sym (growth_is (own_zero old) n name (255 - length path) element files) ∙ grew_so.grew
+
+  own_regrew : box_grown (answer_in files.files) (without_ending name) (255 - length path) (inner_of (answer_in files.files) (without_ending name) (255 - length path)) (around_root (own_zero old)) element
+      (stock_by files.names n) ≡ gives box grew_so.after
+  own_regrew =
+      ap (λ (inner : Inner). box_grown (answer_in files.files) (without_ending name) (255 - length path) inner (around_root (own_zero old)) element (stock_by files.names n))
+      (sym (same_inner (answer_in files.files) (without_ending name) (255 - length path)))
+      ∙ own_grew
+
+  is_new : IsNewBox box
+  is_new =
+      new_grown (answer_in files.files) (without_ending name) (255 - length path) (around_root (own_zero old)) element (stock_by files.names n) grew_so.after box bare own_regrew
+
+  no_ports : HoldersAreNoPorts box
+  no_ports =
+      (grown_box_fits (answer_in files.files) (without_ending name) (255 - length path) (around_root (own_zero old)) element (stock_by files.names n) grew_so.after box own_grew).1
+
+  pub came : CanPut old → HasComeIn old new now X.added path b.key
+  came can = come_in old new now X.added path b.key can may.leads X.put is_new no_ports
 
   module _ (can : CanPut old) (t : Tree) (R : RunsAs old.grove t) (A : StandsAgain (answer_in k.files) name k.names t) where
     abbrev in_it : HasComeIn old new now X.added path b.key
@@ -384,9 +461,7 @@ module _ (old new : Patch) (n : Counts) (name path : List ℕ) (now : ℕ) (e : 
     pub grew : box_grown lib (without_ending name) left (inner_of lib (without_ending name) left) (around_root t.sheet.zero) element (stock_by files.names n) ≡ gives box grew_so.after
     grew =
         ap (λ (z : ℕ). box_grown lib (without_ending name) left (inner_of lib (without_ending name) left) (around_root z) element (stock_by files.names n)) (sym own)
-        ∙ ap (λ (inner : Inner). box_grown lib (without_ending name) left inner (around_root (own_zero old)) element (stock_by files.names n))
-        (sym (same_inner lib (without_ending name) left))
-        ∙ sym (growth_is (own_zero old) n name left element files) ∙ grew_so.grew
+        ∙ own_regrew
 
     entry_of : IsEntryOf files.names element
     entry_of = record {
@@ -404,12 +479,12 @@ module _ (old new : Patch) (n : Counts) (name path : List ℕ) (now : ℕ) (e : 
       deep = all_in (length path) long;
       room = low;
       grew = grew;
-      box = last ready done path X.added.canvas b.key in_it.last;
+      box = last ready done path X.added.canvas b.key in_it.whole;
       stands = in_it.stands;
       rate = old.rate;
       now = now;
-      fresh = come_fresh ready done path X.added.canvas b.key in_it.last old.rate now in_it.node in_it.is in_it.state;
-      wires = keeps ready done path X.added.canvas b.key in_it.last;
+      fresh = in_it.fresh;
+      wires = keeps ready done path X.added.canvas b.key in_it.whole;
     }
 
     pub box_runs : RunsAs new.grove (put_at path box t)

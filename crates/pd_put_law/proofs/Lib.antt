@@ -1,4 +1,7 @@
 pub mod RoomLemmas
+pub mod WholeLemmas
+pub mod LineLemmas
+pub mod PartLemmas
 pub mod LastLemmas
 pub mod InsideLemmas
 pub mod FollowLemmas

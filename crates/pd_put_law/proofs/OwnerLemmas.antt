@@ -40,7 +40,7 @@ use Rattle.pd_putting_law.specs.Again.{StandsAgain}
 use Rattle.pd_adding.specs.declared.counts.Counts.{Counts}
 use Rattle.pd_putting.specs.declared.adding.NewBox.{NewBox}
 use Rattle.pd_canvas.specs.declared.edits.Edit.{Edit}
-use Rattle.pd_putting.specs.Adds.{IsBoxPut, IsSubPut, IsPortBoxPut, AddsBox}
+use Rattle.pd_putting.specs.Adds.{IsBoxPut, IsSubPut, IsPortBoxPut, IsPartBoxPut, AddsBox}
 use Rattle.pd_put_law.proofs.ComeLemmas.{goes_on}
 
 -- ---- the same boxes in text order
@@ -142,7 +142,9 @@ box_owners old new n name path now e k after b t X R A h =
     let again : HasOwners old X.added.known.names name = subst (λ (ns : Names). HasOwners old ns name) is more in
     subst (λ (ns : Names). HasOwners new ns name) (sym is) (⊎_elim
     (λ (P : IsBoxPut old new now X.added b.key). P.put.comes.owners name (room_own old P.ready X.added.known.names name P.room again))
-    (λ (other : IsSubPut old new now X.added b.key ⊎ IsPortBoxPut old new now X.added b.key). ⊎_elim
+    (λ (other : IsSubPut old new now X.added b.key ⊎ (IsPortBoxPut old new now X.added b.key ⊎ IsPartBoxPut old new now X.added b.key)). ⊎_elim
     (λ (P : IsSubPut old new now X.added b.key). P.put.comes.owners name (room_own old P.ready X.added.known.names name P.room again))
+    (λ (more : IsPortBoxPut old new now X.added b.key ⊎ IsPartBoxPut old new now X.added b.key). ⊎_elim
     (λ (P : IsPortBoxPut old new now X.added b.key).
-    own_same P.put.ready new X.added.known.names name P.put.rest (P.put.comes.owners name (room_own old P.ready X.added.known.names name P.room again))) other) X.put)
+    own_same P.put.ready new X.added.known.names name P.put.rest (P.put.comes.owners name (room_own old P.ready X.added.known.names name P.room again)))
+    (λ (P : IsPartBoxPut old new now X.added b.key). P.put.owners name (room_own old P.ready X.added.known.names name P.room again)) more) other) X.put)

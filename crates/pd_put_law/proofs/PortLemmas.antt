@@ -22,7 +22,7 @@ use Rattle.pd_following.proofs.ComeLemmas.{hold_alone, ready_holds, ready_one_mo
 use Rattle.pd_following_law.specs.Raised.{StandsAt}
 use Rattle.pd_putting.specs.Adds.{last_place, IsPortBoxPut}
 use Rattle.pd_put_law.proofs.HomeLemmas.{had_known}
-use Rattle.pd_put_law.proofs.LastLemmas.{ComesLast, leaf_last}
+use Rattle.pd_put_law.proofs.LastLemmas.{ComesLast, as_whole, leaf_last}
 use Rattle.pd_put_law.proofs.InsideLemmas.{subs_more}
 use Rattle.pd_put_law.proofs.AroundLemmas.{HasFollowed, holder_stands}
 
@@ -73,7 +73,7 @@ module _ (old new : Patch) (now : ℕ) (a : Added) (path : List ℕ) (key : ℕ)
   leads_done : sub_reached done.grove (Some done.grove.root) path ≡ Some a.canvas
   leads_done =
       ap (λ (r : ℕ). sub_reached done.grove (Some r) path) port_last.root
-      ∙ subs_more P.ready done path a.canvas key port_last path P.ready.grove.root a.canvas port_last.leads
+      ∙ subs_more P.ready done path a.canvas key (as_whole P.ready done path a.canvas key port_last) path P.ready.grove.root a.canvas port_last.leads
 
   holds : inner_in (get done.grove.nodes holder) ≡ Some a.canvas
   holds = ready_holds P.ready done a.known.names place P.seed key holder side P.could P.put.comes known

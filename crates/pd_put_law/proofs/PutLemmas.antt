@@ -1,13 +1,10 @@
 -- The wires of a patch into which an edit put a box, and how much its tree counts.
-use Rattle.std.proofs.Common.{◌≡◌, ◌+◌, ◌⊎◌, ℕ, List, [], ◌∷◌, length, filter, Some, refl, ap, ◌∙◌, arith}
-use mathlib.Core.Logic.{⊎_elim}
+use Rattle.std.proofs.Common.{◌≡◌, ◌+◌, ℕ, List, length, Some, ap, ◌∙◌, arith}
 use Rattle.slab.specs.Slab.{get}
 use Rattle.pd_canvas.specs.declared.edits.Edit.{Edit}
-use Rattle.pd_canvas.specs.declared.wires.Wire.{Wire}
-use Rattle.pd_tree.specs.Ports.{fits}
 use Rattle.pd_tree.specs.Trees.{Tree, weight}
 use Rattle.pd_grove.specs.Places.{CanvasStands}
-use Rattle.pd_grove.specs.Standing.{depth_of}
+use Rattle.pd_grove.specs.Standing.{depth_of, GroveStands}
 use Rattle.pd_web.specs.Changes.{wires_told}
 use Rattle.pd_patch.specs.declared.patch.Patch.{Patch}
 use Rattle.pd_patch.specs.Sounds.{sound_of}
@@ -19,30 +16,17 @@ use Rattle.pd_reload_law.specs.Reloading.{RunsAs}
 use Rattle.pd_saved_law.specs.Fitting.{WiresFit}
 use Rattle.pd_inside_law.specs.Inside.{HoldsWires}
 use Rattle.pd_putting_law.specs.Puts.{put_at}
-use Rattle.pd_putting_law.proofs.StandLemmas.{path_along}
+use Rattle.pd_putting_law.proofs.StandLemmas.{grove_put, path_along}
 use Rattle.pd_putting_law.proofs.WithinLemmas.{path_within}
 use Rattle.pd_adding.specs.declared.counts.Counts.{Counts}
 use Rattle.pd_adding.specs.Counts.{with_boxes}
-use Rattle.pd_adding.specs.Growing.{Added}
 use Rattle.pd_putting.specs.declared.adding.NewBox.{NewBox}
-use Rattle.pd_putting.specs.Adds.{IsBoxPut, IsSubPut, IsPortBoxPut, HasCome, AddsBox}
+use Rattle.pd_putting.specs.Adds.{AddsBox}
 use Rattle.pd_put_law.proofs.RoomLemmas.{room_runs, room_holds, room_fits, room_wires}
+use Rattle.pd_put_law.proofs.WholeLemmas.{last}
 use Rattle.pd_put_law.proofs.ComeLemmas.{HasComeIn, may, grew_so, came}
 use Rattle.pd_put_law.proofs.InsideLemmas.{come_holds, come_fits}
 use Rattle.pd_put_law.proofs.CountLemmas.{put_weight, put_sound}
-
--- no wire of a canvas without boxes fits
-none_fit : (ws : List Wire) → length (filter (fits []) ws) ≡ 0
-none_fit [] = refl
-none_fit (w ∷ ws) = none_fit ws
-
--- in what came no wire is
-none_inside : (p q : Patch) (now : ℕ) (a : Added) (key : ℕ) → HasCome p q now a key → wires_inside a.boxes ≡ 0
-none_inside p q now a key put = ⊎_elim
-    (λ (P : IsBoxPut p q now a key). ap wires_inside P.plain.single)
-    (λ (other : IsSubPut p q now a key ⊎ IsPortBoxPut p q now a key). ⊎_elim
-    (λ (P : IsSubPut p q now a key). (let e = ap wires_inside P.sub.single in let z = none_fit P.sub.sheet.wires in omega (arith, e, z)))
-    (λ (P : IsPortBoxPut p q now a key). ap wires_inside P.port.single) other) put
 
 module _ (old new : Patch) (n : Counts) (name path : List ℕ) (now : ℕ) (e : Edit) (k after : Known) (b : NewBox) (X : AddsBox old new n name path now e k after b) where
   -- ---- counts
@@ -50,12 +34,8 @@ module _ (old new : Patch) (n : Counts) (name path : List ℕ) (now : ℕ) (e : 
   counted : b.counts ≡ with_boxes old.rate X.added.boxes n
   counted = X.counts ∙ (grew_so old new n name path now e k after b X).counts
 
-  pub as_many_wires : b.counts.wires ≡ n.wires
-  as_many_wires =
-      none n.wires (wires_inside X.added.boxes) b.counts.wires (ap (λ (x : Counts). x.wires) counted) (none_inside old new now X.added b.key X.put)
-    where
-      none : (a i b : ℕ) → b ≡ a + i → i ≡ 0 → b ≡ a
-      none a i b h z = omega (arith, h, z)
+  pub more_wires : b.counts.wires ≡ n.wires + wires_inside X.added.boxes
+  more_wires = ap (λ (x : Counts). x.wires) counted
 
   module _ (can : CanPut old) where
     abbrev in_it : HasComeIn old new now X.added path b.key
@@ -69,14 +49,18 @@ module _ (old new : Patch) (n : Counts) (name path : List ℕ) (now : ℕ) (e : 
 
     pub box_holds : (t : Tree) → RunsAs old.grove t → HoldsWires old t → HoldsWires new (put_at path X.added.boxes t)
     box_holds t r h =
+        let stands : GroveStands mid.grove t.sheet t.boxes = (room_runs old.grove mid.grove in_it.room.grove t r).stands in
+        let whole = in_it.whole in
         in_it.around.holds (put_at path X.added.boxes t)
-        (come_holds mid done path X.added.canvas b.key in_it.last X.added.boxes t (room_runs old.grove mid.grove in_it.room.grove t r).stands (room_holds old mid in_it.room t h))
+        (come_holds mid done path X.added.canvas b.key whole X.added.boxes t stands
+        (grove_put mid.grove done.grove path X.added.canvas b.key t X.added.boxes (last mid done path X.added.canvas b.key whole) stands in_it.stands)
+        (room_holds old mid in_it.room t h))
 
     pub box_fits : WiresFit old → WiresFit new
-    box_fits f = in_it.around.fits (come_fits mid done path X.added.canvas b.key in_it.last (room_fits old mid in_it.room f))
+    box_fits f = in_it.around.fits (come_fits mid done path X.added.canvas b.key in_it.whole (room_fits old mid in_it.room f))
 
-    pub box_wires : wires_told new.web ≡ wires_told old.web
-    box_wires = in_it.wires ∙ room_wires old mid in_it.room
+    pub box_wires : wires_told new.web ≡ wires_told old.web + wires_inside X.added.boxes
+    box_wires = in_it.wires ∙ ap (λ (m : ℕ). m + wires_inside X.added.boxes) (room_wires old mid in_it.room)
 
     module _ (t : Tree) (R : RunsAs old.grove t) where
       along : (u : Tree) × (own_along path t ≡ Some u) × CanvasStands old.grove X.added.canvas u × (depth_of (get old.grove.boards X.added.canvas) ≡ length path)

@@ -9,11 +9,12 @@ use Rattle.pd_atom.specs.declared.Atom.{Atom}
 use Rattle.pd_atom.specs.Names.{Names, Extends, IsTable}
 use Rattle.pd_atom.specs.Tokens.{IsSettled}
 use Rattle.pd_object.specs.declared.kinds.Kind.{Kind}
+use Rattle.pd_object.specs.declared.kinds.Kind.TheVariants as kind
 use Rattle.pd_kind.specs.declared.states.State.{State}
 use Rattle.pd_kind.specs.States.{start_of}
 use Rattle.pd_kind.specs.Tables.{started}
 use Rattle.pd_canvas.specs.declared.edits.Edit.{Edit}
-use Rattle.pd_canvas.specs.Pages.{Shape, Msg, Sub, Array, Head, Boxes, End, Box, Entry, boxed, frame_of}
+use Rattle.pd_canvas.specs.Pages.{Shape, Msg, Array, Head, Boxes, End, Box, Entry, boxed, frame_of}
 use Rattle.pd_canvas.specs.Proper.{AreReady, AreBoxes, IsFrame, IsHead, IsWidth, IsProper, inner_wires}
 use Rattle.pd_doc.proofs.GrowLaws.{are_ready_grows}
 use Rattle.pd_library.specs.Files.{answer_in}
@@ -40,6 +41,7 @@ use Rattle.pd_proper_law.specs.Saves.{kinds_of, is_written, form_of, IsOwnBox, I
 use Rattle.pd_putting_law.specs.Again.{StandsAgain}
 use Rattle.pd_putting_law.specs.Puts.{put_at}
 use Rattle.pd_putting_law.proofs.AgainLemmas.{box_is, new_made}
+use Rattle.pd_putting_law.proofs.PathLemmas.{live_box}
 use Rattle.pd_putting_law.proofs.StandLemmas.{path_along}
 use Rattle.pd_putting_law.proofs.WithinLemmas.{path_within}
 use Rattle.pd_adding.specs.declared.counts.Counts.{Counts}
@@ -109,9 +111,9 @@ pub room_contents : (p q : Patch) (names : Names) (states : ℕ → Option State
 room_contents p q names states r h k w =
     subst (λ (o : Option Node). IfSome (states k) (HasContents (option_map_or count_of (kind_in o) 0) names)) (sym (r.grove.nodes k)) (h k (room_written p q r k w))
 
--- a subpatch is none of the boxes that are written
-no_written : (f : Shape) → f ≡ Sub → is_written f ≡ true → ⊥
-no_written f e w = true≢false (sym w ∙ ap is_written e)
+-- what a box that holds a canvas keeps is settled
+canvas_settled : (names : Names) (k : Kind) → k ≡ kind.Canvas → IsKindSettled names k
+canvas_settled names k e = subst (IsKindSettled names) (sym e) tt
 
 module _ (old new : Patch) (n : Counts) (name path : List ℕ) (now : ℕ) (e : Edit) (k after : Known) (b : NewBox) (X : AddsBox old new n name path now e k after b)
     (can : CanPut old) (t : Tree) (R : RunsAs old.grove t) (A : StandsAgain (answer_in k.files) name k.names t) where
@@ -208,24 +210,31 @@ module _ (old new : Patch) (n : Counts) (name path : List ℕ) (now : ℕ) (e : 
   settled : is_written c.head.form ≡ true → IsKindSettled after.names c.kind
   settled w = ⊎_elim
       (λ (single : it ≡ Leaf c Done). leaf_settled single w)
-      (λ (sub : c.head.form ≡ Sub). absurd (no_written c.head.form sub w)) in_it.sort
+      (λ (canvas : c.kind ≡ kind.Canvas). canvas_settled after.names c.kind canvas) in_it.sort
 
   new_kind : x.kind ≡ c.kind
   new_kind = ap (λ (y : Cell). y.kind) in_it.is_cell
 
-  -- a box that is written and isn't the new one was so
-  was_own : (j : ℕ) → j ≢ b.key → IsOwnBox done.grove j → IsOwnBox old.grove j
-  was_own j d w = record {
-    path = w.path;
-    canvas = w.canvas;
-    place = w.place;
-    leads = sym (room_subs old.grove mid.grove in_it.room.grove w.path) ∙ subs_back mid done path here b.key in_it.last w.path w.canvas w.place j w.leads w.at;
-    at = ap (λ (ks : List ℕ). slice_get ks w.place) (sym (keys_same old.grove mid.grove in_it.room.grove w.canvas))
-        ∙ was_at mid done path here b.key in_it.last w.canvas w.place j d w.at;
-  }
+  -- a box of the document that isn't the new one was there
+  record WasOwn (j : ℕ) : Type 0 where
+    own : IsOwnBox old.grove j
+    same : get new.grove.nodes j ≡ get old.grove.nodes j
 
-  same_node : (j : ℕ) → j ≢ b.key → get new.grove.nodes j ≡ get old.grove.nodes j
-  same_node j d = ap (λ (g : Grove). get g.nodes j) in_it.around.grove ∙ in_it.last.alone j d ∙ in_it.room.grove.nodes j
+  was_own : (j : ℕ) → j ≢ b.key → IsOwnBox done.grove j → WasOwn j
+  was_own j d w =
+      let back = subs_back mid done path here b.key in_it.whole w.path w.canvas w.place j w.leads w.at in
+      let at = was_at mid done path here b.key in_it.whole w.canvas w.place j back.1 d w.at in
+      record {
+        own = record {
+          path = w.path;
+          canvas = w.canvas;
+          place = w.place;
+          leads = sym (room_subs old.grove mid.grove in_it.room.grove w.path) ∙ back.0;
+          at = ap (λ (ks : List ℕ). slice_get ks w.place) (sym (keys_same old.grove mid.grove in_it.room.grove w.canvas)) ∙ at;
+        };
+        same = ap (λ (g : Grove). get g.nodes j) in_it.around.grove
+            ∙ in_it.whole.part.boxes_stay j (live_box mid.grove in_it.whole.can.forest w.canvas w.place j at) ∙ in_it.room.grove.nodes j;
+      }
 
   new_contents : IsWritten new.grove b.key → IfSome (states_of new b.key) (HasContents (counts_of (kinds_of new) b.key) after.names)
   new_contents w =
@@ -243,7 +252,8 @@ module _ (old new : Patch) (n : Counts) (name path : List ℕ) (now : ℕ) (e : 
       (λ (s : j ≡ b.key).
       subst (λ (y : ℕ). IfSome (states_of new y) (HasContents (counts_of (kinds_of new) y) after.names)) (sym s) (new_contents (subst (IsWritten new.grove) s w)))
       (λ (d : j ≢ b.key).
-      let same : get new.grove.nodes j ≡ get old.grove.nodes j = same_node j d in
-      let was : IsWritten old.grove j = record { own = was_own j d (subst (λ (g : Grove). IsOwnBox g j) in_it.around.grove w.own); form = subst (λ (o : Option Node). IfSome o (λ y. is_written (form_of y) ≡ true)) same w.form } in
+      let was_there = was_own j d (subst (λ (g : Grove). IsOwnBox g j) in_it.around.grove w.own) in
+      let same : get new.grove.nodes j ≡ get old.grove.nodes j = was_there.same in
+      let was : IsWritten old.grove j = record { own = was_there.own; form = subst (λ (o : Option Node). IfSome o (λ y. is_written (form_of y) ≡ true)) same w.form } in
       subst (λ (o : Option Node). IfSome (state_in o) (HasContents (option_map_or count_of (kind_in o) 0) after.names)) (sym same)
       (more_state k.names after.names (counts_of (kinds_of old) j) more (states_of old j) (h j was))) (cases_eq j b.key)
