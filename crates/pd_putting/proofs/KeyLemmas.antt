@@ -1,5 +1,5 @@
 -- The keys of a box that came in which no boxes lie: it is alone.
-use Rattle.std.proofs.Common.{◌≡◌, ℕ, [], ◌∷◌, Option, Some, IsSome, refl, sym, ap, ◌∙◌, subst}
+use Rattle.std.proofs.Common.{◌≡◌, ℕ, List, [], ◌∷◌, ◌++◌, Option, Some, IsSome, refl, sym, ap, ◌∙◌, subst}
 use mathlib.Core.Logic.{⊎_elim}
 use Rattle.slab.specs.Slab.{get}
 use Rattle.pd_atom.specs.Names.{Names}
@@ -41,6 +41,10 @@ leaf_last_alone p q table canvas s key L = ⊎_elim
 
 pub sub_last_alone : (p q : Patch) (table : Names) (canvas : ℕ) (s : Seed) (key : ℕ) → PutsSubLast p q table canvas s key → keys_within q key ≡ key ∷ []
 sub_last_alone p q table canvas s key L = shell_alone L.ready q table (last_place p canvas) s key L.put.comes
+
+-- so its key alone is told
+pub told_alone : (xs : List ℕ) (key : ℕ) (keys : List ℕ) → xs ≡ [] → keys ≡ key ∷ [] → xs ++ key ∷ [] ≡ keys
+told_alone xs key keys none alone = ap (λ (ks : List ℕ). ks ++ key ∷ []) none ∙ sym alone
 
 -- so it is of what an edit put
 module _ (p q : Patch) (now : ℕ) (a : Added) (key : ℕ) where

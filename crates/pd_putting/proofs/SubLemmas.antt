@@ -22,9 +22,10 @@ use Rattle.pd_adding.specs.declared.adding.Grown.{Grown}
 use Rattle.pd_adding.specs.Growing.{Added}
 use Rattle.pd_adding.specs.Adding.{IsAdded}
 use Rattle.pd_adding.specs.Single.{IsSingle}
-use Rattle.pd_putting.specs.Adds.{last_place, IsSub, IsSubPut}
-use Rattle.pd_putting.specs.Last.{IsAlone, PutsSubLast, IsReady}
-use Rattle.pd_putting.proofs.LeafLemmas.{rows_one, seed_leaf, seed_suits}
+use Rattle.pd_putting.specs.Adds.{keys_within, last_place, IsSub, IsSubPut}
+use Rattle.pd_putting.specs.Last.{IsAlone, PutsLeafLast, PutsSubLast, IsReady}
+use Rattle.pd_putting.proofs.LeafLemmas.{rows_one, seed_leaf, seed_stand, seed_suits}
+use Rattle.pd_putting.proofs.KeyLemmas.{leaf_last_alone, sub_last_alone}
 
 abbrev holding : Cell → Sheet → Stand
 holding cell sheet = record { cell = cell; sheet = Some sheet; boxes = 0 }
@@ -119,6 +120,13 @@ module _ (p : Patch) (g : Grown) (a : Added) (A : IsAdded g a) where
     seed_ready leaf shell C = ⊎_elim
         (λ (S : IsSingle a.boxes). inl (seed_leaf g a A S seed is leaf))
         (λ (S : IsSub p a). inr (seed_shell shell S, sub_shallow S)) C
+
+    -- no box lies in it
+    pub alone_keys : (q : Patch) (table : Names) (key : ℕ) → IsAlone p a → (seed.row.sheet ≡ None → PutsLeafLast p q table g.canvas seed key)
+        → (IsSome seed.row.sheet → PutsSubLast p q table g.canvas seed key) → keys_within q key ≡ key ∷ []
+    alone_keys q table key C leaf sub = ⊎_elim
+        (λ (S : IsSingle a.boxes). leaf_last_alone p q table g.canvas seed key (leaf (ap (λ (s : Stand). s.sheet) (seed_stand g a A S seed is))))
+        (λ (S : IsSub p a). sub_last_alone p q table g.canvas seed key (sub (seed_sheet S))) C
 
     -- what came in is the box that grew
     pub sub_put : (q : Patch) (now : ℕ) (table : Names) (key : ℕ) → (S : IsSub p a) → a.known.names ≡ table → IsShell seed → IsFresh p.rate now seed → CanPut q

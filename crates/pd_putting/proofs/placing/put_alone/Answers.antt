@@ -1,11 +1,11 @@
-use Rattle.std.proofs.Common.{ℕ, List, ◌++◌, ◌∷◌, [], inl, inr, refl, sym, ap, ◌∙◌}
+use Rattle.std.proofs.Common.{inl, inr, refl, ap, ◌∙◌}
 use mathlib.Core.Logic.{⊎_elim}
 use Rattle.pd_tree.specs.Trees.{Stand}
 use Rattle.pd_adding.specs.Single.{IsSingle}
 use Rattle.pd_putting.specs.Adds.{IsSub}
 use Rattle.pd_putting.proofs.LeafLemmas.{rows_small, seed_stand, seed_leaf, alone_comes, leaf_put}
-use Rattle.pd_putting.proofs.SubLemmas.{one_box, seed_ready, seed_shell, seed_sheet, sub_put}
-use Rattle.pd_putting.proofs.KeyLemmas.{leaf_last_alone, sub_last_alone}
+use Rattle.pd_putting.proofs.SubLemmas.{alone_keys, one_box, seed_ready, seed_shell, seed_sheet, sub_put}
+use Rattle.pd_putting.proofs.KeyLemmas.{told_alone}
 use Rattle.pd_putting.proofs.StayLemmas.{same_patch}
 use Rattle.pd_putting.proofs.placing.put_alone.Goals as goal
 
@@ -47,17 +47,8 @@ returns-in_default-put_seed-clause-refused g c = λ a A. inl (refl, (alone_comes
 
 pub returns-clause-part : goal.returns-clause-part
 returns-clause-part g c =
-    let p = c.args.patch.now in
-    let q = c.put_seed.new.patch in
-    let table = c.args.symbols.now in
-    let canvas = c.args.grown.canvas in
-    let seed = c.in-Ok-seed_of.seed in
     let key = c.in-Ok-put_seed.key in
     let h = c.requires.grown in
-    let stand = c.in-Ok-seed_of.ensures.stand in
-    c.push_reserved.ensures.items ∙ ap (λ (ks : List ℕ). ks ++ key ∷ []) c.in-Ok.ensures.items
-    ∙ sym (⊎_elim
-    (λ (S : IsSingle h.added.boxes). leaf_last_alone p q table canvas seed key
-    (c.in-Ok-put_seed.ensures.put (ap (λ (s : Stand). s.sheet) (seed_stand c.args.grown h.added h.is S seed stand))))
-    (λ (S : IsSub p h.added). sub_last_alone p q table canvas seed key (c.in-Ok-put_seed.ensures.sub (seed_sheet p c.args.grown h.added h.is seed stand S)))
-    (c.requires.alone h.added h.is))
+    c.push_reserved.ensures.items
+    ∙ told_alone c.in-Ok.part.items key _ c.in-Ok.ensures.items (alone_keys c.args.patch.now c.args.grown h.added h.is c.in-Ok-seed_of.seed c.in-Ok-seed_of.ensures.stand c.put_seed.new.patch
+    c.args.symbols.now key (c.requires.alone h.added h.is) c.in-Ok-put_seed.ensures.put c.in-Ok-put_seed.ensures.sub)
