@@ -164,6 +164,7 @@ impl Engine {
     {
         self.loads.clear();
         let outcome = self.put_own(path, edit, shelf, lines, steps)?;
+        self.queue.clear();
         self.follow_edit(shelf, lines, steps)?;
         Ok(outcome)
     }

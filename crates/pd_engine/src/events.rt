@@ -1,6 +1,6 @@
 //! Events: deliveries or an edit, and then the edits that canvases were asked for, each with the boxes that are loaded behind it.
 
-ghost use Rattle.std.specs.Prelude.{◌≡◌, ◌≤◌, ℕ, List, Option, OnOk, OnErr};
+ghost use Rattle.std.specs.Prelude.{◌≡◌, ◌≤◌, ℕ, List, [], Option, OnOk, OnErr};
 ghost use Rattle.pd_io.specs.declared.files.FileRow.{FileRow};
 ghost use Rattle.pd_walk.specs.Outcome.{all_loaded};
 ghost use Rattle.pd_say.specs.Gathering.{HasCause};
@@ -62,6 +62,7 @@ impl Engine {
         lines: &mut L,
         steps: &mut Steps<K>,
     ) -> Result<(), SinkFailed>
+        requires { self.old.queue ≡ [] }
         ensures ok { OnOk result ((samples : Option (List ℕ)) → Comes (loaded_by all_loaded self.old.loads.items whole (edits_of_by all_loaded)) (stage_at self.old) (stage_at self.new) (sinks (L.taken lines.old) samples steps.old (H.holds shelf.old) (H.faults shelf.old)) (sinks (L.taken lines.new) samples steps.new (H.holds shelf.new) (H.faults shelf.new))) }
         ensures err { OnErr result ((samples : Option (List ℕ)) → Stops (loaded_by all_loaded self.old.loads.items whole (edits_of_by all_loaded)) (stage_at self.old) (sinks (L.taken lines.old) samples steps.old (H.holds shelf.old) (H.faults shelf.old)) (sinks (L.taken lines.new) samples steps.new (H.holds shelf.new) (H.faults shelf.new))) }
         ensures cause { HasCause (L.faults lines.old) (L.faults lines.new) result }
@@ -69,10 +70,9 @@ impl Engine {
         ensures kept { H.holds shelf.new ≡ H.holds shelf.old }
         ensures stays { self.new.stopped ≡ self.old.stopped }
     {
-        let mut budget = Budget::new();
-        self.queue.clear();
-        self.load_made(&mut budget, lines)?;
-        self.take_queued(&mut budget, shelf, lines, steps)
+        let mut left = Budget::new();
+        self.load_made(&mut left, lines)?;
+        self.take_queued(&mut left, shelf, lines, steps)
     }
 
     /// Loads the boxes that an edit made, with what is left of its event.

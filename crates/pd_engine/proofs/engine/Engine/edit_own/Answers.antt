@@ -4,15 +4,17 @@ use Rattle.std.proofs.lemmas.Result.{on_err_weaker}
 use Rattle.pd_queue.specs.Entries.{wire_edit}
 use Rattle.pd_script.specs.Edits.{puts_box, deleted, moved}
 use Rattle.pd_stage.specs.Choices.{base_of, Edits}
+use Rattle.pd_stage.specs.Leads.{Sinks, sinks}
 use Rattle.pd_engine.specs.Stages.{stage_at}
 use Rattle.pd_engine.proofs.CommandLemmas.{if_ok_weaker}
+use Rattle.pd_engine.proofs.FollowLemmas.{alone_so, event_broke_first}
 use Rattle.pd_engine.proofs.RewireLemmas.{IsKept, puts_sure, ready_sure}
 use Rattle.pd_engine.proofs.MakingLemmas.{own_wire, edited_so, edited_part, edits_kept, edits_within}
 use Rattle.pd_engine.proofs.RetypingLemmas.{rest_retypes}
 use Rattle.pd_engine.proofs.engine.Engine.edit_own.Goals as goal
 
-pub put_own-requires : goal.put_own-requires
-put_own-requires g c = sym c.puts_box.ensures ∙ c.if-puts_box.true
+pub put_loaded-requires : goal.put_loaded-requires
+put_loaded-requires g c = sym c.puts_box.ensures ∙ c.if-puts_box.true
 
 pub retype_own-requires : goal.retype_own-requires
 retype_own-requires g c =
@@ -46,7 +48,11 @@ pub returns-clause-ok : goal.returns-clause-ok
 returns-clause-ok g c =
     let e = c.args.self.now in
     let some : wire_edit c.args.edit.now ≡ Some c.in-Some-wire_edit.wire = sym c.wire_edit.ensures ∙ c.in-Some-wire_edit.is in
-    if_ok_weaker c.tell.result (λ o so samples. so samples (g.H.Shelf.holds c.args.shelf.now) (g.H.Shelf.faults c.args.shelf.now))
+    if_ok_weaker c.tell.result
+    (λ o so samples.
+    let x : Sinks = sinks (g.L.Sink.taken c.args.lines.now) samples c.args.steps.now (g.H.Shelf.holds c.args.shelf.now) (g.H.Shelf.faults c.args.shelf.now) in
+    let y : Sinks = sinks (g.L.Sink.taken c.tell.new.lines) samples c.make-done.new.steps (g.H.Shelf.holds c.args.shelf.now) (g.H.Shelf.faults c.args.shelf.now) in
+    alone_so (Edits None c.args.path.now c.args.edit.now) o (stage_at e) (stage_at c.tell.new.self) x y (so samples (g.H.Shelf.holds c.args.shelf.now) (g.H.Shelf.faults c.args.shelf.now)))
     (edited_so c.tell.result (Edits None c.args.path.now c.args.edit.now) c.args.path.now c.args.edit.now (own_wire (Edits None c.args.path.now c.args.edit.now) c.args.path.now c.args.edit.now c.in-Some-wire_edit.wire (inl refl) some) e.file.items e.symbols (base_of e.library e.counts) e.time e.block_end e.fired e.tally
     e.patch c.make-done.new.patch c.make-done.new.wires e.counted c.make-done.ensures.counted (stage_at c.tell.new.self) c.make-done.result (g.L.Sink.taken c.args.lines.now) (g.L.Sink.taken c.tell.new.lines) c.args.steps.now c.make-done.new.steps
     (ready_sure e.patch e.puts e.meet) c.make-done.ensures.rewires (c.make-done.ensures.edits c.args.edit.now some) c.tell.ensures.stage c.tell.ensures.ok c.tell.ensures.answer)
@@ -55,7 +61,11 @@ pub returns-clause-err : goal.returns-clause-err
 returns-clause-err g c =
     let e = c.args.self.now in
     let some : wire_edit c.args.edit.now ≡ Some c.in-Some-wire_edit.wire = sym c.wire_edit.ensures ∙ c.in-Some-wire_edit.is in
-    on_err_weaker c.tell.result (λ so samples. so samples (g.H.Shelf.holds c.args.shelf.now) (g.H.Shelf.faults c.args.shelf.now))
+    on_err_weaker c.tell.result
+    (λ so samples.
+    let x : Sinks = sinks (g.L.Sink.taken c.args.lines.now) samples c.args.steps.now (g.H.Shelf.holds c.args.shelf.now) (g.H.Shelf.faults c.args.shelf.now) in
+    let y : Sinks = sinks (g.L.Sink.taken c.tell.new.lines) samples c.make-done.new.steps (g.H.Shelf.holds c.args.shelf.now) (g.H.Shelf.faults c.args.shelf.now) in
+    event_broke_first (Edits None c.args.path.now c.args.edit.now) (stage_at e) x y (so samples (g.H.Shelf.holds c.args.shelf.now) (g.H.Shelf.faults c.args.shelf.now)))
     (edited_part c.tell.result (Edits None c.args.path.now c.args.edit.now) c.args.path.now c.args.edit.now (own_wire (Edits None c.args.path.now c.args.edit.now) c.args.path.now c.args.edit.now c.in-Some-wire_edit.wire (inl refl) some) e.file.items e.symbols (base_of e.library e.counts) e.time e.block_end e.fired e.tally
     e.patch c.make-done.new.patch c.make-done.new.wires e.counted c.make-done.ensures.counted (stage_at c.tell.new.self) c.make-done.result (g.L.Sink.taken c.args.lines.now) (g.L.Sink.taken c.tell.new.lines) c.args.steps.now c.make-done.new.steps
     (ready_sure e.patch e.puts e.meet) c.make-done.ensures.rewires (c.make-done.ensures.edits c.args.edit.now some) c.tell.ensures.stage c.tell.ensures.err)

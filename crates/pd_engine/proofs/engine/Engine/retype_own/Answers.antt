@@ -1,4 +1,4 @@
-use Rattle.std.proofs.Common.{arith, refl, sym, subst, inl, List, ℕ, Option, OnErr, IfOk}
+use Rattle.std.proofs.Common.{arith, refl, sym, subst, inl, List, [], ℕ, Option, OnErr, IfOk}
 use Rattle.std.specs.Prelude.{None}
 use Rattle.pd_canvas.specs.declared.edits.Edit.{Edit}
 use Rattle.pd_wiring.specs.declared.refusals.EditRefusal.TheVariants.{NoMemory}
@@ -16,7 +16,7 @@ pub returns-in_default-clause-ok : goal.returns-in_default-clause-ok
 returns-in_default-clause-ok g c =
     let e = c.args.self.now in
     subst
-    (λ (x : Edit). IfOk c.tell.result (λ o. (samples : Option (List ℕ)) → IsEdited c.args.path.now x o (stage_at c.args.self.now) (stage_at c.tell.new.self)
+    (λ (x : Edit). IfOk c.tell.result (λ o. (samples : Option (List ℕ)) → IsEdited c.args.path.now x o [] (stage_at c.args.self.now) (stage_at c.tell.new.self)
     (sinks (g.L.Sink.taken c.args.lines.now) samples c.args.steps.now (g.H.Shelf.holds c.args.shelf.now) (g.H.Shelf.faults c.args.shelf.now))
     (sinks (g.L.Sink.taken c.tell.new.lines) samples c.args.steps.now (g.H.Shelf.holds c.args.shelf.now) (g.H.Shelf.faults c.args.shelf.now)))) (sym c.requires.2)
     (still_answered c.args.path.now c.requires.0 c.requires.1 e.file.items e.symbols e.library e.counts e.time e.block_end e.fired e.tally e.patch e.patch (ready_sure e.patch e.puts e.meet)
