@@ -1,4 +1,4 @@
--- A patch with a new box, one more or one in the place of another: what holds of all boxes of the old one and of the new box holds of all.
+-- A patch with a new box, one more or one in the place of another: what is said of the wires to inlets and of blocks is still so.
 use Rattle.std.proofs.Common.{arith, ◌≡◌, ◌≢◌, ℕ, ℤ, zero, suc, ◌<◌, ◌≤◌, ◌^◌, ◌==◌, true, List, [], ◌∷◌, ◌++◌, length, replicate, slice_get, Option, Some, None, IfSome, IsSome, is_some, refl, sym, ap, subst, ◌∙◌, true≢false}
 use Rattle.std.specs.Prelude.{option_and_then}
 use Rattle.std.specs.List.{AllByRecursion}
