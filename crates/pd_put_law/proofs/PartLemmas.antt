@@ -13,7 +13,6 @@ use Rattle.pd_object.specs.declared.kinds.Kind.{Kind}
 use Rattle.pd_kind.specs.States.{start_of}
 use Rattle.pd_kind.specs.Tables.{started}
 use Rattle.pd_canvas.specs.Pages.{Shape, Sub}
-use Rattle.pd_order.proofs.Basics.{by_test}
 use Rattle.pd_tree.specs.declared.rows.Sheet.{Sheet}
 use Rattle.pd_tree.specs.Ports.{trimmed_sheet}
 use Rattle.pd_tree.specs.Trees.{Trees, Done, Leaf, Holder, Tree, width}
@@ -228,7 +227,11 @@ module _ (old new : Patch) (now : ℕ) (a : Added) (path : List ℕ) (key : ℕ)
 
   -- a box that was there is none of these
   was_out : (k : ℕ) → IsSome (get mid.grove.nodes k) → is_among part k ≡ false
-  was_out k live = by_test (is_among part k) (λ t. absurd (not_both (get mid.grove.nodes k) (P.put.comes.vacant k t) live)) (λ f. f)
+  was_out k live = by (is_among part k) refl
+    where
+      by : (b : Bool) → is_among part k ≡ b → is_among part k ≡ false
+      by true e = absurd (not_both (get mid.grove.nodes k) (P.put.comes.vacant k e) live)
+      by false e = e
 
   -- a box of a canvas that came is one of them
   came : (d i k : ℕ) → get mid.grove.boards d ≡ None → slice_get (keys_at new.grove d) i ≡ Some k → IsTrue (is_among part k)
