@@ -72,14 +72,14 @@ module _ (old new : Patch) (now : ℕ) (a : Added) (key : ℕ) where
 
   -- ---- one box
 
-  pub leaf_more : (b : IsBoxPut old new now a key) → HasOneMore old new key (node_with a.canvas b.seed None)
+  leaf_more : (b : IsBoxPut old new now a key) → HasOneMore old new key (node_with a.canvas b.seed None)
   leaf_more b = one_more old b.ready new key (node_with a.canvas b.seed None) (room_keeps old b.ready b.room) (box_under b.ready new a.known.names place b.seed key b.put.comes)
 
-  pub sub_more : (b : IsSubPut old new now a key) → HasOneMore old new key (node_with a.canvas b.seed (Some b.put.comes.canvas))
+  sub_more : (b : IsSubPut old new now a key) → HasOneMore old new key (node_with a.canvas b.seed (Some b.put.comes.canvas))
   sub_more b =
       one_more old b.ready new key (node_with a.canvas b.seed (Some b.put.comes.canvas)) (room_keeps old b.ready b.room) (shell_under b.ready new a.known.names place b.seed key b.put)
 
-  pub port_more : (b : IsPortBoxPut old new now a key) → HasOneMore old new key (node_with a.canvas b.seed None)
+  port_more : (b : IsPortBoxPut old new now a key) → HasOneMore old new key (node_with a.canvas b.seed None)
   port_more b =
       let n : Node = node_with a.canvas b.seed None in
       more_keeps old b.put.ready new key n (one_more old b.ready b.put.ready key n (room_keeps old b.ready b.room) (box_under b.ready b.put.ready a.known.names place b.seed key b.put.comes))

@@ -82,7 +82,7 @@ module _ (p q : Patch) (P : ℕ → Node → Type 0) (new : HasNew p q P) where
   new_objects objects old = all_new (λ k o. option_map blank (state_in o) ≡ option_map blank_of (kind_in (bare o))) objects old
 
   -- where they are under keys that were of no box, each box that was there stays
-  pub new_stays : ((k : ℕ) (n : Node) → P k n → get p.grove.nodes k ≡ None) → (k : ℕ) → IsSome (get p.grove.nodes k) → get q.grove.nodes k ≡ get p.grove.nodes k
+  new_stays : ((k : ℕ) (n : Node) → P k n → get p.grove.nodes k ≡ None) → (k : ℕ) → IsSome (get p.grove.nodes k) → get q.grove.nodes k ≡ get p.grove.nodes k
   new_stays vacant k there = by (new.each k)
     where
       by : (get q.grove.nodes k ≡ get p.grove.nodes k) ⊎ IsNew (P k) (get q.grove.nodes k) → get q.grove.nodes k ≡ get p.grove.nodes k
