@@ -25,3 +25,4 @@ pub mod MovingLemmas
 pub mod CameLemmas
 pub mod RetypingLemmas
 pub mod RetypedLemmas
+pub mod PutsLemmas

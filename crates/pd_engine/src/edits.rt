@@ -14,15 +14,16 @@ ghost use Rattle.pd_stage.specs.Choices.{Wanted, Edits, Asks, Saves};
 ghost use Rattle.pd_stage.specs.Events.{edit_taken, edit_event};
 ghost use Rattle.pd_stage.specs.Lawful.{why_of as why_so};
 ghost use Rattle.pd_stage.specs.Leads.{sinks, Stops, SaysPart};
-ghost use Rattle.pd_stage.specs.Lines.{put_text, retyped_text};
+ghost use Rattle.pd_putting.specs.Adds.{keys_within};
+ghost use Rattle.pd_stage.specs.Lines.{loads_inside, put_text, retyped_text};
 ghost use Rattle.pd_engine.specs.Stages.{stage_at};
 ghost use Rattle.pd_engine.specs.Edits as edits;
 
 use crate::engine::Engine;
-use crate::ports::canvas_of_port;
 use crate::printing::print_refusal;
+use crate::puts::{keep_loads, print_put};
 use crate::refusals::{Outcome, unsaved};
-use crate::remarks::{print_gone, print_loop, print_loop_around, print_unmade};
+use crate::remarks::{print_gone, print_loop, print_unmade};
 use pd_canvas::{Atoms, Edit, Place};
 use pd_deleting::delete_box;
 use pd_edit::{EditRefusal, rewire};
@@ -30,7 +31,7 @@ use pd_io::{Shelf, Sink, SinkFailed};
 use pd_num::Num;
 use pd_order::Steps;
 use pd_patch::Patch;
-use pd_putting::{Site, add_box};
+use pd_putting::{NewBox, Site, add_box};
 use pd_retyping::{RetypedBox, retype_box};
 use pd_save::put_document;
 use pd_say::{Request, Why};
@@ -347,46 +348,34 @@ impl Engine {
         match done {
             Ok(added) => {
                 self.counts = added.counts;
-                self.tell_put(added.key, added.canvas, lines)
+                self.tell_put(added, lines)
             }
             Err(why) => self.tell(Err(why), lines),
         }
     }
 
-    /// Tells of a box that an edit put: why it could not be made, a loop of the canvas around where it is a port of the box that lies in that,
-    /// and a loop of its canvas.
-    fn tell_put<L: Sink>(
-        &mut self,
-        key: u32,
-        canvas: u32,
-        lines: &mut L,
-    ) -> Result<Outcome, SinkFailed>
+    /// Tells of a box that an edit put with all that lies in it (`print_put`), and notes the boxes in it that are loaded behind the edit.
+    fn tell_put<L: Sink>(&mut self, added: NewBox, lines: &mut L) -> Result<Outcome, SinkFailed>
+        requires { added.part.items ≡ keys_within self.old.patch added.key }
         ensures stage { stage_at self.new ≡ stage_at self.old }
-        ensures ok { OnOk result (L.taken lines.new ≡ grown (L.taken lines.old) (put_text self.old.symbols self.old.patch key canvas)) }
+        ensures ok { OnOk result (L.taken lines.new ≡ grown (L.taken lines.old) (put_text self.old.symbols self.old.patch added.key added.canvas)) }
         ensures answer { IfOk result (λ outcome. outcome ≡ Outcome.Done) }
-        ensures err { OnErr result (TookPart (L.taken lines.old) (L.taken lines.new) (put_text self.old.symbols self.old.patch key canvas)) }
+        ensures err { OnErr result (TookPart (L.taken lines.old) (L.taken lines.new) (put_text self.old.symbols self.old.patch added.key added.canvas)) }
         ensures cause { HasCause (L.faults lines.old) (L.faults lines.new) result }
         ensures stays { self.new.stopped ≡ self.old.stopped }
         ensures queue { self.new.queue ≡ self.old.queue }
-        ensures loads { self.new.loads ≡ self.old.loads }
+        ensures loads { OnOk result (self.new.loads.items ≡ loads_inside self.old.patch added.key) }
     {
-        print_unmade(&self.patch, key, &self.symbols, &mut self.held, lines)?;
-        print_loop_around(
+        print_put(
             &self.patch,
-            canvas_of_port(&self.patch, key, canvas),
+            &added,
             &mut self.numbers,
             &self.symbols,
             &mut self.held,
             lines,
         )?;
-        print_loop(
-            &self.patch,
-            canvas,
-            &mut self.numbers,
-            &self.symbols,
-            &mut self.held,
-            lines,
-        )?;
+        self.loads = added.part;
+        keep_loads(&self.patch.grove, &mut self.loads);
         Ok(Outcome::Done)
     }
 

@@ -65,6 +65,7 @@ mod messages;
 mod opening;
 mod ports;
 mod printing;
+mod puts;
 mod refusals;
 mod remarks;
 mod room;

@@ -76,25 +76,6 @@ pub(crate) fn print_loop<L: Sink>(
     flush(held, lines)
 }
 
-/// Prints the loop of a canvas around, if there is one.
-pub(crate) fn print_loop_around<L: Sink>(
-    patch: &Patch,
-    canvas: Option<u32>,
-    numbers: &mut BoxNumbers,
-    symbols: &Symbols,
-    held: &mut Held,
-    lines: &mut L,
-) -> Result<(), SinkFailed>
-    ensures ok { OnOk result (L.taken lines.new ≡ grown (L.taken lines.old) (texts.loops_if patch.now canvas)) }
-    ensures err { OnErr result (TookPart (L.taken lines.old) (L.taken lines.new) (texts.loops_if patch.now canvas)) }
-    ensures cause { HasCause (L.faults lines.old) (L.faults lines.new) result }
-{
-    match canvas {
-        Some(canvas) => print_loop(patch, canvas, numbers, symbols, held, lines),
-        None => Ok(()),
-    }
-}
-
 /// Prints which wires of a canvas don't fit any more and went, in order.
 pub(crate) fn print_gone<L: Sink>(
     patch: &Patch,
@@ -153,7 +134,7 @@ fn say_remark<L: Sink>(
 }
 
 /// Says why a box could not be made. A box without text has no line.
-fn say_unmade<L: Sink>(
+pub(crate) fn say_unmade<L: Sink>(
     patch: &Patch,
     node: u32,
     symbols: &Symbols,
@@ -196,7 +177,7 @@ fn say_fault<L: Sink>(
 
 /// Says that a wire doesn't fit.
 #[tactic(auto, unfolding(pd_say::specs::Lines::text_of))]
-fn say_unfit<L: Sink>(
+pub(crate) fn say_unfit<L: Sink>(
     patch: &Patch,
     canvas: u32,
     wire: Wire,
@@ -255,7 +236,7 @@ fn fill_stuck(patch: &Patch, canvas: u32, numbers: &mut BoxNumbers)
 
 /// Says which boxes of a canvas feed one another in a loop.
 #[tactic(auto, unfolding(pd_say::specs::Lines::text_of))]
-fn say_loop<L: Sink>(
+pub(crate) fn say_loop<L: Sink>(
     patch: &Patch,
     canvas: u32,
     numbers: &mut BoxNumbers,
