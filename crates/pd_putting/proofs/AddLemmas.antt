@@ -18,7 +18,6 @@ use Rattle.pd_patch.specs.declared.patch.Patch.{Patch}
 use Rattle.pd_patch.proofs.GrowthLemmas.{grown_box_fits}
 use Rattle.pd_wiring.specs.declared.refusals.EditRefusal.{EditRefusal}
 use Rattle.pd_wiring.specs.declared.refusals.EditRefusal.TheVariants.{NoDocument, ShelfFault, NoMemory}
-use Rattle.pd_boxes.specs.Room.{SameButRoom}
 use Rattle.pd_boxes.specs.Put.{CanPut}
 use Rattle.pd_adding.specs.declared.adding.Grown.{Grown}
 use Rattle.pd_adding.specs.declared.counts.Counts.{Counts}
@@ -28,15 +27,16 @@ use Rattle.pd_adding.specs.Counts.{stock_by, with_boxes}
 use Rattle.pd_adding.specs.Growing.{Added, growth_of}
 use Rattle.pd_adding.specs.Adding.{ComesTo, GrewWith, Grows}
 use Rattle.pd_putting.specs.declared.adding.NewBox.{NewBox}
-use Rattle.pd_putting.specs.Adds.{last_place, CanCome, IsBoxPut, IsSubPut, IsPortBoxPut, IsPartBoxPut, HasCome, AddsBox, IsNotPut, IsNotAdded}
+use Rattle.pd_putting.specs.Adds.{last_place, IsBoxPut, IsSubPut, IsPortBoxPut, IsPartBoxPut, HasCome, AddsBox, IsNotPut, IsNotAdded}
 use Rattle.pd_putting.specs.Last.{HasGrown, StaysOut}
 use Rattle.pd_putting.proofs.ComingLemmas.{comes_anyhow, counts_are}
+use Rattle.pd_putting.proofs.GrownLemmas.{grown_holds}
 use Rattle.pd_putting.proofs.StayLemmas.{more_wires, room_depth, room_wires, shell_wires}
 use Rattle.pd_putting.proofs.WireLemmas.{part_wires}
 
 -- the text isn't of the table
 pub not_known : (p : Patch) (n : Counts) (name path : List ℕ) (e : Edit) (k : Known) → (IsKnown k.names e → ⊥) → IsNotAdded p p n name path e k NoDocument
-not_known p n name path e k other = inl (refl, inr (inr (inr (refl, inl other))))
+not_known p n name path e k other = inl (refl, inr (inr (inr (refl, other))))
 
 -- growth is refused
 not_put : (holds : Option (List FileRow)) (p : Patch) (n : Counts) (name path : List ℕ) (e : Edit) (k : Known) (why : EditRefusal)
@@ -52,11 +52,8 @@ not_grown holds p n name path e k why comes asks = inl (refl, not_put holds p n 
 -- what grew stays out
 pub left_out : (holds : Option (List FileRow)) (old new : Patch) (n : Counts) (name path : List ℕ) (e : Edit) (k : Known) (a : Added) (why : EditRefusal)
     → ComesTo holds old n name path e k (Ok a) → CanPut new → StaysOut old new a why → IsNotAdded old new n name path e k why
-left_out holds old new n name path e k a why comes can out = ⊎_elim
-    (λ (s : (why ≡ NoMemory) × (CanCome old a × SameButRoom old new)).
-    inr (s.0, record { added = a; comes = comes_anyhow holds old n name path e k (Ok a) comes; can_come = s.1.0; room = s.1.1; goes_on = can }))
-    (λ (o : (why ≡ NoDocument) × ((new ≡ old) × (CanCome old a → ⊥))).
-    inl (o.1.0, inr (inr (inr (o.0, inr (record { added = a; comes = comes_anyhow holds old n name path e k (Ok a) comes; other = o.1.1 })))))) out
+left_out holds old new n name path e k a why comes can out =
+    inr (out.0, record { added = a; comes = comes_anyhow holds old n name path e k (Ok a) comes; can_come = out.1.0; room = out.1.1; goes_on = can })
 
 the_err : {A E : Type 0} → E → Result A E → E
 the_err d (Ok a) = d
@@ -69,11 +66,8 @@ same_err x y h = ap (the_err x) h
 memory_no_fault : (why : EditRefusal) → why ≡ NoMemory → why ≡ ShelfFault → ⊥
 memory_no_fault why a b = cc
 
-document_no_fault : (why : EditRefusal) → why ≡ NoDocument → why ≡ ShelfFault → ⊥
-document_no_fault why a b = cc
-
 pub no_fault : (old new : Patch) (a : Added) (why : EditRefusal) → StaysOut old new a why → why ≡ ShelfFault → ⊥
-no_fault old new a why out f = ⊎_elim (λ s. memory_no_fault why s.0 f) (λ o. document_no_fault why o.0 f) out
+no_fault old new a why out f = memory_no_fault why out.0 f
 
 -- no wire of a canvas without boxes fits
 none_fit : (ws : List Wire) → length (filter (fits []) ws) ≡ 0
@@ -129,7 +123,7 @@ module _ (holds : Option (List FileRow)) (p : Patch) (n : Counts) (name path : L
   names_grown = sym (ap (λ (x : Known). x.names) G.known)
 
   pub has_grown : HasGrown g names
-  has_grown = record { added = G.added; is = G.is; names_are = names_grown }
+  has_grown = record { added = G.added; is = G.is; holds = grown_holds p n name path e k G.files G.added G.grew; names_are = names_grown }
 
   pub count_grown : (q : Patch) (now : ℕ) (b : NewBox) → n.wires ≡ wires_told p.web → b.counts ≡ g.counts → HasCome p q now G.added b.key → b.counts.wires ≡ wires_told q.web
   count_grown q now b counted same put =

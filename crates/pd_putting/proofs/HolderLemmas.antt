@@ -1,8 +1,7 @@
 -- Which of what grew is one box that holds a canvas, with whatever lies in it, and such a box that came in.
-use Rattle.std.proofs.Common.{◌≡◌, ◌≢◌, ◌⊎◌, ◌+◌, ◌<◌, ℕ, true, false, is_some, List, [], ◌∷◌, length, get_or, None, inr, refl, sym, ap, ◌∙◌, subst, arith}
+use Rattle.std.proofs.Common.{◌≡◌, ◌+◌, ◌<◌, ℕ, List, [], ◌∷◌, length, None, inl, inr, refl, sym, ap, ◌∙◌, subst, arith}
 use Rattle.std.specs.List.{AllByRecursion}
 use Rattle.std.proofs.lemmas.Bool.{false≢true}
-use mathlib.Core.Logic.{⊎_elim}
 use Rattle.slab.specs.Slab.{get}
 use Rattle.pd_atom.specs.Names.{Names}
 use Rattle.pd_object.specs.declared.kinds.Kind.TheVariants as kind
@@ -30,27 +29,10 @@ use Rattle.pd_instances.specs.Room.{stands_for, IsOnePart, TakesPart}
 use Rattle.pd_adding.specs.declared.adding.Grown.{Grown}
 use Rattle.pd_adding.specs.Growing.{Added}
 use Rattle.pd_adding.specs.Adding.{IsAdded}
-use Rattle.pd_putting.specs.Adds.{last_place, IsHolder, CanCome, IsPartBoxPut}
-use Rattle.pd_putting.specs.Last.{FitsIn, HasGrown, HoldsCanvas, IsAlone, PutsPartLast}
+use Rattle.pd_adding.specs.Single.{IsSingle}
+use Rattle.pd_putting.specs.Adds.{last_place, IsHolder, IsPartBoxPut}
+use Rattle.pd_putting.specs.Last.{FitsIn, HasGrown, HoldsAsCanvas, HoldsCanvas, IsAlone, PutsPartLast}
 use Rattle.pd_putting.proofs.StayLemmas.{last_is}
-
--- ---- by the first row
-
--- what the first row of a list holds
-pub holds_canvas : (rows : List Row) (row : Row) → length rows ≢ 0 → row ≡ get_or rows 0 row → is_some row.sheet ≡ true → row.kind ≡ kind.Canvas → HoldsCanvas (stands_in rows)
-holds_canvas [] row many at some canvas = absurd (many refl)
-holds_canvas (x ∷ rows) row many at some canvas = (sym (ap (λ (r : Row). is_some r.sheet) at) ∙ some, sym (ap (λ (r : Row). r.kind) at) ∙ canvas)
-
-pub none_holds : (rows : List Row) → length rows ≡ 0 → HoldsCanvas (stands_in rows) → ⊥
-none_holds [] none h = h
-none_holds (x ∷ rows) none h = absurd (omega (arith, none))
-
-pub first_holds : (rows : List Row) (row : Row) → length rows ≢ 0 → row ≡ get_or rows 0 row → HoldsCanvas (stands_in rows) → (is_some row.sheet ≡ true) × (row.kind ≡ kind.Canvas)
-first_holds [] row many at h = absurd (many refl)
-first_holds (x ∷ rows) row many at h = (ap (λ (r : Row). is_some r.sheet) at ∙ h.0, ap (λ (r : Row). r.kind) at ∙ h.1)
-
-pub not_some : (row : Row) → is_some row.sheet ≡ false → is_some row.sheet ≡ true → ⊥
-not_some row f t = false≢true (sym f ∙ t)
 
 -- ---- by the tree
 
@@ -74,6 +56,12 @@ holds_by (Leaf c rest) one h = absurd (false≢true h.0)
 holds_by (Holder c s inner rest) one h =
     record { cell = c; sheet = s; inner = inner; is = ap (Holder c s inner) (none_wide rest (omega (arith, one))); canvas = h.1 }
 
+-- one box that is none without a canvas
+one_holds : (t : Trees) → width t ≡ 1 → HoldsAsCanvas t → (IsSingle t → ⊥) → HoldsCanvas (stands_of t)
+one_holds Done one h other = absurd (omega (arith, one))
+one_holds (Leaf c rest) one h other = absurd (other (record { cell = c; is = ap (Leaf c) (none_wide rest (omega (arith, one))) }))
+one_holds (Holder c s inner rest) one h other = (refl, h)
+
 module _ (g : Grown) (a : Added) (A : IsAdded g a) where
   pub holder_is : (p : Patch) → HoldsCanvas (stands_in g.rows.items) → FitsIn p g → IsHolder p a
   holder_is p h fits =
@@ -87,12 +75,9 @@ module _ (g : Grown) (a : Added) (A : IsAdded g a) where
         shallow = subst (λ (c : ℕ). depth_of (get p.grove.boards c) + deep a.boxes < 257) A.canvas (fits a A);
       }
 
-  pub holder_holds : (p : Patch) → IsHolder p a → HoldsCanvas (stands_in g.rows.items)
-  holder_holds p H = subst HoldsCanvas (sym (A.rows ∙ ap stands_of H.single)) (refl, H.canvas)
-
-  -- what can come is one box in which no boxes lie, or holds a canvas
-  pub none_comes : (p : Patch) → (IsAlone p a → ⊥) → (HoldsCanvas (stands_in g.rows.items) → ⊥) → (CanCome p a → IsAlone p a ⊎ IsHolder p a) → CanCome p a → ⊥
-  none_comes p alone holds by C = ⊎_elim alone (λ (H : IsHolder p a). holds (holder_holds p H)) (by C)
+  -- what isn't alone holds a canvas
+  pub others_hold : (p : Patch) → HoldsAsCanvas a.boxes → (IsAlone p a → ⊥) → HoldsCanvas (stands_in g.rows.items)
+  others_hold p h other = subst HoldsCanvas (sym A.rows) (one_holds a.boxes A.one h (λ S. other (inl S)))
 
 -- what grew is one box with all that lies in it, not too deep for its place
 pub one_part : (p : Patch) (g : Grown) (names : Names) → HasGrown g names → FitsIn p g → IsOnePart p (last_place p g.canvas) (stands_in g.rows.items)

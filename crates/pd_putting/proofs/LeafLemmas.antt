@@ -1,5 +1,5 @@
 -- Which of what grew is one box without a canvas, and such a box that came in.
-use Rattle.std.proofs.Common.{◌≡◌, ◌≢◌, ◌⊎◌, ℕ, true, is_some, List, [], ◌∷◌, length, get_or, Option, Some, None, inl, inr, sym, ap, ◌∙◌, subst, arith}
+use Rattle.std.proofs.Common.{◌≡◌, ◌≢◌, ℕ, true, is_some, List, [], ◌∷◌, length, get_or, Option, Some, None, inl, inr, sym, ap, ◌∙◌, subst, arith}
 use Rattle.std.specs.List.{AllByRecursion}
 use Rattle.std.proofs.lemmas.List.{length-map}
 use mathlib.Core.Logic.{⊎_elim}
@@ -19,7 +19,7 @@ use Rattle.pd_adding.specs.declared.adding.Grown.{Grown}
 use Rattle.pd_adding.specs.Growing.{Added}
 use Rattle.pd_adding.specs.Adding.{IsAdded}
 use Rattle.pd_adding.specs.Single.{IsSingle}
-use Rattle.pd_putting.specs.Adds.{last_place, CanCome, HasCome, IsPlain, IsSub, IsPort, IsHolder, IsBoxPut, IsPortBoxPut}
+use Rattle.pd_putting.specs.Adds.{last_place, CanCome, HasCome, IsSub, IsBoxPut, IsPortBoxPut}
 use Rattle.pd_putting.specs.Last.{IsAlone, IsPortIn, PutsLast, PutsLeafLast, PutsPortLast}
 use Rattle.pd_putting.proofs.PlaceLemmas.{port_or_not}
 
@@ -74,14 +74,6 @@ module _ (p : Patch) (a : Added) where
       (λ (free : IsNoPort p (last_place p a.canvas) S.cell.kind). inl (record { cell = S.cell; single = S.is; no_port = free }))
       (λ (port : IsPortIn p a.canvas S.cell.kind). inr (inr (inl (record { cell = S.cell; single = S.is; holder = port.0; side = port.1; at = port.2 }))))
       (port_or_not p a.canvas S.cell.kind)
-
-  -- what can come is one box in which no boxes lie, or one that holds a canvas
-  pub alone_or_holder : CanCome p a → IsAlone p a ⊎ IsHolder p a
-  alone_or_holder C = ⊎_elim
-      (λ (P : IsPlain p a). inl (inl (record { cell = P.cell; is = P.single })))
-      (λ (o : IsSub p a ⊎ (IsPort p a ⊎ IsHolder p a)). ⊎_elim
-      (λ (S : IsSub p a). inl (inr S))
-      (λ (r : IsPort p a ⊎ IsHolder p a). ⊎_elim (λ (P : IsPort p a). inl (inl (record { cell = P.cell; is = P.single }))) (λ (H : IsHolder p a). inr H) r) o) C
 
   pub alone_comes : IsAlone p a → CanCome p a
   alone_comes A = ⊎_elim single_comes (λ (S : IsSub p a). inr (inl S)) A

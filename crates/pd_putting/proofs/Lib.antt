@@ -1,6 +1,7 @@
 mod TextLemmas
 mod ComingLemmas
 mod PlaceLemmas
+mod GrownLemmas
 mod StayLemmas
 mod LeafLemmas
 mod SeedLemmas

@@ -71,7 +71,7 @@ pub record IsHolder (p : Patch) (a : Added) : Type 0 where
   pub canvas : cell.kind ≡ kind.Canvas
   pub shallow : depth_of (get p.grove.boards a.canvas) + deep a.boxes < 257
 
--- What grew is one of these. Other boxes aren't put.
+-- What grew is one of these, as any box that grows is where it isn't too deep for its place.
 abbrev pub CanCome : Patch → Added → Type 0
 CanCome p a = IsPlain p a ⊎ (IsSub p a ⊎ (IsPort p a ⊎ IsHolder p a))
 
@@ -165,18 +165,12 @@ pub record AddsBox (old new : Patch) (n : Counts) (name path : List ℕ) (now : 
   pub known_is : after ≡ added.known
   pub table_after : IsTable after.names
 
--- an edit comes to a box that isn't put yet
-pub record IsNotPutYet (p : Patch) (n : Counts) (name path : List ℕ) (e : Edit) (k : Known) : Type 0 where
-  pub added : Added
-  pub comes : ComesTo None p n name path e k (Ok added)
-  pub other : CanCome p added → ⊥
-
 -- Why an edit that puts a box is refused: memory was wanting; or the folder gave no file for which growing the box asks; or it comes to this refusal;
--- or its text names what the table hasn't, or such a box isn't put yet.
+-- or its text names what the table hasn't. No box is refused for what it is.
 abbrev pub IsNotPut : Patch → Counts → List ℕ → List ℕ → Edit → Known → EditRefusal → Type 0
 IsNotPut p n name path e k why =
     (why ≡ NoMemory) ⊎ (((why ≡ ShelfFault) × IsComing (coming k.names p path e)) ⊎ (ComesTo None p n name path e k (Err why) ⊎
-    ((why ≡ NoDocument) × ((IsKnown k.names e → ⊥) ⊎ IsNotPutYet p n name path e k))))
+    ((why ≡ NoDocument) × (IsKnown k.names e → ⊥))))
 
 -- the box could come, and memory was wanting to put it
 pub record IsShortOfRoom (old new : Patch) (n : Counts) (name path : List ℕ) (e : Edit) (k : Known) : Type 0 where

@@ -4,7 +4,7 @@ use Rattle.slab.specs.Slab.{get}
 use Rattle.pd_atom.specs.Names.{Names}
 use Rattle.pd_object.specs.declared.kinds.Kind.{Kind}
 use Rattle.pd_object.specs.declared.kinds.Kind.TheVariants as kind
-use Rattle.pd_tree.specs.Trees.{Stand}
+use Rattle.pd_tree.specs.Trees.{Trees, Done, Leaf, Holder, Stand}
 use Rattle.pd_grove.specs.declared.ports.Side.{Side}
 use Rattle.pd_grove.specs.declared.seeds.Seed.{Seed}
 use Rattle.pd_grove.specs.Planting.{one, seed_stand, stands_ready}
@@ -13,7 +13,7 @@ use Rattle.pd_grove.specs.States.{AreFresh, SeedsSmall}
 use Rattle.pd_grove.specs.TextOrder.{deep}
 use Rattle.pd_patch.specs.declared.patch.Patch.{Patch}
 use Rattle.pd_wiring.specs.declared.refusals.EditRefusal.{EditRefusal}
-use Rattle.pd_wiring.specs.declared.refusals.EditRefusal.TheVariants.{NoDocument, NoMemory}
+use Rattle.pd_wiring.specs.declared.refusals.EditRefusal.TheVariants.{NoMemory}
 use Rattle.pd_boxes.specs.Room.{SameButRoom}
 use Rattle.pd_boxes.specs.Put.{IsLeaf, IsNoPort, IsPut}
 use Rattle.pd_following.specs.Ports.{CanPutPort, IsPortAt, IsPortPut}
@@ -82,13 +82,19 @@ FitsIn p g = (a : Added) → IsAdded g a → depth_of (get p.grove.boards g.canv
 abbrev pub IsAlone : Patch → Added → Type 0
 IsAlone p a = IsSingle a.boxes ⊎ IsSub p a
 
+-- the first of these boxes holds no canvas, or is of the kind of boxes that do
+abbrev pub HoldsAsCanvas : Trees → Type 0
+HoldsAsCanvas Done = Unit {0}
+HoldsAsCanvas (Leaf c rest) = Unit {0}
+HoldsAsCanvas (Holder c s inner rest) = c.kind ≡ kind.Canvas
+
 -- what grew aside is this, with these names
 pub record HasGrown (g : Grown) (names : Names) : Type 0 where
   pub added : Added
   pub is : IsAdded g added
+  pub holds : HoldsAsCanvas added.boxes
   pub names_are : added.known.names ≡ names
 
--- What grew doesn't come in: memory was wanting, and there may be more room; or it is a box that isn't put, and the patch stays.
+-- What grew doesn't come in: memory was wanting, and there may be more room.
 abbrev pub StaysOut : Patch → Patch → Added → EditRefusal → Type 0
-StaysOut old new a why =
-    ((why ≡ NoMemory) × (CanCome old a × SameButRoom old new)) ⊎ ((why ≡ NoDocument) × ((new ≡ old) × (CanCome old a → ⊥)))
+StaysOut old new a why = (why ≡ NoMemory) × (CanCome old a × SameButRoom old new)

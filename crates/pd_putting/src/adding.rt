@@ -40,8 +40,8 @@ pub struct NewBox {
 /// # Errors
 ///
 /// The first reason against it: `NoDocument` for an edit that puts no box or whose text isn't of the table, `NoCanvas`, `TextTooLong`,
-/// `TooDeep`; then `ShelfFault`, `SymbolsFull` or `TooManyBoxes`, whichever growth comes to first; then `TooManyWires` and `TooMuchSound`;
-/// then `NoDocument`, should what grew be no such box. `NoMemory` may come in place of any. Names and files are then as before.
+/// `TooDeep`; then `ShelfFault`, `SymbolsFull` or `TooManyBoxes`, whichever growth comes to first; then `TooManyWires` and `TooMuchSound`.
+/// No box is refused for what it is. `NoMemory` may come in place of any. Names and files are then as before.
 pub fn add_box<H: Shelf, L: Ledger>(
     alloc: Global,
     patch: &mut Patch,

@@ -5,9 +5,9 @@
 //! abstraction with all that lies in it, as it would have grown with the patch: under new keys, with its wires that fit, its names, its
 //! `$0` numbers and the orders of its canvases. An `inlet` or `outlet` in a canvas that a box holds gives that box the port that it is, and
 //! the wires at the ports behind it follow. All else of the patch stays, there are as many wires more as fit inside the box, and signal wires
-//! are looked at for a box that holds boxes or is an abstraction alone, no more often than `put_looks` tells. A refused edit (`IsNotAdded`)
-//! leaves the patch, the names and the files that are known as they were; where memory ran out there may be more room in the patch, and
-//! all that it tells stays.
+//! are looked at for a box that holds boxes or is an abstraction alone, no more often than `put_looks` tells. No box is refused for what it
+//! is: one that grew comes in, or memory was wanting. A refused edit (`IsNotAdded`) leaves the patch, the names and the files that are known as
+//! they were; where memory ran out there may be more room in the patch, and all that it tells stays.
 //!
 //! The caller keeps the counts of the patch from one edit to the next, so that no edit counts boxes, wires or values.
 //!

@@ -1,6 +1,6 @@
 //! A box that grew with whatever lies in it, put into its canvas as the last box.
 
-ghost use Rattle.std.specs.Prelude.{◌≡◌, ◌≤◌, ◌+◌, true, false, IfOk, IfErr, OnErr};
+ghost use Rattle.std.specs.Prelude.{◌≡◌, ◌≤◌, ◌+◌, IfOk, IfErr, OnErr};
 ghost use Rattle.slab.specs.Slab.{ContainsKey};
 ghost use Rattle.pd_tree.specs.Trees.{stands_in};
 ghost use Rattle.pd_grove.specs.States.{AreSmall};
@@ -15,7 +15,7 @@ ghost use Rattle.pd_putting.specs.Adds.{keys_within, last_place, put_looks, HasC
 ghost use Rattle.pd_putting.specs.Last.{FitsIn, HasGrown, HoldsCanvas, PutsPartLast, StaysOut};
 
 use crate::adding::NewBox;
-use crate::placing::{is_canvas, next_number};
+use crate::placing::next_number;
 use pd_adding::Grown;
 use pd_atom::Symbols;
 use pd_boxes::Place;
@@ -27,22 +27,6 @@ use pd_tree::Row;
 use pd_wiring::EditRefusal;
 use std::alloc::{AllocError, Global};
 use std::sync::ledger::Ledger;
-
-/// Whether what grew is a box that holds a canvas.
-pub(crate) fn is_holder(grown: &Grown) -> bool
-    ensures yes { result ≡ true → HoldsCanvas (stands_in grown.now.rows.items) }
-    ensures no { result ≡ false → HoldsCanvas (stands_in grown.now.rows.items) → ⊥ }
-{
-    let rows = grown.rows.as_slice();
-    if rows.len() == 0 {
-        return false;
-    }
-    let row = &rows[0];
-    if !row.sheet.is_some() {
-        return false;
-    }
-    is_canvas(&row.kind)
-}
 
 /// Puts what grew aside into its canvas as the last box, where it is a box that holds a canvas: with all that lies in it.
 ///

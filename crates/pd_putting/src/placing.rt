@@ -24,7 +24,7 @@ ghost use Rattle.pd_putting.specs.Adds.{keys_within, last_place, put_looks, HasC
 ghost use Rattle.pd_putting.specs.Last.{FitsIn, HasGrown, IsAlone, IsPortIn, IsReady, PutsLast, PutsLeafLast, PutsPortLast, PutsSubLast, StaysOut};
 
 use crate::adding::NewBox;
-use crate::parts::{is_holder, put_whole};
+use crate::parts::put_whole;
 use pd_adding::{Grown, single_boxes};
 use pd_atom::Symbols;
 use pd_boxes::{Place, patches_run_on, put, reserve_box, room_changes_nothing};
@@ -46,7 +46,7 @@ use std::sync::ledger::Ledger;
 ///
 /// # Errors
 ///
-/// `NoDocument` for what is no such box; `NoMemory` where memory ran out, or where the canvas or the patch has as many boxes as can be counted.
+/// `NoMemory` where memory ran out, or where the canvas or the patch has as many boxes as can be counted.
 pub(crate) fn put_grown<L: Ledger>(
     alloc: Global,
     patch: &mut Patch,
@@ -75,10 +75,8 @@ pub(crate) fn put_grown<L: Ledger>(
 {
     if is_alone(patch, &grown) {
         put_alone(alloc, patch, grown, now, symbols, steps)
-    } else if is_holder(&grown) {
-        put_whole(alloc, patch, grown, now, symbols, steps)
     } else {
-        Err(EditRefusal::NoDocument)
+        put_whole(alloc, patch, grown, now, symbols, steps)
     }
 }
 
@@ -185,7 +183,7 @@ fn is_subpatch(form: &Form) -> bool
 }
 
 /// Whether the boxes of a kind hold canvases.
-pub(crate) fn is_canvas(kind: &Kind) -> bool
+fn is_canvas(kind: &Kind) -> bool
     ensures yes { result ≡ true → kind.now ≡ Canvas }
     ensures no { result ≡ false → kind.now ≡ Canvas → ⊥ }
 {

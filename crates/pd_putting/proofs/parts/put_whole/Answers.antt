@@ -1,4 +1,4 @@
-use Rattle.std.proofs.Common.{inl, inr, refl}
+use Rattle.std.proofs.Common.{inr, refl}
 use Rattle.pd_putting.proofs.LeafLemmas.{rows_small}
 use Rattle.pd_putting.proofs.HolderLemmas.{one_part, holder_is, part_put}
 use Rattle.pd_putting.proofs.parts.put_whole.Goals as goal
@@ -11,7 +11,7 @@ put_part_last-requires-clause-part g c = one_part c.args.patch.now c.args.grown 
 
 pub returns-in_default-clause-refused : goal.returns-in_default-clause-refused
 returns-in_default-clause-refused g c = λ a A.
-    inl (refl, (inr (inr (inr (holder_is c.args.grown a A c.args.patch.now c.requires.holder c.requires.shallow))), c.in_default.ensures.short))
+    (refl, (inr (inr (inr (holder_is c.args.grown a A c.args.patch.now c.requires.holder c.requires.shallow))), c.in_default.ensures.short))
 
 pub returns-clause-put : goal.returns-clause-put
 returns-clause-put g c = λ a A names.

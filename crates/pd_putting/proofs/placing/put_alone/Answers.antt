@@ -37,13 +37,13 @@ returns-clause-put g c = λ a A names.
     (c.requires.alone a A)
 
 pub returns-in_default-clause-refused : goal.returns-in_default-clause-refused
-returns-in_default-clause-refused g c = λ a A. inl (refl, (alone_comes c.args.patch.now a (c.requires.alone a A), same_patch c.args.patch.now))
+returns-in_default-clause-refused g c = λ a A. (refl, (alone_comes c.args.patch.now a (c.requires.alone a A), same_patch c.args.patch.now))
 
 pub returns-in_default-seed_of-clause-refused : goal.returns-in_default-seed_of-clause-refused
-returns-in_default-seed_of-clause-refused g c = λ a A. inl (refl, (alone_comes c.args.patch.now a (c.requires.alone a A), same_patch c.args.patch.now))
+returns-in_default-seed_of-clause-refused g c = λ a A. (refl, (alone_comes c.args.patch.now a (c.requires.alone a A), same_patch c.args.patch.now))
 
 pub returns-in_default-put_seed-clause-refused : goal.returns-in_default-put_seed-clause-refused
-returns-in_default-put_seed-clause-refused g c = λ a A. inl (refl, (alone_comes c.args.patch.now a (c.requires.alone a A), c.in_default-put_seed.ensures.short))
+returns-in_default-put_seed-clause-refused g c = λ a A. (refl, (alone_comes c.args.patch.now a (c.requires.alone a A), c.in_default-put_seed.ensures.short))
 
 pub returns-clause-part : goal.returns-clause-part
 returns-clause-part g c =
