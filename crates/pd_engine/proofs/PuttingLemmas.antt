@@ -124,6 +124,10 @@ module _ (wanted : Wanted) (path : List ℕ) (e : Edit) (one : IsBoxEdit wanted 
         → Stops (edit_taken wanted) from (sinks t u k h f) (sinks t' u k' h' f')
     unput_part t' d part = let x = unput_by d in came_part wanted (from []) left text (edit_outcome (Err cause)) [] x.0 (sinks t u k h f) t t' u k' h' f' x.1 part
 
+all_ok : {A E : Type 0} {P P' : Type 0} {Q R : A → Type 0} (r : Result A E) → ((a : A) → P → P' → Q a → R a) → OnOk r P → OnOk r P' → IfOk r Q → IfOk r R
+all_ok (Ok a) f p p' q = f a p p' q
+all_ok (Err e) f p p' q = tt
+
 -- it was told, this is answered, and these boxes are loaded behind it
 module _ {E : Type 0} (r : Result Outcome E) (path : List ℕ) (e : Edit) (one : puts_box e ≡ true) (file : List ℕ) (names : Names) (files : List (ℕ × Answer)) (counts : Counts) (time block_end fired : ℕ) (tally : Tally)
     (old new : Patch) (ready : IsReady old) (t t' : Option (List ℕ)) (k k' : ℕ) (h h' : Option (List FileRow)) (f f' : ℕ) (same : h' ≡ h) (low : f ≤ f') (to : List Choice → Stage) (loads : List ℕ) where
@@ -146,12 +150,12 @@ module _ {E : Type 0} (r : Result Outcome E) (path : List ℕ) (e : Edit) (one :
   -- a box was put
   module _ (more : Names) (learned : List (ℕ × Answer)) (b : NewBox) (d : AddsBox old new counts file path time e (known files names) (known learned more) b) (onward : Extends names more)
       (within : AreWithin b.counts) (few : k' ≤ k + put_looks new b.key) where
-    pub put_answered : to ≡ stage_with file new more (base_of learned b.counts) time block_end fired tally → loads ≡ loads_inside new b.key
+    pub put_answered : to ≡ stage_with file new more (base_of learned b.counts) time block_end fired tally → OnOk r (loads ≡ loads_inside new b.key)
         → OnOk r (t' ≡ grown t (put_text more new b.key b.canvas)) → IfOk r (λ o. o ≡ Done) → IfOk r Answered
     put_answered stands are said is =
-        both_ok r
-        (λ o a x. ends_so o Done (loads_inside new b.key) (stage_with file new more (base_of learned b.counts) time block_end fired tally) stands x are
-        (λ wanted own u. put_so wanted path e (own_box wanted path e own one) file names files counts time block_end fired tally old new ready t u k k' h h' f f' same low more learned b d onward within few t' a)) said is
+        all_ok r
+        (λ o are a x. ends_so o Done (loads_inside new b.key) (stage_with file new more (base_of learned b.counts) time block_end fired tally) stands x are
+        (λ wanted own u. put_so wanted path e (own_box wanted path e own one) file names files counts time block_end fired tally old new ready t u k k' h h' f f' same low more learned b d onward within few t' a)) are said is
 
     pub put_torn : OnErr r (TookPart t t' (put_text more new b.key b.canvas)) → OnErr r Torn
     put_torn part =

@@ -46,10 +46,11 @@ returns-in-Ok-clause-ok g c =
     let adds : AddsBox e.patch c.add_box-done.new.patch e.counts e.file.items c.args.path.now e.time c.args.edit.now (known e.library e.symbols) (known c.add_box-done.new.library c.add_box-done.new.symbols) c.in-Ok.added =
     subst (λ (n : List ℕ). AddsBox e.patch c.add_box-done.new.patch e.counts n c.args.path.now e.time c.args.edit.now (known e.library e.symbols) (known c.add_box-done.new.library c.add_box-done.new.symbols) c.in-Ok.added)
     c.as_slice.ensures.value c.in-Ok.ensures.added in
-    put_answered c.tell_put.result c.args.path.now c.args.edit.now c.requires e.file.items e.symbols e.library e.counts e.time e.block_end e.fired e.tally e.patch c.add_box-done.new.patch (ready_sure e.patch e.puts e.meet)
-    (g.L.Sink.taken c.args.lines.now) (g.L.Sink.taken c.tell_put.new.lines) c.args.steps.now c.add_box-done.new.steps c.add_box-done.ensures.looks (g.H.Shelf.holds c.args.shelf.now) (g.H.Shelf.holds c.add_box-done.new.shelf)
+    put_answered c.tell_put.result c.args.path.now c.args.edit.now c.requires.puts e.file.items e.symbols e.library e.counts e.time e.block_end e.fired e.tally e.patch c.add_box-done.new.patch (ready_sure e.patch e.puts e.meet)
+    (g.L.Sink.taken c.args.lines.now) (g.L.Sink.taken c.tell_put.new.lines) c.args.steps.now c.add_box-done.new.steps (g.H.Shelf.holds c.args.shelf.now) (g.H.Shelf.holds c.add_box-done.new.shelf)
     (g.H.Shelf.faults c.args.shelf.now) (g.H.Shelf.faults c.add_box-done.new.shelf) c.add_box-done.ensures.kept c.add_box-done.ensures.shelf_counted (stage_at c.tell_put.new.self)
-    c.add_box-done.new.symbols c.add_box-done.new.library c.in-Ok.added adds c.add_box-done.ensures.extends c.in-Ok.ensures.within c.tell_put.ensures.stage c.tell_put.ensures.ok c.tell_put.ensures.answer
+    c.tell_put.new.self.loads.items c.add_box-done.new.symbols c.add_box-done.new.library c.in-Ok.added adds c.add_box-done.ensures.extends c.in-Ok.ensures.within c.in-Ok.ensures.looks c.tell_put.ensures.stage
+    c.tell_put.ensures.loads c.tell_put.ensures.ok c.tell_put.ensures.answer
 
 pub returns-in-Ok-clause-err : goal.returns-in-Ok-clause-err
 returns-in-Ok-clause-err g c =
@@ -57,28 +58,28 @@ returns-in-Ok-clause-err g c =
     let adds : AddsBox e.patch c.add_box-done.new.patch e.counts e.file.items c.args.path.now e.time c.args.edit.now (known e.library e.symbols) (known c.add_box-done.new.library c.add_box-done.new.symbols) c.in-Ok.added =
     subst (λ (n : List ℕ). AddsBox e.patch c.add_box-done.new.patch e.counts n c.args.path.now e.time c.args.edit.now (known e.library e.symbols) (known c.add_box-done.new.library c.add_box-done.new.symbols) c.in-Ok.added)
     c.as_slice.ensures.value c.in-Ok.ensures.added in
-    put_torn c.tell_put.result c.args.path.now c.args.edit.now c.requires e.file.items e.symbols e.library e.counts e.time e.block_end e.fired e.tally e.patch c.add_box-done.new.patch (ready_sure e.patch e.puts e.meet)
-    (g.L.Sink.taken c.args.lines.now) (g.L.Sink.taken c.tell_put.new.lines) c.args.steps.now c.add_box-done.new.steps c.add_box-done.ensures.looks (g.H.Shelf.holds c.args.shelf.now) (g.H.Shelf.holds c.add_box-done.new.shelf)
+    put_torn c.tell_put.result c.args.path.now c.args.edit.now c.requires.puts e.file.items e.symbols e.library e.counts e.time e.block_end e.fired e.tally e.patch c.add_box-done.new.patch (ready_sure e.patch e.puts e.meet)
+    (g.L.Sink.taken c.args.lines.now) (g.L.Sink.taken c.tell_put.new.lines) c.args.steps.now c.add_box-done.new.steps (g.H.Shelf.holds c.args.shelf.now) (g.H.Shelf.holds c.add_box-done.new.shelf)
     (g.H.Shelf.faults c.args.shelf.now) (g.H.Shelf.faults c.add_box-done.new.shelf) c.add_box-done.ensures.kept c.add_box-done.ensures.shelf_counted (stage_at c.tell_put.new.self)
-    c.add_box-done.new.symbols c.add_box-done.new.library c.in-Ok.added adds c.add_box-done.ensures.extends c.in-Ok.ensures.within c.tell_put.ensures.err
+    c.tell_put.new.self.loads.items c.add_box-done.new.symbols c.add_box-done.new.library c.in-Ok.added adds c.add_box-done.ensures.extends c.in-Ok.ensures.within c.in-Ok.ensures.looks c.tell_put.ensures.err
 
 pub returns-in-Err-clause-ok : goal.returns-in-Err-clause-ok
 returns-in-Err-clause-ok g c =
     let e = c.args.self.now in
     let refused : IsNotAdded e.patch c.add_box-done.new.patch e.counts e.file.items c.args.path.now c.args.edit.now (known e.library e.symbols) c.in-Err.why =
     subst (λ (n : List ℕ). IsNotAdded e.patch c.add_box-done.new.patch e.counts n c.args.path.now c.args.edit.now (known e.library e.symbols) c.in-Err.why) c.as_slice.ensures.value c.in-Err.ensures.refused in
-    unput_answered c.tell.result c.args.path.now c.args.edit.now c.requires e.file.items e.symbols e.library e.counts e.time e.block_end e.fired e.tally e.patch c.add_box-done.new.patch (ready_sure e.patch e.puts e.meet)
-    (g.L.Sink.taken c.args.lines.now) (g.L.Sink.taken c.tell.new.lines) c.args.steps.now c.add_box-done.new.steps c.add_box-done.ensures.looks (g.H.Shelf.holds c.args.shelf.now) (g.H.Shelf.holds c.add_box-done.new.shelf)
+    unput_answered c.tell.result c.args.path.now c.args.edit.now c.requires.puts e.file.items e.symbols e.library e.counts e.time e.block_end e.fired e.tally e.patch c.add_box-done.new.patch (ready_sure e.patch e.puts e.meet)
+    (g.L.Sink.taken c.args.lines.now) (g.L.Sink.taken c.tell.new.lines) c.args.steps.now c.add_box-done.new.steps (g.H.Shelf.holds c.args.shelf.now) (g.H.Shelf.holds c.add_box-done.new.shelf)
     (g.H.Shelf.faults c.args.shelf.now) (g.H.Shelf.faults c.add_box-done.new.shelf) c.add_box-done.ensures.kept c.add_box-done.ensures.shelf_counted (stage_at c.tell.new.self)
-    c.in-Err.why (λ is. c.in-Err.ensures.cause (ap (λ (x : EditRefusal). Err x) is)) refused c.add_box-done.new.symbols c.add_box-done.new.library c.in-Err.ensures.names c.in-Err.ensures.library
-    c.tell.ensures.stage c.tell.ensures.ok c.tell.ensures.answer
+    c.tell.new.self.loads.items c.in-Err.why (λ is. c.in-Err.ensures.cause (ap (λ (x : EditRefusal). Err x) is)) c.in-Err.ensures.no_looks refused c.add_box-done.new.symbols c.add_box-done.new.library c.in-Err.ensures.names c.in-Err.ensures.library
+    c.tell.ensures.stage (ap (λ v. v.items) c.tell.ensures.loads ∙ c.requires.empty) c.tell.ensures.ok c.tell.ensures.answer
 
 pub returns-in-Err-clause-err : goal.returns-in-Err-clause-err
 returns-in-Err-clause-err g c =
     let e = c.args.self.now in
     let refused : IsNotAdded e.patch c.add_box-done.new.patch e.counts e.file.items c.args.path.now c.args.edit.now (known e.library e.symbols) c.in-Err.why =
     subst (λ (n : List ℕ). IsNotAdded e.patch c.add_box-done.new.patch e.counts n c.args.path.now c.args.edit.now (known e.library e.symbols) c.in-Err.why) c.as_slice.ensures.value c.in-Err.ensures.refused in
-    unput_torn c.tell.result c.args.path.now c.args.edit.now c.requires e.file.items e.symbols e.library e.counts e.time e.block_end e.fired e.tally e.patch c.add_box-done.new.patch (ready_sure e.patch e.puts e.meet)
-    (g.L.Sink.taken c.args.lines.now) (g.L.Sink.taken c.tell.new.lines) c.args.steps.now c.add_box-done.new.steps c.add_box-done.ensures.looks (g.H.Shelf.holds c.args.shelf.now) (g.H.Shelf.holds c.add_box-done.new.shelf)
+    unput_torn c.tell.result c.args.path.now c.args.edit.now c.requires.puts e.file.items e.symbols e.library e.counts e.time e.block_end e.fired e.tally e.patch c.add_box-done.new.patch (ready_sure e.patch e.puts e.meet)
+    (g.L.Sink.taken c.args.lines.now) (g.L.Sink.taken c.tell.new.lines) c.args.steps.now c.add_box-done.new.steps (g.H.Shelf.holds c.args.shelf.now) (g.H.Shelf.holds c.add_box-done.new.shelf)
     (g.H.Shelf.faults c.args.shelf.now) (g.H.Shelf.faults c.add_box-done.new.shelf) c.add_box-done.ensures.kept c.add_box-done.ensures.shelf_counted (stage_at c.tell.new.self)
-    c.in-Err.why (λ is. c.in-Err.ensures.cause (ap (λ (x : EditRefusal). Err x) is)) refused c.tell.ensures.err
+    c.tell.new.self.loads.items c.in-Err.why (λ is. c.in-Err.ensures.cause (ap (λ (x : EditRefusal). Err x) is)) c.in-Err.ensures.no_looks refused c.tell.ensures.err

@@ -14,13 +14,13 @@ use Rattle.pd_engine.proofs.RewireLemmas.{ready_sure}
 use Rattle.pd_engine.proofs.PuttingLemmas.{no_fault, unput_answered, unput_torn}
 use Rattle.pd_engine.proofs.engine.Engine.put_own.Goals as goal
 
-pub put_copied-requires : goal.put_copied-requires
-put_copied-requires g c = ap (λ (x : Edit). puts_box x) c.in-Ok.ensures ∙ c.requires
+pub put_copied-requires-clause-puts : goal.put_copied-requires-clause-puts
+put_copied-requires-clause-puts g c = ap (λ (x : Edit). puts_box x) c.in-Ok.ensures ∙ c.requires.puts
 
 pub returns-in-Ok-clause-ok : goal.returns-in-Ok-clause-ok
 returns-in-Ok-clause-ok g c =
     subst
-    (λ (x : Edit). IfOk c.put_copied.result (λ o. (samples : Option (List ℕ)) → IsEdited c.args.path.now x o (stage_at c.args.self.now) (stage_at c.put_copied.new.self)
+    (λ (x : Edit). IfOk c.put_copied.result (λ o. (samples : Option (List ℕ)) → IsEdited c.args.path.now x o c.put_copied.new.self.loads.items (stage_at c.args.self.now) (stage_at c.put_copied.new.self)
     (sinks (g.L.Sink.taken c.args.lines.now) samples c.args.steps.now (g.H.Shelf.holds c.args.shelf.now) (g.H.Shelf.faults c.args.shelf.now))
     (sinks (g.L.Sink.taken c.put_copied.new.lines) samples c.put_copied.new.steps (g.H.Shelf.holds c.put_copied.new.shelf) (g.H.Shelf.faults c.put_copied.new.shelf))))
     c.in-Ok.ensures (if_ok_weaker c.put_copied.result (λ o so. so (Edits None c.args.path.now c.in-Ok.edit) (inl refl)) c.put_copied.ensures.ok)
@@ -37,15 +37,15 @@ pub returns-in-Err-clause-ok : goal.returns-in-Err-clause-ok
 returns-in-Err-clause-ok g c =
     let e = c.args.self.now in
     if_ok_weaker c.tell.result (λ o so. so (Edits None c.args.path.now c.args.edit.now) (inl refl))
-    (unput_answered c.tell.result c.args.path.now c.args.edit.now c.requires e.file.items e.symbols e.library e.counts e.time e.block_end e.fired e.tally e.patch e.patch (ready_sure e.patch e.puts e.meet)
-    (g.L.Sink.taken c.args.lines.now) (g.L.Sink.taken c.tell.new.lines) c.args.steps.now c.args.steps.now refl (g.H.Shelf.holds c.args.shelf.now) (g.H.Shelf.holds c.args.shelf.now)
-    (g.H.Shelf.faults c.args.shelf.now) (g.H.Shelf.faults c.args.shelf.now) refl (omega arith) (stage_at c.tell.new.self) NoMemory (λ is. absurd (no_fault is)) (inl (refl, inl refl))
-    e.symbols e.library refl refl c.tell.ensures.stage c.tell.ensures.ok c.tell.ensures.answer)
+    (unput_answered c.tell.result c.args.path.now c.args.edit.now c.requires.puts e.file.items e.symbols e.library e.counts e.time e.block_end e.fired e.tally e.patch e.patch (ready_sure e.patch e.puts e.meet)
+    (g.L.Sink.taken c.args.lines.now) (g.L.Sink.taken c.tell.new.lines) c.args.steps.now c.args.steps.now (g.H.Shelf.holds c.args.shelf.now) (g.H.Shelf.holds c.args.shelf.now)
+    (g.H.Shelf.faults c.args.shelf.now) (g.H.Shelf.faults c.args.shelf.now) refl (omega arith) (stage_at c.tell.new.self) c.tell.new.self.loads.items NoMemory (λ is. absurd (no_fault is)) refl (inl (refl, inl refl))
+    e.symbols e.library refl refl c.tell.ensures.stage (ap (λ v. v.items) c.tell.ensures.loads ∙ c.requires.empty) c.tell.ensures.ok c.tell.ensures.answer)
 
 pub returns-in-Err-clause-err : goal.returns-in-Err-clause-err
 returns-in-Err-clause-err g c =
     let e = c.args.self.now in
     on_err_weaker c.tell.result (λ so. so (Edits None c.args.path.now c.args.edit.now) (inl refl))
-    (unput_torn c.tell.result c.args.path.now c.args.edit.now c.requires e.file.items e.symbols e.library e.counts e.time e.block_end e.fired e.tally e.patch e.patch (ready_sure e.patch e.puts e.meet)
-    (g.L.Sink.taken c.args.lines.now) (g.L.Sink.taken c.tell.new.lines) c.args.steps.now c.args.steps.now refl (g.H.Shelf.holds c.args.shelf.now) (g.H.Shelf.holds c.args.shelf.now)
-    (g.H.Shelf.faults c.args.shelf.now) (g.H.Shelf.faults c.args.shelf.now) refl (omega arith) (stage_at c.tell.new.self) NoMemory (λ is. absurd (no_fault is)) (inl (refl, inl refl)) c.tell.ensures.err)
+    (unput_torn c.tell.result c.args.path.now c.args.edit.now c.requires.puts e.file.items e.symbols e.library e.counts e.time e.block_end e.fired e.tally e.patch e.patch (ready_sure e.patch e.puts e.meet)
+    (g.L.Sink.taken c.args.lines.now) (g.L.Sink.taken c.tell.new.lines) c.args.steps.now c.args.steps.now (g.H.Shelf.holds c.args.shelf.now) (g.H.Shelf.holds c.args.shelf.now)
+    (g.H.Shelf.faults c.args.shelf.now) (g.H.Shelf.faults c.args.shelf.now) refl (omega arith) (stage_at c.tell.new.self) c.tell.new.self.loads.items NoMemory (λ is. absurd (no_fault is)) refl (inl (refl, inl refl)) c.tell.ensures.err)
