@@ -24,16 +24,6 @@ pub record StaysCounted (b c : Base) (w w' : Web) : Type 0 where
 pub none_counted : (b : Base) (w : Web) → StaysCounted b b w w
 none_counted b w = record { files = refl; boxes = refl; sound = refl; zeros = refl; wires = λ e. e; few = λ e low. low }
 
-pub counted_then : (b c d : Base) (w v u : Web) → StaysCounted b c w v → StaysCounted c d v u → StaysCounted b d w u
-counted_then b c d w v u h k = record {
-  files = k.files ∙ h.files;
-  boxes = k.boxes ∙ h.boxes;
-  sound = k.sound ∙ h.sound;
-  zeros = k.zeros ∙ h.zeros;
-  wires = λ e. k.wires (h.wires e);
-  few = λ e low. k.few (h.wires e) (h.few e low);
-}
-
 -- where no wire was under the key, none goes
 cut_same : (w w' : Web) (key : ℕ) → CutsWire w w' key → is_some (line_told w key) ≡ false → wires_told w' ≡ wires_told w
 cut_same w w' key c none =

@@ -29,8 +29,8 @@ use Rattle.pd_stage.specs.Lawful.{StandsAt, with_wire_count, IsMade, IsShort, Is
 use Rattle.pd_stage.specs.Leads.{Sinks, sinks, Took, Leads, Comes, Stops}
 use Rattle.pd_stage.specs.Events.{Beginning, Left, Loader, left_after, going_on, with_net, stage_by, files_put, edit_by, edit_taken, edit_loaded_by, edits_of_by, event_after_by, edit_event_by, delivered, with_kept, after_deliveries, event, edit_event}
 use Rattle.pd_stage.specs.Times.{with_wires, IsStageOf}
-use Rattle.pd_stage.proofs.FedLemmas.{KeepsFed, none_kept, kept_then, same_kept, edit_kept}
-use Rattle.pd_stage.proofs.CountedLemmas.{StaysCounted, none_counted, counted_then, edit_few}
+use Rattle.pd_stage.proofs.FedLemmas.{KeepsFed, none_kept, same_kept, edit_kept}
+use Rattle.pd_stage.proofs.CountedLemmas.{StaysCounted, none_counted, edit_few}
 use Rattle.pd_stage.proofs.ThroughLemmas.{GoesOn, all_through, one_through, event_after_through, edit_event_through}
 use Rattle.pd_stage.proofs.LeadLemmas.{leads_then, broke_after, written_leads, written_breaks}
 use Rattle.pd_stage.proofs.ItemLemmas.{no_lines, no_samples, held-none, kept_same}
@@ -177,30 +177,6 @@ but_wires s r (inr h) = record {
   kept = h.kept;
   counted = h.counted;
   is = h.is;
-}
-
-pub but_none : (s : Stage) → ButWires s s
-but_none s = record {
-  web = s.net.web;
-  links = s.net.links;
-  orders = s.net.orders;
-  base = s.base;
-  ahead = s.ahead;
-  kept = none_kept s.net.web;
-  counted = none_counted s.base s.net.web;
-  is = refl;
-}
-
-pub but_then : (s r q : Stage) → ButWires s r → ButWires r q → ButWires s q
-but_then s r q a b = record {
-  web = b.web;
-  links = b.links;
-  orders = b.orders;
-  base = b.base;
-  ahead = b.ahead;
-  kept = kept_then s.net.web a.web b.web a.kept (subst (λ (x : Stage). KeepsFed x.net.web b.web) a.is b.kept);
-  counted = counted_then s.base a.base b.base s.net.web a.web b.web a.counted (subst (λ (x : Stage). StaysCounted x.base b.base x.net.web b.web) a.is b.counted);
-  is = b.is ∙ ap (λ (x : Stage). rewired x b.web b.links b.orders b.base b.ahead) a.is;
 }
 
 -- what a plan that was carried out leaves
@@ -539,10 +515,6 @@ rewired_stands asks p s r h at =
 pub changed_stands : (asks : AsksAlike) (p : Patch) (s r : Stage) → Changes s r → IsStageOf p s → IsStageOf p r
 changed_stands asks p s r (inl h) at = left_stands p s r h at
 changed_stands asks p s r (inr h) at = rewired_stands asks p s r h at
-
--- deliveries change no part of a patch that a stage has of it
-pub kept_stands : (p : Patch) (s : Stage) (k : Kept) → IsStageOf p s → IsStageOf p (with_kept s k)
-kept_stands p s k at = record { web = at.web; links = at.links; orders = at.orders; net = ap (λ (n : block.Net). block.with_clocks n k.clocks) at.net; rewires = at.rewires }
 
 -- ---- what no event changes
 

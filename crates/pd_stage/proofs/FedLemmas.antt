@@ -233,15 +233,6 @@ pub record KeepsFed (w w' : Web) : Type 0 where
 pub none_kept : (w : Web) → KeepsFed w w
 none_kept w = record { ports = record { ports = λ side k. refl; made = λ k. refl; homes = λ j. refl }; fed = λ f. f }
 
-pub kept_then : (w v u : Web) → KeepsFed w v → KeepsFed v u → KeepsFed w u
-kept_then w v u a b = record {
-  ports = record {
-    ports = λ side k. b.ports.ports side k ∙ a.ports.ports side k;
-    made = λ k. b.ports.made k ∙ a.ports.made k;
-    homes = λ j. b.ports.homes j ∙ a.ports.homes j;
-  };
-  fed = λ f. b.fed (a.fed f);
-}
 
 pub same_kept : (w w' : Web) → IsSame w w' → KeepsFed w w'
 same_kept w w' s = record { ports = s.kept; fed = same_fed w w' s }

@@ -264,9 +264,6 @@ heard_breaks s b t u u' k held f h = record {
 
 -- ---- one part after another
 
-pub comes_still : (s : List Choice → Stage) (x : Sinks) → Comes still s s x x
-comes_still s x = leads_begin (λ m. still (s m)) x
-
 pub comes_then : (f g : Stage → Passage) (a b c : List Choice → Stage) (x y z : Sinks) → Comes f a b x y → Comes g b c y z
     → Comes (λ s. followed_by (f s) g) a c x z
 comes_then f g a b c x y z h k =
@@ -293,7 +290,3 @@ pub way_breaks : (w : List Choice → Passage) (rest step next : Stage → Passa
 way_breaks w rest step next a x y z h e k =
     broke_after w (λ m. rest (a m)) x y z h
     (broke_same (λ m. followed_by (step (a m)) next) (λ m. rest (a m)) y z e (broke_under (λ m. step (a m)) next y z k))
-
-pub way_ends : (w : List Choice → Passage) (rest : Stage → Passage) (a : List Choice → Stage) (x y : Sinks)
-    → Leads w (λ m. rest (a m)) x y → ((m : List Choice) → rest (a m) ≡ still (a m)) → Leads w (λ m. still (a m)) x y
-way_ends w rest a x y h e = leads_to w (λ m. rest (a m)) (λ m. still (a m)) x y e h
