@@ -51,8 +51,8 @@
 //! loop, which is printed where a patch opens and where an edit leaves one, all boxes of the loop
 //! (`pd_steady`).
 //!
-//! Definitions: `Stages` (where an engine stands), `Commands`, `Edits`, `Messages`, `Opening`, `Remarks` (lines of growth),
-//! `Refusals`, `Causes`; events, clocks and blocks are those of `pd_stage`.
+//! Definitions: `Stages` (where an engine stands), `Commands`, `Edits`, `Messages`, `Opening`, `Remarks` (lines of growth and of
+//! boxes that came), `Refusals`, `Causes`; events, clocks and blocks are those of `pd_stage`.
 #![tactic(auto)]
 
 mod commands;
