@@ -1,7 +1,7 @@
 -- A tree with another box in the place of one, and what that box owns.
-use Rattle.std.proofs.Common.{◌≡◌, ℕ, zero, suc, ◌+◌, max, Bool, ◌&&◌, List, [], ◌∷◌, length, refl, sym, ap, ◌∙◌, subst, true}
+use Rattle.std.proofs.Common.{◌≡◌, ℕ, zero, suc, ◌+◌, max, Bool, ◌&&◌, List, [], ◌∷◌, length, refl, sym, ap, ◌∙◌, subst, true, arith}
 use Rattle.std.specs.Prelude.{◌-◌}
-use Rattle.std.specs.List.{AllByRecursion}
+use Rattle.std.specs.List.{All, AllByRecursion}
 use Rattle.pd_atom.specs.declared.Atom.{Atom}
 use Rattle.pd_atom.specs.Atoms.{IsOf}
 use Rattle.pd_atom.specs.Names.{Names, Extends}
@@ -26,7 +26,6 @@ use Rattle.pd_putting_law.specs.Puts.{change_at}
 use Rattle.pd_retyping.specs.declared.retyping.RetypedBox.{RetypedBox}
 use Rattle.pd_retyping.specs.Retypes.{counts_but, RetypesBox}
 use Rattle.pd_retyping_law.specs.Retypes.{boxes_with, retyped_box, retyped_at}
-use Rattle.pd_engine.proofs.CameLemmas.{all_by}
 use Rattle.pd_engine.proofs.LessLemmas.{all_inside}
 use Rattle.pd_engine.proofs.PutLemmas.{all_append, all_split, owned_anywhere}
 use Rattle.pd_engine.proofs.ShiftLemmas.{deep_inside}
@@ -65,6 +64,10 @@ module _ (P : Placed → Type 0) (c : Cell) (own : (top : Bool) → P (placed to
   all_retyped (n ∷ path) number top t h = all_inside P n (change_at path (retyped_box number c)) (λ b u k. all_retyped path number b u k) top t.boxes h
 
 -- ---- the new box owns the same in each table that goes on
+
+all_by : {X : Type 0} (P : X → Type 0) (xs : List X) → All P xs → AllByRecursion P xs
+all_by P [] h = tt
+all_by P (x ∷ xs) h = (h 0 x (omega arith), all_by P xs (λ k d lt. h (suc k) d (omega (arith, lt))))
 
 module _ (old new : Patch) (n : Counts) (name path : List ℕ) (number : ℕ) (text : List Atom) (now : ℕ) (k after : Known) (steps steps' : ℕ) (b : RetypedBox)
     (X : RetypesBox old new n name path number text now k after steps steps' b) where
