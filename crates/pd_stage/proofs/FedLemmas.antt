@@ -233,7 +233,6 @@ pub record KeepsFed (w w' : Web) : Type 0 where
 pub none_kept : (w : Web) → KeepsFed w w
 none_kept w = record { ports = record { ports = λ side k. refl; made = λ k. refl; homes = λ j. refl }; fed = λ f. f }
 
-
 pub same_kept : (w w' : Web) → IsSame w w' → KeepsFed w w'
 same_kept w w' s = record { ports = s.kept; fed = same_fed w w' s }
 
