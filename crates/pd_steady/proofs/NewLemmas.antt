@@ -1,5 +1,5 @@
 -- A patch with new boxes: what holds of all boxes of the old one and of the new boxes holds of all.
-use Rattle.std.proofs.Common.{arith, ◌≡◌, ◌≢◌, ◌⊎◌, inl, inr, ◌<◌, ◌≤◌, ℕ, ℤ, Bool, true, false, List, length, slice_get, Option, Some, None, IfSome, IsSome, is_some, option_map, option_and_then, refl, sym, ap, subst, ◌∙◌, true≢false}
+use Rattle.std.proofs.Common.{arith, ◌≡◌, ◌⊎◌, inl, inr, ◌<◌, ◌≤◌, ℕ, ℤ, Bool, true, false, List, length, slice_get, Option, Some, None, IfSome, IsSome, is_some, option_map, option_and_then, refl, sym, ap, subst, ◌∙◌, true≢false}
 use Rattle.std.specs.List.{AllByRecursion}
 use Rattle.std.proofs.lemmas.List.{length-map}
 use Rattle.slab.specs.Slab.{get}
