@@ -37,9 +37,6 @@ use Rattle.pd_engine.proofs.MakingLemmas.{Told, told_so, told_part, outcome_by, 
 
 -- ---- the edit that moves a box
 
-pub same_move : (number : ℕ) (x y u v : ℤ) → x ≡ u → y ≡ v → edit.Move number x y ≡ edit.Move number u v
-same_move number x y u v e f = ap (λ (n : ℤ). edit.Move number n y) e ∙ ap (λ (n : ℤ). edit.Move number u n) f
-
 pub is_move : (e : Edit) (number : ℕ) (x y : ℤ) → moved e ≡ Some (number, x, y) → e ≡ edit.Move number x y
 is_move (edit.Move n u v) number x y is = ap (λ (p : ℕ × ℤ × ℤ). edit.Move p.0 p.1 p.2) (same_Some (n, u, v) (number, x, y) is)
 is_move (edit.Connect v) number x y is = cc

@@ -1,6 +1,6 @@
 //! Edits and saves of the patch's own document.
 
-ghost use Rattle.std.specs.Prelude.{◌≡◌, ◌<◌, ◌≤◌, ℕ, true, List, [], Option, Some, None, length, OnOk, OnErr, IfOk};
+ghost use Rattle.std.specs.Prelude.{◌≡◌, ◌<◌, ◌≤◌, ℕ, true, false, List, [], Option, Some, None, length, OnOk, OnErr, IfOk};
 ghost use Rattle.pd_io.specs.Stream.{grown, TookPart};
 ghost use Rattle.pd_io.specs.declared.files.FileRow.{FileRow};
 ghost use Rattle.pd_canvas.specs.declared.edits.Edit.{Edit as EditSeen};
@@ -126,6 +126,25 @@ impl Engine {
         if edit.puts_box() {
             return self.put_loaded(path, edit, shelf, lines, steps);
         }
+        self.edit_alone(path, edit, shelf, lines, steps)
+    }
+
+    /// Makes an edit of the canvas at a path of the patch's own document that puts no box, or refuses it. Nothing follows from it.
+    fn edit_alone<H: Shelf, L: Sink, K: Ledger>(
+        &mut self,
+        path: &[u32],
+        edit: &CommandEdit,
+        shelf: &mut H,
+        lines: &mut L,
+        steps: &mut Steps<K>,
+    ) -> Result<Outcome, SinkFailed>
+        requires { puts_box edit.now ≡ false }
+        ensures ok { IfOk result (λ outcome. (samples : Option (List ℕ)) → edits.IsEdited path.now edit.now outcome [] (stage_at self.old) (stage_at self.new) (sinks (L.taken lines.old) samples steps.old (H.holds shelf.old) (H.faults shelf.old)) (sinks (L.taken lines.new) samples steps.new (H.holds shelf.new) (H.faults shelf.new))) }
+        ensures err { OnErr result ((samples : Option (List ℕ)) → Stops (edit_taken (Edits None path.now edit.now)) (stage_at self.old) (sinks (L.taken lines.old) samples steps.old (H.holds shelf.old) (H.faults shelf.old)) (sinks (L.taken lines.new) samples steps.new (H.holds shelf.new) (H.faults shelf.new))) }
+        ensures cause { HasCause (L.faults lines.old) (L.faults lines.new) result }
+        ensures counted { H.faults shelf.old ≤ H.faults shelf.new }
+        ensures stays { self.new.stopped ≡ self.old.stopped }
+    {
         if let Some(number) = edit.deleted() {
             return self.delete_own(path, number, lines, steps);
         }
