@@ -8,7 +8,7 @@ use Rattle.pd_walk.specs.Outcome.{all_loaded}
 use Rattle.pd_stage.specs.Items.{said}
 use Rattle.pd_stage.specs.Choices.{Wanted, Asks, Choice, first_choice, loads_of_choice}
 use Rattle.pd_stage.specs.Stages.{Stage, Taken, Passage, choices_of, still, followed_by}
-use Rattle.pd_stage.specs.Leads.{Sinks, Leads, BreaksOff, Comes, Stops}
+use Rattle.pd_stage.specs.Leads.{Sinks, Leads, Comes, Stops}
 use Rattle.pd_stage.specs.Events.{Left, whole, edit_taken, loaded_by, edit_loaded_by, asked_by, edits_taken_by, edits_of_by, edit_event}
 use Rattle.pd_stage.proofs.LeadLemmas.{after-joined, begins_more, leads_begin, leads_then, leads_same, leads_to, broke_after, broke_same}
 use Rattle.pd_engine.specs.declared.refusals.Outcome.{Outcome}

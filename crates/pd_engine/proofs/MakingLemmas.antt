@@ -42,7 +42,7 @@ use Rattle.pd_stage.specs.Choices as stage
 use Rattle.pd_stage.specs.Stages.{Stage, Passage, still, with_ahead, after}
 use Rattle.pd_stage.specs.Lawful.{why_of, StandsAt, with_wire_count, IsMade, IsRewiringLawful, IsPutIn, IsPutLawful, IsEditLawful, MayCome}
 use Rattle.pd_stage.specs.Lines.{loops_text, put_text, loads_inside}
-use Rattle.pd_stage.specs.Leads.{Sinks, sinks, Took, Comes, Stops, Says, SaysPart}
+use Rattle.pd_stage.specs.Leads.{Sinks, sinks, Took, Comes, Stops, SaysPart}
 use Rattle.pd_stage.specs.Events.{edit_taken, stage_by, files_put, with_net}
 use Rattle.pd_stage.proofs.EditLemmas.{taken_at, took_looks, edit_logged_by, edit_stops_by}
 use Rattle.pd_engine.specs.declared.refusals.Outcome.{Outcome}

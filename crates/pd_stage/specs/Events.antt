@@ -13,7 +13,7 @@ use Rattle.pd_hearing.specs.Hearing.{fired_at}
 use Rattle.pd_walk.specs.Outcome.{world, ran, told_by, all_loaded, named_tasks}
 use Rattle.pd_stage.specs.Items.{Item, Put, said}
 use Rattle.pd_stage.specs.Choices.{Wanted, Asks, Choice, Refuses, Lacks, Makes, first_choice, later, text_of_choice, loads_of_choice}
-use Rattle.pd_stage.specs.Stages.{Stage, Passage, with_ahead, kept_at, still, followed_by}
+use Rattle.pd_stage.specs.Stages.{Stage, Passage, with_ahead, still, followed_by}
 
 -- what begins deliveries: a message to the receivers of a name, the clock of a box, or that boxes are loaded
 pub data Beginning : Type 0 where

@@ -1,14 +1,12 @@
 use Rattle.pd_stage.specs.Choices.{base_of}
 use Rattle.std.proofs.Common.{refl, ap, [], subst, ℕ, List, Option}
 use Rattle.std.proofs.lemmas.Result.{on_ok_weaker, on_err_weaker}
-use Rattle.pd_io.specs.declared.files.FileRow.{FileRow}
 use Rattle.pd_hearing.specs.Worlds.{net_of, kept_of}
 use Rattle.pd_walk.specs.Outcome.{world}
 use Rattle.pd_stage.specs.Stages.{Stage, with_ahead}
-use Rattle.pd_stage.specs.Events.{Beginning, Loading}
+use Rattle.pd_stage.specs.Events.{Loading}
 use Rattle.pd_stage.specs.Leads.{sinks}
 use Rattle.pd_engine.specs.Edits.{left_of, IsLoadedSo, IsLoadedPart}
-use Rattle.pd_engine.specs.Stages.{stage_at}
 use Rattle.pd_engine.proofs.ClockLemmas.{now_set, stage_with}
 use Rattle.pd_engine.proofs.EventLemmas.{loads_lead, loads_break}
 use Rattle.pd_engine.proofs.AskedLemmas.{left_asked}
