@@ -40,7 +40,7 @@ use Rattle.pd_patch.specs.Values.{block_at, block_count, blocks_told}
 use Rattle.pd_wiring.specs.Changes.{CanRewire}
 use Rattle.pd_placing.specs.Placing.{LacksBox, StayBut}
 use Rattle.pd_boxes.specs.declared.room.Place.{Place}
-use Rattle.pd_boxes.specs.Put.{CanPut, HasOwners, IsNoPort, keys_before}
+use Rattle.pd_boxes.specs.Put.{CanPut, HasOwners, keys_before}
 use Rattle.pd_boxes.specs.Rows.{NumbersFrom}
 use Rattle.pd_boxes.proofs.AskingLemmas.{put_rewired}
 use Rattle.pd_clearing.specs.Losing.{LoosensAll}
@@ -48,7 +48,7 @@ use Rattle.pd_clearing.specs.Clearing.{keys_past, without_all, CanClear, DropsAl
 use Rattle.pd_clearing.specs.Layers.{ClosesAll, DropsOrders}
 use Rattle.pd_clearing.proofs.LoosenLemmas.{fans_left, feeds_left}
 use Rattle.pd_clearing.proofs.PartLemmas.{in_box, not_among, part_live}
-use Rattle.pd_clearing.proofs.ReadyLemmas.{apart_left, forest_left, numbers_left, numbers_stay, order_stays, ordered_left, owners_left, small_left, was_live, IsReady}
+use Rattle.pd_clearing.proofs.ReadyLemmas.{apart_left, forest_left, numbers_left, numbers_stay, order_stays, ordered_left, owners_left, small_left, was_live, IsPlain, IsReady}
 use Rattle.pd_clearing.proofs.WireLemmas.{homes_left, inside_left, kept_box, linked_left, orders_left, ports_left}
 
 -- Webs.
@@ -86,14 +86,16 @@ pub is_ready : (p q : Patch) (place : Place) (key : ℕ) (part : List ℕ) (step
 is_ready p q place key part steps steps' C A L = record {
   can = put_rewired p q L.rest.grove L.rewires C.can;
   is = subst (λ (g : Grove). slice_get (keys_at g place.canvas) place.number ≡ Some key) (sym L.rest.grove) C.is;
-  plain = plain;
   meet = L.meet;
   are = subst (λ (g : Grove). ArePart (get g.nodes) (get g.boards) key part) (sym L.rest.grove) A;
   bare = L.bare;
-} where
-  plain : (n : Node) → get q.grove.nodes key ≡ Some n → IsNoPort q place n.kind
-  plain n is = subst (λ (g : Grove). (holder_in (get g.boards place.canvas) ≡ None) ⊎ ((side : Side) → port_signal side n.kind ≡ None)) (sym L.rest.grove)
-      (C.plain n (ap (λ (g : Grove). get g.nodes key) (sym L.rest.grove) ∙ is))
+}
+
+-- the box is no port still
+still_plain : (p q : Patch) (place : Place) (key : ℕ) (part : List ℕ) (steps steps' : ℕ) → CanClear p place key → LoosensAll p q part part steps steps' → IsPlain q place key
+still_plain p q place key part steps steps' C L n is =
+    subst (λ (g : Grove). (holder_in (get g.boards place.canvas) ≡ None) ⊎ ((side : Side) → port_signal side n.kind ≡ None)) (sym L.rest.grove)
+    (C.plain n (ap (λ (g : Grove). get g.nodes key) (sym L.rest.grove) ∙ is))
 
 -- what each layer tells without these boxes
 pub record GoesOut (p q : Patch) (table : Names) (place : Place) (key : ℕ) (part : List ℕ) : Type 0 where
@@ -116,14 +118,14 @@ pub record GoesOut (p q : Patch) (table : Names) (place : Place) (key : ℕ) (pa
 
 -- From a patch without the wires.
 
-module _ (p q : Patch) (table : Names) (place : Place) (key : ℕ) (part : List ℕ) (R : IsReady p place key part) (O : GoesOut p q table place key part) where
+module _ (p q : Patch) (table : Names) (place : Place) (key : ℕ) (part : List ℕ) (R : IsReady p place key part) (plain : IsPlain p place key) (O : GoesOut p q table place key part) where
   left_rewires : CanRewire q
   left_rewires = record {
     own = (forest_left p place key part R q.grove O.node O.grove).own;
-    ports = ports_left p place key part R q.grove O.node O.grove q.web O.ports;
-    inside = inside_left p place key part R q.grove O.node O.grove q.web O.ports;
-    linked = subst (λ (l : Links). HasLinks q.web l) (sym O.links) (linked_left p place key part R q.grove O.node O.grove q.web O.ports);
-    orders = orders_left p place key part R q.grove O.node O.grove q.web O.ports q.orders.items
+    ports = ports_left p place key part R plain q.grove O.node O.grove q.web O.ports;
+    inside = inside_left p place key part R plain q.grove O.node O.grove q.web O.ports;
+    linked = subst (λ (l : Links). HasLinks q.web l) (sym O.links) (linked_left p place key part R plain q.grove O.node O.grove q.web O.ports);
+    orders = orders_left p place key part R plain q.grove O.node O.grove q.web O.ports q.orders.items
         (ordered_left p place key part R q.grove O.node O.grove O.displaced q.orders.items O.lacks O.others O.orders);
     numbers = numbers_left p place key part R q.grove O.node O.grove q.numbers.items O.numbers;
   }
@@ -152,7 +154,7 @@ module _ (p q : Patch) (table : Names) (place : Place) (key : ℕ) (part : List 
     no_block l outlet none = by_test (is_among part l)
         (λ at. O.blocks.gone l outlet at)
         (λ out. ap (option_and_then (λ own. slice_get own outlet)) (O.blocks.others l out)
-        ∙ b.no_others l outlet (sym (kept_box p place key part R q.grove O.node O.grove q.web O.ports l out) ∙ none))
+        ∙ b.no_others l outlet (sym (kept_box p place key part R plain q.grove O.node O.grove q.web O.ports l out) ∙ none))
 
     left_built : IsBuilt q table file rate
     left_built =
@@ -183,6 +185,9 @@ module _ (p r q : Patch) (table : Names) (place : Place) (key : ℕ) (spots : Li
   ready : IsReady r place key part
   ready = is_ready p r place key part steps steps' C P.are L
 
+  plain : IsPlain r place key
+  plain = still_plain p r place key part steps steps' C L
+
   takes : TakesBox (get p.grove.nodes) (get q.grove.nodes) (get p.grove.boards) (get q.grove.boards) place.canvas key O.node (keys_before p place) (keys_past p place)
   takes = subst (λ (g : Grove). TakesBox (get g.nodes) (get q.grove.nodes) (get g.boards) (get q.grove.boards) place.canvas key O.node
       (take place.number (keys_at g place.canvas)) (drop (place.number + 1) (keys_at g place.canvas))) L.rest.grove O.grove
@@ -201,7 +206,7 @@ module _ (p r q : Patch) (table : Names) (place : Place) (key : ℕ) (spots : Li
     gone = O.ports.gone;
     ports = λ side k out. O.ports.ports side k out ∙ L.kept.ports side k;
     made = λ k out. O.ports.made k out ∙ L.kept.made k;
-    homes = λ j out. homes_left r place key part ready q.grove O.node O.grove q.web O.ports j out ∙ L.kept.homes j;
+    homes = λ j out. homes_left r place key part ready plain q.grove O.node O.grove q.web O.ports j out ∙ L.kept.homes j;
   }
 
   owners : (file : List ℕ) → HasOwners p table file → HasOwners q table file
@@ -242,9 +247,9 @@ module _ (p r q : Patch) (table : Names) (place : Place) (key : ℕ) (spots : Li
         ∙ L.rest.orders c (λ k at. not_there c k f live at);
     rate = O.rate ∙ L.rest.rate;
     present = O.present ∙ L.rest.present;
-    can = left_put r q table place key part ready O;
+    can = left_put r q table place key part ready plain O;
     meet = still_meet r.web q.web part O.ports L.meet;
-    built = λ file rate b. left_built r q table place key part ready O file rate (L.built table file rate b);
+    built = λ file rate b. left_built r q table place key part ready plain O file rate (L.built table file rate b);
   }
 
   -- they are those that were told

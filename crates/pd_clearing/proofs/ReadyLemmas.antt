@@ -94,11 +94,14 @@ hold_alone g F k l c a b = same_Some k l (sym (F.inside k c a) ∙ F.inside l c 
 
 -- Before the box goes.
 
--- at the place stands a box that is no port of a box around, with these boxes in it, none of which has wires any more
+-- the box is no port of a box around
+abbrev pub IsPlain : Patch → Place → ℕ → Type 0
+IsPlain p place key = (n : Node) → get p.grove.nodes key ≡ Some n → IsNoPort p place n.kind
+
+-- at the place stands a box with these boxes in it, none of which has wires any more
 pub record IsReady (p : Patch) (place : Place) (key : ℕ) (part : List ℕ) : Type 0 where
   pub can : CanPut p
   pub is : slice_get (keys_at p.grove place.canvas) place.number ≡ Some key
-  pub plain : (n : Node) → get p.grove.nodes key ≡ Some n → IsNoPort p place n.kind
   pub meet : Meet p.web
   pub are : ArePart (get p.grove.nodes) (get p.grove.boards) key part
   pub bare : (k : ℕ) → IsTrue (is_among part k) → HasNoWires p.web k

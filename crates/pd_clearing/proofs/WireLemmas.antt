@@ -44,7 +44,7 @@ use Rattle.pd_clearing.specs.Clearing.{keys_past}
 use Rattle.pd_taking.proofs.LoseLemmas.{none_listed}
 use Rattle.pd_clearing.specs.Layers.{but_of_all, ClosesAll}
 use Rattle.pd_clearing.proofs.PartLemmas.{box_gone, box_stays, held_by_one, held_inside, outside, there_left}
-use Rattle.pd_clearing.proofs.ReadyLemmas.{forest_left, IsReady}
+use Rattle.pd_clearing.proofs.ReadyLemmas.{forest_left, IsPlain, IsReady}
 
 -- Lists.
 
@@ -108,7 +108,7 @@ module _ (w w' : Web) (part : List ℕ) (ports : (side : Side) (k : ℕ) → is_
       (λ at. none_from w' u (λ o. fans u o ∙ bare u at o) (length (ports_told w' Outlets u)) ∙ sym (none_from w u (bare u at) (length (ports_told w Outlets u))))
       (λ out. ap (λ (js : List Jack). wires_below w' u (length js)) (ports Outlets u out) ∙ below_same u (length (ports_told w Outlets u)) out)
 
-module _ (p : Patch) (place : Place) (key : ℕ) (part : List ℕ) (R : IsReady p place key part) (h : Grove) (n : Node)
+module _ (p : Patch) (place : Place) (key : ℕ) (part : List ℕ) (R : IsReady p place key part) (plain : IsPlain p place key) (h : Grove) (n : Node)
     (T : TakesBox (get p.grove.nodes) (get h.nodes) (get p.grove.boards) (get h.boards) place.canvas key n (keys_before p place) (keys_past p place)) (w : Web) (G : ClosesAll p.web w part) where
   abbrev F : IsForest (get p.grove.nodes) (get p.grove.boards) p.grove.root
   F = R.can.forest
@@ -181,7 +181,7 @@ module _ (p : Patch) (place : Place) (key : ℕ) (part : List ℕ) (R : IsReady 
       here e = ⊎_elim
           (λ (free : holder_in (get p.grove.boards place.canvas) ≡ None). absurd (none-some l (sym free ∙ ap (λ x. holder_in (get p.grove.boards x)) (sym e) ∙ F.inside l d held)))
           (λ (none : (side : Side) → port_signal side n.kind ≡ None). subst (λ x. canvas_jacks side h x ≡ canvas_jacks side p.grove x) (sym e) (without (none side)))
-          (R.plain n T.was)
+          (plain n T.was)
 
   inner_kept : (side : Side) (kind : Kind) (o : Option ℕ) → ((d : ℕ) → o ≡ Some d → canvas_jacks side h d ≡ canvas_jacks side p.grove d) → jacks_by side h kind o ≡ jacks_by side p.grove kind o
   inner_kept side kind None f = refl

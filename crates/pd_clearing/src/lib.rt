@@ -20,3 +20,4 @@ mod loosening;
 mod rows;
 
 pub use clearing::{Part, clear, part_of};
+pub use rows::lower_numbers;

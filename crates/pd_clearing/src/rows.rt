@@ -84,7 +84,7 @@ fn drop_blocks(values: &mut Vec<Blocks>, alloc: Global, key: u32)
 }
 
 /// Lowers the numbers of the boxes of a canvas from a number on by one.
-pub(crate) fn lower_numbers(numbers: &mut Vec<u32>, grove: &Grove, place: Place)
+pub fn lower_numbers(numbers: &mut Vec<u32>, grove: &Grove, place: Place)
     requires apart { AreApart (keys_at grove.now place.canvas) }
     requires above { (i k : ℕ) → place.number ≤ i → slice_get (keys_at grove.now place.canvas) i ≡ Some k → slice_get numbers.old.items k ≡ Some (i + 1) }
     ensures { NumbersFrom numbers.old.items numbers.new.items (keys_at grove.now place.canvas) place.number }

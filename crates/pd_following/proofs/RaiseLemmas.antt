@@ -24,11 +24,11 @@ use Rattle.pd_ports.specs.Moves.{Goes, FollowsPorts, under, keys_at, box_of, por
 use Rattle.pd_following.specs.Raising.{up, raised, other, hops_at, Raises, IsOneMore}
 use Rattle.pd_following.proofs.ListLemmas.{insert_here, insert_up, map_same}
 
-abbrev hop_across : Side → Web → ℕ → Hop
+abbrev pub hop_across : Side → Web → ℕ → Hop
 hop_across Inlets w k = hop_from w k
 hop_across Outlets w k = hop_to w k
 
-hops_keys : (s : Side) (w : Web) (n i : ℕ) → hops_at s w n i ≡ map (hop_across s w) (keys_at w s n i)
+pub hops_keys : (s : Side) (w : Web) (n i : ℕ) → hops_at s w n i ≡ map (hop_across s w) (keys_at w s n i)
 hops_keys Inlets w n i = refl
 hops_keys Outlets w n i = refl
 
@@ -37,7 +37,7 @@ whole k None = refl
 whole k (Some s) = refl
 
 -- what a line says of a wire's other end
-line_hop : (s : Side) (w : Web) (k : ℕ) (l : Line) → line_told w k ≡ Some l → hop_across s w k ≡ hop_at k (box_of (other s) l) (port_of (other s) l)
+pub line_hop : (s : Side) (w : Web) (k : ℕ) (l : Line) → line_told w k ≡ Some l → hop_across s w k ≡ hop_at k (box_of (other s) l) (port_of (other s) l)
 line_hop s w k l h = by_wire s (wire_at w.book k) h
   where
     by_side : (s : Side) → hop_across s w k ≡ hop_at k (box_of (other s) (line_by (hop_from w k) (hop_to w k))) (port_of (other s) (line_by (hop_from w k) (hop_to w k)))
@@ -54,7 +54,7 @@ map_back f [] i y e = absurd (none-some y e)
 map_back f (x ∷ xs) zero y e = (x, refl)
 map_back f (x ∷ xs) (suc i) y e = map_back f xs i y e
 
-map_then : {X Y Z : Type 0} (f : X → Z) (g : Y → Z) (h : X → Y) (xs : List X) → ((i : ℕ) (x : X) → slice_get xs i ≡ Some x → f x ≡ g (h x)) → map f xs ≡ map g (map h xs)
+pub map_then : {X Y Z : Type 0} (f : X → Z) (g : Y → Z) (h : X → Y) (xs : List X) → ((i : ℕ) (x : X) → slice_get xs i ≡ Some x → f x ≡ g (h x)) → map f xs ≡ map g (map h xs)
 map_then f g h [] e = refl
 map_then f g h (x ∷ xs) e = ap (λ z. z ∷ map f xs) (e 0 x refl) ∙ ap (λ zs. g (h x) ∷ zs) (map_then f g h xs (λ i. e (suc i)))
 
@@ -86,11 +86,11 @@ differ_test a b d = step (a == b) refl
     step true e = absurd (d (eqb-true a b e))
     step false e = e
 
-other_differs : (s : Side) → other s ≢ s
+pub other_differs : (s : Side) → other s ≢ s
 other_differs Inlets e = cc
 other_differs Outlets e = cc
 
-some_of : {X : Type 0} (o : Option X) → IsSome o → (x : X) × (o ≡ Some x)
+pub some_of : {X : Type 0} (o : Option X) → IsSome o → (x : X) × (o ≡ Some x)
 some_of None h = absurd (true≢false (sym h))
 some_of (Some x) h = (x, refl)
 
@@ -101,17 +101,17 @@ abbrev pub FeedsTold : Web → Type 0
 FeedsTold w = (node inlet i : ℕ) (h : Hop) → slice_get (feed_hops w node inlet) i ≡ Some h → line_told w h.key ≡ Some (line_by h (hop_at h.key node inlet))
 
 -- the line of a wire that stands at a port
-record LineAt (w : Web) (s : Side) (n i k : ℕ) : Type 0 where
-  line : Line
-  told : line_told w k ≡ Some line
-  box : box_of s line ≡ n
-  port : port_of s line ≡ i
+pub record LineAt (w : Web) (s : Side) (n i k : ℕ) : Type 0 where
+  pub line : Line
+  pub told : line_told w k ≡ Some line
+  pub box : box_of s line ≡ n
+  pub port : port_of s line ≡ i
 
 pub hop_key : (k : ℕ) (o : Option Spot) → (hop_by k o).key ≡ k
 hop_key k None = refl
 hop_key k (Some s) = refl
 
-line_at : (w : Web) → FansTold w → FeedsTold w → (s : Side) (n i p k : ℕ) → slice_get (keys_at w s n i) p ≡ Some k → LineAt w s n i k
+pub line_at : (w : Web) → FansTold w → FeedsTold w → (s : Side) (n i p k : ℕ) → slice_get (keys_at w s n i) p ≡ Some k → LineAt w s n i k
 line_at w fans feeds Inlets n i p k e =
     let h = hop_from w k in
     let there : slice_get (feed_hops w n i) p ≡ Some h = slice_get-map (hop_from w) (feed_keys w n i) p ∙ ap (option_map (hop_from w)) e in
@@ -148,23 +148,23 @@ across_within w M Outlets n i p k l e told =
     keys_within w Inlets l.sink l.inlet f.0 x.0 x.1
 
 -- a wire's line with another port on a side keeps what it says of the other
-other_box : (s : Side) (m : ℕ) (l : Line) → box_of (other s) (with_port s m l) ≡ box_of (other s) l
+pub other_box : (s : Side) (m : ℕ) (l : Line) → box_of (other s) (with_port s m l) ≡ box_of (other s) l
 other_box Inlets m l = refl
 other_box Outlets m l = refl
 
-other_port : (s : Side) (m : ℕ) (l : Line) → port_of (other s) (with_port s m l) ≡ port_of (other s) l
+pub other_port : (s : Side) (m : ℕ) (l : Line) → port_of (other s) (with_port s m l) ≡ port_of (other s) l
 other_port Inlets m l = refl
 other_port Outlets m l = refl
 
-own_box : (s : Side) (m : ℕ) (l : Line) → box_of s (with_port s m l) ≡ box_of s l
+pub own_box : (s : Side) (m : ℕ) (l : Line) → box_of s (with_port s m l) ≡ box_of s l
 own_box Inlets m l = refl
 own_box Outlets m l = refl
 
-own_port : (s : Side) (m : ℕ) (l : Line) → port_of s (with_port s m l) ≡ m
+pub own_port : (s : Side) (m : ℕ) (l : Line) → port_of s (with_port s m l) ≡ m
 own_port Inlets m l = refl
 own_port Outlets m l = refl
 
-twice : (s : Side) → other (other s) ≡ s
+pub twice : (s : Side) → other (other s) ≡ s
 twice Inlets = refl
 twice Outlets = refl
 
