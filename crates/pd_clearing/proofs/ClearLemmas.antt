@@ -123,8 +123,8 @@ module _ (p q : Patch) (table : Names) (place : Place) (key : ℕ) (part : List 
   left_rewires = record {
     own = (forest_left p place key part R q.grove O.node O.grove).own;
     ports = ports_left p place key part R plain q.grove O.node O.grove q.web O.ports;
-    inside = inside_left p place key part R plain q.grove O.node O.grove q.web O.ports;
-    linked = subst (λ (l : Links). HasLinks q.web l) (sym O.links) (linked_left p place key part R plain q.grove O.node O.grove q.web O.ports);
+    inside = inside_left p place key part R q.grove O.node O.grove q.web O.ports;
+    linked = subst (λ (l : Links). HasLinks q.web l) (sym O.links) (linked_left p place key part R q.grove O.node O.grove q.web O.ports);
     orders = orders_left p place key part R plain q.grove O.node O.grove q.web O.ports q.orders.items
         (ordered_left p place key part R q.grove O.node O.grove O.displaced q.orders.items O.lacks O.others O.orders);
     numbers = numbers_left p place key part R q.grove O.node O.grove q.numbers.items O.numbers;
@@ -154,7 +154,7 @@ module _ (p q : Patch) (table : Names) (place : Place) (key : ℕ) (part : List 
     no_block l outlet none = by_test (is_among part l)
         (λ at. O.blocks.gone l outlet at)
         (λ out. ap (option_and_then (λ own. slice_get own outlet)) (O.blocks.others l out)
-        ∙ b.no_others l outlet (sym (kept_box p place key part R plain q.grove O.node O.grove q.web O.ports l out) ∙ none))
+        ∙ b.no_others l outlet (sym (kept_box p place key part R q.grove O.node O.grove q.web O.ports l out) ∙ none))
 
     left_built : IsBuilt q table file rate
     left_built =

@@ -108,7 +108,7 @@ module _ (w w' : Web) (part : List ℕ) (ports : (side : Side) (k : ℕ) → is_
       (λ at. none_from w' u (λ o. fans u o ∙ bare u at o) (length (ports_told w' Outlets u)) ∙ sym (none_from w u (bare u at) (length (ports_told w Outlets u))))
       (λ out. ap (λ (js : List Jack). wires_below w' u (length js)) (ports Outlets u out) ∙ below_same u (length (ports_told w Outlets u)) out)
 
-module _ (p : Patch) (place : Place) (key : ℕ) (part : List ℕ) (R : IsReady p place key part) (plain : IsPlain p place key) (h : Grove) (n : Node)
+module _ (p : Patch) (place : Place) (key : ℕ) (part : List ℕ) (R : IsReady p place key part) (h : Grove) (n : Node)
     (T : TakesBox (get p.grove.nodes) (get h.nodes) (get p.grove.boards) (get h.boards) place.canvas key n (keys_before p place) (keys_past p place)) (w : Web) (G : ClosesAll p.web w part) where
   abbrev F : IsForest (get p.grove.nodes) (get p.grove.boards) p.grove.root
   F = R.can.forest
@@ -147,6 +147,9 @@ module _ (p : Patch) (place : Place) (key : ℕ) (part : List ℕ) (R : IsReady 
     feeders = λ u j. R.can.runs.linked.feeders u j ∙ sym (ap (λ (vs : List SignalWire). tally j (sinks_of vs)) (wires_left u));
   }
 
+-- where it is no port of a box around
+module _ (p : Patch) (place : Place) (key : ℕ) (part : List ℕ) (R : IsReady p place key part) (plain : IsPlain p place key) (h : Grove) (n : Node)
+    (T : TakesBox (get p.grove.nodes) (get h.nodes) (get p.grove.boards) (get h.boards) place.canvas key n (keys_before p place) (keys_past p place)) (w : Web) (G : ClosesAll p.web w part) where
   -- Every other box has the ports that it had.
 
   kept_at : (d i x : ℕ) → slice_get (keys_in (get h.boards d)) i ≡ Some x → get h.nodes x ≡ get p.grove.nodes x
@@ -159,8 +162,8 @@ module _ (p : Patch) (place : Place) (key : ℕ) (part : List ℕ) (R : IsReady 
     where
       far : LiesInBox (get p.grove.nodes) (get p.grove.boards) key d → ⊥
       far L =
-          let H = held_by_one (get p.grove.nodes) (get p.grove.boards) p.grove.root F key part R.are d L in
-          both_ways (is_among part l) out (ap (is_among part) (same_Some l H.box (sym (F.inside l d held) ∙ F.inside H.box d H.holds)) ∙ H.among)
+          let H = held_by_one (get p.grove.nodes) (get p.grove.boards) p.grove.root R.can.forest key part R.are d L in
+          both_ways (is_among part l) out (ap (is_among part) (same_Some l H.box (sym (R.can.forest.inside l d held) ∙ R.can.forest.inside H.box d H.holds)) ∙ H.among)
 
       elsewhere : d ≢ place.canvas → canvas_jacks side h d ≡ canvas_jacks side p.grove d
       elsewhere f =
@@ -179,7 +182,7 @@ module _ (p : Patch) (place : Place) (key : ℕ) (part : List ℕ) (R : IsReady 
 
       here : d ≡ place.canvas → canvas_jacks side h d ≡ canvas_jacks side p.grove d
       here e = ⊎_elim
-          (λ (free : holder_in (get p.grove.boards place.canvas) ≡ None). absurd (none-some l (sym free ∙ ap (λ x. holder_in (get p.grove.boards x)) (sym e) ∙ F.inside l d held)))
+          (λ (free : holder_in (get p.grove.boards place.canvas) ≡ None). absurd (none-some l (sym free ∙ ap (λ x. holder_in (get p.grove.boards x)) (sym e) ∙ R.can.forest.inside l d held)))
           (λ (none : (side : Side) → port_signal side n.kind ≡ None). subst (λ x. canvas_jacks side h x ≡ canvas_jacks side p.grove x) (sym e) (without (none side)))
           (plain n T.was)
 
@@ -188,7 +191,7 @@ module _ (p : Patch) (place : Place) (key : ℕ) (part : List ℕ) (R : IsReady 
   inner_kept side kind (Some d) f = f d refl
 
   jacks_kept : (side : Side) (l : ℕ) → is_among part l ≡ false → jacks_at side h l ≡ jacks_at side p.grove l
-  jacks_kept side l out = ap (jacks_in side h) (kept_box l out) ∙ by (get p.grove.nodes l) refl
+  jacks_kept side l out = ap (jacks_in side h) (kept_box p place key part R h n T w G l out) ∙ by (get p.grove.nodes l) refl
     where
       by : (o : Option Node) → get p.grove.nodes l ≡ o → jacks_in side h o ≡ jacks_in side p.grove o
       by None e = refl
@@ -196,7 +199,7 @@ module _ (p : Patch) (place : Place) (key : ℕ) (part : List ℕ) (R : IsReady 
 
   told_kept : (side : Side) (l : ℕ) → ports_told w side l ≡ jacks_at side h l
   told_kept side l = by_test (is_among part l)
-      (λ at. G.gone side l at ∙ sym (ap (jacks_in side h) (gone_box l at)))
+      (λ at. G.gone side l at ∙ sym (ap (jacks_in side h) (gone_box p place key part R h n T w G l at)))
       (λ out. G.ports side l out ∙ R.can.runs.ports.ports side l ∙ sym (jacks_kept side l out))
 
   jack_kept : (side : Side) (l i : ℕ) → jack_told w side l i ≡ slice_get (jacks_at side h l) i
@@ -206,8 +209,8 @@ module _ (p : Patch) (place : Place) (key : ℕ) (part : List ℕ) (R : IsReady 
   ports_left = record {
     ports = told_kept;
     made = λ l. by_test (is_among part l)
-        (λ at. G.unmade l at ∙ sym (ap made_in (gone_box l at)))
-        (λ out. G.made l out ∙ R.can.runs.ports.made l ∙ sym (ap made_in (kept_box l out)));
+        (λ at. G.unmade l at ∙ sym (ap made_in (gone_box p place key part R h n T w G l at)))
+        (λ out. G.made l out ∙ R.can.runs.ports.made l ∙ sym (ap made_in (kept_box p place key part R h n T w G l out)));
     homes = λ j l i e. let t = G.known.told l j i e in record { side = t.0; told = ap box_in (sym (jack_kept t.0 l i)) ∙ t.1 };
     homes_found = λ j l i q. ap is_some (G.known.found q.side j l i (ap box_in (jack_kept q.side l i) ∙ q.told));
   }
@@ -217,10 +220,10 @@ module _ (p : Patch) (place : Place) (key : ℕ) (part : List ℕ) (R : IsReady 
   homes_left j out = G.homes j ∙ but_kept part (port_told p.web j) (λ k i e. by_test (is_among part k)
       (λ at. let q = R.can.runs.ports.homes j k i e in
       let s = port_stands p.grove q.side k i j q.told in
-      absurd (outside (get p.grove.nodes) (get p.grove.boards) p.grove.root F key part R.are j s.canvas out (F.own.home s.canvas s.place j s.at)
-      (held_inside (get p.grove.nodes) (get p.grove.boards) p.grove.root F key part R.are k s.canvas at s.held)))
+      absurd (outside (get p.grove.nodes) (get p.grove.boards) p.grove.root R.can.forest key part R.are j s.canvas out (R.can.forest.own.home s.canvas s.place j s.at)
+      (held_inside (get p.grove.nodes) (get p.grove.boards) p.grove.root R.can.forest key part R.are k s.canvas at s.held)))
       (λ f. f))
 
   pub orders_left : (orders : List (Option Listing)) → AreOrderedBy h p.links orders → AreOrdered h w orders
   orders_left orders O =
-      ordered_by_wires h w p.links (record { own = (forest_left p place key part R h n T).own; ports = told_kept; inside = inside_left; linked = linked_left }) orders O
+      ordered_by_wires h w p.links (record { own = (forest_left p place key part R h n T).own; ports = told_kept; inside = inside_left p place key part R h n T w G; linked = linked_left p place key part R h n T w G }) orders O

@@ -56,7 +56,7 @@ there (x ∷ xs) zero l = (x, refl)
 there (x ∷ xs) (suc k) l = there xs k (omega (arith, l))
 
 -- where a row of a list stays, the list reaches it still
-reaches_still : {A X : Type 0} (f : A → X) (old new : List A) (k : ℕ) → slice_get (map f new) k ≡ slice_get (map f old) k → k < length old → k < length new
+pub reaches_still : {A X : Type 0} (f : A → X) (old new : List A) (k : ℕ) → slice_get (map f new) k ≡ slice_get (map f old) k → k < length old → k < length new
 reaches_still f old new k e l =
     let m = length-map old f in
     let x = there (map f old) k (omega (arith, l, m)) in

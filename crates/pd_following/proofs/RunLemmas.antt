@@ -51,23 +51,23 @@ use Rattle.pd_following.specs.Ports.{CanPutPort, IsPortPut, BlocksFollow, port_j
 use Rattle.pd_following.proofs.ComeLemmas.{same_side, ready_holds, ready_same}
 use Rattle.pd_following.proofs.WireLemmas.{wires_raised, inside_raised, links_stay, order_stays}
 
-known_had : (g : Grove) (w : Web) → ((side : Side) (k : ℕ) → ports_told w side k ≡ jacks_at side g k) → KnowsHomes w → (j k i : ℕ) → port_told w j ≡ Some (k, i) → IsPortOf g j k i
+pub known_had : (g : Grove) (w : Web) → ((side : Side) (k : ℕ) → ports_told w side k ≡ jacks_at side g k) → KnowsHomes w → (j k i : ℕ) → port_told w j ≡ Some (k, i) → IsPortOf g j k i
 known_had g w ports known j k i h =
     let t = known.told k j i h in record { side = t.0; told = ap (λ (js : List Jack). box_in (slice_get js i)) (sym (ports t.0 k)) ∙ t.1 }
 
-known_found : (g : Grove) (w : Web) → ((side : Side) (k : ℕ) → ports_told w side k ≡ jacks_at side g k) → KnowsHomes w → (j k i : ℕ) → IsPortOf g j k i → IsSome (port_told w j)
+pub known_found : (g : Grove) (w : Web) → ((side : Side) (k : ℕ) → ports_told w side k ≡ jacks_at side g k) → KnowsHomes w → (j k i : ℕ) → IsPortOf g j k i → IsSome (port_told w j)
 known_found g w ports known j k i is = ap is_some (known.found is.side j k i (ap (λ (js : List Jack). box_in (slice_get js i)) (ports is.side k) ∙ is.told))
 
 silent_count : length silent_block ≡ 64
 unfolding silent_block
 silent_count = length-replicate 64 (pos 0)
 
-silent_sizes : (n : ℕ) → block_sizes (replicate n silent_block) ≡ replicate n 64
+pub silent_sizes : (n : ℕ) → block_sizes (replicate n silent_block) ≡ replicate n 64
 silent_sizes zero = refl
 silent_sizes (suc n) =
     ap (λ (size : ℕ). size ∷ block_sizes (replicate n silent_block)) silent_count ∙ ap (λ (sizes : List ℕ). 64 ∷ sizes) (silent_sizes n)
 
-outlets_differ : Inlets ≡ Outlets → ⊥
+pub outlets_differ : Inlets ≡ Outlets → ⊥
 outlets_differ e = cc
 
 -- The patch as it is with the box, and the web that has followed it.

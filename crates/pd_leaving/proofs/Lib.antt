@@ -5,3 +5,5 @@ pub mod PortWireLemmas
 pub mod PortWalkLemmas
 pub mod BlockLemmas
 pub mod OutLemmas
+pub mod BackLemmas
+pub mod GoneLemmas

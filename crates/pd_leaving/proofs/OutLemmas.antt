@@ -20,7 +20,7 @@ use Rattle.pd_clearing.specs.Layers.{DropsOrders, IsHeldByOne}
 use Rattle.pd_clearing.proofs.ReadyLemmas.{IsReady}
 
 -- the only box among one is that
-only_one : (x key : ℕ) → IsTrue (is_among (key ∷ []) x) → x ≡ key
+pub only_one : (x key : ℕ) → IsTrue (is_among (key ∷ []) x) → x ≡ key
 only_one x key t = ⊎_elim (λ e. eqb-true x key e) (λ e. absurd (false≢true e)) (or_cases (x == key) false t)
 
 pub leaf_ready : (p : Patch) (place : Place) (key : ℕ) → CanPut p → slice_get (keys_at p.grove place.canvas) place.number ≡ Some key → inner_in (get p.grove.nodes key) ≡ None → Meet p.web
