@@ -7,3 +7,4 @@ pub mod BlockLemmas
 pub mod OutLemmas
 pub mod BackLemmas
 pub mod GoneLemmas
+pub mod AfterLemmas
