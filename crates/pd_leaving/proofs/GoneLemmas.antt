@@ -1,5 +1,5 @@
 -- A port box without wires is out of its canvas: what is left of a running patch, and what the box around asks to lose its port.
-use Rattle.std.proofs.Common.{◌≡◌, ◌≢◌, ℕ, ◌+◌, ◌<◌, ◌≤◌, ◌==◌, ◌||◌, Bool, true, false, cond, List, [], ◌∷◌, length, slice_get, Option, Some, None, IsTrue, IsSome, inl, inr, eq-eqb, eqb-true, refl, sym, ap, ◌∙◌, subst, arith}
+use Rattle.std.proofs.Common.{◌≡◌, ◌≢◌, ℕ, suc, ◌+◌, ◌<◌, ◌≤◌, ◌==◌, ◌||◌, Bool, true, false, cond, List, [], ◌∷◌, length, slice_get, Option, Some, None, IsTrue, IsSome, inl, inr, eq-eqb, eqb-true, refl, sym, ap, ◌∙◌, subst, arith}
 use mathlib.Core.Logic.{⊎_elim}
 use Rattle.std.proofs.lemmas.Bool.{cases_eq, false≢true}
 use Rattle.std.proofs.lemmas.Option.{none-some, same_Some}
@@ -38,7 +38,9 @@ use Rattle.pd_clearing.proofs.ReadyLemmas.{drop_at, forest_left, keys_stay, orde
 use Rattle.pd_clearing.proofs.WireLemmas.{inside_left, linked_left}
 use Rattle.pd_following.specs.Ports.{port_jack}
 use Rattle.pd_following.specs.Raising.{IsOneMore}
+use Rattle.pd_following.proofs.ComeLemmas.{same_side}
 use Rattle.pd_following.proofs.JackLemmas.{holder_old, jacks_same}
+use Rattle.pd_following.proofs.ListLemmas.{insert_length}
 use Rattle.pd_leaving.specs.Leaving.{GoesOut}
 use Rattle.pd_leaving.proofs.BackLemmas.{no_keys}
 use Rattle.pd_leaving.proofs.GraftLemmas.{one_box_more}
@@ -128,7 +130,7 @@ module _ (r o : Patch) (table : Names) (place : Place) (key : ℕ) (can : CanPut
     pub same_jacks : (t : Side) (l : ℕ) → l ≢ key → (l ≡ holder → t ≢ side) → jacks_at t r.grove l ≡ jacks_at t o.grove l
     same_jacks = jacks_same o.grove r.grove place.canvas key O.node (keys_before r place) (keys_past r place) X r.grove.root F holder held_now side port_is
 
-    ports_had : ports_told o.web side holder ≡ jacks_at side r.grove holder
+    pub ports_had : ports_told o.web side holder ≡ jacks_at side r.grove holder
     ports_had = O.ports.other_ports side holder holder_other ∙ can.runs.ports.ports side holder
 
     module _ (port : ℕ) (told : port_told r.web key ≡ Some (holder, port)) where
@@ -137,6 +139,19 @@ module _ (r o : Patch) (table : Names) (place : Place) (key : ℕ) (can : CanPut
 
       pub one_more : (w : Web) → ports_told w side holder ≡ jacks_at side o.grove holder → IsOneMore w r.grove holder side port (port_jack side O.node.kind key)
       one_more = one_more_before o.grove r.grove place.canvas key O.node (keys_before r place) (keys_past r place) X r.grove.root F holder held_now side port_is o.web ports_had known port told_now
+
+      -- there were no fewer ports on either side
+      pub no_fewer : (t : Side) → length (jacks_at t o.grove holder) ≤ length (ports_told r.web t holder)
+      no_fewer t = elim (same_side t side) [
+        | inl e ↦
+            let now : length (ports_told r.web t holder) ≡ suc (length (jacks_at t o.grove holder)) =
+            subst (λ (x : Side). length (ports_told r.web x holder) ≡ suc (length (jacks_at x o.grove holder))) (sym e)
+            (ap length (sym (O.ports.other_ports side holder holder_other))
+            ∙ ap length (has_more o.grove r.grove place.canvas key O.node (keys_before r place) (keys_past r place) X r.grove.root F holder held_now side port_is o.web ports_had known port told_now)
+            ∙ insert_length (jacks_at side o.grove holder) port (port_jack side O.node.kind key)) in
+            omega (arith, now)
+        | inr d ↦ let now = ap length (can.runs.ports.ports t holder ∙ same_jacks t holder holder_other (λ _. d)) in omega (arith, now)
+      ]
 
       pub free_out : AreFreeFor o.web holder side (jacks_at side o.grove holder)
       free_out = free_for_left o.grove r.grove place.canvas key O.node (keys_before r place) (keys_past r place) X r.grove.root F holder held_now side port_is o.web ports_had known port told_now

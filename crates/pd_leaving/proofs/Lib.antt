@@ -8,3 +8,4 @@ pub mod OutLemmas
 pub mod BackLemmas
 pub mod GoneLemmas
 pub mod AfterLemmas
+pub mod TakeLemmas

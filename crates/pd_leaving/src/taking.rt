@@ -4,8 +4,10 @@ ghost use Rattle.std.specs.Prelude.{◌≡◌, ◌<◌, ◌+◌, length, None, S
 ghost use Rattle.slab.specs.Slab.{get};
 ghost use Rattle.pd_grove.specs.Telling.{inner_in};
 ghost use Rattle.pd_web.specs.Canvases.{keys_at};
-ghost use Rattle.pd_web.specs.Changes.{wires_told, HasRoom, Meet};
+ghost use Rattle.pd_web.specs.Changes.{wires_told, HasRoom, KeepsRoom, Meet};
 ghost use Rattle.pd_ports.specs.Boxes.{HasNoWires};
+ghost use Rattle.pd_ports.specs.Known.{KnowsHomes};
+ghost use Rattle.pd_placing.specs.Placing.{LacksBox};
 ghost use Rattle.pd_boxes.specs.Put.{CanPut};
 ghost use Rattle.pd_leaving.specs.Leaving.{CanTakePort, GoesOut, IsPortTaken};
 ghost use Rattle.pd_leaving.specs.Room.{TakesLoss};
@@ -20,7 +22,7 @@ use pd_order::Steps;
 use pd_owning::{spot_at, unbind_box};
 use pd_patch::Patch;
 use pd_placing::displace_box;
-use pd_ports::{close_box, port_boxes_are_known, wires_still_meet};
+use pd_ports::{close_box, port_boxes_are_known, port_boxes_stay_known, wires_still_meet};
 use pd_taking::loosen;
 use std::alloc::Global;
 use std::sync::ledger::Ledger;
@@ -76,9 +78,13 @@ fn take_out(
     requires reached { key < length patch.old.values.items }
     requires near { HasRoom patch.old.web (key + 1) 0 0 }
     ensures out { GoesOut patch.old patch.new symbols.old place key }
+    ensures known { KnowsHomes patch.new.web }
+    ensures lacks { LacksBox patch.old.grove patch.old.links patch.new.orders.items place.canvas key }
+    ensures room { KeepsRoom patch.old.web patch.new.web }
     ensures table { symbols.new ≡ symbols.old }
 {
     port_boxes_are_known();
+    port_boxes_stay_known();
     let spot = spot_at(&patch.grove, key);
     displace_box(
         &mut patch.orders,

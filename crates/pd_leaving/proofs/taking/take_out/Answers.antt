@@ -85,3 +85,10 @@ returns-clause-out c =
       rate = refl;
       present = refl;
     }
+
+pub returns-clause-known : goal.returns-clause-known
+returns-clause-known c =
+    let p = c.args.patch.now in
+    let ports = c.requires.can.runs.ports in
+    c.port_boxes_stay_known.ensures.closed p.web c.close_box.new.web c.args.key c.close_box.ensures.ports c.close_box.ensures.homes
+    (c.port_boxes_are_known.ensures.known p.grove p.web c.requires.can.forest.own (hold_alone p.grove c.requires.can.forest) ports.ports ports.homes ports.homes_found)
