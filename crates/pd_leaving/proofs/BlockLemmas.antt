@@ -1,10 +1,12 @@
 -- Outlets that carry signals, without one of them.
 use Rattle.std.proofs.Common.{◌≡◌, ◌≢◌, ℕ, zero, suc, ◌<◌, ◌≤◌, ◌||◌, Bool, true, false, List, [], ◌∷◌, length, slice_get, inl, inr, true≢false, refl, sym, ap, ◌∙◌, arith}
+use Rattle.std.specs.Prelude.{if◌then◌else◌}
 use Rattle.std.specs.List.{insert, list_any}
 use Rattle.std.proofs.lemmas.Bool.{cases_lt}
 use Rattle.std.proofs.lemmas.Option.{slice_get_past}
 use Rattle.pd_web.specs.declared.jacks.Jack.{Jack}
 use Rattle.pd_web.specs.Hops.{signal_in}
+use Rattle.pd_patch.specs.Values.{block_count}
 use Rattle.pd_following.proofs.ReserveLemmas.{no_signal, some_signal}
 use Rattle.pd_leaving.specs.Room.{without_at}
 
@@ -50,3 +52,7 @@ pub as_long : (js : List Jack) (port : ℕ) → length js ≤ port → length (w
 as_long [] port l = refl
 as_long (j ∷ js) zero l = absurd (omega (arith, l))
 as_long (j ∷ js) (suc port) l = ap suc (as_long js port (omega (arith, l)))
+
+-- so many blocks there are, where one of so many outlets carries signals
+pub count_then : (js : List Jack) (n : ℕ) → list_any (λ (j : Jack). j.is_signal) js ≡ true → length js ≡ n → n ≡ block_count js
+count_then js n any count = sym count ∙ sym (ap (λ (b : Bool). if b then length js else 0) any)

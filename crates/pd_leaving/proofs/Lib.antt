@@ -9,3 +9,4 @@ pub mod BackLemmas
 pub mod GoneLemmas
 pub mod AfterLemmas
 pub mod TakeLemmas
+pub mod RoomLemmas
