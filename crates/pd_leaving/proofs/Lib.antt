@@ -10,3 +10,4 @@ pub mod GoneLemmas
 pub mod AfterLemmas
 pub mod TakeLemmas
 pub mod RoomLemmas
+pub mod LawLemmas

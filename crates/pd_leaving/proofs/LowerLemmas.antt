@@ -63,8 +63,7 @@ module _ (w w' : Web) (key : ℕ) (side : Side) (g : Grove) (at : ℕ) (jack : J
 
   goes_down : (i : ℕ) → i < length (ports_told w' side key) → Goes (ports_told w side key) jacks (up at i) i
   goes_down i l =
-      let j = some_of (inner_in (jack_told w' side key i)) (O.boxes i l) in
-      (
+      let j = some_of (inner_in (jack_told w' side key i)) (O.boxes i l) in (
         j.0,
         ap (λ (js : List Jack). inner_in (slice_get js (up at i))) one_less ∙ ap inner_in (insert_up (ports_told w' side key) at i jack O.within) ∙ j.1,
         ap (λ (js : List Jack). inner_in (slice_get js i)) (sym F.ports) ∙ j.1,
@@ -120,13 +119,13 @@ module _ (w w' : Web) (key : ℕ) (side : Side) (g : Grove) (at : ℕ) (jack : J
                   }
             ]
         | inr away ↦ record {
-            line = l;
-            told = F.other_lines k l s told stands away;
-            box = refl;
-            port = ap (λ (t : Bool). cond t (up at (port_of side l)) (port_of side l)) (sym (differ_test (box_of side l) key away));
-            near_box = refl;
-            near_port = refl;
-          }
+          line = l;
+          told = F.other_lines k l s told stands away;
+          box = refl;
+          port = ap (λ (t : Bool). cond t (up at (port_of side l)) (port_of side l)) (sym (differ_test (box_of side l) key away));
+          near_box = refl;
+          near_port = refl;
+        }
       ]
 
   -- a wire at a port of this side leads where it led

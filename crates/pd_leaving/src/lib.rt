@@ -8,17 +8,22 @@
 //! around has as many silent blocks as it asks for now. It takes no memory and can't fail, and every other port and block, every other wire,
 //! every clock, and the orders of canvases but these two stay (`IsPortTaken`).
 //!
+//! Laws: where room was set aside port boxes can go as they could (`loss_room_changes_nothing`); feeds that were in order are
+//! (`feeds_in_order_stay_so`).
+//!
 //! Free: want of memory in `port_wires_at` and `reserve_loss`.
 //!
 //! Definitions: `Wires` (the wires at a port), `Leaving` (what goes and what stays), `Room`.
 #![tactic(auto)]
 
+mod laws;
 mod leaving;
 mod listing;
 mod reserving;
 mod room;
 mod taking;
 
+pub use laws::{feeds_in_order_stay_so, loss_room_changes_nothing};
 pub use listing::port_wires_at;
 pub use reserving::reserve_loss;
 pub use room::PortLoss;

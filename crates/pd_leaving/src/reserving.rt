@@ -22,7 +22,12 @@ use std::alloc::{AllocError, Global};
 /// # Errors
 ///
 /// `AllocError` where memory ran out.
-pub fn reserve_loss(alloc: Global, patch: &mut Patch, key: u32, port: Spot) -> Result<PortLoss, AllocError>
+pub fn reserve_loss(
+    alloc: Global,
+    patch: &mut Patch,
+    key: u32,
+    port: Spot,
+) -> Result<PortLoss, AllocError>
     requires meet { Meet patch.old.web }
     ensures same { SameButRoom patch.old patch.new }
     ensures key { IfOk result (λ loss. loss.key ≡ key) }

@@ -63,13 +63,7 @@ pub fn take_port<L: Ledger>(
 }
 
 /// Takes a box without wires and without a canvas inside out of every layer but that of the ports of other boxes.
-fn take_out(
-    patch: &mut Patch,
-    alloc: Global,
-    place: Place,
-    key: u32,
-    symbols: &mut Symbols,
-)
+fn take_out(patch: &mut Patch, alloc: Global, place: Place, key: u32, symbols: &mut Symbols)
     requires can { CanPut patch.old }
     requires is { slice_get (keys_at patch.old.grove place.canvas) place.number ≡ Some key }
     requires leaf { inner_in (get patch.old.grove.nodes key) ≡ None }

@@ -1,0 +1,102 @@
+-- Where room was set aside port boxes can go as they could, and feeds stay in order where a box has a port fewer.
+use Rattle.std.proofs.Common.{◌≡◌, ◌≢◌, ℕ, suc, ◌+◌, ◌<◌, ◌≤◌, cond, List, map, length, length-append, slice_get, Some, inl, inr, eq-eqb, refl, sym, ap, ◌∙◌, subst, arith}
+use Rattle.std.specs.Prelude.{option_map, replicate, Bool, Option, IsSome}
+use Rattle.std.proofs.lemmas.Bool.{cases_eq, cases_lt}
+use Rattle.std.proofs.lemmas.List.{length-map}
+use Rattle.std.proofs.lemmas.Option.{slice_get-map}
+use Rattle.slab.specs.Slab.{get}
+use Rattle.pd_grove.specs.declared.nodes.Node.{Node}
+use Rattle.pd_grove.specs.declared.ports.Side.{Side}
+use Rattle.pd_grove.specs.declared.ports.Side.TheVariants.{Inlets, Outlets}
+use Rattle.pd_web.specs.declared.jacks.Jack.{Jack}
+use Rattle.pd_web.specs.declared.web.Hop.{Hop}
+use Rattle.pd_web.specs.declared.web.Web.{Web}
+use Rattle.pd_web.specs.Hops.{feed_hops}
+use Rattle.pd_patch.specs.declared.patch.Patch.{Patch}
+use Rattle.pd_patch.specs.Values.{blocks_told}
+use Rattle.pd_seek.specs.Places.{label_at, AreInOrder, IsNoLater}
+use Rattle.pd_moving.specs.Orders.{AreAllInOrder, HasOwnLabel}
+use Rattle.pd_boxes.specs.declared.room.Place.{Place}
+use Rattle.pd_boxes.specs.Room.{SameButRoom}
+use Rattle.pd_boxes.proofs.RoomLemmas.{keys_same, room_put}
+use Rattle.pd_following.specs.Raising.{up, raised, Raises}
+use Rattle.pd_following.proofs.ListLemmas.{up_before, up_behind}
+use Rattle.pd_following.proofs.RaiseLemmas.{differ_test}
+use Rattle.pd_following.proofs.ReserveLemmas.{holder_same, meet_same}
+use Rattle.pd_leaving.specs.Leaving.{CanTakePort}
+
+-- Room.
+
+pub still_taken : (p q : Patch) (place : Place) (key holder : ℕ) (side : Side) (port : ℕ) → SameButRoom p q → CanTakePort p place key holder side port → CanTakePort q place key holder side port
+still_taken p q place key holder side port S C = record {
+  can = room_put p q S C.can;
+  meet = meet_same p.web q.web S.web C.meet;
+  is = ap (λ (ks : List ℕ). slice_get ks place.number) (keys_same p.grove q.grove S.grove place.canvas) ∙ C.is;
+  node = C.node;
+  stands = S.grove.nodes key ∙ C.stands;
+  leaf = C.leaf;
+  at = record {
+    held = holder_same (get p.grove.boards place.canvas) (get q.grove.boards place.canvas) (S.grove.boards place.canvas) ∙ C.at.held;
+    port = C.at.port;
+  };
+  numbered = S.web.kept.homes key ∙ C.numbered;
+  reached = λ k live.
+      let low = C.reached k (subst (λ (o : Option Node). IsSome o) (S.grove.nodes k) live) in
+      let a = length-map p.values.items (λ b. b.items) in
+      let b = length-map q.values.items (λ b. b.items) in
+      let e = ap (λ bs. length bs) S.values.1 ∙ length-append (blocks_told p) (replicate S.values.0 _) in
+      omega (arith, low, a, b, e);
+}
+
+-- Feeds.
+
+up_back : (at i j : ℕ) → up at i ≤ up at j → i ≤ j
+up_back at i j h = elim (cases_lt i at) [
+  | inl l ↦ elim (cases_lt j at) [
+    | inl m ↦ let u = up_before at i l in let v = up_before at j m in omega (arith, u, v, h)
+    | inr m ↦ omega (arith, l, m)
+  ]
+  | inr l ↦ elim (cases_lt j at) [
+    | inl m ↦ let u = up_behind at i l in let v = up_before at j m in omega (arith, u, v, h, m, l)
+    | inr m ↦ let u = up_behind at i l in let v = up_behind at j m in omega (arith, u, v, h)
+  ]
+]
+
+module _ (w w' : Web) (key at : ℕ) (jack : Jack) (labels : List ℕ) where
+  inlets_lowered : Raises w w' key Inlets at jack → AreAllInOrder labels w' → AreAllInOrder labels w
+  inlets_lowered X order n i = elim (cases_eq n key) [
+    | inr d ↦ subst (AreInOrder labels) (X.others n i d) (order n i)
+    | inl e ↦ subst (AreInOrder labels) (X.own i ∙ sym (ap (λ x. feed_hops w x i) e)) (order key (up at i))
+  ]
+
+  lowered_later : (g h : Hop) → (label_at labels g.node ≡ label_at labels key → g.node ≡ key) → (label_at labels h.node ≡ label_at labels key → h.node ≡ key)
+      → IsNoLater labels (raised key at g) (raised key at h) → IsNoLater labels g h
+  lowered_later g h own also (inl less) = inl less
+  lowered_later g h own also (inr same) = inr (
+    same.0,
+    elim (cases_eq g.node key) [
+      | inl e ↦
+          let f : h.node ≡ key = also (sym same.0 ∙ ap (label_at labels) e) in
+          let a = ap (λ (b : Bool). cond b (up at g.port) g.port) (eq-eqb g.node key e) in
+          let b = ap (λ (b : Bool). cond b (up at h.port) h.port) (eq-eqb h.node key f) in
+          let l = same.1 in
+          up_back at g.port h.port (omega (arith, a, b, l))
+      | inr d ↦
+          let f : h.node ≢ key = (λ e. d (own (same.0 ∙ ap (label_at labels) e))) in
+          let a = ap (λ (b : Bool). cond b (up at g.port) g.port) (differ_test g.node key d) in
+          let b = ap (λ (b : Bool). cond b (up at h.port) h.port) (differ_test h.node key f) in
+          let l = same.1 in
+          omega (arith, a, b, l)
+    ],
+  )
+
+  outlets_lowered : Raises w w' key Outlets at jack → HasOwnLabel labels w' key → AreAllInOrder labels w' → AreAllInOrder labels w
+  outlets_lowered X own order n i p q g h l a b =
+      let up_there : (j : ℕ) (x : Hop) → slice_get (feed_hops w n i) j ≡ Some x → slice_get (feed_hops w' n i) j ≡ Some (raised key at x) = (λ j x e.
+      ap (λ (hs : List Hop). slice_get hs j) (X.across n i) ∙ slice_get-map (raised key at) (feed_hops w n i) j ∙ ap (option_map (raised key at)) e) in
+      lowered_later g h (own n i p (raised key at g) (up_there p g a)) (own n i q (raised key at h) (up_there q h b))
+      (order n i p q (raised key at g) (raised key at h) l (up_there p g a) (up_there q h b))
+
+pub feeds_lowered : (w w' : Web) (key : ℕ) (side : Side) (at : ℕ) (jack : Jack) (labels : List ℕ) → Raises w w' key side at jack → HasOwnLabel labels w' key → AreAllInOrder labels w' → AreAllInOrder labels w
+feeds_lowered w w' key Inlets at jack labels X own order = inlets_lowered w w' key at jack labels X order
+feeds_lowered w w' key Outlets at jack labels X own order = outlets_lowered w w' key at jack labels X own order
