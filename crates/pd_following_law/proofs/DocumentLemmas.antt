@@ -48,11 +48,11 @@ all_at P [] i x a e = absurd (none-some x e)
 all_at P (y ∷ xs) zero x a e = subst P (same_Some y x e) a.0
 all_at P (y ∷ xs) (suc i) x a e = all_at P xs i x a.1 e
 
-lives_by : (o : Option Board) (i k : ℕ) → slice_get (keys_in o) i ≡ Some k → IsSome o
+pub lives_by : (o : Option Board) (i k : ℕ) → slice_get (keys_in o) i ≡ Some k → IsSome o
 lives_by None i k e = absurd (none-some k e)
 lives_by (Some b) i k e = refl
 
-short : (a b : ℕ) → a ≤ b → b ≤ 256 → a ≤ 256
+pub short : (a b : ℕ) → a ≤ b → b ≤ 256 → a ≤ 256
 short a b h k = omega (arith, h, k)
 
 module _ (p q : Patch) (table : Names) (place : Place) (s : Seed) (key holder : ℕ) (side : Side) (P : CanPutPort p place s holder side) (I : IsPortPut p q table place s key holder side)

@@ -47,7 +47,7 @@ or_true : (b : Bool) → (b || true) ≡ true
 or_true true = refl
 or_true false = refl
 
-among_told : (numbers : List ℕ) (side : Side) (key port : ℕ) (hops : List Hop) (i : ℕ) (h : Hop) → slice_get hops i ≡ Some h → is_among (map (wire_at numbers side key port) hops) h.key ≡ true
+pub among_told : (numbers : List ℕ) (side : Side) (key port : ℕ) (hops : List Hop) (i : ℕ) (h : Hop) → slice_get hops i ≡ Some h → is_among (map (wire_at numbers side key port) hops) h.key ≡ true
 among_told numbers side key port [] i h e = absurd (none-some h e)
 among_told numbers side key port (x ∷ hops) zero h e =
     ap (λ (b : Bool). b || is_among (map (wire_at numbers side key port) hops) h.key) (eq-eqb h.key x.key (sym (ap (λ (y : Hop). y.key) (same_Some x h e))))
