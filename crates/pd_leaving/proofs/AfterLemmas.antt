@@ -1,12 +1,11 @@
 -- The box around has lost its port: a patch that ran goes on to run.
-use Rattle.std.proofs.Common.{◌≡◌, ◌≢◌, ℕ, ℤ, ◌<◌, List, [], ◌∷◌, length, slice_get, Option, Some, None, IsSome, inl, inr, refl, sym, ap, ◌∙◌, subst, arith}
+use Rattle.std.proofs.Common.{◌≡◌, ◌≢◌, ℕ, ℤ, ◌<◌, List, [], ◌∷◌, slice_get, Option, Some, None, IsSome, inl, inr, refl, sym, ap, ◌∙◌, subst}
 use Rattle.std.specs.Prelude.{option_map, option_and_then, replicate}
 use Rattle.std.proofs.lemmas.Bool.{cases_eq, false≢true}
-use Rattle.std.proofs.lemmas.Option.{none-some, same_Some}
+use Rattle.std.proofs.lemmas.Option.{none-some}
 use Rattle.slab.specs.Slab.{get}
 use Rattle.pd_atom.specs.Names.{Names}
 use Rattle.pd_clock.specs.declared.times.Rate.{Rate}
-use Rattle.pd_order.specs.Listing.{Listing}
 use Rattle.pd_links.specs.declared.links.Links.{Links}
 use Rattle.pd_grove.specs.declared.grove.Grove.{Grove}
 use Rattle.pd_grove.specs.declared.ports.Side.{Side}
@@ -18,10 +17,9 @@ use Rattle.pd_grove.specs.Telling.{inner_in}
 use Rattle.pd_bind.specs.Owning.{root_owner, owners_in}
 use Rattle.pd_name.specs.Rows.{owners_of}
 use Rattle.pd_web.specs.declared.jacks.Jack.{Jack}
-use Rattle.pd_web.specs.declared.web.Web.{Web}
 use Rattle.pd_web.specs.Canvases.{keys_at}
 use Rattle.pd_web.specs.Changes.{KeepsRoom, Meet}
-use Rattle.pd_web.specs.Hops.{ports_told, port_told}
+use Rattle.pd_web.specs.Hops.{ports_told}
 use Rattle.pd_web.specs.Jacks.{jacks_at, jacks_in, made_in, KindsSmall}
 use Rattle.pd_web.specs.Sockets.{made_at}
 use Rattle.pd_ports.specs.Boxes.{HasNoWires}
@@ -33,7 +31,7 @@ use Rattle.pd_patch.specs.Numbers.{AreUnder}
 use Rattle.pd_patch.specs.Orders.{AreOrdered}
 use Rattle.pd_patch.specs.Values.{block_at, block_count, blocks_told}
 use Rattle.pd_wiring.specs.Changes.{CanRewire}
-use Rattle.pd_wiring.specs.Graphs.{AreOrderedBy, AreWired}
+use Rattle.pd_wiring.specs.Graphs.{AreWired}
 use Rattle.pd_wiring.proofs.GraphLemmas.{ordered_by_wires}
 use Rattle.pd_placing.specs.Placing.{LacksBox}
 use Rattle.pd_boxes.specs.declared.room.Place.{Place}

@@ -1,13 +1,10 @@
 -- A port box without wires is out of its canvas: what is left of a running patch, and what the box around asks to lose its port.
-use Rattle.std.proofs.Common.{◌≡◌, ◌≢◌, ℕ, suc, ◌+◌, ◌<◌, ◌≤◌, ◌==◌, ◌||◌, Bool, true, false, cond, List, [], ◌∷◌, length, slice_get, Option, Some, None, IsTrue, IsSome, inl, inr, eq-eqb, eqb-true, refl, sym, ap, ◌∙◌, subst, arith}
+use Rattle.std.proofs.Common.{◌≡◌, ◌≢◌, ℕ, suc, ◌+◌, ◌≤◌, ◌==◌, ◌||◌, Bool, true, false, cond, [], ◌∷◌, length, slice_get, Option, Some, None, IsSome, inl, inr, eq-eqb, eqb-true, refl, sym, ap, ◌∙◌, subst, arith}
 use mathlib.Core.Logic.{⊎_elim}
 use Rattle.std.proofs.lemmas.Bool.{cases_eq, false≢true}
-use Rattle.std.proofs.lemmas.Option.{none-some, same_Some}
+use Rattle.std.proofs.lemmas.Option.{same_Some}
 use Rattle.slab.specs.Slab.{get}
 use Rattle.pd_atom.specs.Names.{Names}
-use Rattle.pd_order.specs.Listing.{Listing}
-use Rattle.pd_links.specs.declared.links.Links.{Links}
-use Rattle.pd_grove.specs.declared.nodes.Node.{Node}
 use Rattle.pd_grove.specs.declared.ports.Side.{Side}
 use Rattle.pd_grove.specs.declared.ports.Side.TheVariants.{Inlets, Outlets}
 use Rattle.pd_grove.specs.Forest.{holder_in, IsForest}
@@ -19,11 +16,10 @@ use Rattle.pd_web.specs.declared.web.Web.{Web}
 use Rattle.pd_web.specs.Canvases.{keys_at}
 use Rattle.pd_web.specs.Changes.{KeepsRoom, Meet}
 use Rattle.pd_web.specs.Hops.{ports_told, port_told}
-use Rattle.pd_web.specs.Jacks.{jacks_at, made_in}
+use Rattle.pd_web.specs.Jacks.{jacks_at}
 use Rattle.pd_web.specs.Sockets.{made_at}
 use Rattle.pd_ports.specs.Boxes.{but_of, HasNoWires}
 use Rattle.pd_ports.specs.Known.{AreBareWithout, AreFreeFor, KnowsHomes}
-use Rattle.pd_ports.specs.Moves.{keys_at as wires_at}
 use Rattle.pd_patch.specs.declared.patch.Patch.{Patch}
 use Rattle.pd_patch.specs.Linked.{HasLinks, StayInside}
 use Rattle.pd_patch.specs.Numbers.{AreUnder}

@@ -1,5 +1,5 @@
 -- Where room was set aside port boxes can go as they could, and feeds stay in order where a box has a port fewer.
-use Rattle.std.proofs.Common.{◌≡◌, ◌≢◌, ℕ, suc, ◌+◌, ◌<◌, ◌≤◌, cond, List, map, length, length-append, slice_get, Some, inl, inr, eq-eqb, refl, sym, ap, ◌∙◌, subst, arith}
+use Rattle.std.proofs.Common.{◌≡◌, ◌≢◌, ℕ, ◌≤◌, cond, List, length, length-append, slice_get, Some, inl, inr, eq-eqb, sym, ap, ◌∙◌, subst, arith}
 use Rattle.std.specs.Prelude.{option_map, replicate, Bool, Option, IsSome}
 use Rattle.std.proofs.lemmas.Bool.{cases_eq, cases_lt}
 use Rattle.std.proofs.lemmas.List.{length-map}

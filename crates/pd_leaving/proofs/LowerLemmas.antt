@@ -1,5 +1,5 @@
 -- A side of a box that follows its canvas, where that has one port fewer.
-use Rattle.std.proofs.Common.{◌≡◌, ◌≢◌, ℕ, suc, ◌<◌, ◌≤◌, ◌==◌, Bool, cond, List, [], map, length, slice_get, Some, inl, inr, eq-eqb, refl, sym, ap, ◌∙◌, subst, arith}
+use Rattle.std.proofs.Common.{◌≡◌, ℕ, suc, ◌<◌, ◌≤◌, ◌==◌, Bool, cond, List, [], map, length, slice_get, Some, inl, inr, eq-eqb, refl, sym, ap, ◌∙◌, subst, arith}
 use Rattle.std.specs.Prelude.{option_map}
 use Rattle.std.specs.List.{insert}
 use Rattle.std.proofs.lemmas.Bool.{cases_eq, cases_lt}
@@ -19,9 +19,9 @@ use Rattle.pd_web.specs.Wiring.{source_at, sink_at}
 use Rattle.pd_ports.specs.Known.{AreBareWithout}
 use Rattle.pd_ports.specs.Moves.{Goes, FollowsPorts, keys_at, box_of, port_of, with_port, StandsOn}
 use Rattle.pd_following.specs.Raising.{up, raised, other, hops_at, Raises, IsOneMore}
-use Rattle.pd_following.proofs.ListLemmas.{insert_here, insert_up, insert_length, map_same, up_before, up_behind, up_or}
+use Rattle.pd_following.proofs.ListLemmas.{insert_here, insert_up, insert_length, map_same, up_behind, up_or}
 use Rattle.pd_following.proofs.FeedLemmas.{mapped_from}
-use Rattle.pd_following.proofs.RaiseLemmas.{differ_test, hop_across, hop_key, hops_keys, keys_past, keys_within, line_at, line_hop, map_then, other_box, other_differs, other_port, own_box, own_port, some_of, twice, FansTold, FeedsTold, LineAt}
+use Rattle.pd_following.proofs.RaiseLemmas.{differ_test, hop_across, hop_key, hops_keys, keys_past, keys_within, line_at, line_hop, map_then, other_box, other_differs, other_port, own_box, own_port, some_of, twice, FansTold, FeedsTold}
 
 -- a wire that stands at a port stands at the port at its other end
 across_stands : (w : Web) → Meet w → (s : Side) (n i p k : ℕ) (l : Line) → slice_get (keys_at w s n i) p ≡ Some k → line_told w k ≡ Some l

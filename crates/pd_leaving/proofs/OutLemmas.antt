@@ -1,11 +1,10 @@
 -- A box without wires and without a canvas inside is ready to go, and what it leaves.
-use Rattle.std.proofs.Common.{◌≡◌, ◌≢◌, ℕ, ◌==◌, ◌||◌, Bool, true, false, List, [], ◌∷◌, ◌++◌, Option, Some, None, IsTrue, IsSome, eqb-true, true≢false, refl, sym, ap, ◌∙◌, subst}
+use Rattle.std.proofs.Common.{◌≡◌, ℕ, ◌==◌, false, List, [], ◌∷◌, Option, Some, None, IsTrue, eqb-true, refl, sym, ap, ◌∙◌, subst}
 use Rattle.std.specs.Prelude.{slice_get}
 use Rattle.std.proofs.lemmas.Bool.{or_cases, false≢true}
 use Rattle.std.proofs.lemmas.Option.{none-some}
 use mathlib.Core.Logic.{⊎_elim}
 use Rattle.slab.specs.Slab.{get}
-use Rattle.pd_atom.specs.Names.{Names}
 use Rattle.pd_order.specs.Listing.{Listing}
 use Rattle.pd_grove.specs.Telling.{inner_in}
 use Rattle.pd_owning.specs.Bound.{is_among}
@@ -16,7 +15,7 @@ use Rattle.pd_ports.specs.Boxes.{HasNoWires}
 use Rattle.pd_patch.specs.declared.patch.Patch.{Patch}
 use Rattle.pd_boxes.specs.declared.room.Place.{Place}
 use Rattle.pd_boxes.specs.Put.{CanPut}
-use Rattle.pd_clearing.specs.Layers.{DropsOrders, IsHeldByOne}
+use Rattle.pd_clearing.specs.Layers.{DropsOrders}
 use Rattle.pd_clearing.proofs.ReadyLemmas.{IsReady}
 
 -- the only box among one is that

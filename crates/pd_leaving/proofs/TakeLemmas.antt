@@ -1,5 +1,5 @@
 -- The wires at a port box, and at the port that it is, are gone: it is ready to go.
-use Rattle.std.proofs.Common.{◌≡◌, ◌≢◌, ℕ, ℤ, ◌+◌, ◌<◌, ◌≤◌, Bool, List, [], filter, map, length, slice_get, Option, Some, None, IsSome, refl, sym, ap, ◌∙◌, subst, arith}
+use Rattle.std.proofs.Common.{◌≡◌, ◌≢◌, ℕ, ℤ, ◌≤◌, List, [], filter, map, length, slice_get, Option, Some, None, IsSome, refl, sym, ap, ◌∙◌, subst}
 use Rattle.std.specs.Prelude.{replicate}
 use Rattle.std.specs.List.{insert}
 use Rattle.std.proofs.lemmas.Option.{none-some, same_Some}
@@ -14,12 +14,9 @@ use Rattle.pd_grove.specs.Owning.{board_in}
 use Rattle.pd_grove.specs.Ports.{port_signal}
 use Rattle.pd_grove.specs.Telling.{inner_in}
 use Rattle.pd_web.specs.declared.jacks.Jack.{Jack}
-use Rattle.pd_web.specs.declared.web.Hop.{Hop}
-use Rattle.pd_web.specs.declared.web.Web.{Web}
 use Rattle.pd_web.specs.Canvases.{keys_at}
-use Rattle.pd_web.specs.Changes.{HasRoom, KeepsRoom}
+use Rattle.pd_web.specs.Changes.{KeepsRoom}
 use Rattle.pd_web.specs.Hops.{port_told, ports_told}
-use Rattle.pd_ports.specs.Room.{HasLists}
 use Rattle.pd_patch.specs.declared.patch.Patch.{Patch}
 use Rattle.pd_patch.specs.Telling.{order_in}
 use Rattle.pd_patch.specs.Values.{block_count, blocks_told, first_blocks}

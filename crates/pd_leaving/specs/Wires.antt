@@ -1,5 +1,5 @@
 -- The wires at one port of a box.
-use Rattle.std.specs.Prelude.{◌≡◌, ℕ, List, map}
+use Rattle.std.specs.Prelude.{ℕ, List, map}
 use Rattle.pd_grove.specs.declared.ports.Side.{Side}
 use Rattle.pd_web.specs.declared.web.Hop.{Hop}
 use Rattle.pd_patch.specs.declared.patch.Patch.{Patch}

@@ -1,6 +1,6 @@
 //! Room for the box around where a port of it goes, and the wires at that port.
 
-ghost use Rattle.std.specs.Prelude.{◌≡◌, ℕ, IfOk, Some, length};
+ghost use Rattle.std.specs.Prelude.{◌≡◌, IfOk};
 ghost use Rattle.std.specs.List.{list_any};
 ghost use Rattle.pd_grove.specs.declared.ports.Side.TheVariants.{Outlets};
 ghost use Rattle.pd_web.specs.Changes.{Meet};

@@ -1,4 +1,4 @@
-use Rattle.std.proofs.Common.{◌≡◌, ◌-◌, ◌<◌, length, sym, ◌∙◌, arith}
+use Rattle.std.proofs.Common.{◌≡◌, ◌-◌, length, sym, ◌∙◌, arith}
 use Rattle.pd_grove.specs.declared.ports.Side.TheVariants.{Outlets}
 use Rattle.pd_web.specs.Hops.{ports_told}
 use Rattle.pd_leaving.specs.Room.{without_at}

@@ -1,5 +1,4 @@
-use Rattle.std.proofs.Common.{◌≡◌, ◌+◌, ◌<◌, ◌≤◌, false, [], length, IsSome, refl, sym, ap, ◌∙◌, subst}
-use Rattle.slab.specs.Slab.{get}
+use Rattle.std.proofs.Common.{◌≡◌, ◌+◌, ◌<◌, ◌≤◌, false, [], length, IsSome, refl, sym, ◌∙◌, subst}
 use Rattle.pd_web.specs.Hops.{ports_told}
 use Rattle.pd_web.specs.Jacks.{jacks_at}
 use Rattle.pd_grove.specs.declared.ports.Side.TheVariants.{Inlets, Outlets}
