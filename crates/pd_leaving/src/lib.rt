@@ -27,4 +27,4 @@ pub use laws::{feeds_in_order_stay_so, loss_room_changes_nothing};
 pub use listing::port_wires_at;
 pub use reserving::reserve_loss;
 pub use room::PortLoss;
-pub use taking::take_port;
+pub use taking::{TakenPort, take_port};

@@ -11,13 +11,14 @@ ghost use Rattle.pd_placing.specs.Placing.{LacksBox};
 ghost use Rattle.pd_boxes.specs.Put.{CanPut};
 ghost use Rattle.pd_leaving.specs.Leaving.{CanTakePort, GoesOut, IsPortTaken};
 ghost use Rattle.pd_leaving.specs.Room.{TakesLoss};
+ghost use Rattle.pd_leaving.specs.Wires.{port_wires};
 
 use crate::leaving::{leave_blocks, leave_port};
 use crate::room::PortLoss;
 use pd_atom::Symbols;
 use pd_boxes::{Place, put_blocks};
 use pd_clearing::lower_numbers;
-use pd_misfits::loosen_wires;
+use pd_misfits::{BoxWire, loosen_wires};
 use pd_order::Steps;
 use pd_owning::{spot_at, unbind_box};
 use pd_patch::Patch;
@@ -27,8 +28,15 @@ use pd_taking::loosen;
 use std::alloc::Global;
 use std::sync::ledger::Ledger;
 
+/// The wires at the port that a port box was, in their order, which went with it, and how many wires are left.
+#[derive(Drop)]
+pub struct TakenPort {
+    pub gone: Vec<BoxWire>,
+    pub left: usize,
+}
+
 /// Takes the port box of a place out of its canvas, with the port that it is and with all wires at both. `loss` tells its key, the port and
-/// the wires at it, `wires` is how many wires there are, and what is given how many there are then. Looks at signal wires are counted in `steps`.
+/// the wires at it, and `wires` is how many wires there are. Looks at signal wires are counted in `steps`.
 pub fn take_port<L: Ledger>(
     patch: &mut Patch,
     alloc: Global,
@@ -37,12 +45,13 @@ pub fn take_port<L: Ledger>(
     wires: usize,
     symbols: &mut Symbols,
     steps: &mut Steps<L>,
-) -> usize
+) -> TakenPort
     requires can { CanTakePort patch.old place loss.key loss.port.node loss.port.side loss.port.port }
     requires room { TakesLoss patch.old loss }
     requires counted { wires ≡ wires_told patch.old.web }
     ensures taken { IsPortTaken patch.old patch.new symbols.old place loss.key loss.port.node loss.port.side loss.port.port steps.old steps.new }
-    ensures counted { result ≡ wires_told patch.new.web }
+    ensures gone { result.gone.items ≡ port_wires patch.old loss.port.node loss.port.side loss.port.port }
+    ensures left { result.left ≡ wires_told patch.new.web }
     ensures table { symbols.new ≡ symbols.old }
 {
     port_boxes_are_known();
@@ -59,7 +68,7 @@ pub fn take_port<L: Ledger>(
     take_out(patch, alloc, place, key, symbols);
     leave_port(&mut patch.web, &patch.grove, port.node, port.side, around);
     leave_blocks(&mut patch.values, port.side, port.node, blocks);
-    left
+    TakenPort { gone, left }
 }
 
 /// Takes a box without wires and without a canvas inside out of every layer but that of the ports of other boxes.

@@ -76,8 +76,8 @@ leave_blocks-requires g c =
     reaches_still (λ b. b.items) c.loosen-left.new.patch.values.items c.take_out.new.patch.values.items c.args.loss.port.node (c.take_out.ensures.out.blocks.others c.args.loss.port.node (holder_other c.loosen-left.new.patch c.take_out.new.patch c.args.symbols.now c.args.place c.args.loss.key (can_then c.args.patch.now c.loosen_wires-left.new.patch c.loosen-left.new.patch c.args.place c.args.loss.key c.args.loss.port.node c.args.loss.port.side c.args.loss.port.port c.args.steps.now c.loosen_wires-left.new.steps c.loosen-left.new.steps c.requires.can c.loosen_wires-left.ensures.loosens (subst (Sheds c.args.patch.now.web c.loosen_wires-left.new.patch.web) (c.as_slice.ensures.value ∙ c.requires.room.wires) c.loosen_wires-left.ensures.sheds) c.loosen-left.ensures.loosens c.loosen-left.ensures.wires) (stands_then c.args.patch.now c.loosen_wires-left.new.patch c.loosen-left.new.patch c.args.place c.args.loss.key c.args.loss.port.node c.args.loss.port.side c.args.loss.port.port c.args.steps.now c.loosen_wires-left.new.steps c.loosen-left.new.steps c.requires.can c.loosen_wires-left.ensures.loosens (subst (Sheds c.args.patch.now.web c.loosen_wires-left.new.patch.web) (c.as_slice.ensures.value ∙ c.requires.room.wires) c.loosen_wires-left.ensures.sheds) c.loosen-left.ensures.loosens c.loosen-left.ensures.wires) (leaf_then c.args.patch.now c.loosen_wires-left.new.patch c.loosen-left.new.patch c.args.place c.args.loss.key c.args.loss.port.node c.args.loss.port.side c.args.loss.port.port c.args.steps.now c.loosen_wires-left.new.steps c.loosen-left.new.steps c.requires.can c.loosen_wires-left.ensures.loosens (subst (Sheds c.args.patch.now.web c.loosen_wires-left.new.patch.web) (c.as_slice.ensures.value ∙ c.requires.room.wires) c.loosen_wires-left.ensures.sheds) c.loosen-left.ensures.loosens c.loosen-left.ensures.wires) c.loosen-left.ensures.wires.meet c.loosen-left.ensures.wires.bare c.take_out.ensures.out c.take_out.ensures.known c.take_out.ensures.lacks c.take_out.ensures.room c.args.loss.port.node (held_then c.args.patch.now c.loosen_wires-left.new.patch c.loosen-left.new.patch c.args.place c.args.loss.key c.args.loss.port.node c.args.loss.port.side c.args.loss.port.port c.args.steps.now c.loosen_wires-left.new.steps c.loosen-left.new.steps c.requires.can c.loosen_wires-left.ensures.loosens (subst (Sheds c.args.patch.now.web c.loosen_wires-left.new.patch.web) (c.as_slice.ensures.value ∙ c.requires.room.wires) c.loosen_wires-left.ensures.sheds) c.loosen-left.ensures.loosens c.loosen-left.ensures.wires) c.args.loss.port.side (port_then c.args.patch.now c.loosen_wires-left.new.patch c.loosen-left.new.patch c.args.place c.args.loss.key c.args.loss.port.node c.args.loss.port.side c.args.loss.port.port c.args.steps.now c.loosen_wires-left.new.steps c.loosen-left.new.steps c.requires.can c.loosen_wires-left.ensures.loosens (subst (Sheds c.args.patch.now.web c.loosen_wires-left.new.patch.web) (c.as_slice.ensures.value ∙ c.requires.room.wires) c.loosen_wires-left.ensures.sheds) c.loosen-left.ensures.loosens c.loosen-left.ensures.wires c.take_out.ensures.out.node c.take_out.ensures.out.grove.was)))
     (subst (λ vs. c.args.loss.port.node < length vs.items) (sym (values_then c.args.patch.now c.loosen_wires-left.new.patch c.loosen-left.new.patch c.args.place c.args.loss.key c.args.loss.port.node c.args.loss.port.side c.args.loss.port.port c.args.steps.now c.loosen_wires-left.new.steps c.loosen-left.new.steps c.requires.can c.loosen_wires-left.ensures.loosens (subst (Sheds c.args.patch.now.web c.loosen_wires-left.new.patch.web) (c.as_slice.ensures.value ∙ c.requires.room.wires) c.loosen_wires-left.ensures.sheds) c.loosen-left.ensures.loosens c.loosen-left.ensures.wires)) (c.requires.can.reached c.args.loss.port.node (holder_lives c.args.patch.now c.loosen_wires-left.new.patch c.loosen-left.new.patch c.args.place c.args.loss.key c.args.loss.port.node c.args.loss.port.side c.args.loss.port.port c.args.steps.now c.loosen_wires-left.new.steps c.loosen-left.new.steps c.requires.can c.loosen_wires-left.ensures.loosens (subst (Sheds c.args.patch.now.web c.loosen_wires-left.new.patch.web) (c.as_slice.ensures.value ∙ c.requires.room.wires) c.loosen_wires-left.ensures.sheds) c.loosen-left.ensures.loosens c.loosen-left.ensures.wires)))
 
-pub returns-clause-counted : goal.returns-clause-counted
-returns-clause-counted g c =
+pub returns-clause-left : goal.returns-clause-left
+returns-clause-left g c =
     c.loosen-left.ensures.counted ∙ sym (as_many c.loosen-left.new.patch.web c.take_out.new.patch.web c.take_out.ensures.out.ports.lines) ∙ sym c.leave_port.ensures.as_many
 
 pub returns-clause-taken : goal.returns-clause-taken
