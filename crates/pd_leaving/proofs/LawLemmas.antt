@@ -1,51 +1,44 @@
 -- Where room was set aside port boxes can go as they could, and feeds stay in order where a box has a port fewer.
-use Rattle.std.proofs.Common.{◌≡◌, ◌≢◌, ℕ, ◌≤◌, cond, List, length, length-append, slice_get, Some, inl, inr, eq-eqb, sym, ap, ◌∙◌, subst, arith}
-use Rattle.std.specs.Prelude.{option_map, replicate, Bool, Option, IsSome}
+use Rattle.std.proofs.Common.{◌≡◌, ◌≢◌, ℕ, ◌<◌, ◌≤◌, cond, List, length, slice_get, Some, inl, inr, eq-eqb, sym, ap, ◌∙◌, subst, arith}
+use Rattle.std.specs.Prelude.{option_map, Bool, IsSome}
 use Rattle.std.proofs.lemmas.Bool.{cases_eq, cases_lt}
-use Rattle.std.proofs.lemmas.List.{length-map}
 use Rattle.std.proofs.lemmas.Option.{slice_get-map}
 use Rattle.slab.specs.Slab.{get}
-use Rattle.pd_grove.specs.declared.nodes.Node.{Node}
+use Rattle.pd_grove.specs.declared.grove.Grove.{Grove}
 use Rattle.pd_grove.specs.declared.ports.Side.{Side}
 use Rattle.pd_grove.specs.declared.ports.Side.TheVariants.{Inlets, Outlets}
+use Rattle.pd_grove.specs.Forest.{holder_in}
 use Rattle.pd_web.specs.declared.jacks.Jack.{Jack}
 use Rattle.pd_web.specs.declared.web.Hop.{Hop}
 use Rattle.pd_web.specs.declared.web.Web.{Web}
+use Rattle.pd_web.specs.Canvases.{keys_at}
 use Rattle.pd_web.specs.Hops.{feed_hops}
 use Rattle.pd_patch.specs.declared.patch.Patch.{Patch}
-use Rattle.pd_patch.specs.Values.{blocks_told}
 use Rattle.pd_seek.specs.Places.{label_at, AreInOrder, IsNoLater}
 use Rattle.pd_moving.specs.Orders.{AreAllInOrder, HasOwnLabel}
+use Rattle.pd_wiring.specs.Changes.{SameButRoom}
+use Rattle.pd_wiring.proofs.BuiltLemmas.{roomed}
 use Rattle.pd_boxes.specs.declared.room.Place.{Place}
-use Rattle.pd_boxes.specs.Room.{SameButRoom}
-use Rattle.pd_boxes.proofs.RoomLemmas.{keys_same, room_put}
+use Rattle.pd_boxes.proofs.AskingLemmas.{put_rewired}
 use Rattle.pd_following.specs.Raising.{up, raised, Raises}
 use Rattle.pd_following.proofs.ListLemmas.{up_before, up_behind}
 use Rattle.pd_following.proofs.RaiseLemmas.{differ_test}
-use Rattle.pd_following.proofs.ReserveLemmas.{holder_same, meet_same}
+use Rattle.pd_following.proofs.ReserveLemmas.{meet_same}
 use Rattle.pd_leaving.specs.Leaving.{CanTakePort}
 
 -- Room.
 
 pub still_taken : (p q : Patch) (place : Place) (key holder : ℕ) (side : Side) (port : ℕ) → SameButRoom p q → CanTakePort p place key holder side port → CanTakePort q place key holder side port
 still_taken p q place key holder side port S C = record {
-  can = room_put p q S C.can;
+  can = put_rewired p q S.grove (roomed p q S C.can.runs) C.can;
   meet = meet_same p.web q.web S.web C.meet;
-  is = ap (λ (ks : List ℕ). slice_get ks place.number) (keys_same p.grove q.grove S.grove place.canvas) ∙ C.is;
+  is = ap (λ (g : Grove). slice_get (keys_at g place.canvas) place.number) S.grove ∙ C.is;
   node = C.node;
-  stands = S.grove.nodes key ∙ C.stands;
+  stands = ap (λ (g : Grove). get g.nodes key) S.grove ∙ C.stands;
   leaf = C.leaf;
-  at = record {
-    held = holder_same (get p.grove.boards place.canvas) (get q.grove.boards place.canvas) (S.grove.boards place.canvas) ∙ C.at.held;
-    port = C.at.port;
-  };
+  at = record { held = ap (λ (g : Grove). holder_in (get g.boards place.canvas)) S.grove ∙ C.at.held; port = C.at.port };
   numbered = S.web.kept.homes key ∙ C.numbered;
-  reached = λ k live.
-      let low = C.reached k (subst (λ (o : Option Node). IsSome o) (S.grove.nodes k) live) in
-      let a = length-map p.values.items (λ b. b.items) in
-      let b = length-map q.values.items (λ b. b.items) in
-      let e = ap (λ bs. length bs) S.values.1 ∙ length-append (blocks_told p) (replicate S.values.0 _) in
-      omega (arith, low, a, b, e);
+  reached = λ k live. subst (λ vs. k < length vs.items) (sym S.values) (C.reached k (subst (λ (g : Grove). IsSome (get g.nodes k)) S.grove live));
 }
 
 -- Feeds.

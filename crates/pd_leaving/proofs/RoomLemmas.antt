@@ -7,11 +7,29 @@ use Rattle.pd_grove.specs.declared.ports.Side.TheVariants.{Inlets, Outlets}
 use Rattle.pd_web.specs.declared.web.Hop.{Hop}
 use Rattle.pd_web.specs.declared.web.Web.{Web}
 use Rattle.pd_web.specs.Changes.{HasRoom, IsSame}
+use Rattle.pd_patch.specs.declared.patch.Patch.{Patch}
 use Rattle.pd_patch.proofs.BlockLemmas.{live_below}
+use Rattle.pd_wiring.specs.Changes.{SameButRoom}
+use Rattle.pd_wiring.proofs.BuiltLemmas.{same_links}
 use Rattle.pd_taking.specs.Loosening.{hops_at}
 use Rattle.pd_misfits.specs.declared.wires.BoxWire.{BoxWire}
 use Rattle.pd_misfits.specs.Shedding.{AreWiresAt}
 use Rattle.pd_leaving.specs.Wires.{wire_at}
+
+-- the web alone has other room
+pub reserved : (p : Patch) (w : Web) → IsSame p.web w → SameButRoom p (record p { web = w })
+reserved p w same = record {
+  grove = refl;
+  web = same;
+  links = same_links p.links;
+  names = refl;
+  timers = refl;
+  orders = refl;
+  numbers = refl;
+  values = refl;
+  rate = refl;
+  present = refl;
+}
 
 module _ (w v : Web) (S : IsSame w v) where
   same_hops : (side : Side) (node port : ℕ) → hops_at v side node port ≡ hops_at w side node port

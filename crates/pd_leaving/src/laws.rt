@@ -6,8 +6,8 @@ ghost use Rattle.pd_web.specs.declared.jacks.Jack.{Jack};
 ghost use Rattle.pd_web.specs.declared.web.Web.{Web};
 ghost use Rattle.pd_moving.specs.Orders.{AreAllInOrder, HasOwnLabel};
 ghost use Rattle.pd_patch.specs.declared.patch.Patch.{Patch};
+ghost use Rattle.pd_wiring.specs.Changes.{SameButRoom};
 ghost use Rattle.pd_boxes.specs.declared.room.Place.{Place};
-ghost use Rattle.pd_boxes.specs.Room.{SameButRoom};
 ghost use Rattle.pd_following.specs.Raising.{Raises};
 ghost use Rattle.pd_leaving.specs.Leaving.{CanTakePort};
 

@@ -6,7 +6,7 @@ ghost use Rattle.pd_grove.specs.declared.ports.Side.TheVariants.{Outlets};
 ghost use Rattle.pd_web.specs.Changes.{Meet};
 ghost use Rattle.pd_web.specs.Hops.{ports_told};
 ghost use Rattle.pd_patch.specs.Values.{block_count};
-ghost use Rattle.pd_boxes.specs.Room.{SameButRoom};
+ghost use Rattle.pd_wiring.specs.Changes.{SameButRoom};
 ghost use Rattle.pd_leaving.specs.Room.{TakesLoss, without_at};
 
 use crate::listing::port_wires_at;

@@ -4,10 +4,22 @@ use Rattle.pd_grove.specs.declared.ports.Side.TheVariants.{Inlets, Outlets}
 use Rattle.pd_web.specs.declared.jacks.Jack.{Jack}
 use Rattle.pd_web.specs.Hops.{ports_told}
 use Rattle.pd_patch.specs.Values.{block_count}
-use Rattle.pd_boxes.proofs.ReserveLemmas.{lists_for}
 use Rattle.pd_leaving.specs.Room.{without_at}
-use Rattle.pd_leaving.proofs.RoomLemmas.{room_near, still_at, wires_still}
+use Rattle.pd_boxes.proofs.ReserveLemmas.{lists_for, same_web}
+use Rattle.pd_leaving.proofs.RoomLemmas.{reserved, room_near, still_at, wires_still}
 use Rattle.pd_leaving.proofs.reserving.reserve_loss.Goals as goal
+
+pub returns-in_err-wires-clause-same : goal.returns-in_err-wires-clause-same
+returns-in_err-wires-clause-same c = reserved c.args.patch.now c.args.patch.now.web (same_web c.args.patch.now.web)
+
+pub returns-in_err-blocks-clause-same : goal.returns-in_err-blocks-clause-same
+returns-in_err-blocks-clause-same c = reserved c.args.patch.now c.args.patch.now.web (same_web c.args.patch.now.web)
+
+pub returns-in_err-around-clause-same : goal.returns-in_err-around-clause-same
+returns-in_err-around-clause-same c = reserved c.args.patch.now c.reserve_ports.new.web c.reserve_ports.ensures.same
+
+pub returns-clause-same : goal.returns-clause-same
+returns-clause-same c = reserved c.args.patch.now c.reserve_ports.new.web c.reserve_ports.ensures.same
 
 pub returns-clause-room : goal.returns-clause-room
 returns-clause-room c =
