@@ -1,5 +1,5 @@
 -- The wires of a canvas where a box of it has a port fewer.
-use Rattle.std.specs.Prelude.{ℕ, ◌-◌, ◌==◌, ◌&&◌, nat_lt, Bool, not, cond, List, filter, map}
+use Rattle.std.specs.Prelude.{ℕ, ◌-◌, ◌==◌, ◌&&◌, nat_lt, Bool, not, cond, filter, map}
 use Rattle.pd_canvas.specs.declared.wires.Wire.{Wire}
 use Rattle.pd_canvas.specs.Edits.{with_wires}
 use Rattle.pd_canvas.specs.Pages.{Page}
