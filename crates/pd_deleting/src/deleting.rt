@@ -17,6 +17,7 @@ use pd_boxes::Place;
 use pd_clearing::{clear, part_of};
 use pd_clock::Rate;
 use pd_grove::{Grove, Spot};
+use pd_misfits::BoxWire;
 use pd_kind::sound_size;
 use pd_order::Steps;
 use pd_patch::Patch;
@@ -24,12 +25,16 @@ use pd_wiring::EditRefusal;
 use std::alloc::Global;
 use std::sync::ledger::Ledger;
 
-/// A box that an edit deleted: the key that it had, the key of its canvas, and the counts of the patch without it and all that lay in it.
-#[derive(Clone, Copy, Debug, PartialEq, Eq)]
+/// A box that an edit deleted: the key that it had, the key of its canvas, and the counts of the patch without it and all that lay in it. Where it was a
+/// port of the box around, also the key of the canvas in which that lies, and the wires there that went with the port, with the numbers that
+/// they had.
+#[derive(Debug, Drop)]
 pub struct OldBox {
     pub key: u32,
     pub canvas: u32,
     pub counts: Counts,
+    pub around: Option<u32>,
+    pub gone: Vec<BoxWire>,
 }
 
 /// Deletes the box of a number in the canvas at a path of the patch's own document, with all that lies in it and its wires: one that is no port

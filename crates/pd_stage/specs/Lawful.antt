@@ -21,7 +21,7 @@ use Rattle.pd_adding.specs.Counts.{AreWithin}
 use Rattle.pd_putting.specs.Adds.{put_looks, AddsBox, IsNotPut, IsShortOfRoom}
 use Rattle.pd_putting.specs.declared.adding.NewBox.{NewBox}
 use Rattle.pd_deleting.specs.Deletes as deleting
-use Rattle.pd_deleting.specs.Deletes.{going, without_all, looks_for_all, DeletesBox}
+use Rattle.pd_deleting.specs.Deletes.{going, without_all, part_gone, looks_gone, DeletesBox}
 use Rattle.pd_deleting.specs.declared.deleting.OldBox.{OldBox}
 use Rattle.pd_shifting.specs.Moves.{moving, MovesBox}
 use Rattle.pd_retyping.specs.Retypes as retyping
@@ -32,7 +32,7 @@ use Rattle.pd_say.specs.declared.refusals.Why.TheVariants as why
 use Rattle.pd_hearing.specs.Worlds.{Net, net_of, states_of}
 use Rattle.pd_stage.specs.Choices.{Base, base_of, Wanted, Edits, Asks, Saves, Undoes, Redoes, Made, Choice, Refuses, Lacks, Makes}
 use Rattle.pd_stage.specs.Stages.{Stage, Taken}
-use Rattle.pd_stage.specs.Lines.{loads_inside, loops_text, put_text, retyped_text}
+use Rattle.pd_stage.specs.Lines.{deleted_text, loads_inside, loops_text, put_text, retyped_text}
 
 -- the reason that a line tells
 abbrev pub why_of : EditRefusal → Why
@@ -152,9 +152,9 @@ IsPutLawful s path e (Refuses reason) = IsUnput s path e reason
 IsPutLawful s path e (Lacks net) = IsUnputForRoom s path e net
 IsPutLawful s path e (Makes m) = IsPutIn s path e m
 
--- An edit took a box out with all that lay in it and with its wires: all other boxes keep what they kept, and their clocks; names and files stay,
--- the counts stay within the limits of a patch, and a loop of its canvas is told. It looks at no more signal wires than the mends for the wires
--- that went.
+-- An edit took a box out with all that lay in it and with its wires, and from the box around the port that it was: all other boxes keep what they kept, and
+-- their clocks; names and files stay, the counts stay within the limits of a patch, and it is told which wires went with the port, and a loop of its
+-- canvas, and of the one around where it was a port. It looks at no more signal wires than the mends for the wires that went.
 pub record IsTakenOut (s : Stage) (path : List ℕ) (number : ℕ) (m : Made) : Type 0 where
   pub old : Patch
   pub new : Patch
@@ -165,14 +165,14 @@ pub record IsTakenOut (s : Stage) (path : List ℕ) (number : ℕ) (m : Made) : 
   pub deletes : DeletesBox old new s.base.counts s.names path number steps steps' box
   pub net : m.net ≡ net_of new
   pub states : m.states ≡ states_of new
-  pub clocks : m.clocks ≡ without_all deletes.cleared.part s.clocks
+  pub clocks : m.clocks ≡ without_all (part_gone old new s.base.counts s.names path number steps steps' box deletes) s.clocks
   pub names : m.names ≡ s.names
   pub base : m.base ≡ base_of s.base.files box.counts
   pub within : AreWithin m.base.counts
-  pub lines : m.lines ≡ loops_text new box.canvas
+  pub lines : m.lines ≡ deleted_text new box.canvas box.around box.gone.items
   pub files : m.files ≡ []
   pub loads : m.loads ≡ []
-  pub looks : m.looks ≡ looks_for_all deletes.cleared.lost deletes.cleared.loose
+  pub looks : m.looks ≡ looks_gone old new s.base.counts s.names path number steps steps' box deletes
 
 -- no box goes, for this reason
 pub record IsLeftIn (s : Stage) (path : List ℕ) (number : ℕ) (reason : Why) : Type 0 where

@@ -123,3 +123,13 @@ put_text names p key canvas =
 abbrev pub retyped_text : Names → Patch → (key canvas : ℕ) → List BoxWire → List ℕ
 retyped_text names p key canvas gone =
     unmade_text names (fault_in (get p.grove.nodes key)) ++ (gone_text (path_in p canvas) gone ++ loops_text p canvas)
+
+-- the lines of wires that went in the canvas around, where one lies around
+abbrev pub gone_around : Patch → Option ℕ → List BoxWire → List ℕ
+gone_around p None gone = []
+gone_around p (Some canvas) gone = gone_text (path_in p canvas) gone
+
+-- the lines of an edit that took a box out: the wires of the canvas around that went, where it was a port of the box there; the loop of that canvas; and
+-- that of its own
+abbrev pub deleted_text : Patch → (canvas : ℕ) → Option ℕ → List BoxWire → List ℕ
+deleted_text p canvas around gone = gone_around p around gone ++ (loops_if p around ++ loops_text p canvas)
