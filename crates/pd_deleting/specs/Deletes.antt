@@ -1,5 +1,6 @@
 -- A box that an edit takes out of a canvas of the patch's own document.
-use Rattle.std.specs.Prelude.{◌≡◌, ◌⊎◌, inl, inr, ◌+◌, ℕ, Bool, ◌&&◌, not, is_some, List, [], ◌∷◌, length, map, slice_get, Option, Some, None, Result, Ok, Err}
+use Rattle.std.proofs.Common.{inl, inr}
+use Rattle.std.specs.Prelude.{◌≡◌, ◌⊎◌, ◌+◌, ℕ, Bool, ◌&&◌, not, is_some, List, [], ◌∷◌, length, map, slice_get, Option, Some, None, Result, Ok, Err}
 use Rattle.slab.specs.Slab.{get}
 use Rattle.pd_atom.specs.Names.{Names}
 use Rattle.pd_grove.specs.declared.grove.Grove.{Grove}
