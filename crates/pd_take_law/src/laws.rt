@@ -1,6 +1,6 @@
 //! Laws over a running patch of which an edit deleted a box, and its tree.
 
-ghost use Rattle.std.specs.Prelude.{◌≡◌, ◌≤◌, ℕ, Bool, true, List, Option};
+ghost use Rattle.std.specs.Prelude.{◌≡◌, ◌≤◌, ◌∷◌, ◌++◌, ℕ, Bool, true, List, [], Option};
 ghost use Rattle.std.specs.List.{AllByRecursion};
 ghost use Rattle.pd_atom.specs.Names.{Names};
 ghost use Rattle.pd_canvas.specs.Edits.{edited};
@@ -27,23 +27,31 @@ ghost use Rattle.pd_taking_law.specs.Taking.{TakesBoxAt, CutsBox};
 ghost use Rattle.pd_adding.specs.declared.counts.Counts.{Counts};
 ghost use Rattle.pd_adding.specs.Counts.{AreWithin};
 ghost use Rattle.pd_deleting.specs.declared.deleting.OldBox.{OldBox};
-ghost use Rattle.pd_deleting.specs.Deletes.{DeletesBox};
+ghost use Rattle.pd_deleting.specs.Deletes.{ClearsBox, DeletesBox, TakesPort};
+ghost use Rattle.pd_leaving_law.specs.Lowered.{less_port, port_cut};
 
-/// Where an edit deleted a box, the box of that number went from the canvas to which the path leads. Of the wires of the other boxes those to it
-/// are gone, and under the key of each box stands its number.
+/// Where an edit deleted a box, the box of that number went from the canvas to which the path leads. Where it is no port of a box around, of the wires
+/// of the other boxes those to it are gone, and under the key of each box stands its number.
 pub fn deletes_take_boxes()
     ensures tree { (old new : Patch) (n : Counts) (table : Names) (path : List ℕ) (number steps steps' : ℕ) (b : OldBox) →
         DeletesBox old new n table path number steps steps' b → CanPut old → TakesBoxAt old.grove new.grove path b.canvas b.key number }
     ensures wires { (old new : Patch) (n : Counts) (table : Names) (path : List ℕ) (number steps steps' : ℕ) (b : OldBox) →
-        DeletesBox old new n table path number steps steps' b → CanPut old → Meet old.web →
+        ClearsBox old new n table path number steps steps' b → CanPut old → Meet old.web →
         CutsBox old.grove new.grove old.web new.web old.numbers.items new.numbers.items b.key }
 {}
 
-/// The document of the patch is then the one after the edit that deletes the box.
+/// The document of the patch is then the one after the edit that deletes the box. Where it is a port of the box around, which is that of the last
+/// number of the path, the wires at that port are gone before, and those at the ports behind it lead then to the ports before.
 pub fn documents_follow_edits()
-    ensures { (old new : Patch) (n : Counts) (table : Names) (path : List ℕ) (number steps steps' : ℕ) (b : OldBox) →
-        DeletesBox old new n table path number steps steps' b → CanPut old → Meet old.web →
+    ensures deleted { (old new : Patch) (n : Counts) (table : Names) (path : List ℕ) (number steps steps' : ℕ) (b : OldBox) →
+        ClearsBox old new n table path number steps steps' b → CanPut old → Meet old.web →
         present_document new ≡ edit_at path (edited (edit.Delete number)) (present_document old) }
+    ensures port { (old new : Patch) (n : Counts) (table : Names) (path : List ℕ) (around number steps steps' : ℕ) (b : OldBox) (t : Tree) →
+        (taken : TakesPort old new n table (path ++ around ∷ []) number steps steps' b) → RunsAs old.grove t → HoldsWires old t →
+        present_document new ≡ edit_at path (less_port taken.side around taken.port) (edit_at (path ++ around ∷ []) (edited (edit.Delete number))
+        (edit_at path (port_cut taken.side around taken.port) (present_document old))) }
+    ensures inside { (old new : Patch) (n : Counts) (table : Names) (path : List ℕ) (number steps steps' : ℕ) (b : OldBox) →
+        TakesPort old new n table path number steps steps' b → CanPut old → (way : List ℕ) × (around : ℕ) × (path ≡ way ++ around ∷ []) }
 {}
 
 /// Where an edit deleted a box, the tree that stood stands with the box less. It grows again from its own document, in the same files and names
