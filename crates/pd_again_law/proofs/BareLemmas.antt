@@ -1,7 +1,8 @@
 -- A box that holds no canvas takes no `$0` number away.
-use Rattle.std.proofs.Common.{◌≡◌, ℕ, zero, suc, List, [], ◌∷◌, ◌++◌, slice_get, Option, Some, None, refl, sym, ap, ◌∙◌, subst}
+use Rattle.std.proofs.Common.{◌≡◌, ◌⊎◌, inl, inr, ℕ, zero, suc, List, [], ◌∷◌, ◌++◌, slice_get, Option, Some, None, Ok, refl, sym, ap, ◌∙◌, subst}
 use Rattle.std.proofs.lemmas.Option.{none-some, same_Some}
 use Rattle.slab.specs.Slab.{get}
+use Rattle.pd_atom.specs.Names.{Names}
 use Rattle.pd_tree.specs.declared.rows.Sheet.{Sheet}
 use Rattle.pd_tree.specs.Trees.{Trees, Done, Leaf, Holder, Tree, own_zeros, zeros_in, zeros_of}
 use Rattle.pd_grove.specs.declared.nodes.Node.{Node}
@@ -18,6 +19,10 @@ use Rattle.pd_putting_law.proofs.StandLemmas.{seen_inner, path_along}
 use Rattle.pd_putting_law.proofs.PathLemmas.{Forest}
 use Rattle.pd_putting_law.proofs.WithinLemmas.{path_within}
 use Rattle.pd_taking_law.specs.Takes.{boxes_less, less_box, taken_at}
+use Rattle.pd_patch.specs.declared.patch.Patch.{Patch}
+use Rattle.pd_adding.specs.declared.counts.Counts.{Counts}
+use Rattle.pd_deleting.specs.declared.deleting.OldBox.{OldBox}
+use Rattle.pd_deleting.specs.Deletes.{going, DeletesBox, TakesPort}
 use Rattle.pd_deleting.proofs.DeleteLemmas.{found_there, leads_there}
 use Rattle.pd_stage.specs.Choices.{Made}
 use Rattle.pd_stage.specs.Lawful.{IsTakenOut}
@@ -55,6 +60,12 @@ nest_keeps (Inside sheet before c nest behind) t u s =
           ∙ sym (zeros_join before (Holder c v.sheet v.boxes behind));
     }
 
+-- the box that goes
+is_going : (old new : Patch) (n : Counts) (table : Names) (path : List ℕ) (number steps steps' : ℕ) (b : OldBox) → DeletesBox old new n table path number steps steps' b
+    → going old path number ≡ Ok (b.canvas, b.key)
+is_going old new n table path number steps steps' b (inl x) = x.is
+is_going old new n table path number steps steps' b (inr x) = x.is
+
 -- the canvas to which a path leads without a box that holds none
 module _ (g : Grove) (path : List ℕ) (canvas key n : ℕ) (t : Tree) (F : Forest g) (G : GroveStands g t.sheet t.boxes) (leads : sub_reached g (Some g.root) path ≡ Some canvas)
     (at : slice_get (keys_at g canvas) n ≡ Some key) (bare : inner_in (get g.nodes key) ≡ None) where
@@ -72,13 +83,20 @@ module _ (g : Grove) (path : List ℕ) (canvas key n : ℕ) (t : Tree) (F : Fore
   zeros_same : zeros_of (taken_at path n t) ≡ zeros_of t
   zeros_same = ap (λ (s : Sheet). s.zero ∷ zeros_in (taken_at path n t).boxes) whole.sheet ∙ ap (λ (zs : List ℕ). t.sheet.zero ∷ zs) whole.boxes
 
--- an edit of a run that took such a box out
-pub bare_leaves : (s : Stage) (path : List ℕ) (number : ℕ) (m : Made) (x : IsTakenOut s path number m) → x.deletes.cleared.node.inner ≡ None → (t : Tree) → RunsAs x.old.grove t
-    → zeros_of (taken_at path number t) ≡ zeros_of t
-bare_leaves s path number m x none t runs =
-    let g : Grove = x.old.grove in
-    let to : Option ℕ = sub_reached g (Some g.root) path in
-    let bare : inner_in (get g.nodes x.box.key) ≡ None =
-    ap (λ (h : Grove). inner_in (get h.nodes x.box.key)) (sym x.deletes.room.grove) ∙ ap inner_in x.deletes.cleared.grove.was ∙ none in
-    zeros_same g path x.box.canvas x.box.key number t x.stands.puts.forest runs.stands (leads_there g number to x.box.canvas x.box.key x.deletes.is)
-    (found_there g number to x.box.canvas x.box.key x.deletes.is) bare
+-- an edit of a run that took such a box out, or a port, which holds none
+module _ (s : Stage) (path : List ℕ) (number : ℕ) (m : Made) (x : IsTakenOut s path number m) where
+  going_there : going x.old path number ≡ Ok (x.box.canvas, x.box.key)
+  going_there = is_going x.old x.new s.base.counts s.names path number x.steps x.steps' x.box x.deletes
+
+  bare_gone : inner_in (get x.old.grove.nodes x.box.key) ≡ None → (t : Tree) → RunsAs x.old.grove t → zeros_of (taken_at path number t) ≡ zeros_of t
+  bare_gone bare t runs =
+      let g : Grove = x.old.grove in
+      let to : Option ℕ = sub_reached g (Some g.root) path in
+      zeros_same g path x.box.canvas x.box.key number t x.stands.puts.forest runs.stands (leads_there g number to x.box.canvas x.box.key going_there)
+      (found_there g number to x.box.canvas x.box.key going_there) bare
+
+  pub bare_leaves : (inner_in (get x.old.grove.nodes x.box.key) ≡ None) ⊎ TakesPort x.old x.new s.base.counts s.names path number x.steps x.steps' x.box
+      → (t : Tree) → RunsAs x.old.grove t → zeros_of (taken_at path number t) ≡ zeros_of t
+  bare_leaves (inl bare) t runs = bare_gone bare t runs
+  bare_leaves (inr port) t runs =
+      bare_gone (ap (λ (h : Grove). inner_in (get h.nodes x.box.key)) (sym port.room.grove) ∙ ap inner_in port.can.stands ∙ port.can.leaf) t runs

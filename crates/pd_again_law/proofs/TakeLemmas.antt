@@ -1,5 +1,5 @@
 -- What the laws of pd_take_law say of a box that an edit deleted.
-use Rattle.std.proofs.Common.{◌≡◌, ℕ, List, Option, ◌∙◌}
+use Rattle.std.proofs.Common.{◌≡◌, inl, inr, ℕ, List, Option, ◌∙◌}
 use Rattle.pd_atom.specs.Names.{Names}
 use Rattle.pd_canvas.specs.Proper.{IsProper}
 use Rattle.pd_library.specs.declared.answers.Answer.{Answer}
@@ -46,4 +46,6 @@ pub record TakeLaws : Type 0 where
 -- the patch runs on at its rate
 pub same_rate : (old new : Patch) (n : Counts) (table : Names) (path : List ℕ) (number steps steps' : ℕ) (b : OldBox)
     → DeletesBox old new n table path number steps steps' b → new.rate ≡ old.rate
-same_rate old new n table path number steps steps' b x = x.cleared.rate ∙ x.room.rate
+same_rate old new n table path number steps steps' b (inl x) = x.cleared.rate ∙ x.room.rate
+same_rate old new n table path number steps steps' b (inr x) =
+    x.taken.leaves.rest.rate ∙ x.taken.goes.rate ∙ x.taken.own.rest.rate ∙ x.taken.loosens.rest.rate ∙ x.room.rate

@@ -10,6 +10,7 @@ use Rattle.pd_clock.specs.declared.times.Rate.{Rate}
 use Rattle.pd_grove.specs.Telling.{inner_in}
 use Rattle.pd_patch.specs.declared.patch.Patch.{Patch}
 use Rattle.pd_putting.specs.Adds.{IsSub}
+use Rattle.pd_deleting.specs.Deletes.{TakesPort}
 use Rattle.pd_reload_law.specs.Wires.{StandOnce}
 use Rattle.pd_stage.specs.Choices.{Base, Made, Choice, Makes}
 use Rattle.pd_stage.specs.Lawful.{StandsAt, IsPutIn, IsTakenOut, AreLawful}
@@ -36,9 +37,10 @@ StagesOpenAgain = (holds : Option (List FileRow)) (name : List ℕ) (rate : Rate
     AreLawful run.edits → (q : Patch) → StandsAt q run.stage → IsTable run.stage.names → StandOnce q.web →
     Reopens grows.files.files name rate run.edits run.stage q
 
--- an edit that took a box out that holds no canvas took no `$0` number away
+-- an edit that took a box out that holds no canvas, or a port of the box around, took no `$0` number away
 abbrev pub BareBoxesLeaveNumbers : Type 0
-BareBoxesLeaveNumbers = (s : Stage) (path : List ℕ) (number : ℕ) (m : Made) → ((x : IsTakenOut s path number m) → x.deletes.cleared.node.inner ≡ None) →
+BareBoxesLeaveNumbers = (s : Stage) (path : List ℕ) (number : ℕ) (m : Made) →
+    ((x : IsTakenOut s path number m) → (inner_in (get x.old.grove.nodes x.box.key) ≡ None) ⊎ TakesPort x.old x.new s.base.counts s.names path number x.steps x.steps' x.box) →
     KeepsNumbers s path (edit.Delete number) (Makes m)
 
 -- an edit that put a box that holds no canvas, or a subpatch without boxes, brought no `$0` number

@@ -62,7 +62,7 @@ pub fn stages_open_again()
     pd_doc::written_read();
 }
 
-/// A box without a canvas inside takes no `$0` number away where it goes.
+/// A box without a canvas inside takes no `$0` number away where it goes, nor does a port of the box around.
 pub fn bare_boxes_leave_numbers()
     ensures { BareBoxesLeaveNumbers }
 {}
