@@ -75,7 +75,7 @@ no_wire : (w v : Web) → ((k : ℕ) → line_told w k ≡ None → line_told v 
 no_wire w v none k None e there = absurd (true≢false (sym there ∙ ap is_some (none k e)))
 no_wire w v none k (Some l) e there = ap is_some e
 
-still_wires : (w v : Web) → ((k : ℕ) → line_told w k ≡ None → line_told v k ≡ None) → wires_told v ≡ wires_told w → (k : ℕ) → IsSome (line_told w k) → IsSome (line_told v k)
+pub still_wires : (w v : Web) → ((k : ℕ) → line_told w k ≡ None → line_told v k ≡ None) → wires_told v ≡ wires_told w → (k : ℕ) → IsSome (line_told w k) → IsSome (line_told v k)
 still_wires w v none same k there =
     told_some v k
     ∙ held_still w.book.wires v.book.wires (λ j is. sym (told_some w j) ∙ no_wire w v none j (line_told w j) refl (told_some v j ∙ is)) same k (sym (told_some w k) ∙ there)
@@ -83,10 +83,10 @@ still_wires w v none same k there =
 -- ---- the wires to inlets
 
 -- the keys of the wires to an inlet, or none
-abbrev AreKeysIn : Web → List ℕ → Type 0
+abbrev pub AreKeysIn : Web → List ℕ → Type 0
 AreKeysIn w keys = (keys ≡ []) ⊎ ((node : ℕ) × (inlet : ℕ) × (keys ≡ keys_of (feed_hops w node inlet)))
 
-raised_keys : (key at : ℕ) (hops : List Hop) → keys_of (map (raised key at) hops) ≡ keys_of hops
+pub raised_keys : (key at : ℕ) (hops : List Hop) → keys_of (map (raised key at) hops) ≡ keys_of hops
 raised_keys key at [] = refl
 raised_keys key at (h ∷ hops) = ap (λ (ks : List ℕ). h.key ∷ ks) (raised_keys key at hops)
 
@@ -106,7 +106,7 @@ of_keys : (P : List ℕ → Type 0) (w : Web) (keys : List ℕ) → P [] → ((n
 of_keys P w keys none old (inl e) = subst P (sym e) none
 of_keys P w keys none old (inr x) = subst P (sym x.2) (old x.0 x.1)
 
-raised_fed : (w v : Web) → ((n i : ℕ) → AreKeysIn w (keys_of (feed_hops v n i))) → ((k : ℕ) → IsSome (line_told w k) → IsSome (line_told v k)) → AreFed w → AreFed v
+pub raised_fed : (w v : Web) → ((n i : ℕ) → AreKeysIn w (keys_of (feed_hops v n i))) → ((k : ℕ) → IsSome (line_told w k) → IsSome (line_told v k)) → AreFed w → AreFed v
 raised_fed w v from wires f = record {
   live = λ n i. of_keys (λ (ks : List ℕ). (x : ℕ) → 0 < tally x ks → IsSome (line_told v x)) w (keys_of (feed_hops v n i)) (λ x m. absurd (omega (arith, m))) (λ m j x there. wires x (f.live m j x there))
       (from n i);
@@ -121,13 +121,13 @@ raised_fed w v from wires f = record {
 
 -- ---- the blocks of outlets
 
-follow_blocks : (side : Side) (r q : Patch) (holder : ℕ) → BlocksFollow side r q holder
+pub follow_blocks : (side : Side) (r q : Patch) (holder : ℕ) → BlocksFollow side r q holder
     → ((k : ℕ) → (k ≡ holder → Outlets ≢ side) → ports_told q.web Outlets k ≡ ports_told r.web Outlets k) → HasBlocks r.web (blocks_told r) → HasBlocks q.web (blocks_told q)
 follow_blocks Inlets r q holder same ports h = λ k o sounds.
     subst (λ (b : Blocks). IsSome (block_at b k o)) (sym same) (h k o (ap (λ (js : List Jack). signal_in (slice_get js o)) (sym (ports k (λ _ e. cc))) ∙ sounds))
 follow_blocks Outlets r q holder puts ports h = put_blocks r q holder puts (λ k other. ports k (λ e. absurd (other e))) h
 
-follow_each : (P : List ℤ → Type 0) (side : Side) (r q : Patch) (holder : ℕ) → BlocksFollow side r q holder → P silent_block → AllByRecursion (AllByRecursion P) (blocks_told r)
+pub follow_each : (P : List ℤ → Type 0) (side : Side) (r q : Patch) (holder : ℕ) → BlocksFollow side r q holder → P silent_block → AllByRecursion (AllByRecursion P) (blocks_told r)
     → AllByRecursion (AllByRecursion P) (blocks_told q)
 follow_each P Inlets r q holder same silent h = subst (AllByRecursion (AllByRecursion P)) (sym same) h
 follow_each P Outlets r q holder puts silent h = put_each P r q holder puts silent h

@@ -123,7 +123,7 @@ module _ (nodes new : ℕ → Option Node) (boards left : ℕ → Option Board) 
   not_inside k x out lies inside =
       out (suc inside.2.0, inner_out nodes boards k x lies inside.2.0 inside.0 key inside.2.1 (F.inside key inside.0 inside.1))
 
-  node_stays : (k : ℕ) (o : Option Node) → nodes k ≡ o → (LiesWithin nodes boards key k → ⊥) → new k ≡ nodes k
+  pub node_stays : (k : ℕ) (o : Option Node) → nodes k ≡ o → (LiesWithin nodes boards key k → ⊥) → new k ≡ nodes k
   node_stays k None e out = by (new k) refl
     where
       by : (o : Option Node) → new k ≡ o → new k ≡ nodes k
@@ -143,7 +143,7 @@ pub record HasLess (p q : Patch) (key : ℕ) : Type 0 where
   pub sizes : AllByRecursion (AllByRecursion IsBlock) (blocks_told p) → AllByRecursion (AllByRecursion IsBlock) (blocks_told q)
 
 -- what is no more is none, and what is stays
-gone_or : (now was : Option Node) → (IsSome now → now ≡ was) → (now ≡ None) ⊎ (now ≡ was)
+pub gone_or : (now was : Option Node) → (IsSome now → now ≡ was) → (now ≡ None) ⊎ (now ≡ was)
 gone_or None was f = inl refl
 gone_or (Some n) was f = inr (f refl)
 

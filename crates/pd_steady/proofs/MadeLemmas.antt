@@ -1,11 +1,12 @@
 -- In a run the line that an edit tells of a signal loop tells all boxes of the loop.
-use Rattle.std.proofs.Common.{arith, ◌≡◌, ◌≤◌, ◌+◌, ◌++◌, ℕ, ℤ, suc, Bool, true, false, List, [], ◌∷◌, length, Option, Some, None, IfSome, refl, sym, ap, subst, ◌∙◌}
+use Rattle.std.proofs.Common.{arith, ◌≡◌, inl, inr, ◌≤◌, ◌+◌, ℕ, ℤ, Bool, true, false, List, [], ◌∷◌, length, Option, Some, None, IfSome, refl, sym, ap, subst, ◌∙◌}
 use Rattle.std.specs.List.{AllByRecursion}
-use Rattle.std.specs.Prelude.{cond, option_and_then, option_map, slice_get, Result, Ok, Err}
+use Rattle.std.specs.Prelude.{cond, option_and_then, slice_get, Result, Ok, Err}
 use Rattle.std.proofs.lemmas.Option.{none-some}
 use Rattle.slab.specs.Slab.{get}
 use Rattle.slab.specs.Slab.{Slab}
 use Rattle.pd_atom.specs.declared.Atom.{Atom}
+use Rattle.pd_atom.specs.Names.{Names}
 use Rattle.pd_canvas.specs.Views.{entry_of}
 use Rattle.pd_canvas.specs.declared.edits.Edit.{Edit}
 use Rattle.pd_canvas.specs.declared.edits.Edit.TheVariants as edit
@@ -14,12 +15,13 @@ use Rattle.pd_order.specs.Listing.{Listing}
 use Rattle.pd_tree.specs.Trees.{Tree, weight}
 use Rattle.pd_grove.specs.declared.nodes.Node.{Node}
 use Rattle.pd_grove.specs.declared.boards.Board.{Board}
-use Rattle.pd_grove.specs.Standing.{board_seen, GroveStands}
+use Rattle.pd_grove.specs.Standing.{GroveStands}
 use Rattle.pd_grove.specs.declared.grove.Grove.{Grove}
 use Rattle.pd_grove.specs.Telling.{keys_in, inner_in, step_in, reached}
 use Rattle.pd_grove.specs.TextOrder.{is_sub, deep}
 use Rattle.pd_grove.specs.OwnPaths.{sub_in, sub_step_in, sub_reached}
 use Rattle.pd_web.specs.Canvases.{keys_at}
+use Rattle.pd_web.specs.Changes.{Meet}
 use Rattle.pd_web.specs.declared.lines.Line.{Line}
 use Rattle.pd_web.specs.declared.web.Web.{Web}
 use Rattle.pd_patch.specs.declared.patch.Patch.{Patch}
@@ -30,29 +32,29 @@ use Rattle.pd_wiring.specs.declared.refusals.EditRefusal.{EditRefusal}
 use Rattle.pd_wiring.specs.declared.refusals.EditRefusal.TheVariants.{TooManyWires, NoDocument, NoBox}
 use Rattle.pd_wiring.specs.Changes.{CanRewire}
 use Rattle.pd_wiring.specs.Plans.{Plan, Attaches, Detaches, canvas_of, attaching, wire_found, detaching, connecting, disconnecting, planned, IsCarriedOut, IsRewired}
-use Rattle.pd_boxes.specs.declared.room.Place.{Place}
-use Rattle.pd_boxes.specs.Put.{keys_before, CanPut}
-use Rattle.pd_boxes.proofs.PutLemmas.{longer_by_one}
-use Rattle.pd_clearing.specs.Clearing.{keys_past}
-use Rattle.pd_deleting.specs.Deletes.{going_box, going_in, is_plain}
+use Rattle.pd_boxes.specs.Put.{CanPut}
+use Rattle.pd_adding.specs.declared.counts.Counts.{Counts}
+use Rattle.pd_deleting.specs.Deletes.{going, going_box, going_in, DeletesBox}
+use Rattle.pd_deleting.specs.declared.deleting.OldBox.{OldBox}
 use Rattle.pd_shifting.specs.Moves.{is_array_in, is_port_around, moving_box, moving_in}
 use Rattle.pd_hearing.specs.Worlds.{Net, bare, net_of}
 use Rattle.pd_block.specs.Nets as block
-use Rattle.pd_stage.specs.Choices.{Made}
+use Rattle.pd_stage.specs.Choices.{Made, Makes}
+use Rattle.pd_stage.specs.Events.{stage_by}
 use Rattle.pd_stage.specs.Stages.{Stage, with_ahead}
-use Rattle.pd_stage.specs.Lawful.{IsMade, IsPutIn, IsTakenOut, IsMovedTo, IsRetypedTo}
+use Rattle.pd_stage.specs.Lawful.{StandsAt, IsMade, IsPutIn, IsTakenOut, IsMovedTo, IsRetypedTo}
 use Rattle.pd_stage.specs.Trees.{HasTree}
 use Rattle.pd_stage.specs.Lines.{most_boxes}
 use Rattle.pd_stage.specs.Times.{with_wires, IsStageOf}
 use Rattle.pd_stage.proofs.EditLemmas.{AsksAlike}
 use Rattle.pd_engine.specs.Commands.{led_to}
 use Rattle.pd_engine.proofs.ShowLemmas.{led_is}
-use Rattle.pd_engine.proofs.TreeLemmas.{more_tree, stands_more, boxes_more, low_more}
+use Rattle.pd_engine.proofs.TreeLemmas.{at_stands, lost_tree, more_tree, stands_more, boxes_more, low_more}
 use Rattle.pd_steady.specs.Serving.{box_of}
 use Rattle.pd_steady.specs.Told.{TellsLoop}
 use Rattle.pd_steady.proofs.ComeLemmas.{seen_keys, come_goes_on}
 use Rattle.pd_steady.proofs.NetLemmas.{TellsOf, same_net}
-use Rattle.pd_steady.proofs.ShortLemmas.{order_short, order_keys, orders_short, canvas_few}
+use Rattle.pd_steady.proofs.ShortLemmas.{order_keys, orders_short, canvas_few}
 use Rattle.pd_steady.proofs.StandLemmas.{patch_now}
 use Rattle.pd_steady.proofs.ToldLemmas.{led_other}
 use Rattle.pd_steady.proofs.LoopLemmas.{stuck_told, each_told}
@@ -235,78 +237,93 @@ all_put_told s path e m t h (c ∷ cs) = (put_told s path e m t h c, all_put_tol
 boards_same : (s : Stage) (t : HasTree s) (p : Patch) → s.net ≡ net_of p → p.grove.boards ≡ t.patch.grove.boards
 boards_same s t p e = sym (ap (λ (n : Net). n.boards) e) ∙ ap (λ (n : block.Net). n.boards) t.of.net
 
--- those that are left are no more than there were
-few_left : (n m k b : ℕ) → k ≡ suc n → k ≤ m → b ≡ m → b ≤ 16384 → n ≤ 16384
-few_left n m k b e l g h = omega (arith, e, l, g, h)
-
 through : (n a : ℕ) → n ≤ a → a ≤ 16384 → n ≤ most_boxes
 through n a l h = omega (arith, l, h)
 
--- ---- the order of the canvas from which an edit took a box
+-- ---- the orders of a patch from which an edit took a box
 
 -- a box goes from the canvas to which the path leads
 ok_same : (x y : ℕ × ℕ) (r : Result (ℕ × ℕ) EditRefusal) → r ≡ Ok x → r ≡ Ok y → x ≡ y
 ok_same x y r e f = cc
 
-plain_at : (is : Bool) (x y : ℕ × ℕ) → cond is (Ok x) (Err NoDocument) ≡ Ok y → x.0 ≡ y.0
-plain_at true x y h = ap (λ (z : ℕ × ℕ). z.0) (ok_same x y (Ok x) refl h)
-plain_at false x y h = absurd (cc)
-
 box_at : (g : Grove) (c number : ℕ) (o : Option ℕ) (x : ℕ × ℕ) → going_box g c number o ≡ Ok x → c ≡ x.0
 box_at g c number None x h = absurd (cc)
-box_at g c number (Some key) x h = plain_at (is_plain g c key) (c, key) x h
+box_at g c number (Some key) x h = ap (λ (z : ℕ × ℕ). z.0) (ok_same (c, key) x (Ok (c, key)) refl h)
 
 going_at : (g : Grove) (number : ℕ) (o : Option ℕ) (x : ℕ × ℕ) → going_in g number o ≡ Ok x → o ≡ Some x.0
 going_at g number None x h = absurd (cc)
 going_at g number (Some c) x h = ap (λ (y : ℕ). Some y) (box_at g c number (slice_get (keys_at g c) number) x h)
 
 -- and it is the one of the number
-plain_key : (is : Bool) (x y : ℕ × ℕ) → cond is (Ok x) (Err NoDocument) ≡ Ok y → x.1 ≡ y.1
-plain_key true x y h = ap (λ (z : ℕ × ℕ). z.1) (ok_same x y (Ok x) refl h)
-plain_key false x y h = absurd (cc)
-
 box_key : (g : Grove) (c number : ℕ) (o : Option ℕ) (x : ℕ × ℕ) → going_box g c number o ≡ Ok x → o ≡ Some x.1
 box_key g c number None x h = absurd (cc)
-box_key g c number (Some key) x h = ap (λ (y : ℕ). Some y) (plain_key (is_plain g c key) (c, key) x h)
+box_key g c number (Some key) x h = ap (λ (z : ℕ × ℕ). Some z.1) (ok_same (c, key) x (Ok (c, key)) refl h)
 
 going_key : (g : Grove) (number : ℕ) (o : Option ℕ) (x : ℕ × ℕ) → going_in g number o ≡ Ok x → option_and_then (λ c. slice_get (keys_at g c) number) o ≡ Some x.1
 going_key g number None x h = absurd (cc)
 going_key g number (Some c) x h = box_key g c number (slice_get (keys_at g c) number) x h
 
+module _ (p q : Patch) (n : Counts) (table : Names) (path : List ℕ) (number steps steps' : ℕ) (b : OldBox) where
+  deleted_is : DeletesBox p q n table path number steps steps' b → going p path number ≡ Ok (b.canvas, b.key)
+  deleted_is (inl x) = x.is
+  deleted_is (inr x) = x.is
+
+  -- and boxes can come and go
+  deleted_can : DeletesBox p q n table path number steps steps' b → CanPut q
+  deleted_can (inl x) = x.cleared.can
+  deleted_can (inr x) = x.taken.can
+
+  deleted_meet : DeletesBox p q n table path number steps steps' b → Meet q.web
+  deleted_meet (inl x) = x.cleared.meet
+  deleted_meet (inr x) = x.taken.leaves.meet
+
 pub take_at : (s : Stage) (path : List ℕ) (number : ℕ) (m : Made) → (h : IsTakenOut s path number m) → box_of s.net path number ≡ Some h.box.key
 take_at s path number m h =
     let g : Grove = h.old.grove in
-    let found : sub_reached g (Some g.root) path ≡ Some h.box.canvas = going_at g number (sub_reached g (Some g.root) path) (h.box.canvas, h.box.key) h.deletes.is in
+    let is : going h.old path number ≡ Ok (h.box.canvas, h.box.key) = deleted_is h.old h.new s.base.counts s.names path number h.steps h.steps' h.box h.deletes in
+    let found : sub_reached g (Some g.root) path ≡ Some h.box.canvas = going_at g number (sub_reached g (Some g.root) path) (h.box.canvas, h.box.key) is in
     let same : led_to (net_of h.old) (Some g.root) path ≡ sub_reached g (Some g.root) path = led_is h.old (Some g.root) path ∙ sub_leads g path (Some g.root) h.box.canvas found ∙ sym found in
     ap (λ (n : Net). box_of n path number) h.stands.net ∙ ap (λ (o : Option ℕ). option_and_then (λ c. slice_get (keys_at g c) number) o) same
-    ∙ going_key g number (sub_reached g (Some g.root) path) (h.box.canvas, h.box.key) h.deletes.is
+    ∙ going_key g number (sub_reached g (Some g.root) path) (h.box.canvas, h.box.key) is
 
-pub take_short : (s : Stage) (path : List ℕ) (number : ℕ) (m : Made) → HasTree s → (h : IsTakenOut s path number m) → (o : Listing) → order_in h.new.orders.items h.box.canvas ≡ Some o
-    → length o.chain + length o.stuck ≤ most_boxes
-take_short s path number m t h o order =
-    let p : Patch = h.old in
-    let q : Patch = h.new in
-    let c : ℕ = h.box.canvas in
-    let x = h.deletes.cleared in
-    let r : Patch = h.deletes.ready in
-    let place : Place = record { canvas = c; number = number } in
-    let leads : reached p.grove (Some p.grove.root) path ≡ Some c =
-    sub_leads p.grove path (Some p.grove.root) c (going_at p.grove number (sub_reached p.grove (Some p.grove.root) path) (c, h.box.key) h.deletes.is) in
-    let there : reached t.patch.grove (Some t.patch.grove.root) path ≡ Some c = led_at (patch_now s t) p s path c h.stands.net t.of.net leads in
-    let few : length (keys_at t.patch.grove c) ≤ weight t.tree.boxes = canvas_few t.patch.grove t.tree t.stands path c there in
-    let same : x.grove.old.nodes.items ≡ keys_at t.patch.grove c =
-    sym (ap (λ (o : Option Board). keys_in o) x.grove.board) ∙ ap (λ (y : Grove). keys_at y c) h.deletes.room.grove
-    ∙ ap (λ (boards : Slab Board). keys_in (get boards c)) (boards_same s t p h.stands.net) in
-    let before : List ℕ = keys_before r place in
-    let behind : List ℕ = keys_past r place in
-    let had : length x.grove.old.nodes.items ≡ suc (length (before ++ behind)) = ap (λ (ks : List ℕ). length ks) x.grove.had ∙ longer_by_one before behind h.box.key in
-    let all : length (before ++ behind) ≤ 16384 =
-    few_left (length (before ++ behind)) (weight t.tree.boxes) (length x.grove.old.nodes.items) s.base.counts.boxes had
-    (subst (λ (ks : List ℕ). length ks ≤ weight t.tree.boxes) (sym same) few) t.boxes t.within.boxes in
-    let short : length o.chain + length o.stuck ≤ length x.grove.new.nodes.items =
-    order_short q.grove q.web (get q.grove.boards c) (board_seen x.grove.new) (order_in q.orders.items c) o (ap (λ (y : Option Board). option_map board_seen y) x.grove.without)
-    (x.can.runs.orders c) order in
-    through (length o.chain + length o.stuck) (length x.grove.new.nodes.items) short (subst (λ (ks : List ℕ). length ks ≤ 16384) (sym x.grove.has) all)
+abbrev take_now : (s : Stage) (path : List ℕ) (number : ℕ) (m : Made) → IsTakenOut s path number m → IsTakenOut (with_ahead s []) path number m
+take_now s path number m h = record {
+  old = h.old;
+  new = h.new;
+  box = h.box;
+  steps = h.steps;
+  steps' = h.steps';
+  stands = record { net = h.stands.net; states = h.stands.states; puts = h.stands.puts; meet = h.stands.meet };
+  deletes = h.deletes;
+  net = h.net;
+  states = h.states;
+  clocks = h.clocks;
+  names = h.names;
+  base = h.base;
+  within = h.within;
+  lines = h.lines;
+  files = h.files;
+  loads = h.loads;
+  looks = h.looks;
+}
+
+-- where a patch stands at a stage with a tree
+stage_told : (r : Stage) → HasTree r → (q : Patch) → StandsAt q r → (c : ℕ) → TellsLoop q (Loop c)
+stage_told r t q at c =
+    let stand : GroveStands q.grove t.tree.sheet t.tree.boxes = at_stands r t q at in
+    each_told q t.tree stand (deep_more (deep t.tree.boxes) t.shallow) at.puts.forest at.puts.runs.orders
+    (λ way canvas o leads order. few_more (length o.chain + length o.stuck) (weight t.tree.boxes) r.base.counts.boxes
+    (orders_short q t.tree stand at.puts.runs.orders way canvas o leads order) t.boxes t.within.boxes) c
+
+-- the line of a loop of each canvas tells all its boxes
+pub take_told : (s : Stage) (path : List ℕ) (number : ℕ) (m : Made) → HasTree s → (h : IsTakenOut s path number m) → (c : ℕ) → TellsLoop h.new (Loop c)
+take_told s path number m t h c =
+    stage_told (stage_by (with_ahead s []) (Makes m)) (lost_tree s t path number m [] (take_now s path number m h)) h.new (record {
+      net = h.net;
+      states = h.states;
+      puts = deleted_can h.old h.new s.base.counts s.names path number h.steps h.steps' h.box h.deletes;
+      meet = deleted_meet h.old h.new s.base.counts s.names path number h.steps h.steps' h.box h.deletes;
+    }) c
 
 -- ---- the order of the canvas in which an edit moved a box
 

@@ -1,9 +1,15 @@
 -- An edit that takes a box out leaves a steady stage steady, where a tree and its owners stand after it.
-use Rattle.std.proofs.Common.{◌≡◌, ◌^◌, ◌-◌, ℕ, List, [], refl, sym, subst}
+use Rattle.std.proofs.Common.{◌≡◌, inl, inr, ◌^◌, ◌-◌, ℕ, List, [], refl, sym, subst}
+use Rattle.slab.specs.Slab.{get}
+use Rattle.pd_atom.specs.Names.{Names}
 use Rattle.pd_clock.specs.Queue.{Clock}
 use Rattle.pd_vline.specs.Rows.{IsOpen}
+use Rattle.pd_grove.specs.Forest.{IsForest}
 use Rattle.pd_grove.specs.Telling.{kind_in}
 use Rattle.pd_patch.specs.declared.patch.Patch.{Patch}
+use Rattle.pd_adding.specs.declared.counts.Counts.{Counts}
+use Rattle.pd_deleting.specs.Deletes.{DeletesBox}
+use Rattle.pd_deleting.specs.declared.deleting.OldBox.{OldBox}
 use Rattle.pd_hearing.specs.Worlds.{net_of, states_of}
 use Rattle.pd_channels_law.specs.Channels.{HasFewChannels}
 use Rattle.pd_guards.specs.Order.{IsKept, IsKind}
@@ -17,6 +23,7 @@ use Rattle.pd_stage.specs.Times.{block_units}
 use Rattle.pd_stage.specs.Lawful.{IsTakenOut}
 use Rattle.pd_steady.specs.Steady.{IsSteady}
 use Rattle.pd_steady.proofs.LessLemmas.{HasLess, has_less, left_states, left_kinds, left_objects, left_keys}
+use Rattle.pd_steady.proofs.LeaveLemmas.{port_less}
 use Rattle.pd_steady.proofs.PutLemmas.{standing, is_standing}
 use Rattle.pd_steady.proofs.StandLemmas.{tree_near, tree_serves}
 use Rattle.pd_engine.proofs.TreeLemmas.{HasBoth}
@@ -42,9 +49,15 @@ pub made_is : (s : Stage) (q : Patch) (ahead : List Choice) (m : Made) → m.net
 made_is s q ahead m net states names = rw (net, states, names) refl
 
 -- the patch is the one that was, less a box and all that lay in it
+deleted_less : (p q : Patch) (n : Counts) (table : Names) (path : List ℕ) (number steps steps' : ℕ) (b : OldBox) → IsForest (get p.grove.nodes) (get p.grove.boards) p.grove.root
+    → DeletesBox p q n table path number steps steps' b → HasLess p q b.key
+deleted_less p q n table path number steps steps' b F (inl x) =
+    has_less p x.ready q table (record { canvas = b.canvas; number = number }) b.key steps steps' x.room x.cleared F
+deleted_less p q n table path number steps steps' b F (inr x) =
+    port_less p x.ready q table (record { canvas = b.canvas; number = number }) b.key x.holder x.side x.port steps steps' x.room x.taken F
+
 pub taken_less : (s : Stage) (path : List ℕ) (number : ℕ) (m : Made) → (h : IsTakenOut s path number m) → HasLess h.old h.new h.box.key
-taken_less s path number m h =
-    has_less h.old h.deletes.ready h.new s.names (record { canvas = h.box.canvas; number = number }) h.box.key h.steps h.steps' h.deletes.room h.deletes.cleared h.stands.puts.forest
+taken_less s path number m h = deleted_less h.old h.new s.base.counts s.names path number h.steps h.steps' h.box h.stands.puts.forest h.deletes
 
 -- a patch with a box less stands
 less_steady : (most : ℕ) (s : Stage) (p q : Patch) (clocks : List Clock) (base : Base) (ahead : List Choice) (key : ℕ) → IsSteady most (standing s p) → HasLess p q key

@@ -10,11 +10,11 @@
 //! edits of wires and saves leave all that steadiness speaks of; a box that an edit puts, with all that lies in it,
 //! also a port of the box around, is of a kind in order and keeps what its kind keeps at first, and so does one
 //! that another box becomes, whatever ports the two have and whatever wires don't fit any more; where wires follow
-//! a port that came, each inlet has wires as it had them; where an edit takes a box out with all that lies in it,
-//! all others keep what they kept, and their names have their owners; and where one moves a box all keep what they
-//! kept. So it is with those that a script asks for and with those that messages ask for, which are taken at the
-//! end of their event; and the boxes that are loaded behind an edit, with what is left of its event, leave a steady
-//! stage steady as its deliveries do.
+//! a port that came, or one that went, each inlet has wires as it had them; where an edit takes a box out with all
+//! that lies in it, also a port of the box around, all others keep what they kept, and their names have their
+//! owners; and where one moves a box all keep what they kept. So it is with those that a script asks for and with
+//! those that messages ask for, which are taken at the end of their event; and the boxes that are loaded behind an
+//! edit, with what is left of its event, leave a steady stage steady as its deliveries do.
 //!
 //! So a whole run in which each edit is lawful, from where a patch opens to its end, is the one in which each event
 //! is the depth-first recursion over the objects' own definitions, and in each block each box runs its own row
