@@ -1,5 +1,5 @@
 -- What is told of a box that an edit deletes, or of why none is deleted.
-use Rattle.std.proofs.Common.{◌≡◌, arith, Bool, true, false, cond, ℕ, List, [], refl, sym, ◌∙◌, ap, subst, inl, inr, slice_get, Option, Some, None, Result, Ok, Err, OnErr, OnOk, IfOk}
+use Rattle.std.proofs.Common.{◌≡◌, arith, ℕ, List, [], refl, sym, ◌∙◌, ap, subst, inl, inr, slice_get, Option, Some, None, Result, Ok, Err, OnErr, OnOk, IfOk}
 use Rattle.std.proofs.lemmas.Result.{on_err_weaker}
 use Rattle.pd_io.specs.Stream.{grown, TookPart}
 use Rattle.pd_io.specs.declared.files.FileRow.{FileRow}
@@ -19,19 +19,20 @@ use Rattle.pd_wiring.specs.Changes.{CanRewire, SameButRoom}
 use Rattle.pd_adding.specs.declared.counts.Counts.{Counts}
 use Rattle.pd_adding.specs.Counts.{AreWithin}
 use Rattle.pd_deleting.specs.declared.deleting.OldBox.{OldBox}
-use Rattle.pd_deleting.specs.Deletes.{going, going_in, going_box, is_plain, looks_for_all, without_all, DeletesBox, IsNotDeleted}
+use Rattle.pd_deleting.specs.Deletes.{going, going_in, going_box, looks_gone, DeletesBox, IsNotDeleted}
 use Rattle.pd_hearing.specs.Worlds.{net_of, states_of}
 use Rattle.pd_stage.specs.Choices.{base_of, Wanted, Edits, Made, Choice, faults_of_why}
 use Rattle.pd_stage.specs.Choices as stage
 use Rattle.pd_stage.specs.Stages.{Stage}
 use Rattle.pd_stage.specs.Lawful.{why_of, StandsAt, IsTakenOut}
-use Rattle.pd_stage.specs.Lines.{loops_text}
+use Rattle.pd_stage.specs.Lines.{deleted_text}
 use Rattle.pd_stage.specs.Leads.{sinks, SaysPart}
 use Rattle.pd_stage.specs.Events.{edit_taken, with_net}
 use Rattle.pd_engine.specs.declared.refusals.Outcome.{Outcome}
 use Rattle.pd_engine.specs.declared.refusals.Outcome.TheVariants.{Done}
 use Rattle.pd_engine.specs.Edits.{edit_text, edit_outcome, IsEdited}
 use Rattle.pd_engine.proofs.ClockLemmas.{stage_with}
+use Rattle.pd_engine.proofs.LostLemmas.{clocks_left, few_looks}
 use Rattle.pd_engine.proofs.RewireLemmas.{IsReady}
 use Rattle.pd_engine.proofs.MakingLemmas.{Told, told_so, told_part, outcome_by, both_ok}
 
@@ -56,13 +57,9 @@ abbrev Faultless : Result (ℕ × ℕ) EditRefusal → Type 0
 Faultless (Ok box) = Unit {0}
 Faultless (Err cause) = faults_of_why (why_of cause) ≡ 0
 
-plain_goes : (b : Bool) (box : ℕ × ℕ) → Faultless (cond b (Ok box) (Err refusal.NoDocument))
-plain_goes true box = tt
-plain_goes false box = refl
-
 box_goes : (g : Grove) (canvas number : ℕ) (o : Option ℕ) → Faultless (going_box g canvas number o)
 box_goes g canvas number None = refl
-box_goes g canvas number (Some key) = plain_goes (is_plain g canvas key) (canvas, key)
+box_goes g canvas number (Some key) = tt
 
 goes_from : (g : Grove) (number : ℕ) (o : Option ℕ) → Faultless (going_in g number o)
 goes_from g number None = refl
@@ -86,6 +83,9 @@ module _ (path : List ℕ) (number : ℕ) (file : List ℕ) (names : Names) (fil
 
   -- it went
   module _ (b : OldBox) (steps steps' : ℕ) (d : DeletesBox old new counts names path number steps steps' b) (within : AreWithin b.counts) where
+    abbrev pub told : List ℕ
+    told = deleted_text new b.canvas b.around b.gone.items
+
     abbrev gone : Made
     gone = record {
       net = net_of new;
@@ -93,10 +93,10 @@ module _ (path : List ℕ) (number : ℕ) (file : List ℕ) (names : Names) (fil
       clocks = new.timers.clocks.clocks;
       names = names;
       base = base_of files b.counts;
-      lines = loops_text new b.canvas;
+      lines = told;
       files = [];
       loads = [];
-      looks = looks_for_all d.cleared.lost d.cleared.loose;
+      looks = looks_gone old new counts names path number steps steps' b d;
     }
 
     gone_is : IsTakenOut (from []) path number gone
@@ -110,7 +110,7 @@ module _ (path : List ℕ) (number : ℕ) (file : List ℕ) (names : Names) (fil
       deletes = d;
       net = refl;
       states = refl;
-      clocks = d.cleared.clocks ∙ ap (λ t. without_all d.cleared.part t.clocks.clocks) d.room.timers;
+      clocks = clocks_left old new counts names path number steps steps' b d;
       names = refl;
       base = refl;
       within = within;
@@ -120,10 +120,10 @@ module _ (path : List ℕ) (number : ℕ) (file : List ℕ) (names : Names) (fil
       looks = refl;
     }
 
-    pub gone_told : Told wanted (from []) (stage_with file new names (base_of files b.counts) time block_end fired tally) (loops_text new b.canvas) Done steps steps'
+    pub gone_told : Told wanted (from []) (stage_with file new names (base_of files b.counts) time block_end fired tally) told Done steps steps'
     gone_told = record {
       came = record { choice = stage.Makes gone; may = gone_is; text_is = refl; stage = λ m. refl; answer = refl; loads_are = refl };
-      few = (refl, refl, d.cleared.looks);
+      few = (refl, refl, few_looks old new counts names path number steps steps' b d);
     }
 
   -- it was refused

@@ -26,3 +26,4 @@ pub mod CameLemmas
 pub mod RetypingLemmas
 pub mod RetypedLemmas
 pub mod PutsLemmas
+pub mod LostLemmas

@@ -1,5 +1,5 @@
 -- The tree that stands at a stage goes on to stand, and each name keeps its owners in text order.
-use Rattle.std.proofs.Common.{◌≡◌, ◌≤◌, ◌+◌, ℕ, ℤ, max, Bool, true, List, [], ◌∷◌, drop, take, length, slice_get, Option, Some, None, inl, inr, refl, sym, ap, ◌∙◌, subst, arith}
+use Rattle.std.proofs.Common.{◌≡◌, ◌≤◌, ◌+◌, ℕ, ℤ, max, Bool, true, List, [], ◌∷◌, length, slice_get, Option, Some, None, inl, inr, refl, sym, ap, ◌∙◌, subst, arith}
 use Rattle.std.specs.Prelude.{◌-◌, option_map, option_and_then}
 use Rattle.std.specs.List.{AllByRecursion}
 use Rattle.slab.specs.Slab.{get}
@@ -13,7 +13,6 @@ use Rattle.pd_fit.specs.Fitting.{wires_inside}
 use Rattle.pd_tree.specs.declared.rows.Sheet.{Sheet}
 use Rattle.pd_tree.specs.Trees.{Cell, Trees, Done, Leaf, Holder, Tree, Stand, weight}
 use Rattle.pd_grove.specs.declared.grove.Grove.{Grove}
-use Rattle.pd_grove.specs.Grafts.{TakesBox}
 use Rattle.pd_grove.specs.OwnPaths.{sub_in, sub_step_in, sub_reached}
 use Rattle.pd_grove.specs.Places.{CanvasStands}
 use Rattle.pd_grove.specs.Room.{IsSameButRoom}
@@ -35,7 +34,6 @@ use Rattle.pd_regrowth_law.proofs.StepLemmas.{extends_on, extends_same}
 use Rattle.pd_putting_law.specs.Puts.{put_at}
 use Rattle.pd_putting_law.specs.Putting.{HasBoxLast}
 use Rattle.pd_putting_law.proofs.PathLemmas.{sub_leads}
-use Rattle.pd_owning.specs.Parts.{ArePart}
 use Rattle.pd_putting_law.proofs.StandLemmas.{grove_put, path_along}
 use Rattle.pd_wiring.specs.Changes.{CanRewire}
 use Rattle.pd_wiring.proofs.AlikeLemmas.{rewires_alike}
@@ -61,7 +59,7 @@ use Rattle.pd_stage.proofs.EditLemmas.{Changes, ButWires, but_wires, changed_sta
 use Rattle.pd_taking_law.specs.Takes.{taken_at}
 use Rattle.pd_taking_law.specs.Taking.{TakesBoxAt}
 use Rattle.pd_taking_law.proofs.StandLemmas.{grove_less}
-use Rattle.pd_deleting.proofs.DeleteLemmas.{found_there, leads_there, box_lives}
+use Rattle.pd_deleting.specs.Deletes.{part_gone}
 use Rattle.pd_shifting.proofs.MoveLemmas.{is_moving, still_put}
 use Rattle.pd_retyping.specs.Retypes.{counts_but, with_wires, HasBecome}
 use Rattle.pd_retyping_law.specs.Retypes.{retyped_at}
@@ -74,7 +72,7 @@ use Rattle.pd_shifted_law.proofs.OwnerLemmas.{owned_placed, owners_stay}
 use Rattle.pd_shifted_law.proofs.StandLemmas.{grove_shifted}
 use Rattle.pd_engine.proofs.CameLemmas.{CameIn, bare as bare_boxes, came_in, leads, low as low_here, own_steady, owners_kept}
 use Rattle.pd_engine.proofs.LessLemmas.{all_taken, box_weight, deep_taken, weight_alone, weight_out, weight_taken}
-use Rattle.pd_engine.proofs.PartLemmas.{part_weight}
+use Rattle.pd_engine.proofs.LostLemmas.{boxes_left, many_gone, owners_left, still_puts, takes_box, wires_left}
 use Rattle.pd_engine.proofs.PutLemmas.{deep_put, weight_put, all_both, all_put}
 use Rattle.pd_engine.proofs.RetypedLemmas.{all_retyped, deep_retyped, retyped_own}
 use Rattle.pd_engine.proofs.ShiftLemmas.{all_shifted, deep_shifted}
@@ -373,29 +371,14 @@ module _ (s : Stage) (t : HasTree s) (path : List ℕ) (number : ℕ) (m : Made)
   abbrev canvas : ℕ
   canvas = h.box.canvas
 
-  abbrev roomed : Patch
-  roomed = h.deletes.ready
-
   stands_first : StandsAt h.old s
   stands_first = record { net = h.stands.net; states = h.stands.states; puts = h.stands.puts; meet = h.stands.meet }
 
   runs_on : CanPut h.new
-  runs_on = h.deletes.cleared.can
+  runs_on = still_puts h.old h.new s.base.counts s.names path number h.steps h.steps' h.box h.deletes
 
   takes : TakesBoxAt h.old.grove h.new.grove path canvas key number
-  takes =
-      let g : Grove = h.old.grove in
-      let o : Option ℕ = sub_reached g (Some g.root) path in
-      let same : roomed.grove ≡ g = h.deletes.room.grove in
-      record {
-        forest = h.stands.puts.forest;
-        leads = leads_there g number o canvas key h.deletes.is;
-        is = found_there g number o canvas key h.deletes.is;
-        node = h.deletes.cleared.node;
-        takes = subst (λ (x : Grove). TakesBox (get x.nodes) (get h.new.grove.nodes) (get x.boards) (get h.new.grove.boards) canvas key h.deletes.cleared.node
-            (take number (keys_at x canvas)) (drop (number + 1) (keys_at x canvas))) same h.deletes.cleared.grove;
-        root = h.deletes.cleared.root ∙ ap (λ (x : Grove). x.root) same;
-      }
+  takes = takes_box h.old h.new s.base.counts s.names path number h.steps h.steps' h.box h.deletes h.stands.puts
 
   -- the tree without it
   abbrev pub fewer_tree : Tree
@@ -408,7 +391,7 @@ module _ (s : Stage) (t : HasTree s) (path : List ℕ) (number : ℕ) (m : Made)
   counted_fewer = ap (λ (x : Base). x.counts) h.base
 
   abbrev part : List ℕ
-  part = h.deletes.cleared.part
+  part = part_gone h.old h.new s.base.counts s.names path number h.steps h.steps' h.box h.deletes
 
   boxes_fewer : m.base.counts.boxes ≡ weight fewer_tree.boxes
   boxes_fewer =
@@ -418,18 +401,19 @@ module _ (s : Stage) (t : HasTree s) (path : List ℕ) (number : ℕ) (m : Made)
       let C : CanvasStands g canvas u = along.2 in
       let has : keys_at g canvas ≡ C.keys = seen_keys (get g.boards canvas) _ C.board in
       let at : slice_get C.keys number ≡ Some key = ap (λ (ks : List ℕ). slice_get ks number) (sym has) ∙ takes.is in
-      let is_part : ArePart (get g.nodes) (get g.boards) key part = subst (λ (x : Grove). ArePart (get x.nodes) (get x.boards) key part) h.deletes.room.grove h.deletes.cleared.is_part in
       let many : length part ≡ box_weight number u.boxes =
-      part_weight (get g.nodes) (get g.boards) g.root h.stands.puts.forest canvas C.depth C.keys u.boxes number key part C.stands (seen_depth (get g.boards canvas) _ C.board) has at
-      (box_lives h.old path number canvas key h.stands.puts h.deletes.is) is_part h.deletes.cleared.once in
+      many_gone h.old h.new s.base.counts s.names path number h.steps h.steps' h.box h.stands.puts C.depth C.keys u.boxes C.stands (seen_depth (get g.boards canvas) _ C.board) has at h.deletes in
       let fewer : weight fewer_tree.boxes + box_weight number u.boxes ≡ weight t.tree.boxes =
       weight_taken path number (box_weight number u.boxes) t.tree u along.1 (weight_out number u.boxes) in
-      let one : m.base.counts.boxes ≡ s.base.counts.boxes - length part = ap (λ (n : Counts). n.boxes) (counted_fewer ∙ h.deletes.counts) in
+      let one : m.base.counts.boxes ≡ s.base.counts.boxes - length part =
+      ap (λ (n : Counts). n.boxes) counted_fewer ∙ boxes_left h.old h.new s.base.counts s.names path number h.steps h.steps' h.box h.deletes in
       let was : s.base.counts.boxes ≡ weight t.tree.boxes = t.boxes in
       omega (arith, fewer, one, was, many)
 
   wires_fewer : m.base.counts.wires ≡ wires_told m.net.web
-  wires_fewer = ap (λ (n : Counts). n.wires) (counted_fewer ∙ h.deletes.counts) ∙ sym (ap (λ (n : Net). wires_told n.web) h.net)
+  wires_fewer =
+      ap (λ (n : Counts). n.wires) counted_fewer ∙ wires_left h.old h.new s.base.counts s.names path number h.steps h.steps' h.box h.deletes
+      ∙ sym (ap (λ (n : Net). wires_told n.web) h.net)
 
   pub lost_tree : HasTree (stage_by (with_ahead s ahead) (Makes m))
   lost_tree = record {
@@ -453,7 +437,7 @@ module _ (s : Stage) (t : HasTree s) (path : List ℕ) (number : ℕ) (m : Made)
       let low : deep t.tree.boxes ≤ 256 = (let l = t.shallow in omega (arith, l)) in
       let before : OwnersStand h.old s.names s.file = λ class name.
       o class name ∙ sym (owners_alike table s.names s.file h.old.grove t.tree.sheet t.tree.boxes class name (at_stands s t h.old stands_first) low same) in
-      h.deletes.cleared.owners s.file (owners_kept h.old roomed s.names s.file h.deletes.room.names h.deletes.room.grove before)
+      owners_left h.old h.new s.base.counts s.names path number h.steps h.steps' h.box h.deletes s.file before
 
   pub lost_owners : HasOwners s t.patch t.tree → HasOwners (stage_by (with_ahead s ahead) (Makes m)) h.new fewer_tree
   lost_owners o =

@@ -15,7 +15,7 @@ ghost use Rattle.pd_stage.specs.Events.{edit_taken, edit_event};
 ghost use Rattle.pd_stage.specs.Lawful.{why_of as why_so};
 ghost use Rattle.pd_stage.specs.Leads.{sinks, Stops, SaysPart};
 ghost use Rattle.pd_putting.specs.Adds.{keys_within};
-ghost use Rattle.pd_stage.specs.Lines.{loads_inside, put_text, retyped_text};
+ghost use Rattle.pd_stage.specs.Lines.{deleted_text, loads_inside, put_text, retyped_text};
 ghost use Rattle.pd_engine.specs.Stages.{stage_at};
 ghost use Rattle.pd_engine.specs.Edits as edits;
 
@@ -23,9 +23,9 @@ use crate::engine::Engine;
 use crate::printing::print_refusal;
 use crate::puts::{keep_loads, print_put};
 use crate::refusals::{Outcome, unsaved};
-use crate::remarks::{print_gone, print_loop, print_unmade};
+use crate::remarks::{print_gone, print_gone_around, print_loop, print_loop_around, print_unmade};
 use pd_canvas::{Atoms, Edit, Place};
-use pd_deleting::delete_box;
+use pd_deleting::{OldBox, delete_box};
 use pd_edit::{EditRefusal, rewire};
 use pd_io::{Shelf, Sink, SinkFailed};
 use pd_num::Num;
@@ -189,7 +189,8 @@ impl Engine {
         Ok(outcome)
     }
 
-    /// Deletes the box of a number in the canvas at a path of the patch's own document, with all that lies in it, or refuses it.
+    /// Deletes the box of a number in the canvas at a path of the patch's own document, with all that lies in it, and with the port that it is of
+    /// the box around, or refuses it.
     fn delete_own<L: Sink, K: Ledger>(
         &mut self,
         path: &[u32],
@@ -214,7 +215,7 @@ impl Engine {
         match done {
             Ok(gone) => {
                 self.counts = gone.counts;
-                self.tell(Ok(gone.canvas), lines)
+                self.tell_deleted(&gone, lines)
             }
             Err(why) => self.tell(Err(why), lines),
         }
@@ -430,6 +431,48 @@ impl Engine {
         print_loop(
             &self.patch,
             canvas,
+            &mut self.numbers,
+            &self.symbols,
+            &mut self.held,
+            lines,
+        )?;
+        Ok(Outcome::Done)
+    }
+
+    /// Tells of a box that an edit deleted: where it was a port of the box around, the wires that went in the canvas in which that lies, and a loop
+    /// of that; and a loop of its own canvas.
+    fn tell_deleted<L: Sink>(
+        &mut self,
+        deleted: &OldBox,
+        lines: &mut L,
+    ) -> Result<Outcome, SinkFailed>
+        ensures stage { stage_at self.new ≡ stage_at self.old }
+        ensures ok { OnOk result (L.taken lines.new ≡ grown (L.taken lines.old) (deleted_text self.old.patch deleted.now.canvas deleted.now.around deleted.now.gone.items)) }
+        ensures answer { IfOk result (λ outcome. outcome ≡ Outcome.Done) }
+        ensures err { OnErr result (TookPart (L.taken lines.old) (L.taken lines.new) (deleted_text self.old.patch deleted.now.canvas deleted.now.around deleted.now.gone.items)) }
+        ensures cause { HasCause (L.faults lines.old) (L.faults lines.new) result }
+        ensures stays { self.new.stopped ≡ self.old.stopped }
+    {
+        let around = deleted.around;
+        print_gone_around(
+            &self.patch,
+            around,
+            deleted.gone.as_slice(),
+            &self.symbols,
+            &mut self.held,
+            lines,
+        )?;
+        print_loop_around(
+            &self.patch,
+            around,
+            &mut self.numbers,
+            &self.symbols,
+            &mut self.held,
+            lines,
+        )?;
+        print_loop(
+            &self.patch,
+            deleted.canvas,
             &mut self.numbers,
             &self.symbols,
             &mut self.held,

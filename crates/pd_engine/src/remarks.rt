@@ -94,6 +94,44 @@ pub(crate) fn print_gone<L: Sink>(
     flush(held, lines)
 }
 
+/// Prints which wires of the canvas around went, where one lies around.
+pub(crate) fn print_gone_around<L: Sink>(
+    patch: &Patch,
+    around: Option<u32>,
+    gone: &[BoxWire],
+    symbols: &Symbols,
+    held: &mut Held,
+    lines: &mut L,
+) -> Result<(), SinkFailed>
+    ensures ok { OnOk result (L.taken lines.new ≡ grown (L.taken lines.old) (texts.gone_around patch.now around gone.now)) }
+    ensures err { OnErr result (TookPart (L.taken lines.old) (L.taken lines.new) (texts.gone_around patch.now around gone.now)) }
+    ensures cause { HasCause (L.faults lines.old) (L.faults lines.new) result }
+{
+    match around {
+        Some(canvas) => print_gone(patch, canvas, gone, symbols, held, lines),
+        None => Ok(()),
+    }
+}
+
+/// Prints the loop of the canvas around, where one lies around and has one.
+pub(crate) fn print_loop_around<L: Sink>(
+    patch: &Patch,
+    around: Option<u32>,
+    numbers: &mut BoxNumbers,
+    symbols: &Symbols,
+    held: &mut Held,
+    lines: &mut L,
+) -> Result<(), SinkFailed>
+    ensures ok { OnOk result (L.taken lines.new ≡ grown (L.taken lines.old) (texts.loops_if patch.now around)) }
+    ensures err { OnErr result (TookPart (L.taken lines.old) (L.taken lines.new) (texts.loops_if patch.now around)) }
+    ensures cause { HasCause (L.faults lines.old) (L.faults lines.new) result }
+{
+    match around {
+        Some(canvas) => print_loop(patch, canvas, numbers, symbols, held, lines),
+        None => Ok(()),
+    }
+}
+
 /// Says the lines of growth, in order.
 fn say_remarks<L: Sink>(
     patch: &Patch,

@@ -26,8 +26,9 @@
 //! of the canvas around where a port came, and loops of its canvas and of those in it; the load boxes in it are loaded;
 //! or it is refused for one of those reasons; or memory was wanting. An edit that deletes a box comes to
 //! what `pd_deleting` tells (`DeletesBox`, `going`): the box goes with all that lies in it, with the wires and the
-//! clocks of these boxes, all other boxes keep what they kept, and a loop of its canvas is told; or it is refused; or
-//! memory was wanting. An edit that moves a box comes to what `pd_shifting` tells (`MovesBox`, `moving`): the box
+//! clocks of these boxes, and the box around loses the port that it was, if it was one, with the wires at that; all
+//! other boxes keep what they kept, and it is told which wires went with the port, a loop of the canvas around where a
+//! port went, and a loop of its canvas; or it is refused; or memory was wanting. An edit that moves a box comes to what `pd_shifting` tells (`MovesBox`, `moving`): the box
 //! stands at another place of its canvas, all else stays, and a loop of its canvas is told; or it is refused. An edit
 //! that gives a box another text comes to what `pd_retyping` tells (`RetypesBox`, `IsRefused`): the wires at it that
 //! don't fit any more go, and it becomes another one in its place, with the ports of its kind, with the other wires and
