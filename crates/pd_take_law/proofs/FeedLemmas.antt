@@ -4,7 +4,6 @@ use Rattle.std.specs.Prelude.{option_map}
 use Rattle.std.proofs.lemmas.Bool.Decides.{nat_tests}
 use Rattle.std.proofs.lemmas.Bool.{both_ways}
 use Rattle.std.proofs.lemmas.Option.{none-some, same_Some, slice_get-map}
-use Rattle.pd_atom.specs.Names.{Names}
 use Rattle.pd_web.specs.declared.lines.Line.{Line}
 use Rattle.pd_web.specs.declared.sockets.Spot.{Spot}
 use Rattle.pd_web.specs.declared.web.Hop.{Hop}
@@ -17,12 +16,9 @@ use Rattle.pd_boxes.specs.Put.{CanPut}
 use Rattle.pd_owning.specs.Bound.{is_among}
 use Rattle.pd_reload_law.proofs.SortedLemmas.{by_test}
 use Rattle.pd_alike_law.specs.Feeds.{FedOnce}
-use Rattle.pd_adding.specs.declared.counts.Counts.{Counts}
 use Rattle.pd_taking.specs.Loosening.{is_of_other}
 use Rattle.pd_clearing.specs.Losing.{IsAtOne}
-use Rattle.pd_deleting.specs.declared.deleting.OldBox.{OldBox}
-use Rattle.pd_deleting.specs.Deletes.{DeletesBox}
-use Rattle.pd_take_law.proofs.GoneLemmas.{feeder_out}
+use Rattle.pd_take_law.proofs.GoneLemmas.{BoxWent, feeder_out}
 
 -- Lists.
 
@@ -85,41 +81,41 @@ some_key w (Some k) h e = ap (λ x. Some x) (sym (hop_key k (slice_get w.spots.i
 key_of : (w : Web) (node inlet i : ℕ) (h : Hop) → slice_get (feed_hops w node inlet) i ≡ Some h → slice_get (feed_keys w node inlet) i ≡ Some h.key
 key_of w node inlet i h e = some_key w (slice_get (feed_keys w node inlet) i) h (sym (slice_get-map (hop_from w) (feed_keys w node inlet) i) ∙ e)
 
--- the wires of a list of feeds, of which those from one box are gone
-pub once_left : (w v : Web) (key node inlet : ℕ) → feed_hops v node inlet ≡ filter (is_of_other key) (feed_hops w node inlet)
+-- the wires of a list of feeds, of which some are gone
+pub once_left : (w v : Web) (keep : Hop → Bool) (node inlet : ℕ) → feed_hops v node inlet ≡ filter (keep) (feed_hops w node inlet)
     → ((i j k : ℕ) → slice_get (feed_keys w node inlet) i ≡ Some k → slice_get (feed_keys w node inlet) j ≡ Some k → i ≡ j)
     → (i j k : ℕ) → slice_get (feed_keys v node inlet) i ≡ Some k → slice_get (feed_keys v node inlet) j ≡ Some k → i ≡ j
-once_left w v key node inlet same once i j k a b =
+once_left w v keep node inlet same once i j k a b =
     let x = hop_from v k in
-    left_once (is_of_other key) (feed_hops w node inlet) x (λ m n c d. once m n x.key (key_of w node inlet m x c) (key_of w node inlet n x d)) i j
+    left_once (keep) (feed_hops w node inlet) x (λ m n c d. once m n x.key (key_of w node inlet m x c) (key_of w node inlet n x d)) i j
     (ap (λ (hs : List Hop). slice_get hs i) (sym same) ∙ key_at v node inlet i k a) (ap (λ (hs : List Hop). slice_get hs j) (sym same) ∙ key_at v node inlet j k b)
 
 pub from_other : (key : ℕ) (h : Hop) → is_of_other key h ≡ true → h.node ≢ key
 from_other key h t e = grind (arith, nat_tests)
 
-module _ (old new : Patch) (n : Counts) (table : Names) (path : List ℕ) (number steps steps' : ℕ) (b : OldBox) (D : DeletesBox old new n table path number steps steps' b) where
-  pub feeds_gone : (node inlet : ℕ) → is_among D.cleared.part node ≡ false → feed_hops new.web node inlet ≡ filter (is_of_other b.key) (feed_hops old.web node inlet)
-  feeds_gone node inlet out = D.cleared.wires.feeds node inlet out ∙ ap (filter (is_of_other b.key)) (D.room.web.feeds node inlet)
+module _ (old new : Patch) (path : List ℕ) (canvas key number : ℕ) (part : List ℕ) (D : BoxWent old new path canvas key number part) where
+  pub feeds_gone : (node inlet : ℕ) → is_among part node ≡ false → feed_hops new.web node inlet ≡ filter (is_of_other key) (feed_hops old.web node inlet)
+  feeds_gone node inlet out = D.wires.feeds node inlet out
 
-  none_fed : (node inlet : ℕ) → is_among D.cleared.part node ≡ true → feed_hops new.web node inlet ≡ []
-  none_fed node inlet at = (D.cleared.wires.bare node at).feeds inlet
+  none_fed : (node inlet : ℕ) → is_among part node ≡ true → feed_hops new.web node inlet ≡ []
+  none_fed node inlet at = (D.wires.bare node at).feeds inlet
 
-  line_left : (k : ℕ) (l : Line) → (IsAtOne D.cleared.part l → ⊥) → line_told old.web k ≡ Some l → line_told new.web k ≡ Some l
-  line_left k l d e = D.cleared.wires.other_lines k l d (D.room.web.lines k ∙ e)
+  line_left : (k : ℕ) (l : Line) → (IsAtOne part l → ⊥) → line_told old.web k ≡ Some l → line_told new.web k ≡ Some l
+  line_left k l d e = D.wires.other_lines k l d e
 
   pub still_fed : CanPut old → Meet old.web → FedOnce old.web → FedOnce new.web
   still_fed C meet F = record {
-    lines = λ node inlet i h e. by_test (is_among D.cleared.part node)
+    lines = λ node inlet i h e. by_test (is_among part node)
         (λ at. absurd (nothing_there h i (ap (λ (hs : List Hop). slice_get hs i) (sym (none_fed node inlet at)) ∙ e)))
         (λ out.
-        let p = passed (is_of_other b.key) (feed_hops old.web node inlet) h i (ap (λ (hs : List Hop). slice_get hs i) (sym (feeds_gone node inlet out)) ∙ e) in
-        let far = feeder_out old new n table path number steps steps' b D C meet node inlet p.place h out p.stood (from_other b.key h p.passes) in
+        let p = passed (is_of_other key) (feed_hops old.web node inlet) h i (ap (λ (hs : List Hop). slice_get hs i) (sym (feeds_gone node inlet out)) ∙ e) in
+        let far = feeder_out old new path canvas key number part D C meet node inlet p.place h out p.stood (from_other key h p.passes) in
         line_left h.key (line_by h (hop_at h.key node inlet)) (apart node inlet h out far) (F.lines node inlet p.place h p.stood));
-    once = λ node inlet i j k x y. by_test (is_among D.cleared.part node)
+    once = λ node inlet i j k x y. by_test (is_among part node)
         (λ at. absurd (nothing_there (hop_from new.web k) i (ap (λ (hs : List Hop). slice_get hs i) (sym (none_fed node inlet at)) ∙ key_at new.web node inlet i k x)))
-        (λ out. once_left old.web new.web b.key node inlet (feeds_gone node inlet out) (F.once node inlet) i j k x y);
+        (λ out. once_left old.web new.web (is_of_other key) node inlet (feeds_gone node inlet out) (F.once node inlet) i j k x y);
   }
     where
-      apart : (node inlet : ℕ) (h : Hop) → is_among D.cleared.part node ≡ false → is_among D.cleared.part h.node ≡ false → IsAtOne D.cleared.part (line_by h (hop_at h.key node inlet)) → ⊥
-      apart node inlet h out far (inl s) = both_ways (is_among D.cleared.part h.node) far s
-      apart node inlet h out far (inr s) = both_ways (is_among D.cleared.part node) out s
+      apart : (node inlet : ℕ) (h : Hop) → is_among part node ≡ false → is_among part h.node ≡ false → IsAtOne part (line_by h (hop_at h.key node inlet)) → ⊥
+      apart node inlet h out far (inl s) = both_ways (is_among part h.node) far s
+      apart node inlet h out far (inr s) = both_ways (is_among part node) out s

@@ -7,7 +7,6 @@ use Rattle.std.proofs.lemmas.Bool.Decides.{nat_tests}
 use Rattle.std.proofs.lemmas.Bool.{cases_eq}
 use Rattle.std.proofs.lemmas.Option.{slice_get_past}
 use Rattle.slab.specs.Slab.{get}
-use Rattle.pd_atom.specs.Names.{Names}
 use Rattle.pd_canvas.specs.declared.wires.Wire.{Wire}
 use Rattle.pd_canvas.specs.Wiring.{lowered, lowered_wire, spares, without_box}
 use Rattle.pd_tree.specs.Ports.{Sockets as Seen, fits, fits_between}
@@ -29,10 +28,7 @@ use Rattle.pd_owning.specs.Bound.{is_among}
 use Rattle.pd_saved_law.specs.Fitting.{WiresFit}
 use Rattle.pd_taking_law.proofs.StayLemmas.{keys_less, map_less}
 use Rattle.pd_taking_law.proofs.WireLemmas.{wires_aside, wires_here}
-use Rattle.pd_adding.specs.declared.counts.Counts.{Counts}
-use Rattle.pd_deleting.specs.declared.deleting.OldBox.{OldBox}
-use Rattle.pd_deleting.specs.Deletes.{DeletesBox}
-use Rattle.pd_take_law.proofs.GoneLemmas.{box_gone, lies_out, wires_gone}
+use Rattle.pd_take_law.proofs.GoneLemmas.{BoxWent, lies_out, wires_gone}
 
 -- Lists with an element less.
 
@@ -77,39 +73,37 @@ told_same w w' [] same = refl
 told_same w w' (k ∷ ks) same =
     ap (λ (s : Seen). s ∷ boxes_told w' ks) (same 0 k refl) ∙ ap (λ (ss : List Seen). laid_at w.sockets.items k ∷ ss) (told_same w w' ks (λ i. same (suc i)))
 
-module _ (old new : Patch) (n : Counts) (table : Names) (path : List ℕ) (number steps steps' : ℕ) (b : OldBox) (D : DeletesBox old new n table path number steps steps' b) (C : CanPut old) (meet : Meet old.web) where
-  pub box_same : (k : ℕ) → is_among D.cleared.part k ≡ false → laid_at new.web.sockets.items k ≡ laid_at old.web.sockets.items k
+module _ (old new : Patch) (path : List ℕ) (canvas key number : ℕ) (part : List ℕ) (D : BoxWent old new path canvas key number part) (C : CanPut old) (meet : Meet old.web) where
+  pub box_same : (k : ℕ) → is_among part k ≡ false → laid_at new.web.sockets.items k ≡ laid_at old.web.sockets.items k
   box_same k out =
-      let P = D.cleared.ports in
-      let R = D.room.web.kept in
-      ap (λ (js : List Jack). seen_by js (ports_told new.web Outlets k) (made_at new.web.sockets.items k)) (P.ports Inlets k out ∙ R.ports Inlets k)
-      ∙ ap (λ (js : List Jack). seen_by (ports_told old.web Inlets k) js (made_at new.web.sockets.items k)) (P.ports Outlets k out ∙ R.ports Outlets k)
-      ∙ ap (seen_by (ports_told old.web Inlets k) (ports_told old.web Outlets k)) (P.made k out ∙ R.made k)
+      ap (λ (js : List Jack). seen_by js (ports_told new.web Outlets k) (made_at new.web.sockets.items k)) (D.ports Inlets k out)
+      ∙ ap (λ (js : List Jack). seen_by (ports_told old.web Inlets k) js (made_at new.web.sockets.items k)) (D.ports Outlets k out)
+      ∙ ap (seen_by (ports_told old.web Inlets k) (ports_told old.web Outlets k)) (D.made k out)
 
   -- the boxes of a canvas have the ports that they had
   told_still : (c : ℕ) → boxes_told new.web (keys_at new.grove c) ≡ boxes_told old.web (keys_at new.grove c)
-  told_still c = told_same old.web new.web (keys_at new.grove c) (λ i k at. box_same k (lies_out old new n table path number steps steps' b D C c i k at))
+  told_still c = told_same old.web new.web (keys_at new.grove c) (λ i k at. box_same k (lies_out old.grove new.grove path canvas key number D.at part D.is_part c i k at))
 
-  fits_here : WiresFit old → AllByRecursion (λ v. fits (boxes_told new.web (keys_at new.grove b.canvas)) v ≡ true) (wires_among new.web new.numbers.items (keys_at new.grove b.canvas))
+  fits_here : WiresFit old → AllByRecursion (λ v. fits (boxes_told new.web (keys_at new.grove canvas)) v ≡ true) (wires_among new.web new.numbers.items (keys_at new.grove canvas))
   fits_here F =
-      let B = box_gone old new n table path number steps steps' b D C in
-      let W = wires_gone old new n table path number steps steps' b D C meet in
-      let ws = wires_among old.web old.numbers.items (keys_at old.grove b.canvas) in
-      let boxes : boxes_told new.web (keys_at new.grove b.canvas) ≡ remove (boxes_told old.web (keys_at old.grove b.canvas)) number =
-      told_still b.canvas ∙ ap (boxes_told old.web) (keys_less old.grove new.grove path b.canvas b.key number B)
-      ∙ map_less (laid_at old.web.sockets.items) (keys_at old.grove b.canvas) number in
-      subst (λ (vs : List Wire). AllByRecursion (λ v. fits (boxes_told new.web (keys_at new.grove b.canvas)) v ≡ true) vs)
-      (sym (wires_here old.grove new.grove path b.canvas b.key number B old.web new.web old.numbers.items new.numbers.items W))
-      (subst (λ (bs : List Seen). AllByRecursion (λ v. fits bs v ≡ true) (without_box number ws)) (sym boxes) (all_less (boxes_told old.web (keys_at old.grove b.canvas)) number ws (F.all b.canvas)))
+      let B = D.at in
+      let W = wires_gone old new path canvas key number part D C in
+      let ws = wires_among old.web old.numbers.items (keys_at old.grove canvas) in
+      let boxes : boxes_told new.web (keys_at new.grove canvas) ≡ remove (boxes_told old.web (keys_at old.grove canvas)) number =
+      told_still canvas ∙ ap (boxes_told old.web) (keys_less old.grove new.grove path canvas key number B)
+      ∙ map_less (laid_at old.web.sockets.items) (keys_at old.grove canvas) number in
+      subst (λ (vs : List Wire). AllByRecursion (λ v. fits (boxes_told new.web (keys_at new.grove canvas)) v ≡ true) vs)
+      (sym (wires_here old.grove new.grove path canvas key number B old.web new.web old.numbers.items new.numbers.items W))
+      (subst (λ (bs : List Seen). AllByRecursion (λ v. fits bs v ≡ true) (without_box number ws)) (sym boxes) (all_less (boxes_told old.web (keys_at old.grove canvas)) number ws (F.all canvas)))
 
-  fits_aside : WiresFit old → (c : ℕ) → c ≢ b.canvas → get new.grove.boards c ≡ get old.grove.boards c
+  fits_aside : WiresFit old → (c : ℕ) → c ≢ canvas → get new.grove.boards c ≡ get old.grove.boards c
       → AllByRecursion (λ v. fits (boxes_told new.web (keys_at new.grove c)) v ≡ true) (wires_among new.web new.numbers.items (keys_at new.grove c))
   fits_aside F c d stays =
-      let B = box_gone old new n table path number steps steps' b D C in
-      let W = wires_gone old new n table path number steps steps' b D C meet in
+      let B = D.at in
+      let W = wires_gone old new path canvas key number part D C in
       let boxes : boxes_told new.web (keys_at new.grove c) ≡ boxes_told old.web (keys_at old.grove c) = told_still c ∙ ap (λ (o : Option Board). boxes_told old.web (keys_in o)) stays in
       subst (λ (vs : List Wire). AllByRecursion (λ v. fits (boxes_told new.web (keys_at new.grove c)) v ≡ true) vs)
-      (sym (wires_aside old.grove new.grove path b.canvas b.key number B old.web new.web old.numbers.items new.numbers.items W c d stays))
+      (sym (wires_aside old.grove new.grove path canvas key number B old.web new.web old.numbers.items new.numbers.items W c d stays))
       (subst (λ (bs : List Seen). AllByRecursion (λ v. fits bs v ≡ true) (wires_among old.web old.numbers.items (keys_at old.grove c))) (sym boxes) (F.all c))
 
   -- a canvas that went has no boxes and no wires
@@ -117,15 +111,15 @@ module _ (old new : Patch) (n : Counts) (table : Names) (path : List ℕ) (numbe
   fits_nowhere c none =
       subst (λ (o : Option Board). AllByRecursion (λ v. fits (boxes_told new.web (keys_in o)) v ≡ true) (wires_among new.web new.numbers.items (keys_in o))) (sym none) tt
 
-  fits_by : WiresFit old → (c : ℕ) → c ≢ b.canvas → AllByRecursion (λ v. fits (boxes_told new.web (keys_at new.grove c)) v ≡ true) (wires_among new.web new.numbers.items (keys_at new.grove c))
+  fits_by : WiresFit old → (c : ℕ) → c ≢ canvas → AllByRecursion (λ v. fits (boxes_told new.web (keys_at new.grove c)) v ≡ true) (wires_among new.web new.numbers.items (keys_at new.grove c))
   fits_by F c d = ⊎_elim
       (λ (none : get new.grove.boards c ≡ None). fits_nowhere c none)
-      (λ (some : IsSome (get new.grove.boards c)). fits_aside F c d ((box_gone old new n table path number steps steps' b D C).takes.no_canvas_comes c d some))
+      (λ (some : IsSome (get new.grove.boards c)). fits_aside F c d (D.at.takes.no_canvas_comes c d some))
       (none_or_some (get new.grove.boards c))
 
   pub still_fit : WiresFit old → WiresFit new
   still_fit F = record {
     all = λ c. ⊎_elim
-        (λ (e : c ≡ b.canvas). subst (λ x. AllByRecursion (λ v. fits (boxes_told new.web (keys_at new.grove x)) v ≡ true) (wires_among new.web new.numbers.items (keys_at new.grove x))) (sym e) (fits_here F))
-        (λ (d : c ≢ b.canvas). fits_by F c d) (cases_eq c b.canvas);
+        (λ (e : c ≡ canvas). subst (λ x. AllByRecursion (λ v. fits (boxes_told new.web (keys_at new.grove x)) v ≡ true) (wires_among new.web new.numbers.items (keys_at new.grove x))) (sym e) (fits_here F))
+        (λ (d : c ≢ canvas). fits_by F c d) (cases_eq c canvas);
   }

@@ -3,7 +3,6 @@ use Rattle.std.proofs.Common.{◌≡◌, ◌≢◌, ℕ, List, [], ◌∷◌, �
 use Rattle.std.specs.Prelude.{option_map, option_and_then}
 use Rattle.std.proofs.lemmas.Option.{none-some, same_Some}
 use Rattle.slab.specs.Slab.{get}
-use Rattle.pd_atom.specs.Names.{Names}
 use Rattle.pd_tree.specs.declared.rows.Sheet.{Sheet}
 use Rattle.pd_tree.specs.Trees.{Trees, Tree}
 use Rattle.pd_grove.specs.declared.nodes.Node.{Node}
@@ -33,10 +32,7 @@ use Rattle.pd_taking_law.specs.Taking.{TakesBoxAt}
 use Rattle.pd_taking_law.proofs.StandLemmas.{live_inside, runs_less, stands_aside}
 use Rattle.pd_taking_law.proofs.StayLemmas.{forest_still, leads_from_root}
 use Rattle.pd_taking_law.proofs.WireLemmas.{none_gone}
-use Rattle.pd_adding.specs.declared.counts.Counts.{Counts}
-use Rattle.pd_deleting.specs.declared.deleting.OldBox.{OldBox}
-use Rattle.pd_deleting.specs.Deletes.{DeletesBox}
-use Rattle.pd_take_law.proofs.GoneLemmas.{box_gone, lies_out, not_key, was_there, wires_gone}
+use Rattle.pd_take_law.proofs.GoneLemmas.{BoxWent, lies_out, not_key, was_there, wires_gone}
 use Rattle.pd_take_law.proofs.FitLemmas.{box_same, told_same}
 use Rattle.pd_take_law.proofs.FeedLemmas.{feeds_gone, still_fed}
 use Rattle.pd_take_law.proofs.OrderLemmas.{feeder_there, still_ordered}
@@ -116,70 +112,74 @@ pub record WayBack (g h : Grove) (d c : ℕ) (way : List ℕ) : Type 0 where
   pub leads : reached g (Some d) was ≡ Some c
   pub own : sub_reached g (Some d) was ≡ sub_reached h (Some d) way
 
-module _ (old new : Patch) (n : Counts) (table : Names) (path : List ℕ) (number steps_old steps_new : ℕ) (b : OldBox) (D : DeletesBox old new n table path number steps_old steps_new b) (C : CanPut old) where
-  B : TakesBoxAt old.grove new.grove path b.canvas b.key number
-  B = box_gone old new n table path number steps_old steps_new b D C
+module _ (g h : Grove) (path : List ℕ) (canvas key number : ℕ) (B : TakesBoxAt g h path canvas key number) where
+  still : IsForest (get h.nodes) (get h.boards) h.root
+  still = forest_still g h path canvas key number B
 
-  F : IsForest (get new.grove.nodes) (get new.grove.boards) new.grove.root
-  F = forest_still old.grove new.grove path b.canvas b.key number B
+  same_box : (c i k : ℕ) → slice_get (keys_at h c) i ≡ Some k → get h.nodes k ≡ get g.nodes k
+  same_box c i k at = B.takes.none_comes k (live_box h still c i k at)
 
-  same_box : (c i k : ℕ) → slice_get (keys_at new.grove c) i ≡ Some k → get new.grove.nodes k ≡ get old.grove.nodes k
-  same_box c i k at = B.takes.none_comes k (live_box new.grove F c i k at)
-
-  way_back : (way : List ℕ) (d c : ℕ) → reached new.grove (Some d) way ≡ Some c → WayBack old.grove new.grove d c way
+  way_back : (way : List ℕ) (d c : ℕ) → reached h (Some d) way ≡ Some c → WayBack g h d c way
   way_back [] d c e = record { was = []; leads = e; own = refl }
   way_back (m ∷ way) d c e =
-      let s = steps new.grove d m way c e in
-      let t = was_there old new n table path number steps_old steps_new b D C d m s.key s.is in
+      let s = steps h d m way c e in
+      let t = was_there g h path canvas key number B d m s.key s.is in
       let rest = way_back way s.inner c s.on in
       let same = same_box d m s.key s.is in
       record {
         was = t.0 ∷ rest.was;
-        leads = step_on old.grove d t.0 s.key s.inner rest.was c t.1 (ap inner_in (sym same) ∙ s.holds) rest.leads;
+        leads = step_on g d t.0 s.key s.inner rest.was c t.1 (ap inner_in (sym same) ∙ s.holds) rest.leads;
         own =
-            ap (λ o. sub_reached old.grove (option_and_then (λ k. sub_in (get old.grove.nodes k)) o) rest.was) t.1
-            ∙ ap (λ (o : Option Node). sub_reached old.grove (sub_in o) rest.was) (sym same)
-            ∙ by (sub_in (get new.grove.nodes s.key)) refl s.inner s.holds rest.was rest.own
-            ∙ sym (ap (λ o. sub_reached new.grove (option_and_then (λ k. sub_in (get new.grove.nodes k)) o) way) s.is);
+            ap (λ o. sub_reached g (option_and_then (λ k. sub_in (get g.nodes k)) o) rest.was) t.1
+            ∙ ap (λ (o : Option Node). sub_reached g (sub_in o) rest.was) (sym same)
+            ∙ by (sub_in (get h.nodes s.key)) refl s.inner s.holds rest.was rest.own
+            ∙ sym (ap (λ o. sub_reached h (option_and_then (λ k. sub_in (get h.nodes k)) o) way) s.is);
       }
     where
-      by : (o : Option ℕ) → sub_in (get new.grove.nodes (steps new.grove d m way c e).key) ≡ o → (j : ℕ) → inner_in (get new.grove.nodes (steps new.grove d m way c e).key) ≡ Some j → (was : List ℕ)
-          → sub_reached old.grove (Some j) was ≡ sub_reached new.grove (Some j) way → sub_reached old.grove o was ≡ sub_reached new.grove o way
-      by None q j holds was own = sub_nowhere old.grove was ∙ sym (sub_nowhere new.grove way)
+      by : (o : Option ℕ) → sub_in (get h.nodes (steps h d m way c e).key) ≡ o → (j : ℕ) → inner_in (get h.nodes (steps h d m way c e).key) ≡ Some j → (was : List ℕ)
+          → sub_reached g (Some j) was ≡ sub_reached h (Some j) way → sub_reached g o was ≡ sub_reached h o way
+      by None q j holds was own = sub_nowhere g was ∙ sym (sub_nowhere h way)
       by (Some i) q j holds was own =
-          let same : j ≡ i = same_Some j i (sym holds ∙ sub_inner (get new.grove.nodes (steps new.grove d m way c e).key) i q) in
-          subst (λ x. sub_reached old.grove (Some x) was ≡ sub_reached new.grove (Some x) way) same own
+          let same : j ≡ i = same_Some j i (sym holds ∙ sub_inner (get h.nodes (steps h d m way c e).key) i q) in
+          subst (λ x. sub_reached g (Some x) was ≡ sub_reached h (Some x) way) same own
 
-  pub root_back : (way : List ℕ) (c : ℕ) → reached new.grove (Some new.grove.root) way ≡ Some c → WayBack old.grove new.grove old.grove.root c way
-  root_back way c e = way_back way old.grove.root c (ap (λ r. reached new.grove (Some r) way) (sym B.root) ∙ e)
+  pub root_back : (way : List ℕ) (c : ℕ) → reached h (Some h.root) way ≡ Some c → WayBack g h g.root c way
+  root_back way c e = way_back way g.root c (ap (λ r. reached h (Some r) way) (sym B.root) ∙ e)
+
+module _ (old new : Patch) (path : List ℕ) (canvas key number : ℕ) (part : List ℕ) (D : BoxWent old new path canvas key number part) (C : CanPut old) where
+  B : TakesBoxAt old.grove new.grove path canvas key number
+  B = D.at
+
+  F : IsForest (get new.grove.nodes) (get new.grove.boards) new.grove.root
+  F = forest_still old.grove new.grove path canvas key number B
 
   module _ (meet : Meet old.web) where
     pub order_still : (t : Tree) → HoldsWires old t → (way : List ℕ) (c : ℕ) → sub_reached new.grove (Some new.grove.root) way ≡ Some c → FeedsInOrder new c
     order_still t H way c e =
-        let w = root_back way c (sub_leads new.grove new.grove.root c way e) in
-        still_ordered old new n table path number steps_old steps_new b D C meet c (H.order w.was c (w.own ∙ ap (λ r. sub_reached new.grove (Some r) way) (sym B.root) ∙ e))
+        let w = root_back old.grove new.grove path canvas key number D.at way c (sub_leads new.grove new.grove.root c way e) in
+        still_ordered old new path canvas key number part D C meet c (H.order w.was c (w.own ∙ ap (λ r. sub_reached new.grove (Some r) way) (sym B.root) ∙ e))
 
     -- Canvases inside abstractions.
 
     module _ (way : List ℕ) (c : ℕ) (leads : reached new.grove (Some new.grove.root) way ≡ Some c) (off : sub_reached new.grove (Some new.grove.root) way ≡ None) where
-      was_off : sub_reached old.grove (Some old.grove.root) (root_back way c leads).was ≡ None
-      was_off = (root_back way c leads).own ∙ ap (λ r. sub_reached new.grove (Some r) way) (sym B.root) ∙ off
+      was_off : sub_reached old.grove (Some old.grove.root) (root_back old.grove new.grove path canvas key number D.at way c leads).was ≡ None
+      was_off = (root_back old.grove new.grove path canvas key number D.at way c leads).own ∙ ap (λ r. sub_reached new.grove (Some r) way) (sym B.root) ∙ off
 
       -- it isn't the canvas of the box
-      apart : c ≢ b.canvas
+      apart : c ≢ canvas
       apart e =
-          let w = root_back way c leads in
+          let w = root_back old.grove new.grove path canvas key number D.at way c leads in
           let same = paths_once old.grove C.forest path w.was old.grove.root c (sub_leads old.grove old.grove.root c path (B.leads ∙ ap (λ x. Some x) (sym e))) w.leads in
-          none-some b.canvas (sym was_off ∙ ap (sub_reached old.grove (Some old.grove.root)) (sym same) ∙ B.leads)
+          none-some canvas (sym was_off ∙ ap (sub_reached old.grove (Some old.grove.root)) (sym same) ∙ B.leads)
 
       -- and that doesn't lie in it
-      not_in : LeadsNot new.grove b.canvas c
+      not_in : LeadsNot new.grove canvas c
       not_in more e =
-          let on = leads_from_root old.grove new.grove path b.canvas b.key number B in
+          let on = leads_from_root old.grove new.grove path canvas key number B in
           let same : way ++ more ≡ path =
-          paths_once new.grove F (way ++ more) path new.grove.root b.canvas (then_reached new.grove way more (Some new.grove.root) ∙ ap (λ o. reached new.grove o more) leads ∙ e)
-          (sub_leads new.grove new.grove.root b.canvas path on) in
-          none-some b.canvas (sym (sub_nowhere new.grove more) ∙ ap (λ o. sub_reached new.grove o more) (sym off) ∙ sym (then_sub new.grove way more (Some new.grove.root))
+          paths_once new.grove F (way ++ more) path new.grove.root canvas (then_reached new.grove way more (Some new.grove.root) ∙ ap (λ o. reached new.grove o more) leads ∙ e)
+          (sub_leads new.grove new.grove.root canvas path on) in
+          none-some canvas (sym (sub_nowhere new.grove more) ∙ ap (λ o. sub_reached new.grove o more) (sym off) ∙ sym (then_sub new.grove way more (Some new.grove.root))
           ∙ ap (sub_reached new.grove (Some new.grove.root)) same ∙ on)
 
       live : IsSome (get new.grove.boards c)
@@ -198,7 +198,7 @@ module _ (old new : Patch) (n : Counts) (table : Names) (path : List ℕ) (numbe
           let keys : T.keys ≡ S.keys = sym (ap (λ (y : BoardSeen). y.keys) x) in
           let sheet : u.sheet ≡ v.sheet = ap (λ (y : BoardSeen). y.sheet) x in
           let at : keys_at new.grove c ≡ S.keys = ap keys_in board_same ∙ seen_keys (get old.grove.boards c) _ S.board in
-          let was = stands_aside old.grove new.grove path b.canvas b.key number B F c S.depth S.keys u.boxes (live_inside new.grove c S.keys F at) (aside_inside new.grove b.canvas c S.keys at not_in) S.stands in
+          let was = stands_aside old.grove new.grove path canvas key number B F c S.depth S.keys u.boxes (live_inside new.grove c S.keys F at) (aside_inside new.grove canvas c S.keys at not_in) S.stands in
           let now = subst (λ d. Stands (get new.grove.nodes) (get new.grove.boards) c d S.keys v.boxes) deep
           (subst (λ (ks : List ℕ). Stands (get new.grove.nodes) (get new.grove.boards) c T.depth ks v.boxes) keys T.stands) in
           let boxes : u.boxes ≡ v.boxes = stands_once (get new.grove.nodes) (get new.grove.boards) c S.depth S.keys u.boxes v.boxes was now in
@@ -210,26 +210,26 @@ module _ (old new : Patch) (n : Counts) (table : Names) (path : List ℕ) (numbe
       keys_same : keys_at new.grove c ≡ keys_at old.grove c
       keys_same = ap keys_in board_same
 
-      out : (i k : ℕ) → slice_get (keys_at old.grove c) i ≡ Some k → is_among D.cleared.part k ≡ false
-      out i k at = lies_out old new n table path number steps_old steps_new b D C c i k (ap (λ (ks : List ℕ). slice_get ks i) keys_same ∙ at)
+      out : (i k : ℕ) → slice_get (keys_at old.grove c) i ≡ Some k → is_among part k ≡ false
+      out i k at = lies_out old.grove new.grove path canvas key number D.at part D.is_part c i k (ap (λ (ks : List ℕ). slice_get ks i) keys_same ∙ at)
 
-      aside : (k : ℕ) → IsThere (keys_at old.grove c) k → k ≢ b.key
-      aside k t = not_key old new n table path number steps_old steps_new b D k (out t.0 k t.1)
+      aside : (k : ℕ) → IsThere (keys_at old.grove c) k → k ≢ key
+      aside k t = not_key old.grove new.grove path canvas key number D.at part D.is_part k (out t.0 k t.1)
 
       fans_same : (i k outlet : ℕ) → slice_get (keys_at old.grove c) i ≡ Some k → fan_hops new.web k outlet ≡ fan_hops old.web k outlet
       fans_same i k outlet at =
-          let W = wires_gone old new n table path number steps_old steps_new b D C meet in
+          let W = wires_gone old new path canvas key number part D C in
           W.fans k outlet (live_box new.grove F c i k (ap (λ (ks : List ℕ). slice_get ks i) keys_same ∙ at))
-          ∙ none_gone b.key (fan_hops old.web k outlet) (λ j x e. let a = W.inside c k outlet j x (i, at) e in aside x.node (a.0, a.1))
+          ∙ none_gone key (fan_hops old.web k outlet) (λ j x e. let a = W.inside c k outlet j x (i, at) e in aside x.node (a.0, a.1))
 
       feeds_same : (i k inlet : ℕ) → slice_get (keys_at old.grove c) i ≡ Some k → feed_hops new.web k inlet ≡ feed_hops old.web k inlet
       feeds_same i k inlet at =
-          feeds_gone old new n table path number steps_old steps_new b D k inlet (out i k at)
-          ∙ none_gone b.key (feed_hops old.web k inlet) (λ j x e. aside x.node (feeder_there old new n table path number steps_old steps_new b D C meet c k inlet j x (i, at) e))
+          feeds_gone old new path canvas key number part D k inlet (out i k at)
+          ∙ none_gone key (feed_hops old.web k inlet) (λ j x e. aside x.node (feeder_there old new path canvas key number part D C meet c k inlet j x (i, at) e))
 
       wires_same : (u : Tree) → HasWiresOf old.web (keys_at old.grove c) u → HasWiresOf new.web (keys_at new.grove c) u
       wires_same u H = subst (λ (ks : List ℕ). HasWiresOf new.web ks u) (sym keys_same) (record {
-        ports = told_same old.web new.web (keys_at old.grove c) (λ i k at. box_same old new n table path number steps_old steps_new b D C meet k (out i k at)) ∙ H.ports;
+        ports = told_same old.web new.web (keys_at old.grove c) (λ i k at. box_same old new path canvas key number part D C meet k (out i k at)) ∙ H.ports;
         fans = λ i outlet k at. ap places_of (fans_same i k outlet at) ∙ H.fans i outlet k at;
         feeds = λ i inlet k at. ap places_of (feeds_same i k inlet at) ∙ H.feeds i inlet k at;
       })
@@ -237,9 +237,9 @@ module _ (old new : Patch) (n : Counts) (table : Names) (path : List ℕ) (numbe
     inside_still : (t : Tree) → RunsAs old.grove t → HoldsWires old t → IsWiredInside new.grove new.web (taken_at path number t)
     inside_still t R H = record {
       all = λ way c v l.
-          let w = root_back way c l.here.key in
+          let w = root_back old.grove new.grove path canvas key number D.at way c l.here.key in
           let is = along old.grove t w.was c R.stands w.leads in
-          let now = along new.grove (taken_at path number t) way c (runs_less old.grove new.grove path b.canvas b.key number t B R).stands l.here.key in
+          let now = along new.grove (taken_at path number t) way c (runs_less old.grove new.grove path canvas key number t B R).stands l.here.key in
           let same : is.tree ≡ v = same_canvas way c l.here.key l.inside is.tree now.tree is.stands now.stands ∙ same_Some now.tree v (sym now.is ∙ l.here.canvas) in
           wires_same way c l.here.key l.inside v (subst (λ (x : Tree). HasWiresOf old.web (keys_at old.grove c) x) same
           (H.inside.all w.was c is.tree (record { here = record { key = w.leads; canvas = is.is }; inside = was_off way c l.here.key l.inside })));
@@ -247,8 +247,8 @@ module _ (old new : Patch) (n : Counts) (table : Names) (path : List ℕ) (numbe
 
     pub still_holds : (t : Tree) → RunsAs old.grove t → HoldsWires old t → HoldsWires new (taken_at path number t)
     still_holds t R H = record {
-      fed = still_fed old new n table path number steps_old steps_new b D C meet H.fed;
-      meet = D.cleared.meet;
+      fed = still_fed old new path canvas key number part D C meet H.fed;
+      meet = D.meet;
       inside = inside_still t R H;
       order = order_still t H;
     }

@@ -7,3 +7,8 @@ pub mod OrderLemmas
 pub mod InsideLemmas
 pub mod ShrinkLemmas
 pub mod SavedLemmas
+pub mod DeletedLemmas
+pub mod AroundLemmas
+pub mod ShedLemmas
+pub mod LowerLemmas
+pub mod LostLemmas
