@@ -95,6 +95,10 @@ module _ (w w' : Web) (key at : ℕ) (jack : Jack) where
 
   -- ---- the line of a wire
 
+  -- a wire to an inlet from this outlet of its box
+  abbrev line_from : ℕ → ℕ → Hop → ℕ → Line
+  line_from n i h x = record { source = h.node; outlet = x; sink = n; inlet = i }
+
   -- a wire of this key stands where its hop does
   feed_key : (v : Web) (n i p : ℕ) (h : Hop) → slice_get (feed_hops v n i) p ≡ Some h → slice_get (feed_keys v n i) p ≡ Some h.key
   feed_key v n i p h e =
@@ -139,9 +143,6 @@ module _ (w w' : Web) (key at : ℕ) (jack : Jack) where
         ap (λ (hs : List Hop). slice_get hs p) (X.across n i) ∙ slice_get-map (raised key at) (feed_hops w n i) p ∙ ap (option_map (raised key at)) e in
         by n i p h e there (cases_eq h.node key)
       where
-        abbrev line : ℕ → ℕ → Hop → ℕ → Line
-        line n i h x = record { source = h.node; outlet = x; sink = n; inlet = i }
-
         by : (n i p : ℕ) (h : Hop) → slice_get (feed_hops w n i) p ≡ Some h → slice_get (feed_hops w' n i) p ≡ Some (raised key at h) → (h.node ≡ key) ⊎ (h.node ≢ key)
             → line_told w h.key ≡ Some (line_by h (hop_at h.key n i))
         by n i p h e there (inl same) =
@@ -149,11 +150,11 @@ module _ (w w' : Web) (key at : ℕ) (jack : Jack) where
             let low : h.port < length (ports_told w Outlets key) =
             subst (λ x. h.port < length (ports_told w Outlets x)) same (keys_within w Outlets h.node h.port m.0 h.key (fan_key w h.node h.port m.0 (hop_at h.key n i) m.1)) in
             let turned : cond (h.node == key) (up at h.port) h.port ≡ up at h.port = ap (λ (b : Bool). cond b (up at h.port) h.port) (eq-eqb h.node key same) in
-            F.lines h.key h.port (line n i h (cond (h.node == key) (up at h.port) h.port)) Inlets (fed.lines n i p (raised key at h) there) (stands n i p (raised key at h) there) same
+            F.lines h.key h.port (line_from n i h (cond (h.node == key) (up at h.port) h.port)) Inlets (fed.lines n i p (raised key at h) there) (stands n i p (raised key at h) there) same
             (subst (λ x. Goes (ports_told w' Outlets key) jacks x h.port) (sym turned) (goes_down Outlets X F h.port low))
         by n i p h e there (inr d) =
-            F.other_lines h.key (line n i h (cond (h.node == key) (up at h.port) h.port)) Inlets (fed.lines n i p (raised key at h) there) (stands n i p (raised key at h) there) d
-            ∙ ap (λ (b : Bool). Some (line n i h (cond b (up at h.port) h.port))) (differ_test h.node key d)
+            F.other_lines h.key (line_from n i h (cond (h.node == key) (up at h.port) h.port)) Inlets (fed.lines n i p (raised key at h) there) (stands n i p (raised key at h) there) d
+            ∙ ap (λ (b : Bool). Some (line_from n i h (cond b (up at h.port) h.port))) (differ_test h.node key d)
 
     -- ---- wires that stand once
 
