@@ -68,7 +68,7 @@ sub_inner (Some m) d h = by (is_sub (entry_of m.element).head.form) h
     by true e = e
     by false e = absurd (none-some d e)
 
-around_at : (g : Grove) (F : IsForest (get g.nodes) (get g.boards) g.root) (path : List ℕ) (n canvas holder : ℕ) → sub_reached g (Some g.root) (path ++ n ∷ []) ≡ Some canvas → holder_in (get g.boards canvas) ≡ Some holder
+pub around_at : (g : Grove) (F : IsForest (get g.nodes) (get g.boards) g.root) (path : List ℕ) (n canvas holder : ℕ) → sub_reached g (Some g.root) (path ++ n ∷ []) ≡ Some canvas → holder_in (get g.boards canvas) ≡ Some holder
     → StandsAt g path n holder
 around_at g F path n canvas holder leads held =
     option_and_then_some (λ c. sub_step_in g c n) (sub_reached g (Some g.root) path) canvas (sym (last_step g (Some g.root) path n) ∙ leads) (λ c on step.

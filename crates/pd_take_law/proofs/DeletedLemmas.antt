@@ -72,7 +72,7 @@ module _ (old new : Patch) (n : Counts) (table : Names) (path : List ℕ) (numbe
   -- A box that is a port of the box around.
 
   module _ (X : TakesPort old new n table path number steps steps' b) where
-    port_leads : sub_reached old.grove (Some old.grove.root) path ≡ Some b.canvas
+    pub port_leads : sub_reached old.grove (Some old.grove.root) path ≡ Some b.canvas
     port_leads = leads_there old.grove number (sub_reached old.grove (Some old.grove.root) path) b.canvas b.key X.is
 
     pub port_at : TakesBoxAt old.grove new.grove path b.canvas b.key number

@@ -12,3 +12,5 @@ pub mod AroundLemmas
 pub mod ShedLemmas
 pub mod LowerLemmas
 pub mod LostLemmas
+pub mod PortLemmas
+pub mod EitherLemmas

@@ -1,6 +1,6 @@
 use Rattle.std.proofs.Common.{◌≡◌, true}
 use Rattle.pd_take_law.proofs.DeletedLemmas.{box_gone, owners_stay, wires_fewer}
-use Rattle.pd_take_law.proofs.EitherLemmas.{still_fit, still_holds}
+use Rattle.pd_take_law.proofs.EitherLemmas.{wires_fit, wires_hold}
 use Rattle.pd_take_law.proofs.SavedLemmas.{still_again, still_runs, zeros_left}
 use Rattle.pd_take_law.proofs.laws.boxes_go_from_trees.Goals as goal
 
@@ -16,10 +16,10 @@ returns-clause-zeros c = λ old new n table path number steps steps' b t D C R t
     zeros_left old new path b.canvas b.key number (box_gone old new n table path number steps steps' b D C) t R (λ z. test z ≡ true) A
 
 pub returns-clause-holds : goal.returns-clause-holds
-returns-clause-holds c = λ old new n table path number steps steps' b t D C R h. still_holds old new n table path number steps steps' b C h.meet D t R h
+returns-clause-holds c = λ old new n table path number steps steps' b t D C R h. wires_hold old new n table path number steps steps' b C h.meet D t R h
 
 pub returns-clause-fit : goal.returns-clause-fit
-returns-clause-fit c = λ old new n table path number steps steps' b D C meet f. still_fit old new n table path number steps steps' b C meet D f
+returns-clause-fit c = λ old new n table path number steps steps' b D C meet f. wires_fit old new n table path number steps steps' b C meet D f
 
 pub returns-clause-wires : goal.returns-clause-wires
 returns-clause-wires c = wires_fewer
