@@ -1,10 +1,9 @@
 -- Where the box around a canvas has a port fewer, the wires of the patch hold and fit.
-use Rattle.std.proofs.Common.{◌≡◌, ◌≢◌, ◌<◌, ◌≤◌, ◌==◌, ℕ, suc, Bool, true, cond, List, [], ◌∷◌, map, length, slice_get, Option, Some, IsSome, inl, inr, eq-eqb, refl, sym, ap, ◌∙◌, subst, arith}
+use Rattle.std.proofs.Common.{◌≡◌, ◌≢◌, ◌<◌, ◌≤◌, ◌==◌, ℕ, suc, Bool, true, cond, List, [], ◌∷◌, map, length, slice_get, Some, IsSome, inl, inr, eq-eqb, refl, sym, ap, ◌∙◌, subst, arith}
 use Rattle.std.specs.Prelude.{option_map}
 use Rattle.std.specs.List.{AllByRecursion}
 use Rattle.std.proofs.lemmas.Bool.{cases_eq, cases_lt}
 use Rattle.std.proofs.lemmas.Option.{same_Some, slice_get-map}
-use Rattle.slab.specs.Slab.{get}
 use Rattle.pd_canvas.specs.declared.wires.Wire.{Wire}
 use Rattle.pd_tree.specs.Ports.{Sockets, fits}
 use Rattle.pd_tree.specs.Trees.{Tree}
@@ -19,7 +18,7 @@ use Rattle.pd_web.specs.Canvases.{keys_at}
 use Rattle.pd_web.specs.Changes.{Meet}
 use Rattle.pd_web.specs.Homes.{inner_in}
 use Rattle.pd_web.specs.Hops.{boxes_told, fan_hops, feed_hops, jack_told, places_of, ports_told}
-use Rattle.pd_web.specs.Lines.{laid_at, seen_by}
+use Rattle.pd_web.specs.Lines.{seen_by}
 use Rattle.pd_web.specs.Sockets.{made_at}
 use Rattle.pd_seek.specs.Places.{label_at, AreInOrder, IsNoLater}
 use Rattle.pd_present.specs.Presents.{wires_among}

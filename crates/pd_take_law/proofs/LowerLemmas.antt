@@ -1,7 +1,6 @@
 -- Where a box has a port fewer on a side, the wires at the others fit where they are then, and each stands once.
-use Rattle.std.proofs.Common.{◌≡◌, ◌≢◌, ◌⊎◌, ◌<◌, ◌==◌, ℕ, Bool, false, cond, List, ◌∷◌, [], map, length, slice_get, Option, Some, None, IsSome, inl, inr, eq-eqb, refl, sym, ap, ◌∙◌, subst}
+use Rattle.std.proofs.Common.{◌≡◌, ◌≢◌, ◌⊎◌, ◌<◌, ◌==◌, ℕ, Bool, cond, List, ◌∷◌, [], map, length, slice_get, Option, Some, None, IsSome, inl, inr, eq-eqb, refl, sym, ap, ◌∙◌, subst}
 use Rattle.std.specs.Prelude.{option_map}
-use Rattle.std.specs.List.{insert}
 use Rattle.std.proofs.lemmas.Bool.{cases_eq}
 use Rattle.std.proofs.lemmas.Option.{slice_get-map}
 use Rattle.pd_canvas.specs.declared.wires.Wire.{Wire}
@@ -19,7 +18,7 @@ use Rattle.pd_web.specs.Lines.{laid_at, signals_of}
 use Rattle.pd_web.specs.Sockets.{made_at}
 use Rattle.pd_web.specs.Wiring.{sink_at, source_at}
 use Rattle.pd_patch.specs.Numbers.{AreApart}
-use Rattle.pd_ports.specs.Moves.{Goes, FollowsPorts, box_of, port_of, with_port, StandsOn}
+use Rattle.pd_ports.specs.Moves.{Goes, FollowsPorts, StandsOn}
 use Rattle.pd_alike_law.specs.Feeds.{FedOnce}
 use Rattle.pd_alike_law.proofs.FeedLemmas.{keys_of, feed_keys_of}
 use Rattle.pd_following.specs.Raising.{up, raised, Raises}

@@ -1,5 +1,5 @@
 -- A port box that an edit deleted: the wires at the port went, then the box, and then the box around has the port no more.
-use Rattle.std.proofs.Common.{◌≡◌, ◌≢◌, ◌⊎◌, ◌<◌, ◌==◌, ◌||◌, ℕ, zero, suc, Bool, false, filter, length, List, [], ◌∷◌, ◌++◌, map, slice_get, Option, Some, None, IsSome, IsTrue, eq-eqb, inl, inr, refl, sym, ap, ◌∙◌, subst, arith}
+use Rattle.std.proofs.Common.{◌≡◌, ◌≢◌, ◌<◌, ◌||◌, ℕ, zero, suc, Bool, false, filter, length, List, [], ◌∷◌, ◌++◌, map, slice_get, Option, Some, None, IsSome, eq-eqb, inl, inr, refl, sym, ap, ◌∙◌, subst, arith}
 use Rattle.std.specs.List.{flat_map, range_with_len}
 use Rattle.std.proofs.lemmas.Bool.{false≢true}
 use Rattle.slab.specs.Slab.{get}
@@ -25,7 +25,7 @@ use Rattle.pd_web.specs.declared.lines.Line.{Line}
 use Rattle.pd_web.specs.declared.web.Hop.{Hop}
 use Rattle.pd_web.specs.declared.web.Web.{Web}
 use Rattle.pd_web.specs.Canvases.{keys_at}
-use Rattle.pd_web.specs.Changes.{hop_at, line_told, IsListed, IsSame, KeepsPorts, Meet}
+use Rattle.pd_web.specs.Changes.{hop_at, IsListed, IsSame, KeepsPorts, Meet}
 use Rattle.pd_web.specs.Homes.{inner_in as box_in}
 use Rattle.pd_web.specs.Hops.{fan_hops, feed_hops, feed_keys, jack_told, ports_told}
 use Rattle.pd_web.specs.Jacks.{jacks_at, spot_jack}
@@ -35,7 +35,6 @@ use Rattle.pd_patch.specs.declared.patch.Patch.{Patch}
 use Rattle.pd_patch.specs.Document.{present_document}
 use Rattle.pd_patch.specs.Numbers.{AreApart, AreUnder}
 use Rattle.pd_ports.specs.Boxes.{HasNoWires}
-use Rattle.pd_boxes.specs.declared.room.Place.{Place}
 use Rattle.pd_boxes.specs.Put.{CanPut}
 use Rattle.pd_boxes.proofs.AskingLemmas.{put_rewired}
 use Rattle.pd_owning.specs.Bound.{is_among}

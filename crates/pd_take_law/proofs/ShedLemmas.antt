@@ -1,8 +1,7 @@
 -- Where wires at a box went, those that are left hold and fit.
-use Rattle.std.proofs.Common.{◌≡◌, ◌≢◌, ℕ, zero, suc, Bool, true, false, not, ◌==◌, cond, List, [], ◌∷◌, ◌++◌, filter, map, length, slice_get, Some, refl, sym, ap, ◌∙◌, subst, arith}
+use Rattle.std.proofs.Common.{◌≡◌, ◌≢◌, ℕ, Bool, true, false, not, ◌==◌, cond, List, [], ◌∷◌, ◌++◌, filter, map, length, slice_get, Some, sym, ap, ◌∙◌, subst, arith}
 use Rattle.std.specs.List.{AllByRecursion, flat_map, range_with_len}
 use Rattle.std.proofs.lemmas.Bool.Decides.{nat_tests}
-use Rattle.std.proofs.lemmas.Option.{same_Some}
 use Rattle.slab.specs.Slab.{get}
 use Rattle.pd_canvas.specs.declared.wires.Wire.{Wire}
 use Rattle.pd_tree.specs.Ports.{Sockets, fits}
@@ -15,16 +14,15 @@ use Rattle.pd_web.specs.declared.jacks.Jack.{Jack}
 use Rattle.pd_web.specs.declared.web.Hop.{Hop}
 use Rattle.pd_web.specs.declared.web.Web.{Web}
 use Rattle.pd_web.specs.Canvases.{keys_at}
-use Rattle.pd_web.specs.Changes.{hop_at, CutsWire, KeepsPorts, Meet}
+use Rattle.pd_web.specs.Changes.{CutsWire, KeepsPorts, Meet}
 use Rattle.pd_web.specs.Hops.{boxes_told, fan_hops, feed_hops, places_of, ports_told}
 use Rattle.pd_web.specs.Lines.{laid_at, seen_by}
 use Rattle.pd_web.specs.Sockets.{made_at}
 use Rattle.pd_seek.specs.Places.{AreInOrder, IsNoLater}
 use Rattle.pd_present.specs.Presents.{box_wires, outlet_wires, wire_along, wires_among}
 use Rattle.pd_patch.specs.declared.patch.Patch.{Patch}
-use Rattle.pd_patch.specs.Linked.{ShareCanvas, StayInside}
+use Rattle.pd_patch.specs.Linked.{StayInside}
 use Rattle.pd_wiring.specs.Changes.{CanRewire}
-use Rattle.pd_wiring.proofs.HeardLemmas.{all_at}
 use Rattle.pd_reload_law.specs.Wires.{IsAmong, StayAmong}
 use Rattle.pd_saved_law.specs.Fitting.{WiresFit}
 use Rattle.pd_alike_law.specs.Feeds.{FedOnce}

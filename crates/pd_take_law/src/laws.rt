@@ -7,7 +7,6 @@ ghost use Rattle.pd_canvas.specs.Edits.{edited};
 ghost use Rattle.pd_canvas.specs.Paths.{edit_at};
 ghost use Rattle.pd_canvas.specs.Proper.{IsProper, levels};
 ghost use Rattle.pd_canvas.specs.declared.edits.Edit.TheVariants as edit;
-ghost use Rattle.pd_kind.specs.declared.states.State.{State};
 ghost use Rattle.pd_library.specs.declared.answers.Answer.{Answer};
 ghost use Rattle.pd_tree.specs.Trees.{Tree, weight, zeros_of, document_boxes, document_in};
 ghost use Rattle.pd_web.specs.Changes.{wires_told, Meet};
