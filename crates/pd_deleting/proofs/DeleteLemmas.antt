@@ -1,21 +1,15 @@
 -- A patch with room for a box that goes, and which box that is.
-use Rattle.std.proofs.Common.{◌≡◌, ℕ, ◌+◌, Bool, true, false, cond, ◌&&◌, ◌||◌, not, is_some, List, [], ◌∷◌, ◌++◌, length, map, slice_get, Option, Some, None, IsSome, IsTrue, inl, inr, refl, sym, ap, ◌∙◌, subst, ◌≢◌, ◌≤◌, arith}
+use Rattle.std.proofs.Common.{◌≡◌, ℕ, ◌+◌, List, [], ◌∷◌, ◌++◌, length, map, slice_get, Option, Some, None, IsSome, IsTrue, refl, sym, ap, ◌∙◌, subst, ◌≤◌, arith}
 use Rattle.std.specs.Prelude.{◌⊎◌, Result, Ok, Err}
 use Rattle.std.proofs.lemmas.List.{length-map}
 use Rattle.std.proofs.lemmas.Option.{none-some, same_Some}
-use mathlib.Core.Logic.{⊎_elim}
-use Rattle.std.proofs.lemmas.Bool.{cases_eq}
 use Rattle.slab.specs.Slab.{get}
 use Rattle.pd_clock.specs.declared.times.Rate.{Rate}
-use Rattle.pd_object.specs.declared.kinds.Kind.{Kind}
-use Rattle.pd_tree.specs.declared.rows.Sheet.{Sheet}
 use Rattle.pd_atom.specs.Names.{Names}
-use Rattle.pd_grove.specs.declared.boards.Board.{Board}
 use Rattle.pd_grove.specs.declared.grove.Grove.{Grove}
 use Rattle.pd_grove.specs.declared.nodes.Node.{Node}
 use Rattle.pd_grove.specs.declared.spots.Spot.{Spot}
 use Rattle.pd_grove.specs.declared.ports.Side.{Side}
-use Rattle.pd_grove.specs.declared.ports.Side.TheVariants.{Inlets, Outlets}
 use Rattle.pd_grove.specs.Forest.{holder_in, IsForest}
 use Rattle.pd_grove.specs.OwnPaths.{sub_reached}
 use Rattle.pd_grove.specs.Owning.{board_in}
@@ -29,7 +23,6 @@ use Rattle.pd_web.proofs.CountLemmas.{same_are_as_many}
 use Rattle.pd_patch.specs.declared.patch.Patch.{Patch}
 use Rattle.pd_patch.proofs.BlockLemmas.{live_below}
 use Rattle.pd_wiring.specs.declared.refusals.EditRefusal.{EditRefusal}
-use Rattle.pd_wiring.specs.declared.refusals.EditRefusal.TheVariants.{NoDocument}
 use Rattle.pd_wiring.specs.Changes.{SameButRoom}
 use Rattle.pd_wiring.proofs.BuiltLemmas.{roomed, same_links}
 use Rattle.pd_owning.specs.Bound.{is_among}
@@ -37,14 +30,12 @@ use Rattle.pd_owning.specs.Parts.{ArePart}
 use Rattle.pd_boxes.specs.Put.{CanPut}
 use Rattle.pd_boxes.proofs.AskingLemmas.{put_rewired}
 use Rattle.pd_adding.specs.declared.counts.Counts.{Counts}
-use Rattle.pd_adding.specs.Coming.{own_zero, zero_in}
 use Rattle.pd_adding.specs.Counted.{sound_seen, sound_among, with_wires}
 use Rattle.pd_adding.specs.Counts.{counts_less, AreWithin}
-use Rattle.pd_adding.specs.Standing.{is_port_in}
 use Rattle.pd_boxes.specs.declared.room.Place.{Place}
 use Rattle.pd_clearing.specs.Clearing.{CanClear, IsCleared}
 use Rattle.pd_clearing.proofs.PartLemmas.{part_live}
-use Rattle.pd_deleting.specs.Deletes.{going, going_box, going_in, is_plain, values_of}
+use Rattle.pd_deleting.specs.Deletes.{going, going_box, going_in, values_of}
 
 -- Room.
 
@@ -73,92 +64,45 @@ still_meet w v S m = record {
       (m.fanned node inlet i h (ap (λ (hs : List Hop). slice_get hs i) (sym (S.feeds node inlet)) ∙ e));
 }
 
+pub still_clear : (p q : Patch) (place : Place) (key : ℕ) → SameButRoom p q → CanClear p place key → CanClear q place key
+still_clear p q place key S C = record {
+  can = still_put p q S C.can;
+  is = ap (λ (g : Grove). slice_get (keys_at g place.canvas) place.number) S.grove ∙ C.is;
+  plain = λ n was. subst (λ (g : Grove). (holder_in (get g.boards place.canvas) ≡ None) ⊎ ((side : Side) → port_signal side n.kind ≡ None)) (sym S.grove)
+      (C.plain n (ap (λ (g : Grove). get g.nodes key) (sym S.grove) ∙ was));
+  meet = still_meet p.web q.web S.web C.meet;
+}
+
 -- Which box goes.
 
 ok_part : Result (ℕ × ℕ) EditRefusal → Option (ℕ × ℕ)
 ok_part (Ok x) = Some x
 ok_part (Err why) = None
 
-not_true : (b : Bool) → not b ≡ true → b ≡ false
-not_true true h = cc
-not_true false h = refl
-
-no_signal : (o : Option Bool) → is_some o ≡ false → o ≡ None
-no_signal None h = refl
-no_signal (Some a) h = cc
-
-no_side : (k : Kind) → (is_some (port_signal Inlets k) || is_some (port_signal Outlets k)) ≡ false → (side : Side) → port_signal side k ≡ None
-no_side k h Inlets = no_signal (port_signal Inlets k) (first_no (is_some (port_signal Inlets k)) (is_some (port_signal Outlets k)) h)
-  where
-    first_no : (a b : Bool) → (a || b) ≡ false → a ≡ false
-    first_no true b e = cc
-    first_no false b e = refl
-no_side k h Outlets = no_signal (port_signal Outlets k) (second_no (is_some (port_signal Inlets k)) (is_some (port_signal Outlets k)) h)
-  where
-    second_no : (a b : Bool) → (a || b) ≡ false → b ≡ false
-    second_no true b e = cc
-    second_no false b e = e
-
-no_port : (o : Option ℕ) (n : Node) → (is_some o && is_port_in (Some n)) ≡ false → (o ≡ None) ⊎ ((side : Side) → port_signal side n.kind ≡ None)
-no_port None n h = inl refl
-no_port (Some x) n h = inr (no_side n.kind h)
-
--- the box of a number of a canvas, which holds no canvas and is no port of a box around
-record IsFound (g : Grove) (number canvas key : ℕ) : Type 0 where
-  is : slice_get (keys_at g canvas) number ≡ Some key
-  plain : is_plain g canvas key ≡ true
-
-found_plain : (g : Grove) (number d x : ℕ) (b : Bool) (canvas key : ℕ) → slice_get (keys_at g d) number ≡ Some x → is_plain g d x ≡ b
-    → cond {A = Result (ℕ × ℕ) EditRefusal} b (Ok (d, x)) (Err NoDocument) ≡ Ok (canvas, key) → IsFound g number canvas key
+found_box : (g : Grove) (number d : ℕ) (o : Option ℕ) (canvas key : ℕ) → slice_get (keys_at g d) number ≡ o → going_box g d number o ≡ Ok (canvas, key)
+    → slice_get (keys_at g canvas) number ≡ Some key
 unfolding ok_part
-found_plain g number d x true canvas key at t e =
-    let same : (d, x) ≡ (canvas, key) = same_Some (d, x) (canvas, key) (ap ok_part e) in
-    let c : d ≡ canvas = ap (λ (y : ℕ × ℕ). y.0) same in
-    let k : x ≡ key = ap (λ (y : ℕ × ℕ). y.1) same in
-    record {
-      is = ap (λ z. slice_get (keys_at g z) number) (sym c) ∙ at ∙ ap (λ z. Some z) k;
-      plain = ap (λ z. is_plain g z key) (sym c) ∙ ap (is_plain g d) (sym k) ∙ t;
-    }
-found_plain g number d x false canvas key at t e = cc
-
-found_box : (g : Grove) (number d : ℕ) (o : Option ℕ) (canvas key : ℕ) → slice_get (keys_at g d) number ≡ o → going_box g d number o ≡ Ok (canvas, key) → IsFound g number canvas key
 found_box g number d None canvas key at e = cc
-found_box g number d (Some x) canvas key at e = found_plain g number d x (is_plain g d x) canvas key at refl e
-
-found_in : (g : Grove) (number : ℕ) (o : Option ℕ) (canvas key : ℕ) → going_in g number o ≡ Ok (canvas, key) → IsFound g number canvas key
-found_in g number None canvas key e = cc
-found_in g number (Some d) canvas key e = found_box g number d (slice_get (keys_at g d) number) canvas key refl e
+found_box g number d (Some x) canvas key at e =
+    let same : (d, x) ≡ (canvas, key) = same_Some (d, x) (canvas, key) (ap ok_part e) in
+    ap (λ (y : ℕ × ℕ). slice_get (keys_at g y.0) number) (sym same) ∙ at ∙ ap (λ (y : ℕ × ℕ). Some y.1) same
 
 pub found_there : (g : Grove) (number : ℕ) (o : Option ℕ) (canvas key : ℕ) → going_in g number o ≡ Ok (canvas, key) → slice_get (keys_at g canvas) number ≡ Some key
-found_there g number o canvas key e = (found_in g number o canvas key e).is
+found_there g number None canvas key e = cc
+found_there g number (Some d) canvas key e = found_box g number d (slice_get (keys_at g d) number) canvas key refl e
 
 -- the path leads to its canvas
 canvas_same : (g : Grove) (number d : ℕ) (o : Option ℕ) (canvas key : ℕ) → going_box g d number o ≡ Ok (canvas, key) → d ≡ canvas
 unfolding ok_part
 canvas_same g number d None canvas key e = cc
-canvas_same g number d (Some x) canvas key e = step (is_plain g d x) e
-  where
-    step : (b : Bool) → cond {A = Result (ℕ × ℕ) EditRefusal} b (Ok (d, x)) (Err NoDocument) ≡ Ok (canvas, key) → d ≡ canvas
-    step true e = ap (λ (y : ℕ × ℕ). y.0) (same_Some (d, x) (canvas, key) (ap ok_part e))
-    step false e = cc
+canvas_same g number d (Some x) canvas key e = ap (λ (y : ℕ × ℕ). y.0) (same_Some (d, x) (canvas, key) (ap ok_part e))
 
 pub leads_there : (g : Grove) (number : ℕ) (o : Option ℕ) (canvas key : ℕ) → going_in g number o ≡ Ok (canvas, key) → o ≡ Some canvas
 leads_there g number None canvas key e = cc
 leads_there g number (Some d) canvas key e = ap (λ x. Some x) (canvas_same g number d (slice_get (keys_at g d) number) canvas key e)
 
-pub can_clear : (p q : Patch) (path : List ℕ) (number canvas key : ℕ) → SameButRoom p q → CanPut p → Meet p.web → going p path number ≡ Ok (canvas, key)
-    → CanClear q (record { canvas = canvas; number = number }) key
-can_clear p q path number canvas key S C meet e =
-    let F = found_in p.grove number (sub_reached p.grove (Some p.grove.root) path) canvas key e in
-    record {
-      can = still_put p q S C;
-      is = subst (λ (g : Grove). slice_get (keys_at g canvas) number ≡ Some key) (sym S.grove) F.is;
-      plain = λ n is. subst (λ (g : Grove). (holder_in (get g.boards canvas) ≡ None) ⊎ ((side : Side) → port_signal side n.kind ≡ None)) (sym S.grove)
-          (no_port (holder_in (get p.grove.boards canvas)) n
-          (ap (λ (o : Option Node). is_some (holder_in (get p.grove.boards canvas)) && is_port_in o) (sym (ap (λ (g : Grove). get g.nodes key) (sym S.grove) ∙ is))
-          ∙ not_true (is_some (holder_in (get p.grove.boards canvas)) && is_port_in (get p.grove.nodes key)) F.plain));
-      meet = still_meet p.web q.web S.web meet;
-    }
+pub stands_there : (p : Patch) (path : List ℕ) (number canvas key : ℕ) → going p path number ≡ Ok (canvas, key) → slice_get (keys_at p.grove canvas) number ≡ Some key
+stands_there p path number canvas key e = found_there p.grove number (sub_reached p.grove (Some p.grove.root) path) canvas key e
 
 -- the box lives
 lies_there : (o : Option Node) (c : ℕ) → board_in o ≡ Some c → IsSome o
@@ -166,9 +110,10 @@ lies_there None c e = absurd (none-some c e)
 lies_there (Some n) c e = refl
 
 pub box_lives : (p : Patch) (path : List ℕ) (number canvas key : ℕ) → CanPut p → going p path number ≡ Ok (canvas, key) → IsSome (get p.grove.nodes key)
-box_lives p path number canvas key C e =
-    lies_there (get p.grove.nodes key) canvas
-    (C.forest.own.home canvas number key (found_in p.grove number (sub_reached p.grove (Some p.grove.root) path) canvas key e).is)
+box_lives p path number canvas key C e = lies_there (get p.grove.nodes key) canvas (C.forest.own.home canvas number key (stands_there p path number canvas key e))
+
+pub box_stands : (p : Patch) (place : Place) (key : ℕ) → CanClear p place key → IsSome (get p.grove.nodes key)
+box_stands p place key C = lies_there (get p.grove.nodes key) place.canvas (C.can.forest.own.home place.canvas place.number key C.is)
 
 -- room for as many boxes as keys
 room_for : (g : Grove) (w : Web) (end k : ℕ) → length g.nodes.slots ≤ end → HasRoom w end 0 0 → IsSome (get g.nodes k) → HasRoom w (k + 1) 0 0
@@ -213,16 +158,3 @@ counted_so rate g n left part spots told wires is same are =
     ap (with_wires wires) is
     ∙ ap (λ (l : ℕ). counts_less n l (values_of rate g (keys_of_spots told)) wires) (sym (length-map told (λ (p : Spot). p.node)))
     ∙ ap (λ (ks : List ℕ). counts_less n (length ks) (values_of rate g ks) wires) keys
-
--- the `$0` of the patch's own document stays
-zero_same : (o o' : Option Board) (b b' : Board) → o ≡ Some b → o' ≡ Some b' → b'.sheet ≡ b.sheet → zero_in o' ≡ zero_in o
-zero_same o o' b b' e e' s = ap zero_in e' ∙ ap (λ (x : Sheet). x.zero) s ∙ sym (ap zero_in e)
-
-pub zero_stays : (p q : Patch) (table : Names) (place : Place) (key steps steps' : ℕ) → IsCleared p q table place key steps steps' → own_zero q ≡ own_zero p
-zero_stays p q table place key steps steps' I =
-    let T = I.grove in
-    ap (λ r. zero_in (get q.grove.boards r)) I.root ∙ ⊎_elim
-    (λ (e : p.grove.root ≡ place.canvas). ap (λ r. zero_in (get q.grove.boards r)) e ∙ zero_same (get p.grove.boards place.canvas) (get q.grove.boards place.canvas) T.old T.new T.board T.without T.sheet
-    ∙ ap (λ r. zero_in (get p.grove.boards r)) (sym e))
-    (λ (d : p.grove.root ≢ place.canvas). ap zero_in (T.no_canvas_comes p.grove.root d (subst (λ r. IsSome (get q.grove.boards r)) I.root I.can.forest.rooted.0)))
-    (cases_eq p.grove.root place.canvas)

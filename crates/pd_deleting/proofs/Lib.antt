@@ -1,1 +1,3 @@
 pub mod DeleteLemmas
+pub mod PortLemmas
+pub mod AfterLemmas
