@@ -1,5 +1,5 @@
 -- A patch from which an edit took a box: with all that lay in it, or with the port that it was.
-use Rattle.std.proofs.Common.{◌≡◌, ◌≤◌, ◌+◌, ℕ, List, [], ◌∷◌, drop, take, length, slice_get, Option, Some, None, Ok, inl, inr, refl, sym, ap, ◌∙◌, subst, arith}
+use Rattle.std.proofs.Common.{◌≡◌, ◌≤◌, ◌+◌, ℕ, List, drop, take, length, slice_get, Option, Some, None, Ok, inl, inr, refl, sym, ap, ◌∙◌, subst, arith}
 use Rattle.std.specs.Prelude.{◌-◌}
 use Rattle.std.proofs.lemmas.Option.{none-some}
 use Rattle.slab.specs.Slab.{get}
@@ -8,7 +8,6 @@ use Rattle.pd_clock.specs.Queue.{without}
 use Rattle.pd_tree.specs.Trees.{Trees}
 use Rattle.pd_grove.specs.declared.grove.Grove.{Grove}
 use Rattle.pd_grove.specs.declared.nodes.Node.{Node}
-use Rattle.pd_grove.specs.Forest.{IsForest}
 use Rattle.pd_grove.specs.Grafts.{TakesBox}
 use Rattle.pd_grove.specs.OwnPaths.{sub_reached}
 use Rattle.pd_grove.specs.Owning.{board_in}
