@@ -1,10 +1,9 @@
 -- A box that an edit takes out of a canvas of the patch's own document.
 use Rattle.std.proofs.Common.{inl, inr}
-use Rattle.std.specs.Prelude.{◌≡◌, ◌⊎◌, ◌+◌, ℕ, Bool, ◌&&◌, not, is_some, List, [], ◌∷◌, length, map, slice_get, Option, Some, None, Result, Ok, Err}
+use Rattle.std.specs.Prelude.{◌≡◌, ◌⊎◌, ◌+◌, ℕ, List, [], ◌∷◌, length, map, slice_get, Option, Some, None, Result, Ok, Err}
 use Rattle.slab.specs.Slab.{get}
 use Rattle.pd_atom.specs.Names.{Names}
 use Rattle.pd_grove.specs.declared.grove.Grove.{Grove}
-use Rattle.pd_grove.specs.Forest.{holder_in}
 use Rattle.pd_clock.specs.declared.times.Rate.{Rate}
 use Rattle.pd_grove.specs.declared.ports.Side.{Side}
 use Rattle.pd_grove.specs.OwnPaths.{sub_reached}
@@ -19,7 +18,6 @@ use Rattle.pd_wiring.specs.Changes.{SameButRoom}
 use Rattle.pd_adding.specs.declared.counts.Counts.{Counts}
 use Rattle.pd_adding.specs.Counted.{sound_among}
 use Rattle.pd_adding.specs.Counts.{counts_less}
-use Rattle.pd_adding.specs.Standing.{is_port_in}
 use Rattle.pd_taking.specs.Loosening.{looks_for, Gone}
 use Rattle.pd_clearing.specs.Clearing.{IsCleared}
 use Rattle.pd_leaving.specs.Leaving.{CanTakePort, IsPortTaken}
@@ -27,10 +25,6 @@ use Rattle.pd_leaving.specs.Wires.{port_wires}
 pub use Rattle.pd_clearing.specs.Clearing.{without_all}
 pub use Rattle.pd_clearing.specs.Losing.{looks_for_all}
 use Rattle.pd_deleting.specs.declared.deleting.OldBox.{OldBox}
-
--- whether a box is no port of a box around
-abbrev pub is_plain : Grove → ℕ → ℕ → Bool
-is_plain g canvas key = not (is_some (holder_in (get g.boards canvas)) && is_port_in (get g.nodes key))
 
 abbrev pub going_box : Grove → ℕ → ℕ → Option ℕ → Result (ℕ × ℕ) EditRefusal
 going_box g canvas number None = Err (NoBox number)

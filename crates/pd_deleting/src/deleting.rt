@@ -44,8 +44,8 @@ pub struct OldBox {
     pub gone: Vec<BoxWire>,
 }
 
-/// Deletes the box of a number in the canvas at a path of the patch's own document, with all that lies in it and its wires; a port of a box around goes
-/// from that with the wires there. `counts` are the counts of the patch. Looks at signal wires are counted in `steps`.
+/// Deletes the box of a number in the canvas at a path of the patch's own document, with all that lies in it and its wires. A port of the box
+/// around goes from that with the wires there. `counts` are the counts of the patch. Looks at signal wires are counted in `steps`.
 ///
 /// # Errors
 ///
