@@ -17,11 +17,11 @@ use Rattle.pd_take_law.proofs.InsideLemmas.{still_holds}
 use Rattle.pd_take_law.proofs.DeletedLemmas.{cleared_went}
 use Rattle.pd_take_law.proofs.PortLemmas.{port_fits, port_holds}
 
-module _ (old new : Patch) (n : Counts) (table : Names) (path : List ℕ) (number steps steps' : ℕ) (b : OldBox) (C : CanPut old) (meet : Meet old.web) where
+module _ (old new : Patch) (n : Counts) (table : Names) (path : List ℕ) (number steps steps' : ℕ) (b : OldBox) (C : CanPut old) where
   pub wires_fit : DeletesBox old new n table path number steps steps' b → WiresFit old → WiresFit new
-  wires_fit (inl X) f = still_fit old new path b.canvas b.key number X.cleared.part (cleared_went old new n table path number steps steps' b X C) C meet f
+  wires_fit (inl X) f = still_fit old new path b.canvas b.key number X.cleared.part (cleared_went old new n table path number steps steps' b X C) C f
   wires_fit (inr X) f = port_fits old new n table path number steps steps' b X C f
 
-  pub wires_hold : DeletesBox old new n table path number steps steps' b → (t : Tree) → RunsAs old.grove t → HoldsWires old t → HoldsWires new (taken_at path number t)
-  wires_hold (inl X) t R h = still_holds old new path b.canvas b.key number X.cleared.part (cleared_went old new n table path number steps steps' b X C) C meet t R h
-  wires_hold (inr X) t R h = port_holds old new n table path number steps steps' b X C t R h
+  pub wires_hold : DeletesBox old new n table path number steps steps' b → Meet old.web → (t : Tree) → RunsAs old.grove t → HoldsWires old t → HoldsWires new (taken_at path number t)
+  wires_hold (inl X) meet t R h = still_holds old new path b.canvas b.key number X.cleared.part (cleared_went old new n table path number steps steps' b X C) C meet t R h
+  wires_hold (inr X) meet t R h = port_holds old new n table path number steps steps' b X C t R h

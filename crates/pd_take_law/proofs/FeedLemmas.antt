@@ -4,11 +4,10 @@ use Rattle.std.specs.Prelude.{option_map}
 use Rattle.std.proofs.lemmas.Bool.Decides.{nat_tests}
 use Rattle.std.proofs.lemmas.Bool.{both_ways}
 use Rattle.std.proofs.lemmas.Option.{none-some, same_Some, slice_get-map}
-use Rattle.pd_web.specs.declared.lines.Line.{Line}
 use Rattle.pd_web.specs.declared.sockets.Spot.{Spot}
 use Rattle.pd_web.specs.declared.web.Hop.{Hop}
 use Rattle.pd_web.specs.declared.web.Web.{Web}
-use Rattle.pd_web.specs.Changes.{hop_at, line_by, line_told, Meet}
+use Rattle.pd_web.specs.Changes.{hop_at, line_by, Meet}
 use Rattle.pd_web.specs.Hops.{feed_hops, feed_keys, hop_by, hop_from}
 use Rattle.pd_web.specs.Wiring.{source_at}
 use Rattle.pd_patch.specs.declared.patch.Patch.{Patch}
@@ -94,26 +93,20 @@ pub from_other : (key : ℕ) (h : Hop) → is_of_other key h ≡ true → h.node
 from_other key h t e = grind (arith, nat_tests)
 
 module _ (old new : Patch) (path : List ℕ) (canvas key number : ℕ) (part : List ℕ) (D : BoxWent old new path canvas key number part) where
-  pub feeds_gone : (node inlet : ℕ) → is_among part node ≡ false → feed_hops new.web node inlet ≡ filter (is_of_other key) (feed_hops old.web node inlet)
-  feeds_gone node inlet out = D.wires.feeds node inlet out
-
   none_fed : (node inlet : ℕ) → is_among part node ≡ true → feed_hops new.web node inlet ≡ []
   none_fed node inlet at = (D.wires.bare node at).feeds inlet
-
-  line_left : (k : ℕ) (l : Line) → (IsAtOne part l → ⊥) → line_told old.web k ≡ Some l → line_told new.web k ≡ Some l
-  line_left k l d e = D.wires.other_lines k l d e
 
   pub still_fed : CanPut old → Meet old.web → FedOnce old.web → FedOnce new.web
   still_fed C meet F = record {
     lines = λ node inlet i h e. by_test (is_among part node)
         (λ at. absurd (nothing_there h i (ap (λ (hs : List Hop). slice_get hs i) (sym (none_fed node inlet at)) ∙ e)))
         (λ out.
-        let p = passed (is_of_other key) (feed_hops old.web node inlet) h i (ap (λ (hs : List Hop). slice_get hs i) (sym (feeds_gone node inlet out)) ∙ e) in
+        let p = passed (is_of_other key) (feed_hops old.web node inlet) h i (ap (λ (hs : List Hop). slice_get hs i) (sym (D.wires.feeds node inlet out)) ∙ e) in
         let far = feeder_out old new path canvas key number part D C meet node inlet p.place h out p.stood (from_other key h p.passes) in
-        line_left h.key (line_by h (hop_at h.key node inlet)) (apart node inlet h out far) (F.lines node inlet p.place h p.stood));
+        D.wires.other_lines h.key (line_by h (hop_at h.key node inlet)) (apart node inlet h out far) (F.lines node inlet p.place h p.stood));
     once = λ node inlet i j k x y. by_test (is_among part node)
         (λ at. absurd (nothing_there (hop_from new.web k) i (ap (λ (hs : List Hop). slice_get hs i) (sym (none_fed node inlet at)) ∙ key_at new.web node inlet i k x)))
-        (λ out. once_left old.web new.web (is_of_other key) node inlet (feeds_gone node inlet out) (F.once node inlet) i j k x y);
+        (λ out. once_left old.web new.web (is_of_other key) node inlet (D.wires.feeds node inlet out) (F.once node inlet) i j k x y);
   }
     where
       apart : (node inlet : ℕ) (h : Hop) → is_among part node ≡ false → is_among part h.node ≡ false → IsAtOne part (line_by h (hop_at h.key node inlet)) → ⊥

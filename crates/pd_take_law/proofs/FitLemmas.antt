@@ -17,7 +17,6 @@ use Rattle.pd_grove.proofs.UseLemmas.{none_or_some}
 use Rattle.pd_web.specs.declared.jacks.Jack.{Jack}
 use Rattle.pd_web.specs.declared.web.Web.{Web}
 use Rattle.pd_web.specs.Canvases.{keys_at}
-use Rattle.pd_web.specs.Changes.{Meet}
 use Rattle.pd_web.specs.Hops.{boxes_told, ports_told}
 use Rattle.pd_web.specs.Lines.{laid_at, seen_by}
 use Rattle.pd_web.specs.Sockets.{made_at}
@@ -73,7 +72,7 @@ told_same w w' [] same = refl
 told_same w w' (k ∷ ks) same =
     ap (λ (s : Seen). s ∷ boxes_told w' ks) (same 0 k refl) ∙ ap (λ (ss : List Seen). laid_at w.sockets.items k ∷ ss) (told_same w w' ks (λ i. same (suc i)))
 
-module _ (old new : Patch) (path : List ℕ) (canvas key number : ℕ) (part : List ℕ) (D : BoxWent old new path canvas key number part) (C : CanPut old) (meet : Meet old.web) where
+module _ (old new : Patch) (path : List ℕ) (canvas key number : ℕ) (part : List ℕ) (D : BoxWent old new path canvas key number part) (C : CanPut old) where
   pub box_same : (k : ℕ) → is_among part k ≡ false → laid_at new.web.sockets.items k ≡ laid_at old.web.sockets.items k
   box_same k out =
       ap (λ (js : List Jack). seen_by js (ports_told new.web Outlets k) (made_at new.web.sockets.items k)) (D.ports Inlets k out)

@@ -34,7 +34,7 @@ use Rattle.pd_taking_law.proofs.StayLemmas.{forest_still, leads_from_root}
 use Rattle.pd_taking_law.proofs.WireLemmas.{none_gone}
 use Rattle.pd_take_law.proofs.GoneLemmas.{BoxWent, lies_out, not_key, was_there, wires_gone}
 use Rattle.pd_take_law.proofs.FitLemmas.{box_same, told_same}
-use Rattle.pd_take_law.proofs.FeedLemmas.{feeds_gone, still_fed}
+use Rattle.pd_take_law.proofs.FeedLemmas.{still_fed}
 use Rattle.pd_take_law.proofs.OrderLemmas.{feeder_there, still_ordered}
 
 -- Paths.
@@ -224,12 +224,12 @@ module _ (old new : Patch) (path : List ℕ) (canvas key number : ℕ) (part : L
 
       feeds_same : (i k inlet : ℕ) → slice_get (keys_at old.grove c) i ≡ Some k → feed_hops new.web k inlet ≡ feed_hops old.web k inlet
       feeds_same i k inlet at =
-          feeds_gone old new path canvas key number part D k inlet (out i k at)
+          D.wires.feeds k inlet (out i k at)
           ∙ none_gone key (feed_hops old.web k inlet) (λ j x e. aside x.node (feeder_there old new path canvas key number part D C meet c k inlet j x (i, at) e))
 
       wires_same : (u : Tree) → HasWiresOf old.web (keys_at old.grove c) u → HasWiresOf new.web (keys_at new.grove c) u
       wires_same u H = subst (λ (ks : List ℕ). HasWiresOf new.web ks u) (sym keys_same) (record {
-        ports = told_same old.web new.web (keys_at old.grove c) (λ i k at. box_same old new path canvas key number part D C meet k (out i k at)) ∙ H.ports;
+        ports = told_same old.web new.web (keys_at old.grove c) (λ i k at. box_same old new path canvas key number part D C k (out i k at)) ∙ H.ports;
         fans = λ i outlet k at. ap places_of (fans_same i k outlet at) ∙ H.fans i outlet k at;
         feeds = λ i inlet k at. ap places_of (feeds_same i k inlet at) ∙ H.feeds i inlet k at;
       })

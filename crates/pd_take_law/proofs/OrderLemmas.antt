@@ -25,7 +25,7 @@ use Rattle.pd_taking_law.proofs.StayLemmas.{keys_less}
 use Rattle.pd_taking.specs.Loosening.{is_of_other}
 use Rattle.pd_take_law.proofs.GoneLemmas.{BoxWent, lies_out, was_there, wires_gone}
 use Rattle.pd_take_law.proofs.FitLemmas.{less_at}
-use Rattle.pd_take_law.proofs.FeedLemmas.{feeds_gone, from_other, passed}
+use Rattle.pd_take_law.proofs.FeedLemmas.{from_other, passed}
 
 -- what is in order stays so where some go
 pub order_kept : (R : Hop → Hop → Type 0) (p : Hop → Bool) (xs : List Hop) → ((i j : ℕ) (g h : Hop) → i ≤ j → slice_get xs i ≡ Some g → slice_get xs j ≡ Some h → R g h)
@@ -105,7 +105,7 @@ module _ (old new : Patch) (path : List ℕ) (canvas key number : ℕ) (part : L
       one i k inlet at x y g h l u v =
           let d = lies_out old.grove new.grove path canvas key number D.at part D.is_part c i k at in
           let t = was_there old.grove new.grove path canvas key number D.at c i k at in
-          let hops = feeds_gone old new path canvas key number part D k inlet d in
+          let hops = D.wires.feeds k inlet d in
           let u' = ap (λ (hs : List Hop). slice_get hs x) (sym hops) ∙ u in
           let v' = ap (λ (hs : List Hop). slice_get hs y) (sym hops) ∙ v in
           let p = passed (is_of_other key) (feed_hops old.web k inlet) g x u' in

@@ -261,7 +261,7 @@ module _ (old new : Patch) (n : Counts) (table : Names) (path : List ℕ) (numbe
   pub port_fits : CanPut old → WiresFit old → WiresFit new
   port_fits C f =
       fits_lost out new X.holder X.side X.port jack (jacks_at X.side new.grove X.holder) lost
-      (still_fit loose out path b.canvas b.key number (b.key ∷ []) (went C) (loose_can C) X.taken.loosens.web.meet (fits_shed old loose X.holder keep (shed C) f))
+      (still_fit loose out path b.canvas b.key number (b.key ∷ []) (went C) (loose_can C) (fits_shed old loose X.holder keep (shed C) f))
 
   pub port_holds : CanPut old → (t : Tree) → RunsAs old.grove t → HoldsWires old t → HoldsWires new (taken_at path number t)
   port_holds C t R h =

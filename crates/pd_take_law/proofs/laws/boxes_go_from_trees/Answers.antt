@@ -16,10 +16,10 @@ returns-clause-zeros c = λ old new n table path number steps steps' b t D C R t
     zeros_left old new path b.canvas b.key number (box_gone old new n table path number steps steps' b D C) t R (λ z. test z ≡ true) A
 
 pub returns-clause-holds : goal.returns-clause-holds
-returns-clause-holds c = λ old new n table path number steps steps' b t D C R h. wires_hold old new n table path number steps steps' b C h.meet D t R h
+returns-clause-holds c = λ old new n table path number steps steps' b t D C R h. wires_hold old new n table path number steps steps' b C D h.meet t R h
 
 pub returns-clause-fit : goal.returns-clause-fit
-returns-clause-fit c = λ old new n table path number steps steps' b D C meet f. wires_fit old new n table path number steps steps' b C meet D f
+returns-clause-fit c = λ old new n table path number steps steps' b D C meet f. wires_fit old new n table path number steps steps' b C D f
 
 pub returns-clause-wires : goal.returns-clause-wires
 returns-clause-wires c = wires_fewer
