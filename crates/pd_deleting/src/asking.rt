@@ -74,7 +74,7 @@ fn side_of(kind: &Kind) -> Side
     }
 }
 
-/// Whether a port box holds no canvas and each box has a place for its blocks, as it is in every patch that runs.
+/// Whether a port box holds no canvas, and each box has a place for its blocks, as in every patch that runs.
 pub(crate) fn can_lose_port(patch: &Patch, key: u32) -> bool
     ensures leaf { result ≡ true → inner_in (get patch.now.grove.nodes key) ≡ None }
     ensures reached { result ≡ true → (k : ℕ) → IsSome (get patch.now.grove.nodes k) → k < length patch.now.values.items }

@@ -9,8 +9,8 @@
 //!
 //! The caller keeps the counts of the patch from one edit to the next, so that an edit counts no more boxes and values than go.
 //!
-//! Free: want of memory, which a port box also meets that holds a canvas, or where a box has no place for its blocks. No patch that runs has
-//! either.
+//! Free: want of memory. That is also the reason where a port box holds a canvas, or where some box has no place for its blocks, neither of
+//! which is so in a patch that runs.
 //!
 //! Definitions: `Deletes` (which box goes, and why none does).
 #![tactic(auto)]
