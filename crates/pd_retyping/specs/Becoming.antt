@@ -29,17 +29,17 @@ use Rattle.pd_retyping.specs.declared.asking.Plan.{Plan}
 use Rattle.pd_retyping.specs.Asking.{keeps_inside, settled_text, retyping, put_instead}
 use Rattle.pd_retyping.specs.Retypes.{IsChosen, CanBecome, IsKept}
 
--- the box that is to become another one, which keeps nothing inside, and the edit that would put what it becomes
+-- the box that is to become another one, and the edit that would put what it becomes
 pub record IsPlanned (names : Names) (p : Patch) (path : List ℕ) (number : ℕ) (text : List Atom) (plan : Plan) : Type 0 where
   pub node : Node
   pub chosen : IsChosen p path number plan.canvas plan.key node
-  pub new : keeps_inside (entry_of node.element) (settled_text names text) ≡ false
+  pub keeps : plan.keeps ≡ keeps_inside (entry_of node.element) (settled_text names text)
   pub edit : plan.edit ≡ put_instead (entry_of node.element) text
 
 -- why there is no such plan
 abbrev pub IsUnplanned : Names → Patch → List ℕ → ℕ → List Atom → EditRefusal → Type 0
 IsUnplanned names p path number text why =
-    (why ≡ NoMemory) ⊎ ((retyping names p path number text ≡ Err why) ⊎ ((why ≡ NoDocument) × IsKept p path number text (known [] names)))
+    (why ≡ NoMemory) ⊎ (retyping names p path number text ≡ Err why)
 
 -- no wire at a port of the box of the key that fits where that is of this kind turns
 abbrev pub NoneTurnsAt : Web → ℕ → Kind → Side → ℕ → Type 0

@@ -1,15 +1,20 @@
 -- A box that an edit makes another one in a canvas of a running patch.
-use Rattle.std.specs.Prelude.{◌≡◌, ◌⊎◌, ◌≤◌, ◌+◌, ℕ, true, false, List, Some, None, Result, Ok, Err, slice_get}
+use Rattle.std.proofs.Common.{inl, inr}
+use Rattle.std.specs.Prelude.{◌≡◌, ◌⊎◌, ◌≤◌, ◌+◌, ℕ, true, false, List, [], Some, None, Result, Ok, Err, slice_get}
 use Rattle.std.specs.List.{All}
 use Rattle.slab.specs.Slab.{get}
 use Rattle.pd_atom.specs.declared.Atom.{Atom}
-use Rattle.pd_atom.specs.Names.{IsTable}
+use Rattle.pd_atom.specs.Names.{IsTable, Names}
 use Rattle.pd_atom.specs.Atoms.{IsOf}
+use Rattle.pd_clock.specs.Queue.{Clock, without}
 use Rattle.pd_clock.specs.declared.times.Rate.{Rate}
 use Rattle.pd_kind.specs.States.{size_of}
 use Rattle.pd_canvas.specs.Edits.{retyped}
 use Rattle.pd_canvas.specs.Views.{entry_of}
-use Rattle.pd_tree.specs.Trees.{Cell, Done, Leaf, stand_of}
+use Rattle.pd_object.specs.declared.kinds.Kind.TheVariants as kind
+use Rattle.pd_canvas.specs.Pages.{Sub}
+use Rattle.pd_tree.specs.declared.rows.Sheet.{Sheet}
+use Rattle.pd_tree.specs.Trees.{Cell, Done, Holder, Leaf, stand_of}
 use Rattle.pd_growth.specs.Suits.{RowSuits}
 use Rattle.pd_gather.specs.Gather.{Known, AreProper}
 use Rattle.pd_grove.specs.declared.nodes.Node.{Node}
@@ -30,6 +35,7 @@ pub use Rattle.pd_refitting.specs.Refits.{refit_looks}
 pub use Rattle.pd_misfits.specs.declared.wires.BoxWire.{BoxWire}
 use Rattle.pd_misfits.specs.Misfits.{misfits, NoneTurns}
 use Rattle.pd_misfits.specs.Shedding.{Sheds}
+use Rattle.pd_renaming.specs.Renaming.{CanRename, IsRenamed}
 use Rattle.pd_adding.specs.declared.counts.Counts.{Counts}
 use Rattle.pd_adding.specs.Counts.{counts_less}
 use Rattle.pd_adding.specs.Boxes.{CanBeWritten, settled_edit, box_put}
@@ -56,7 +62,6 @@ pub record RetypesTo (p : Patch) (n : Counts) (name path : List ℕ) (number : �
   pub key : ℕ
   pub node : Node
   pub chosen : IsChosen p path number canvas key node
-  pub new : keeps_inside (entry_of node.element) (settled_text k.names text) ≡ false
   pub comes : ComesTo None p (counts_but p.rate node n) name path (put_instead (entry_of node.element) text) k r
 
 -- The box of the key holds no canvas, and what grew is one box that holds none. Its wires that fit the new box carry what they carried. Neither is a
@@ -91,6 +96,48 @@ pub record HasBecome (old new : Patch) (now key : ℕ) (n : Node) (a : Added) (g
   pub looks : steps' ≤ between + refit_looks n.kind can.cell.kind
   pub goes_on : CanPut new
 
+-- A subpatch takes the text of what grew, a subpatch without boxes, and keeps what it holds.
+pub record CanTakeText (names : Names) (text : List Atom) (n : Node) (a : Added) : Type 0 where
+  pub kept : keeps_inside (entry_of n.element) (settled_text names text) ≡ true
+  pub cell : Cell
+  pub sheet : Sheet
+  pub single : a.boxes ≡ Holder cell sheet Done Done
+  pub form : cell.head.form ≡ Sub
+  pub canvas : cell.kind ≡ kind.Canvas
+
+-- It has the text of what grew now, and hears at the name that this gives it. All else of the patch stays, but that there is more room, and no signal wire was
+-- looked at.
+pub record TakesText (old new : Patch) (names : Names) (text : List Atom) (key : ℕ) (n : Node) (a : Added) (gone : List BoxWire) (steps steps' : ℕ) : Type 0 where
+  pub can : CanTakeText names text n a
+  pub none_gone : gone ≡ []
+  pub ready : Patch
+  pub room : SameButRoom old ready
+  pub could : CanRename ready key n
+  pub renamed : IsRenamed ready new a.known.names key n can.cell.head.text can.cell.text
+  pub looks : steps' ≡ steps
+  pub goes_on : CanPut new
+
+-- The box became what grew, or took its text.
+abbrev pub Becomes : (old new : Patch) (names : Names) (text : List Atom) (now key : ℕ) (n : Node) (a : Added) (gone : List BoxWire) (steps steps' : ℕ) → Type 0
+Becomes old new names text now key n a gone steps steps' =
+    HasBecome old new now key n a gone steps steps' ⊎ TakesText old new names text key n a gone steps steps'
+
+module _ {old new : Patch} {names : Names} {text : List Atom} {now key : ℕ} {n : Node} {a : Added} {gone : List BoxWire} {steps steps' : ℕ} where
+  -- the box as it stands in a tree then
+  abbrev pub cell_become : Becomes old new names text now key n a gone steps steps' → Cell
+  cell_become (inl x) = x.can.cell
+  cell_become (inr x) = x.can.cell
+
+  -- clocks then: a box that became another one has none
+  abbrev pub clocks_become : Becomes old new names text now key n a gone steps steps' → List Clock → List Clock
+  clocks_become (inl x) clocks = without key clocks
+  clocks_become (inr x) clocks = clocks
+
+  -- no more signal wires were looked at than the mends for the wires that went take, and the place of a new box in the order of its canvas
+  abbrev pub looks_become : (canvas : ℕ) → Becomes old new names text now key n a gone steps steps' → ℕ
+  looks_become canvas (inl x) = looks_for canvas x.loosens.gone x.loose + refit_looks n.kind x.can.cell.kind
+  looks_become canvas (inr x) = 0
+
 -- counts with another number of wires
 abbrev pub with_wires : Counts → ℕ → Counts
 with_wires c wires = record { boxes = c.boxes; wires = wires; sound = c.sound; next_zero = c.next_zero }
@@ -111,25 +158,18 @@ pub record RetypesBox (old new : Patch) (n : Counts) (name path : List ℕ) (num
   pub comes : ComesTo None old (counts_but old.rate node n) name path (put_instead (entry_of node.element) text) k (Ok added)
   pub files : Known
   pub grew : GrewWith old (counts_but old.rate node n) name path (put_instead (entry_of node.element) text) k files added
-  pub became : HasBecome old new now b.key node added b.gone.items steps steps'
+  pub became : Becomes old new k.names text now b.key node added b.gone.items steps steps'
   pub canvas : b.canvas ≡ added.canvas
   pub counts : b.counts ≡ with_wires added.counts (wires_told new.web)
   pub known_is : after ≡ added.known
   pub table_after : IsTable after.names
-
--- a subpatch that keeps what it holds, which isn't made another one yet
-pub record IsKept (p : Patch) (path : List ℕ) (number : ℕ) (text : List Atom) (k : Known) : Type 0 where
-  pub canvas : ℕ
-  pub key : ℕ
-  pub node : Node
-  pub chosen : IsChosen p path number canvas key node
-  pub kept : keeps_inside (entry_of node.element) (settled_text k.names text) ≡ true
 
 -- an edit comes to a box that can't become what grew yet
 pub record IsNotYet (p : Patch) (n : Counts) (name path : List ℕ) (number : ℕ) (text : List Atom) (k : Known) : Type 0 where
   pub added : Added
   pub comes : RetypesTo p n name path number text k (Ok added)
   pub other : CanBecome p comes.key comes.node added → ⊥
+  pub no_text : CanTakeText k.names text comes.node added → ⊥
 
 -- Why an edit makes no box another one: memory was wanting; or there is no such box, or a reason against its text; or the folder gave no file for
 -- which growing asks; or growing comes to this refusal; or the text names what the table hasn't, or such a box isn't made another one yet.
@@ -137,13 +177,13 @@ abbrev pub IsRefused : Patch → Counts → List ℕ → List ℕ → ℕ → Li
 IsRefused p n name path number text k why =
     (why ≡ NoMemory) ⊎ ((retyping k.names p path number text ≡ Err why) ⊎ (((why ≡ ShelfFault) × IsRetyping (retyping k.names p path number text)) ⊎
     (RetypesTo p n name path number text k (Err why) ⊎
-    ((why ≡ NoDocument) × ((All (IsOf k.names) text → ⊥) ⊎ (IsKept p path number text k ⊎ IsNotYet p n name path number text k))))))
+    ((why ≡ NoDocument) × ((All (IsOf k.names) text → ⊥) ⊎ IsNotYet p n name path number text k))))))
 
--- the box could become what grew, and memory was wanting
+-- the box could become what grew or take its text, and memory was wanting
 pub record IsShortOfRoom (old new : Patch) (n : Counts) (name path : List ℕ) (number : ℕ) (text : List Atom) (k : Known) : Type 0 where
   pub added : Added
   pub comes : RetypesTo old n name path number text k (Ok added)
-  pub can : CanBecome old comes.key comes.node added
+  pub can : CanBecome old comes.key comes.node added ⊎ CanTakeText k.names text comes.node added
   pub room : SameButRoom old new
   pub goes_on : CanPut new
 

@@ -24,11 +24,13 @@ use std::alloc::AllocError;
 /// How many atoms a text has at most.
 const MOST_ATOMS: usize = 1_024;
 
-/// A box that is to become another one: its key, that of its canvas, and the edit that would put what it becomes.
+/// A box that is to become another one: its key, that of its canvas, whether it is a subpatch that keeps what it holds, and the edit that would put what it
+/// becomes.
 #[derive(Drop)]
 pub(crate) struct Plan {
     pub canvas: u32,
     pub key: u32,
+    pub keeps: bool,
     pub edit: Edit,
 }
 

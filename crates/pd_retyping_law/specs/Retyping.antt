@@ -1,15 +1,17 @@
 -- A running patch in which a box without a canvas became another one.
-use Rattle.std.specs.Prelude.{◌≡◌, ◌≢◌, ℕ, List, slice_get, Some, None}
+use Rattle.std.specs.Prelude.{◌≡◌, ◌≢◌, ℕ, true, List, slice_get, Some, None}
 use Rattle.slab.specs.Slab.{get}
 use Rattle.pd_clock.specs.declared.times.Rate.{Rate}
 use Rattle.pd_kind.specs.States.{start_of}
 use Rattle.pd_kind.specs.Tables.{started}
+use Rattle.pd_canvas.specs.Views.{entry_of}
 use Rattle.pd_tree.specs.Trees.{Cell}
 use Rattle.pd_grove.specs.declared.nodes.Node.{Node}
 use Rattle.pd_grove.specs.declared.grove.Grove.{Grove}
 use Rattle.pd_grove.specs.Forest.{IsForest}
 use Rattle.pd_grove.specs.OwnPaths.{sub_reached}
 use Rattle.pd_grove.specs.Standing.{node_seen}
+use Rattle.pd_grove.specs.TextOrder.{is_sub}
 use Rattle.pd_web.specs.Canvases.{keys_at}
 
 -- In the canvas to which a path leads through subpatches the box of a number is another one now, under the same key. Neither holds a
@@ -22,6 +24,21 @@ pub record RetypesBoxAt (g h : Grove) (path : List ℕ) (canvas key number : ℕ
   pub bare : n.inner ≡ None
   pub becomes : get h.nodes key ≡ Some n'
   pub leaf : n'.inner ≡ None
+  pub board : n'.board ≡ n.board
+  pub others : (k : ℕ) → k ≢ key → get h.nodes k ≡ get g.nodes k
+  pub boards : h.boards ≡ g.boards
+  pub root : h.root ≡ g.root
+
+-- In the canvas to which a path leads through subpatches the box of a number, a subpatch, is this one now, with what it holds; all else stays.
+pub record RenamesBoxAt (g h : Grove) (path : List ℕ) (canvas key number : ℕ) (n n' : Node) : Type 0 where
+  pub forest : IsForest (get g.nodes) (get g.boards) g.root
+  pub leads : sub_reached g (Some g.root) path ≡ Some canvas
+  pub is : slice_get (keys_at g canvas) number ≡ Some key
+  pub was : get g.nodes key ≡ Some n
+  pub sub : is_sub (entry_of n.element).head.form ≡ true
+  pub becomes : get h.nodes key ≡ Some n'
+  pub form : (entry_of n'.element).head.form ≡ (entry_of n.element).head.form
+  pub inner : n'.inner ≡ n.inner
   pub board : n'.board ≡ n.board
   pub others : (k : ℕ) → k ≢ key → get h.nodes k ≡ get g.nodes k
   pub boards : h.boards ≡ g.boards

@@ -11,11 +11,12 @@ use pd_num::Num;
 use pd_patch::Patch;
 use pd_wiring::EditRefusal;
 
-/// A box that an edit moved: the key of its canvas, and its own.
+/// A box that an edit moved: the key of its canvas, its own, and the canvas around, where ports of the box in it changed places.
 #[derive(Clone, Copy, Debug, PartialEq, Eq)]
 pub struct MovedBox {
     pub canvas: u32,
     pub key: u32,
+    pub around: Option<u32>,
 }
 
 /// Moves the box of a number in the canvas at a path of the patch's own document to another place in its window, and tells its keys. No memory

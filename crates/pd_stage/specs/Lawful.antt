@@ -7,7 +7,6 @@ use Rattle.pd_canvas.specs.declared.edits.Edit.{Edit}
 use Rattle.pd_canvas.specs.declared.edits.Edit.TheVariants as edit
 use Rattle.pd_doc.specs.Writing.{text_of}
 use Rattle.pd_gather.specs.Gather.{Known, known}
-use Rattle.pd_clock.specs.Queue.{without}
 use Rattle.pd_web.specs.Changes.{wires_told, Meet}
 use Rattle.pd_patch.specs.declared.patch.Patch.{Patch}
 use Rattle.pd_patch.specs.Document.{present_document}
@@ -23,16 +22,18 @@ use Rattle.pd_putting.specs.declared.adding.NewBox.{NewBox}
 use Rattle.pd_deleting.specs.Deletes as deleting
 use Rattle.pd_deleting.specs.Deletes.{going, without_all, part_gone, looks_gone, DeletesBox}
 use Rattle.pd_deleting.specs.declared.deleting.OldBox.{OldBox}
+use Rattle.pd_shifting.specs.Moves as shifting
 use Rattle.pd_shifting.specs.Moves.{moving, MovesBox}
+use Rattle.pd_shifting.specs.declared.shifting.MovedBox.{MovedBox}
 use Rattle.pd_retyping.specs.Retypes as retyping
-use Rattle.pd_retyping.specs.Retypes.{looks_for, refit_looks, RetypesBox}
+use Rattle.pd_retyping.specs.Retypes.{clocks_become, looks_become, RetypesBox}
 use Rattle.pd_retyping.specs.declared.retyping.RetypedBox.{RetypedBox}
 use Rattle.pd_say.specs.declared.refusals.Why.{Why}
 use Rattle.pd_say.specs.declared.refusals.Why.TheVariants as why
 use Rattle.pd_hearing.specs.Worlds.{Net, net_of, states_of}
 use Rattle.pd_stage.specs.Choices.{Base, base_of, Wanted, Edits, Asks, Saves, Undoes, Redoes, Made, Choice, Refuses, Lacks, Makes}
 use Rattle.pd_stage.specs.Stages.{Stage, Taken}
-use Rattle.pd_stage.specs.Lines.{deleted_text, loads_inside, loops_text, put_text, retyped_text}
+use Rattle.pd_stage.specs.Lines.{deleted_text, loads_inside, loops_text, moved_text, put_text, retyped_text}
 
 -- the reason that a line tells
 abbrev pub why_of : EditRefusal → Why
@@ -196,20 +197,20 @@ IsTakingLawful s path number (Refuses reason) = IsLeftIn s path number reason
 IsTakingLawful s path number (Lacks net) = IsLeftInForRoom s path number net
 IsTakingLawful s path number (Makes m) = IsTakenOut s path number m
 
--- An edit moved a box in its canvas: what the boxes keep, their clocks, names, files and counts stay, and a loop of its canvas is told. It looks at no
--- signal wire.
+-- An edit moved a box in its canvas, and the ports of the box around where it is one of them: what the boxes keep, their clocks, names, files and counts
+-- stay, and a loop of its canvas is told, and of the one around where ports there changed places. It looks at no signal wire.
 pub record IsMovedTo (s : Stage) (path : List ℕ) (number : ℕ) (x y : ℤ) (m : Made) : Type 0 where
   pub old : Patch
   pub new : Patch
-  pub key : ℕ
+  pub box : MovedBox
   pub stands : StandsAt old s
-  pub moves : MovesBox old new path number x y key
+  pub moves : MovesBox old new path number x y box
   pub net : m.net ≡ net_of new
   pub states : m.states ≡ states_of new
   pub clocks : m.clocks ≡ s.clocks
   pub names : m.names ≡ s.names
   pub base : m.base ≡ s.base
-  pub lines : m.lines ≡ loops_text new moves.canvas
+  pub lines : m.lines ≡ moved_text new box.canvas box.around
   pub files : m.files ≡ []
   pub loads : m.loads ≡ []
   pub looks : m.looks ≡ 0
@@ -222,14 +223,22 @@ pub record IsLeftAt (s : Stage) (path : List ℕ) (number : ℕ) (reason : Why) 
   pub refused : moving patch path number ≡ Err cause
   pub reason_is : reason ≡ why_of cause
 
--- a move takes no memory
+-- a port box could move, and memory was wanting
+pub record IsLeftAtForRoom (s : Stage) (path : List ℕ) (number : ℕ) (net : Net) : Type 0 where
+  pub old : Patch
+  pub new : Patch
+  pub stands : StandsAt old s
+  pub short : shifting.IsShortOfRoom old new path number
+  pub rewires : CanRewire new
+  pub net_is : net ≡ net_of new
+
 abbrev pub IsMovingLawful : Stage → List ℕ → ℕ → (x y : ℤ) → Choice → Type 0
 IsMovingLawful s path number x y (Refuses reason) = IsLeftAt s path number reason
-IsMovingLawful s path number x y (Lacks net) = ⊥
+IsMovingLawful s path number x y (Lacks net) = IsLeftAtForRoom s path number net
 IsMovingLawful s path number x y (Makes m) = IsMovedTo s path number x y m
 
--- An edit made a box another one: all other boxes keep what they kept, and their clocks; names and files go on, the counts stay within the limits of a
--- patch, and it is told why the box could not be made, which wires didn't fit any more and went, and a loop of its canvas. It looks at no more signal
+-- An edit made a box another one, or a subpatch took its text: all other boxes keep what they kept, and their clocks; names and files go on, the counts stay
+-- within the limits of a patch, and it is told why the box could not be made, which wires didn't fit any more and went, and a loop of its canvas. It looks at no more signal
 -- wires than the mends for the wires that went, and than a new box in the order of its canvas takes.
 pub record IsRetypedTo (s : Stage) (path : List ℕ) (number : ℕ) (text : List Atom) (m : Made) : Type 0 where
   pub old : Patch
@@ -242,7 +251,7 @@ pub record IsRetypedTo (s : Stage) (path : List ℕ) (number : ℕ) (text : List
   pub retypes : RetypesBox old new s.base.counts s.file path number text s.time (known_at s) after steps steps' box
   pub net : m.net ≡ net_of new
   pub states : m.states ≡ states_of new
-  pub clocks : m.clocks ≡ without box.key s.clocks
+  pub clocks : m.clocks ≡ clocks_become retypes.became s.clocks
   pub names : m.names ≡ after.names
   pub more : Extends s.names m.names
   pub base : m.base ≡ base_of after.files box.counts
@@ -250,7 +259,7 @@ pub record IsRetypedTo (s : Stage) (path : List ℕ) (number : ℕ) (text : List
   pub lines : m.lines ≡ retyped_text m.names new box.key box.canvas box.gone.items
   pub files : m.files ≡ []
   pub loads : m.loads ≡ []
-  pub looks : m.looks ≡ looks_for box.canvas retypes.became.loosens.gone retypes.became.loose + refit_looks retypes.node.kind retypes.became.can.cell.kind
+  pub looks : m.looks ≡ looks_become box.canvas retypes.became
 
 -- no box becomes another one, for this reason
 pub record IsUnretyped (s : Stage) (path : List ℕ) (number : ℕ) (text : List Atom) (reason : Why) : Type 0 where

@@ -133,3 +133,7 @@ gone_around p (Some canvas) gone = gone_text (path_in p canvas) gone
 -- that of its own
 abbrev pub deleted_text : Patch → (canvas : ℕ) → Option ℕ → List BoxWire → List ℕ
 deleted_text p canvas around gone = gone_around p around gone ++ (loops_if p around ++ loops_text p canvas)
+
+-- the lines of an edit that moved a box: the loop of the canvas around, where ports of a box there changed places, and that of its own
+abbrev pub moved_text : Patch → (canvas : ℕ) → Option ℕ → List ℕ
+moved_text p canvas around = loops_if p around ++ loops_text p canvas

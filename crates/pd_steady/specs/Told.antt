@@ -49,5 +49,6 @@ pub record EditsTellLoops (s : Stage) : Type 0 where
   pub within : (path : List ℕ) (e : Edit) (m : Made) → (made : IsPutIn s path e m) → AllByRecursion (λ c. TellsLoop made.new (Loop c)) (canvases_within made.new made.box.key)
   pub taken : (path : List ℕ) (number : ℕ) (m : Made) → (made : IsTakenOut s path number m) → TellsLoop made.new (Loop made.box.canvas)
   pub taken_around : (path : List ℕ) (number : ℕ) (m : Made) (canvas : ℕ) → (made : IsTakenOut s path number m) → made.box.around ≡ Some canvas → TellsLoop made.new (Loop canvas)
-  pub moved : (path : List ℕ) (number : ℕ) (x y : ℤ) (m : Made) → (made : IsMovedTo s path number x y m) → TellsLoop made.new (Loop made.moves.canvas)
+  pub moved : (path : List ℕ) (number : ℕ) (x y : ℤ) (m : Made) → (made : IsMovedTo s path number x y m) → TellsLoop made.new (Loop made.box.canvas)
+  pub moved_around : (path : List ℕ) (number : ℕ) (x y : ℤ) (m : Made) (canvas : ℕ) → (made : IsMovedTo s path number x y m) → made.box.around ≡ Some canvas → TellsLoop made.new (Loop canvas)
   pub retyped : (path : List ℕ) (number : ℕ) (text : List Atom) (m : Made) → (made : IsRetypedTo s path number text m) → TellsLoop made.new (Loop made.box.canvas)

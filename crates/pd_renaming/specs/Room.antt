@@ -1,0 +1,1 @@
+-- Room for a subpatch that gets another text.

@@ -1,0 +1,51 @@
+-- A port box that moves in the canvas of a box.
+use Rattle.std.specs.Prelude.{◌≡◌, ℕ, ℤ, Some, None}
+use Rattle.slab.specs.Slab.{get}
+use Rattle.pd_grove.specs.declared.nodes.Node.{Node}
+use Rattle.pd_grove.specs.declared.ports.Side.{Side}
+use Rattle.pd_grove.specs.Refits.{at_place, Alters}
+use Rattle.pd_web.specs.Changes.{wires_told, Meet}
+use Rattle.pd_web.specs.Hops.{ports_told, port_told}
+use Rattle.pd_web.specs.Jacks.{jacks_at}
+use Rattle.pd_ports.specs.Known.{KnowsHomes}
+use Rattle.pd_patch.specs.declared.patch.Patch.{Patch}
+use Rattle.pd_boxes.specs.declared.room.Place.{Place}
+use Rattle.pd_boxes.specs.Put.{CanPut}
+use Rattle.pd_following.specs.Ports.{IsPortAt}
+use Rattle.pd_sliding.specs.Slides.{Slides}
+
+-- Under the key stands a box without a canvas inside, which is this port of the box around.
+pub record CanSlide (p : Patch) (key holder : ℕ) (side : Side) (from : ℕ) : Type 0 where
+  pub can : CanPut p
+  pub meet : Meet p.web
+  pub node : Node
+  pub stands : get p.grove.nodes key ≡ Some node
+  pub leaf : node.inner ≡ None
+  pub place : Place
+  pub canvas : place.canvas ≡ node.board
+  pub at : IsPortAt p.grove place node.kind holder side
+  pub numbered : port_told p.web key ≡ Some (holder, from)
+
+-- all but the tree and the wires stays
+pub record StaysButPorts (p q : Patch) : Type 0 where
+  pub names : q.names ≡ p.names
+  pub timers : q.timers ≡ p.timers
+  pub links : q.links ≡ p.links
+  pub orders : q.orders ≡ p.orders
+  pub numbers : q.numbers ≡ p.numbers
+  pub values : q.values ≡ p.values
+  pub rate : q.rate ≡ p.rate
+  pub present : q.present ≡ p.present
+
+-- The port box stands at another place of its canvas's window. The box around has the ports that this canvas has now: the port that was the first
+-- of two numbers is the second, and those between have made way, with their wires. All else of the patch stays.
+pub record IsSlid (p q : Patch) (key holder : ℕ) (side : Side) (x y : ℤ) (from to : ℕ) : Type 0 where
+  pub box : Alters p.grove q.grove key (at_place x y)
+  pub slides : Slides p.web q.web holder side from to
+  pub now : ports_told q.web side holder ≡ jacks_at side q.grove holder
+  pub numbered : port_told q.web key ≡ Some (holder, to)
+  pub known : KnowsHomes q.web
+  pub meet : Meet q.web
+  pub wires : wires_told q.web ≡ wires_told p.web
+  pub rest : StaysButPorts p q
+  pub can : CanPut q
