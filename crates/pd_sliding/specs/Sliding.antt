@@ -1,11 +1,13 @@
 -- A port box that moves in the canvas of a box.
-use Rattle.std.specs.Prelude.{◌≡◌, ℕ, ℤ, Some, None}
+use Rattle.std.specs.Prelude.{◌≡◌, ℕ, ℤ, slice_get, Some, None}
 use Rattle.slab.specs.Slab.{get}
 use Rattle.pd_grove.specs.declared.nodes.Node.{Node}
 use Rattle.pd_grove.specs.declared.ports.Side.{Side}
 use Rattle.pd_grove.specs.Refits.{at_place, Alters}
-use Rattle.pd_web.specs.Changes.{wires_told, Meet}
-use Rattle.pd_web.specs.Hops.{ports_told, port_told}
+use Rattle.pd_web.specs.declared.web.Hop.{Hop}
+use Rattle.pd_web.specs.declared.web.Web.{Web}
+use Rattle.pd_web.specs.Changes.{line_by, line_told, hop_at, wires_told, Meet}
+use Rattle.pd_web.specs.Hops.{ports_told, port_told, feed_keys, feed_hops}
 use Rattle.pd_web.specs.Jacks.{jacks_at}
 use Rattle.pd_ports.specs.Known.{KnowsHomes}
 use Rattle.pd_patch.specs.declared.patch.Patch.{Patch}
@@ -37,6 +39,11 @@ pub record StaysButPorts (p q : Patch) : Type 0 where
   pub rate : q.rate ≡ p.rate
   pub present : q.present ≡ p.present
 
+-- each wire stands once among the feeds of an inlet, the one to which it leads
+pub record AreFedOnce (w : Web) : Type 0 where
+  pub lines : (node inlet i : ℕ) (h : Hop) → slice_get (feed_hops w node inlet) i ≡ Some h → line_told w h.key ≡ Some (line_by h (hop_at h.key node inlet))
+  pub once : (node inlet i j k : ℕ) → slice_get (feed_keys w node inlet) i ≡ Some k → slice_get (feed_keys w node inlet) j ≡ Some k → i ≡ j
+
 -- The port box stands at another place of its canvas's window. The box around has the ports that this canvas has now: the port that was the first
 -- of two numbers is the second, and those between have made way, with their wires. All else of the patch stays.
 pub record IsSlid (p q : Patch) (key holder : ℕ) (side : Side) (x y : ℤ) (from to : ℕ) : Type 0 where
@@ -46,6 +53,7 @@ pub record IsSlid (p q : Patch) (key holder : ℕ) (side : Side) (x y : ℤ) (fr
   pub numbered : port_told q.web key ≡ Some (holder, to)
   pub known : KnowsHomes q.web
   pub meet : Meet q.web
+  pub fed : AreFedOnce q.web
   pub wires : wires_told q.web ≡ wires_told p.web
   pub rest : StaysButPorts p q
   pub can : CanPut q
