@@ -12,7 +12,7 @@ use Rattle.pd_kind.specs.States.{size_of}
 use Rattle.pd_canvas.specs.Edits.{retyped}
 use Rattle.pd_canvas.specs.Views.{entry_of}
 use Rattle.pd_object.specs.declared.kinds.Kind.TheVariants as kind
-use Rattle.pd_canvas.specs.Pages.{Sub}
+use Rattle.pd_canvas.specs.Pages.{Entry, Sub}
 use Rattle.pd_tree.specs.declared.rows.Sheet.{Sheet}
 use Rattle.pd_tree.specs.Trees.{Cell, Done, Holder, Leaf, stand_of}
 use Rattle.pd_growth.specs.Suits.{RowSuits}
@@ -143,17 +143,20 @@ abbrev pub with_wires : Counts → ℕ → Counts
 with_wires c wires = record { boxes = c.boxes; wires = wires; sound = c.sound; next_zero = c.next_zero }
 
 -- An edit made a box another one, with this known after it: `k` was known before it, `n` were the counts of the patch, and it is this time. The
--- documents that were found before it are proper. What the box became grew where the files were known for which it asked, and is what an edit
--- would have put that puts the box which a document gets.
+-- documents that were found before it are proper. What the box became grew where the files were known for which it asked, from what an edit would
+-- have put: the box which a document gets, but that of a subpatch that keeps what it holds an empty one grew.
 pub record RetypesBox (old new : Patch) (n : Counts) (name path : List ℕ) (number : ℕ) (text : List Atom) (now : ℕ) (k after : Known) (steps steps' : ℕ) (b : RetypedBox) : Type 0 where
   pub node : Node
   pub chosen : IsChosen old path number b.canvas b.key node
   pub is : retyping k.names old path number text ≡ Ok (b.canvas, (b.key, retyped (settled_text k.names text) (entry_of node.element)))
-  pub new_entry : box_put (settled_edit k.names (put_instead (entry_of node.element) text)) ≡ Some (retyped (settled_text k.names text) (entry_of node.element))
+  pub entry : Entry
+  pub new_entry : box_put (settled_edit k.names (put_instead (entry_of node.element) text)) ≡ Some entry
+  pub same_head : entry.head ≡ (retyped (settled_text k.names text) (entry_of node.element)).head
+  pub same_entry : keeps_inside (entry_of node.element) (settled_text k.names text) ≡ false → entry ≡ retyped (settled_text k.names text) (entry_of node.element)
   pub table : IsTable k.names
   pub found : AreProper k.names k.files
   pub is_known : All (IsOf k.names) text
-  pub written : CanBeWritten k.names (retyped (settled_text k.names text) (entry_of node.element))
+  pub written : CanBeWritten k.names entry
   pub added : Added
   pub comes : ComesTo None old (counts_but old.rate node n) name path (put_instead (entry_of node.element) text) k (Ok added)
   pub files : Known
