@@ -18,42 +18,43 @@ ghost use Rattle.pd_inside_law.specs.Inside.{HoldsWires};
 ghost use Rattle.pd_contents_law.specs.Contents.{HaveContents, counts_of};
 ghost use Rattle.pd_proper_law.specs.Saves.{kinds_of, IsWritten};
 ghost use Rattle.pd_putting_law.specs.Again.{StandsAgain};
+ghost use Rattle.pd_shifting.specs.declared.shifting.MovedBox.{MovedBox};
 ghost use Rattle.pd_shifting.specs.Moves.{MovesBox};
 ghost use Rattle.pd_shifted_law.specs.Shifts.{shifted_at};
 
 /// The wires are those that there were: they meet and fit. The patch's own document has its `$0`.
 pub fn wires_follow_moves()
-    ensures wires { (old new : Patch) (path : List ℕ) (number : ℕ) (x y : ℤ) (key : ℕ) → MovesBox old new path number x y key →
+    ensures wires { (old new : Patch) (path : List ℕ) (number : ℕ) (x y : ℤ) (b : MovedBox) → MovesBox old new path number x y b →
         wires_told new.web ≡ wires_told old.web }
-    ensures meet { (old new : Patch) (path : List ℕ) (number : ℕ) (x y : ℤ) (key : ℕ) → MovesBox old new path number x y key →
+    ensures meet { (old new : Patch) (path : List ℕ) (number : ℕ) (x y : ℤ) (b : MovedBox) → MovesBox old new path number x y b →
         Meet old.web → Meet new.web }
-    ensures fit { (old new : Patch) (path : List ℕ) (number : ℕ) (x y : ℤ) (key : ℕ) → MovesBox old new path number x y key →
+    ensures fit { (old new : Patch) (path : List ℕ) (number : ℕ) (x y : ℤ) (b : MovedBox) → MovesBox old new path number x y b →
         WiresFit old → WiresFit new }
-    ensures zero { (old new : Patch) (path : List ℕ) (number : ℕ) (x y : ℤ) (key : ℕ) → MovesBox old new path number x y key →
+    ensures zero { (old new : Patch) (path : List ℕ) (number : ℕ) (x y : ℤ) (b : MovedBox) → MovesBox old new path number x y b →
         own_zero new ≡ own_zero old }
 {}
 
 /// The tree with the box at its place grows again from its own document, in the same files and names, and its wires hold.
 pub fn moved_trees_grow_again()
-    ensures again { (old new : Patch) (path : List ℕ) (number : ℕ) (x y : ℤ) (key : ℕ) (t : Tree) → MovesBox old new path number x y key → CanPut old →
+    ensures again { (old new : Patch) (path : List ℕ) (number : ℕ) (x y : ℤ) (b : MovedBox) (t : Tree) → MovesBox old new path number x y b → CanPut old →
         RunsAs old.grove t → (lib : ℕ → Option Answer) (file : List ℕ) (names : Names) → StandsAgain lib file names t →
         StandsAgain lib file names (shifted_at path number x y t) }
-    ensures holds { (old new : Patch) (path : List ℕ) (number : ℕ) (x y : ℤ) (key : ℕ) (t : Tree) → MovesBox old new path number x y key → CanPut old →
+    ensures holds { (old new : Patch) (path : List ℕ) (number : ℕ) (x y : ℤ) (b : MovedBox) (t : Tree) → MovesBox old new path number x y b → CanPut old →
         RunsAs old.grove t → HoldsWires old t → HoldsWires new (shifted_at path number x y t) }
 {}
 
 /// The document of the tree with the box at its place is proper where that of the tree was, in each table of names; and what a save writes of boxes
 /// stays so.
 pub fn moved_documents_can_be_saved()
-    ensures proper { (old new : Patch) (path : List ℕ) (number : ℕ) (x y : ℤ) (key : ℕ) (t : Tree) (later : Names) → MovesBox old new path number x y key →
+    ensures proper { (old new : Patch) (path : List ℕ) (number : ℕ) (x y : ℤ) (b : MovedBox) (t : Tree) (later : Names) → MovesBox old new path number x y b →
         CanPut old → RunsAs old.grove t → IsProper later (document_in t) → IsProper later (document_in (shifted_at path number x y t)) }
-    ensures contents { (old new : Patch) (path : List ℕ) (number : ℕ) (x y : ℤ) (key : ℕ) (names : Names) → MovesBox old new path number x y key → CanPut old →
+    ensures contents { (old new : Patch) (path : List ℕ) (number : ℕ) (x y : ℤ) (b : MovedBox) (names : Names) → MovesBox old new path number x y b → CanPut old →
         HaveContents (IsWritten old.grove) (counts_of (kinds_of old)) names (states_of old) →
         HaveContents (IsWritten new.grove) (counts_of (kinds_of new)) names (states_of new) }
 {}
 
 /// A patch that runs goes on to be one.
 pub fn patches_run_on_moved()
-    ensures { (old new : Patch) (path : List ℕ) (number : ℕ) (x y : ℤ) (key : ℕ) → MovesBox old new path number x y key → CanPut old →
+    ensures { (old new : Patch) (path : List ℕ) (number : ℕ) (x y : ℤ) (b : MovedBox) → MovesBox old new path number x y b → CanPut old →
         (names : Names) (file : List ℕ) (rate : Rate) → IsBuilt old names file rate → IsBuilt new names file rate }
 {}
