@@ -25,7 +25,7 @@ use Rattle.pd_block.specs.Nets as block
 use Rattle.pd_walk.specs.Outcome.{all_loaded}
 use Rattle.pd_stage.specs.Choices.{Base, Wanted, Edits, Asks, Saves, Undoes, Redoes, Made, Choice, Refuses, Lacks, Makes, first_choice, later, text_of_choice, looks_of_choice, faults_of_choice}
 use Rattle.pd_stage.specs.Stages.{Stage, Taken, Passage, still, saying, with_ahead, followed_by}
-use Rattle.pd_stage.specs.Lawful.{StandsAt, with_wire_count, IsMade, IsShort, IsRewiringLawful, IsPutIn, IsUnputForRoom, IsPutLawful, IsTakenOut, IsLeftInForRoom, IsTakingLawful, IsMovedTo, IsMovingLawful, IsRetypedTo, IsUnretypedForRoom, IsRetypingLawful, IsEditLawful, IsSaved, MayCome, IsLawful, AreLawful}
+use Rattle.pd_stage.specs.Lawful.{StandsAt, with_wire_count, IsMade, IsShort, IsRewiringLawful, IsPutIn, IsUnputForRoom, IsPutLawful, IsTakenOut, IsLeftInForRoom, IsTakingLawful, IsMovedTo, IsLeftAtForRoom, IsMovingLawful, IsRetypedTo, IsUnretypedForRoom, IsRetypingLawful, IsEditLawful, IsSaved, MayCome, IsLawful, AreLawful}
 use Rattle.pd_stage.specs.Leads.{Sinks, sinks, Took, Leads, Comes, Stops}
 use Rattle.pd_stage.specs.Events.{Beginning, Left, Loader, left_after, going_on, with_net, stage_by, files_put, edit_by, edit_taken, edit_loaded_by, edits_of_by, event_after_by, edit_event_by, delivered, with_kept, after_deliveries, event, edit_event}
 use Rattle.pd_stage.specs.Times.{with_wires, IsStageOf}
@@ -281,6 +281,10 @@ stay_short : (s : Stage) (ahead : List Choice) (path : List ℕ) (number : ℕ) 
     → IsRewiredStage s (with_net (with_ahead s ahead) net)
 stay_short s ahead path number net h = room_left s ahead net h.old h.new h.stands h.short.room h.rewires h.net_is
 
+move_short : (s : Stage) (ahead : List Choice) (path : List ℕ) (number : ℕ) (net : Net) → IsLeftAtForRoom (with_ahead s []) path number net
+    → IsRewiredStage s (with_net (with_ahead s ahead) net)
+move_short s ahead path number net h = room_left s ahead net h.old h.new h.stands h.short.room h.rewires h.net_is
+
 save_made : (s : Stage) (ahead : List Choice) (m : Made) → IsSaved (with_ahead s []) m → IsLeft s (stage_by (with_ahead s ahead) (Makes m))
 save_made s ahead m h = record { ahead = ahead; is = made_stage (with_ahead s ahead) m s.net s.base h.net h.states h.clocks h.names h.base }
 
@@ -326,7 +330,7 @@ pub record HasMovedBox (s r : Stage) : Type 0 where
   pub moved : IsMovedTo (with_ahead s []) path number x y made
   pub is : r ≡ stage_by (with_ahead s ahead) (Makes made)
 
--- a box became another one
+-- a box became another one, or took another text
 pub record HasRetypedBox (s r : Stage) : Type 0 where
   pub path : List ℕ
   pub number : ℕ
@@ -386,7 +390,7 @@ take_alters s ahead path number (Makes m) h = inr (inr (inl (record { path = pat
 move_alters : (s : Stage) (ahead : List Choice) (path : List ℕ) (number : ℕ) (x y : ℤ) (c : Choice) → IsMovingLawful (with_ahead s []) path number x y c
     → Alters s (stage_by (with_ahead s ahead) c)
 move_alters s ahead path number x y (Refuses why) h = inl (inl (record { ahead = ahead; is = refl }))
-move_alters s ahead path number x y (Lacks net) h = absurd h
+move_alters s ahead path number x y (Lacks net) h = inl (inr (move_short s ahead path number net h))
 move_alters s ahead path number x y (Makes m) h =
     inr (inr (inr (inl (record { path = path; number = number; x = x; y = y; made = m; ahead = ahead; moved = h; is = refl }))))
 

@@ -237,9 +237,9 @@ IsMovingLawful s path number x y (Refuses reason) = IsLeftAt s path number reaso
 IsMovingLawful s path number x y (Lacks net) = IsLeftAtForRoom s path number net
 IsMovingLawful s path number x y (Makes m) = IsMovedTo s path number x y m
 
--- An edit made a box another one, or a subpatch took its text: all other boxes keep what they kept, and their clocks; names and files go on, the counts stay
--- within the limits of a patch, and it is told why the box could not be made, which wires didn't fit any more and went, and a loop of its canvas. It looks at no more signal
--- wires than the mends for the wires that went, and than a new box in the order of its canvas takes.
+-- An edit made a box another one, or a subpatch took its text and kept what it holds: all other boxes keep what they kept, and their clocks; names and files
+-- go on, the counts stay within the limits of a patch, and it is told why the box could not be made, which wires didn't fit any more and went, and a loop of
+-- its canvas. It looks at no more signal wires than the mends for the wires that went, and than a new box in the order of its canvas takes.
 pub record IsRetypedTo (s : Stage) (path : List ℕ) (number : ℕ) (text : List Atom) (m : Made) : Type 0 where
   pub old : Patch
   pub new : Patch
