@@ -180,7 +180,7 @@ abbrev pub IsRefused : Patch → Counts → List ℕ → List ℕ → ℕ → Li
 IsRefused p n name path number text k why =
     (why ≡ NoMemory) ⊎ ((retyping k.names p path number text ≡ Err why) ⊎ (((why ≡ ShelfFault) × IsRetyping (retyping k.names p path number text)) ⊎
     (RetypesTo p n name path number text k (Err why) ⊎
-    ((why ≡ NoDocument) × ((All (IsOf k.names) text → ⊥) ⊎ IsNotYet p n name path number text k))))))
+    ((why ≡ NoDocument) × ((All (IsOf k.names) text → ⊥) ⊎ IsNotYet p n name path number text k)))))
 
 -- the box could become what grew or take its text, and memory was wanting
 pub record IsShortOfRoom (old new : Patch) (n : Counts) (name path : List ℕ) (number : ℕ) (text : List Atom) (k : Known) : Type 0 where
