@@ -96,14 +96,17 @@ pub record HasBecome (old new : Patch) (now key : ℕ) (n : Node) (a : Added) (g
   pub looks : steps' ≤ between + refit_looks n.kind can.cell.kind
   pub goes_on : CanPut new
 
--- A subpatch takes the text of what grew, a subpatch without boxes, and keeps what it holds.
+-- A subpatch takes the text of what grew, a subpatch without boxes, and keeps what it holds. Both could be made.
 pub record CanTakeText (names : Names) (text : List Atom) (n : Node) (a : Added) : Type 0 where
   pub kept : keeps_inside (entry_of n.element) (settled_text names text) ≡ true
+  pub was_canvas : n.kind ≡ kind.Canvas
+  pub was_whole : n.fault ≡ None
   pub cell : Cell
   pub sheet : Sheet
   pub single : a.boxes ≡ Holder cell sheet Done Done
   pub form : cell.head.form ≡ Sub
   pub canvas : cell.kind ≡ kind.Canvas
+  pub whole : cell.fault ≡ None
 
 -- It has the text of what grew now, and hears at the name that this gives it. All else of the patch stays, but that there is more room, and no signal wire was
 -- looked at.
