@@ -1,5 +1,5 @@
 -- What an edit may come to.
-use Rattle.std.specs.Prelude.{◌≡◌, ◌⊎◌, ◌+◌, ℕ, ℤ, List, [], ◌∷◌, Some, None, Ok, Err}
+use Rattle.std.specs.Prelude.{◌≡◌, ◌⊎◌, ℕ, ℤ, List, [], ◌∷◌, Some, None, Ok, Err}
 use Rattle.std.specs.List.{AllByRecursion}
 use Rattle.pd_atom.specs.Names.{IsTable, Extends}
 use Rattle.pd_atom.specs.declared.Atom.{Atom}
