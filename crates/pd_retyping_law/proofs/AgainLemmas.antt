@@ -1,7 +1,9 @@
 -- Another box in one canvas, and what grows again.
-use Rattle.std.proofs.Common.{◌≡◌, ℕ, zero, suc, ◌+◌, ◌≤◌, max, List, [], ◌∷◌, length, Option, Some, inl, inr, refl, sym, ap, ◌∙◌, subst, arith}
+use Rattle.std.proofs.Common.{◌≡◌, ℕ, zero, suc, ◌+◌, ◌≤◌, max, List, [], ◌∷◌, length, slice_get, Option, Some, inl, inr, refl, sym, ap, ◌∙◌, subst, arith}
 use Rattle.std.specs.Prelude.{◌⊎◌}
 use mathlib.Core.Logic.{⊎_elim}
+use Rattle.std.proofs.lemmas.Option.{none-some, same_Some}
+use Rattle.slab.specs.Slab.{get}
 use Rattle.pd_atom.specs.Names.{Names}
 use Rattle.pd_canvas.specs.Pages.{Entry, boxed, listed}
 use Rattle.pd_canvas.specs.Proper.{HoldsNone, levels, levels_of}
@@ -11,6 +13,10 @@ use Rattle.pd_growth.specs.Steps.{Stock, gives, ◌>>=◌}
 use Rattle.pd_growth.specs.Growth.{around_root, box_grown, boxes_grown, without_ending}
 use Rattle.pd_grove.specs.declared.nodes.Node.{Node}
 use Rattle.pd_grove.specs.declared.grove.Grove.{Grove}
+use Rattle.pd_grove.specs.Places.{CanvasStands}
+use Rattle.pd_grove.specs.Standing.{Stands}
+use Rattle.pd_grove.specs.Telling.{inner_in}
+use Rattle.pd_grove.proofs.PlaceLemmas.{seen_keys}
 use Rattle.pd_regrowth_law.specs.Canvases.{Site, IsSite, ListRegrows, Regrows, CanvasRegrows, own_site, own_along, canvas_with}
 use Rattle.pd_regrowth_law.specs.Regrowth.{inner_of}
 use Rattle.pd_regrowth_law.specs.Suits.{HoldNone, IsEntryOf, IsLibraryOf, TextsOf}
@@ -24,10 +30,10 @@ use Rattle.pd_regrowth_law.proofs.TakeLemmas.{several_take}
 use Rattle.pd_reload_law.specs.Reloading.{RunsAs}
 use Rattle.pd_reload_law.specs.Saving.{IsMade}
 use Rattle.pd_putting_law.specs.Again.{StandsAgain}
-use Rattle.pd_putting_law.proofs.StandLemmas.{path_along}
+use Rattle.pd_putting_law.proofs.StandLemmas.{path_along, seen_inner}
 use Rattle.pd_putting_law.proofs.WithinLemmas.{path_within, levels_join, inside_levels}
 use Rattle.pd_putting_law.proofs.AgainLemmas.{box_is, box_stands, canvas_regrows, change_stands, new_made, stands_on}
-use Rattle.pd_retyping_law.specs.Retypes.{boxes_with, retyped_box, retyped_at}
+use Rattle.pd_retyping_law.specs.Retypes.{boxes_with, retyped_box, retyped_at, BareAt}
 use Rattle.pd_retyping_law.specs.Retyping.{RetypesBoxAt, cell_in}
 
 -- the boxes before that of a number, that box and what stands there then, and those behind
@@ -40,21 +46,13 @@ record PartsAt (n : ℕ) (c : Cell) (t : Trees) : Type 0 where
   changed : boxes_with n c t ≡ join before (join other behind)
   is : (other ≡ box) ⊎ (other ≡ Leaf c Done)
 
-parts_at : (n : ℕ) (c : Cell) (t : Trees) → PartsAt n c t
-parts_at n c Done = record { before = Done; box = Done; other = Done; behind = Done; whole = refl; changed = refl; is = inl refl }
-parts_at zero c (Leaf old rest) =
+parts_at : (n : ℕ) (c : Cell) (t : Trees) → BareAt n t → PartsAt n c t
+parts_at n c Done bare = record { before = Done; box = Done; other = Done; behind = Done; whole = refl; changed = refl; is = inl refl }
+parts_at zero c (Leaf old rest) bare =
     record { before = Done; box = Leaf old Done; other = Leaf c Done; behind = rest; whole = refl; changed = refl; is = inr refl }
-parts_at zero c (Holder old s inner rest) = record {
-  before = Done;
-  box = Holder old s inner Done;
-  other = Holder old s inner Done;
-  behind = rest;
-  whole = refl;
-  changed = refl;
-  is = inl refl;
-}
-parts_at (suc n) c (Leaf old rest) =
-    let p = parts_at n c rest in
+parts_at zero c (Holder old s inner rest) bare = absurd bare
+parts_at (suc n) c (Leaf old rest) bare =
+    let p = parts_at n c rest bare in
     record {
       before = Leaf old p.before;
       box = p.box;
@@ -64,8 +62,8 @@ parts_at (suc n) c (Leaf old rest) =
       changed = ap (Leaf old) p.changed;
       is = p.is;
     }
-parts_at (suc n) c (Holder old s inner rest) =
-    let p = parts_at n c rest in
+parts_at (suc n) c (Holder old s inner rest) bare =
+    let p = parts_at n c rest bare in
     record {
       before = Holder old s inner p.before;
       box = p.box;
@@ -79,10 +77,10 @@ parts_at (suc n) c (Holder old s inner rest) =
 either : (P : Trees → Type 0) (x y z : Trees) → (z ≡ x) ⊎ (z ≡ y) → P x → P y → P z
 either P x y z is p q = ⊎_elim (λ (e : z ≡ x). subst P (sym e) p) (λ (e : z ≡ y). subst P (sym e) q) is
 
-texts_with : (names : Names) (n : ℕ) (c : Cell) (t : Trees) → TextsOf names (document_boxes t) → TextsOf names (document_boxes (Leaf c Done))
+texts_with : (names : Names) (n : ℕ) (c : Cell) (t : Trees) → BareAt n t → TextsOf names (document_boxes t) → TextsOf names (document_boxes (Leaf c Done))
     → TextsOf names (document_boxes (boxes_with n c t))
-texts_with names n c t o k =
-    let p = parts_at n c t in
+texts_with names n c t bare o k =
+    let p = parts_at n c t bare in
     let all = subst (λ (x : Trees). TextsOf names (document_boxes x)) p.whole o in
     let after = texts_behind names p.before (join p.box p.behind) all in
     subst (λ (x : Trees). TextsOf names (document_boxes x)) (sym p.changed)
@@ -91,10 +89,10 @@ texts_with names n c t o k =
     (either (λ x. TextsOf names (document_boxes x)) p.box (Leaf c Done) p.other p.is (texts_before names p.box p.behind after) k)
     (texts_behind names p.box p.behind after)))
 
-levels_with : (n : ℕ) (c : Cell) (t : Trees) (left : ℕ) → levels (document_boxes t) ≤ left → levels (document_boxes (Leaf c Done)) ≤ left
+levels_with : (n : ℕ) (c : Cell) (t : Trees) (left : ℕ) → BareAt n t → levels (document_boxes t) ≤ left → levels (document_boxes (Leaf c Done)) ≤ left
     → levels (document_boxes (boxes_with n c t)) ≤ left
-levels_with n c t left low new =
-    let p = parts_at n c t in
+levels_with n c t left bare low new =
+    let p = parts_at n c t bare in
     let a = levels (document_boxes p.before) in
     let b = levels (document_boxes p.box) in
     let o = levels (document_boxes p.other) in
@@ -114,10 +112,10 @@ levels_with n c t left low new =
     all : (a b o d i j t u left : ℕ) → i ≡ max b d → t ≡ max a i → j ≡ max o d → u ≡ max a j → t ≤ left → o ≤ left → u ≤ left
     all a b o d i j t u left p q r s h k = omega (arith, p, q, r, s, h, k)
 
-canvas_with_it : (s : Site) (left n : ℕ) (c : Cell) (u : Tree) → IsSite s → TextsOf s.names (document_boxes u.boxes) → CanvasRegrows s left u
+canvas_with_it : (s : Site) (left n : ℕ) (c : Cell) (u : Tree) → BareAt n u.boxes → IsSite s → TextsOf s.names (document_boxes u.boxes) → CanvasRegrows s left u
     → Regrows s left (Leaf c Done) → CanvasRegrows s left (retyped_box n c u)
-canvas_with_it s left n c u i o k new =
-    let p = parts_at n c u.boxes in
+canvas_with_it s left n c u bare i o k new =
+    let p = parts_at n c u.boxes bare in
     let texts = subst (λ (t : Trees). TextsOf s.names (document_boxes t)) p.whole o in
     let all = subst (λ (t : Trees). CanvasRegrows s left (canvas_with u.sheet t)) p.whole k in
     let behind = (own_parted s left p.before (join p.box p.behind) i texts all.boxes).1 in
@@ -127,7 +125,7 @@ canvas_with_it s left n c u i o k new =
 
 -- ---- what grew from one element
 
-one_grown : (lib : ℕ → Option Answer) (root : List ℕ) (left own : ℕ) (e : Entry) (w v : Stock) (new : Trees)
+pub one_grown : (lib : ℕ → Option Answer) (root : List ℕ) (left own : ℕ) (e : Entry) (w v : Stock) (new : Trees)
     → box_grown lib root left (inner_of lib root left) (around_root own) e w ≡ gives new v
     → boxes_grown lib root left (inner_of lib root left) (around_root own) (e ∷ []) w ≡ gives new v
 one_grown lib root left own e w v new h =
@@ -138,7 +136,7 @@ one_grown lib root left own e w v new h =
     ∙ ap (λ y. y >>= (λ rest u. gives (join new rest) u)) (no_boxes lib root left inner a v)
     ∙ ap (λ (y : Trees). gives y v) (join_done new)
 
-one_again : (lib : ℕ → Option Answer) (file : List ℕ) (left own : ℕ) (e : Entry) (w v : Stock) (new : Trees) → IsLibraryOf w.names lib → IsEntryOf w.names e
+pub one_again : (lib : ℕ → Option Answer) (file : List ℕ) (left own : ℕ) (e : Entry) (w v : Stock) (new : Trees) → IsLibraryOf w.names lib → IsEntryOf w.names e
     → document_boxes new ≡ boxed (e ∷ [])
     → box_grown lib (without_ending file) left (inner_of lib (without_ending file) left) (around_root own) e w ≡ gives new v
     → Regrows (own_site lib file v.names own) left new
@@ -149,15 +147,15 @@ one_again lib file left own e w v new l o document grows =
     (several_again lib lib root left (around_root own) (e ∷ []) w v new (λ _ _ k. k) l (record { arguments = tt; inside = tt }) (o, tt)
     (one_grown lib root left own e w v new grows))
 
-one_low : (n left : ℕ) → n ≤ left → max n 0 ≤ left
+pub one_low : (n left : ℕ) → n ≤ left → max n 0 ≤ left
 one_low n left h = omega (arith, h)
 
 module _ (lib : ℕ → Option Answer) (file : List ℕ) (left : ℕ) (path : List ℕ) (t u : Tree) (e : Entry) (w v : Stock) (c : Cell)
     (s : StandsAgain lib file w.names t) (at : own_along path t ≡ Some u) (low : length path + left ≡ 255) (o : IsEntryOf w.names e)
     (lev : levels_of e.head.form (levels e.page.boxes) ≤ left) (none : HoldsNone e.head.form e.page) (inner : HoldNone e.page.boxes)
     (grows : box_grown lib (without_ending file) left (inner_of lib (without_ending file) left) (around_root t.sheet.zero) e w ≡ gives (Leaf c Done) v) where
-  pub retyped_stands : (number : ℕ) → StandsAgain lib file v.names (retyped_at path number c t)
-  retyped_stands number =
+  pub retyped_stands : (number : ℕ) → BareAt number u.boxes → StandsAgain lib file v.names (retyped_at path number c t)
+  retyped_stands number bare =
       let new = Leaf c Done in
       let own = t.sheet.zero in
       let root = without_ending file in
@@ -170,14 +168,32 @@ module _ (lib : ℕ → Option Answer) (file : List ℕ) (left : ℕ) (path : Li
       nest_texts v.names p.nest u p.subpatches (subst (λ (x : Tree). TextsOf v.names (document_boxes x.boxes)) p.whole s2.texts) in
       let deep = subst (λ (x : Tree). levels (document_boxes x.boxes) ≤ 255) p.whole s2.shallow in
       change_stands lib file v.names left path t u (retyped_box number c) s2 at low
-      (texts_with v.names number c u.boxes texts (subst (TextsOf v.names) (sym document) (texts_more w.names v.names up (boxed (e ∷ [])) (o.text, o.inner, tt))))
-      (levels_with number c u.boxes left (inside_levels p.nest u left 255 p.subpatches (p.deep left ∙ low) deep)
+      (texts_with v.names number c u.boxes bare texts (subst (TextsOf v.names) (sym document) (texts_more w.names v.names up (boxed (e ∷ [])) (o.text, o.inner, tt))))
+      (levels_with number c u.boxes left bare (inside_levels p.nest u left 255 p.subpatches (p.deep left ∙ low) deep)
       (subst (λ x. levels x ≤ left) (sym document) (one_low (levels_of e.head.form (levels e.page.boxes)) left lev)))
-      (canvas_with_it (own_site lib file v.names own) left number c u (own_suits lib file v.names own l2) texts
+      (canvas_with_it (own_site lib file v.names own) left number c u bare (own_suits lib file v.names own l2) texts
       (canvas_regrows lib file v.names left path t u s2 at low) (one_again lib file left own e w v new s.library o document grows))
 
   pub box_made : IsMade c.head.form c
   box_made = (new_made lib file v.names path t u (Leaf c Done) at (box_stands lib file left path t u e w v (Leaf c Done) s at low o lev none inner grows)).0
+
+-- ---- a patch
+
+module _ (g h : Grove) (path : List ℕ) (canvas key number : ℕ) (n n' : Node) (B : RetypesBoxAt g h path canvas key number n n') where
+  bare_here : (b d : ℕ) (keys : List ℕ) (t : Trees) (m : ℕ) → slice_get keys m ≡ Some key → Stands (get g.nodes) (get g.boards) b d keys t → BareAt m t
+  bare_here b d [] Done m at S = tt
+  bare_here b d [] (Leaf c rest) m at S = absurd S
+  bare_here b d [] (Holder c s inner rest) m at S = absurd S
+  bare_here b d (k ∷ ks) Done m at S = tt
+  bare_here b d (k ∷ ks) (Leaf c rest) zero at S = tt
+  bare_here b d (k ∷ ks) (Leaf c rest) (suc m) at S = bare_here b d ks rest m at S.1
+  bare_here b d (k ∷ ks) (Holder c s inner rest) zero at S =
+      none-some S.0 (sym B.bare ∙ sym (ap inner_in (ap (λ j. get g.nodes j) (same_Some k key at) ∙ B.was)) ∙ seen_inner (get g.nodes k) _ S.2)
+  bare_here b d (k ∷ ks) (Holder c s inner rest) (suc m) at S = bare_here b d ks rest m at S.5
+
+  pub bare_there : (u : Tree) → CanvasStands g canvas u → BareAt number u.boxes
+  bare_there u S =
+      bare_here canvas S.depth S.keys u.boxes number (ap (λ (l : List ℕ). slice_get l number) (sym (seen_keys (get g.boards canvas) _ S.board)) ∙ B.is) S.stands
 
 -- the path leads to a canvas of the document
 pub patch_retyped : (lib : ℕ → Option Answer) (file : List ℕ) (left : ℕ) (g h : Grove) (path : List ℕ) (canvas key number : ℕ) (n n' : Node) (t : Tree) (e : Entry)
@@ -187,4 +203,4 @@ pub patch_retyped : (lib : ℕ → Option Answer) (file : List ℕ) (left : ℕ)
     → StandsAgain lib file v.names (retyped_at path number (cell_in n') t)
 patch_retyped lib file left g h path canvas key number n n' t e w v s r B low o lev none inner grows =
     let p = path_along g path canvas t B.forest r.stands B.leads in
-    retyped_stands lib file left path t p.0 e w v (cell_in n') s p.1 low o lev none inner grows number
+    retyped_stands lib file left path t p.0 e w v (cell_in n') s p.1 low o lev none inner grows number (bare_there g h path canvas key number n n' B p.0 p.2)

@@ -31,7 +31,7 @@ use Rattle.pd_putting_law.proofs.StandLemmas.{path_along}
 use Rattle.pd_retyping_law.specs.Edits.{GivesText, element_with}
 use Rattle.pd_retyping_law.specs.Retypes.{retyped_at}
 use Rattle.pd_retyping_law.specs.Retyping.{cell_in}
-use Rattle.pd_retyping_law.proofs.AgainLemmas.{box_made, retyped_stands}
+use Rattle.pd_retyping_law.proofs.AgainLemmas.{bare_there, box_made, retyped_stands}
 use Rattle.pd_retyping_law.proofs.PageLemmas.{document_by, document_retyped, new_entry, retyped_there}
 use Rattle.pd_retyping_law.proofs.SavedLemmas.{box_written, element_saved, tree_fresh}
 use Rattle.pd_retyping_law.proofs.StandLemmas.{runs_retyped}
@@ -74,6 +74,7 @@ module _ (g h : Grove) (path : List ℕ) (canvas key number : ℕ) (lib : ℕ �
   pub text_again : StandsAgain lib file after.names (retyped_at path number (cell_in n') t)
   text_again =
       retyped_stands lib file P.left path t along.0 new from after (cell_in n') A along.1 P.deep P.names P.room bare.holds (none_held new bare) P.grew number
+      (bare_there g h path canvas key number n n' P.box along.0 along.2)
 
   pub text_runs : RunsAs h (retyped_at path number (cell_in n') t)
   text_runs = runs_retyped g h path canvas key number n n' P.box t P.rate P.now R P.first

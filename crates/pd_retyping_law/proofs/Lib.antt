@@ -6,3 +6,4 @@ pub mod CountLemmas
 pub mod AgainLemmas
 pub mod SavedLemmas
 pub mod EditLemmas
+pub mod RenameLemmas

@@ -25,8 +25,8 @@ use Rattle.pd_putting_law.specs.Putting.{HoldsPage, IsSavedAs}
 use Rattle.pd_putting_law.proofs.ListLemmas.{map_same, map_changed}
 use Rattle.pd_putting_law.proofs.PathLemmas.{subs, sub_leads, deep_as, LeadsNot, not_same, not_inside, not_below, not_around, not_beside}
 use Rattle.pd_putting_law.proofs.PageLemmas.{entry_same, sub_entry, page_same, page_changed}
-use Rattle.pd_retyping_law.specs.Retyping.{RetypesBoxAt}
-use Rattle.pd_retyping_law.proofs.PlaceLemmas.{others_in, others_here}
+use Rattle.pd_retyping_law.specs.Retyping.{RetypesBoxAt, RenamesBoxAt, ChangesBoxAt}
+use Rattle.pd_retyping_law.proofs.PlaceLemmas.{others_in, others_here, retypes_so, renames_so}
 
 -- ---- what is saved of a box without a canvas
 
@@ -81,18 +81,35 @@ sub_retyped text e form pd =
     ap (λ (f : Shape). (retyped_as f text e).head.form) form
     ∙ ap (λ b. (if b then element Sub e.page e.head.x e.head.y text else object e.head.x e.head.y text).head.form) pd
 
+-- a subpatch that keeps what it holds
+kept_head : (text : List Atom) (e : Entry) → e.head.form ≡ Sub → begins_with_pd text ≡ true → (retyped text e).head ≡ (element Sub e.page e.head.x e.head.y text).head
+kept_head text e form pd =
+    ap (λ (f : Shape). (retyped_as f text e).head) form
+    ∙ ap (λ b. (if b then element Sub e.page e.head.x e.head.y text else object e.head.x e.head.y text).head) pd
+
+kept_entry : (text : List Atom) (h : Head) (s : Option State) (p : Page) → h.form ≡ Sub → begins_with_pd text ≡ true
+    → retyped text (record { head = present_head s h; page = held_in h.form p }) ≡ element Sub p h.x h.y text
+kept_entry text h s p form pd =
+    ap (λ (f : Shape). retyped_as (present_form h.text s f) text (record { head = present_head s h; page = held_in f p })) form
+    ∙ ap (λ b. if b then element Sub p h.x h.y text else object h.x h.y text) pd
+
+inside_same : (o : Option ℕ) {before after : ℕ → Page} → ((j : ℕ) → o ≡ Some j → after j ≡ before j) → page_inside after o ≡ page_inside before o
+inside_same None h = refl
+inside_same (Some j) h = h j refl
+
 -- ---- the canvases of two groves
 
-module _ (g h : Grove) (path₀ : List ℕ) (canvas key number : ℕ) (n n' : Node) (B : RetypesBoxAt g h path₀ canvas key number n n') (w : Web) (numbers : List ℕ) where
+module _ (g h : Grove) (path₀ : List ℕ) (canvas key number : ℕ) (n n' : Node) (B : ChangesBoxAt g h path₀ canvas key number n n') (w : Web) (numbers : List ℕ) where
   abbrev old : ℕ → ℕ → Page
   old m c = page_within w numbers (get g.nodes) (get g.boards) m c
 
   abbrev new : ℕ → ℕ → Page
   new m c = page_within w numbers (get h.nodes) (get g.boards) m c
 
-  -- what the old box had becomes this of it
+  -- what the old box had becomes this of it, where the canvas that it holds stays
   abbrev pub ChangesEntry : (Entry → Entry) → Type 0
-  ChangesEntry change = (before after : ℕ → Page) → entry_at after (get h.nodes key) ≡ change (entry_at before (get g.nodes key))
+  ChangesEntry change =
+      (before after : ℕ → Page) → ((j : ℕ) → n.inner ≡ Some j → after j ≡ before j) → entry_at after (get h.nodes key) ≡ change (entry_at before (get g.nodes key))
 
   box_aside : (m k : ℕ) → k ≢ key → ((j : ℕ) → inner_in (get g.nodes k) ≡ Some j → new m j ≡ old m j) → entry_at (new m) (get h.nodes k) ≡ entry_at (old m) (get g.nodes k)
   box_aside m k d inner = ap (entry_at (new m)) (B.others k d) ∙ entry_same (old m) (new m) (get g.nodes k) inner
@@ -113,7 +130,8 @@ module _ (g h : Grove) (path₀ : List ℕ) (canvas key number : ℕ) (n n' : No
       within_suc w numbers (get h.nodes) (get g.boards) m canvas
       ∙ page_changed w w numbers numbers (get g.nodes) (get h.nodes) (old m) (new m) change number key (get g.boards canvas) B.is
       (map_changed (λ k. entry_at (old m) (get g.nodes k)) (λ k. entry_at (new m) (get h.nodes k)) change number (keys_at g canvas)
-      (λ k at. subst (λ z. entry_at (new m) (get h.nodes z) ≡ change (entry_at (old m) (get g.nodes z))) (same_Some key k (sym B.is ∙ at)) (becomes (old m) (new m)))
+      (λ k at. subst (λ z. entry_at (new m) (get h.nodes z) ≡ change (entry_at (old m) (get g.nodes z))) (same_Some key k (sym B.is ∙ at)) (becomes (old m) (new m)
+      (λ j holds. page_aside m j (not_below g B.forest canvas number key j B.is (ap inner_in B.was ∙ holds)))))
       (λ i k away at. box_aside m k (others_here g h path₀ canvas key number n n' B (keys_at g canvas) refl i k away at)
       (λ j holds. page_aside m j (not_below g B.forest canvas i k j at holds))))
       refl
@@ -147,8 +165,8 @@ module _ (g h : Grove) (path₀ : List ℕ) (canvas key number : ℕ) (n n' : No
       fewer : (m l k : ℕ) → suc m ≡ suc l + suc k → m ≡ l + suc k
       fewer m l k h = omega (arith, h)
 
-  pub document_by : (change : Entry → Entry) → ChangesEntry change → present_page h w numbers ≡ edit_at path₀ (change_box number change) (present_page g w numbers)
-  document_by change becomes =
+  pub document_changed : (change : Entry → Entry) → ChangesEntry change → present_page h w numbers ≡ edit_at path₀ (change_box number change) (present_page g w numbers)
+  document_changed change becomes =
       let F = B.forest in
       let deep = deep_as g F path₀ g.root canvas (sub_leads g g.root canvas path₀ B.leads) in
       let low : length path₀ ≤ 256 = shallow (depth_of (get g.boards canvas)) (depth_of (get g.boards g.root)) (length path₀) deep F.rooted.2 (F.shallow canvas) in
@@ -162,7 +180,13 @@ module _ (g h : Grove) (path₀ : List ℕ) (canvas key number : ℕ) (n n' : No
       whole : (l : ℕ) → l ≤ 256 → 257 ≡ l + suc (256 - l)
       whole l h = omega (arith, h)
 
-  -- ---- the document
+-- ---- another box without a canvas
+
+module _ (g h : Grove) (path₀ : List ℕ) (canvas key number : ℕ) (n n' : Node) (B : RetypesBoxAt g h path₀ canvas key number n n') (w : Web) (numbers : List ℕ) where
+  pub document_by : (change : Entry → Entry) → ((before after : ℕ → Page) → entry_at after (get h.nodes key) ≡ change (entry_at before (get g.nodes key)))
+      → present_page h w numbers ≡ edit_at path₀ (change_box number change) (present_page g w numbers)
+  document_by change becomes =
+      document_changed g h path₀ canvas key number n n' (retypes_so g h path₀ canvas key number n n' B) w numbers change (λ before after _. becomes before after)
 
   pub new_entry : (held : ℕ → Page) (e : Entry) → IsSavedAs (get h.boards) (get h.nodes key) e → entry_at held (get h.nodes key) ≡ e
   new_entry held e S = leaf_saved held (get h.boards) (get h.nodes key) e n' B.becomes B.leaf S
@@ -192,3 +216,23 @@ module _ (g h : Grove) (path₀ : List ℕ) (canvas key number : ℕ) (n n' : No
       document_by (retyped text) (λ before after.
       new_entry after (retyped text e) T
       ∙ sym (retyped_there text can (λ form pd. no_sub (get h.boards) (get h.nodes key) (retyped text e) n' B.becomes B.leaf T (sub_retyped text e form pd)) before))
+
+-- ---- a subpatch with another text
+
+module _ (g h : Grove) (path₀ : List ℕ) (canvas key number : ℕ) (n n' : Node) (B : RenamesBoxAt g h path₀ canvas key number n n') (w : Web) (numbers : List ℕ) where
+  -- its element has the other text, and its page is that of the canvas that it held
+  entry_renamed : (text : List Atom) → begins_with_pd text ≡ true → (entry_of n'.element).head ≡ (retyped text (entry_of n.element)).head → (before after : ℕ → Page)
+      → ((j : ℕ) → n.inner ≡ Some j → after j ≡ before j) → entry_at after (get h.nodes key) ≡ retyped text (entry_at before (get g.nodes key))
+  entry_renamed text pd head before after same =
+      let e = entry_of n.element in
+      ap (entry_at after) B.becomes
+      ∙ ap (λ (o : Option ℕ). record { head = present_head n'.state (entry_of n'.element).head; page = held_in (entry_of n'.element).head.form (page_inside after o) }) B.inner
+      ∙ ap (λ (x : Head). record { head = present_head n'.state x; page = held_in x.form (page_inside after n.inner) }) (head ∙ kept_head text e B.sub pd)
+      ∙ ap (λ (p : Page). element Sub p e.head.x e.head.y text) (inside_same n.inner same)
+      ∙ sym (ap (λ o. retyped text (entry_at before o)) B.was
+      ∙ kept_entry text e.head n.state (page_inside before n.inner) B.sub pd)
+
+  pub document_renamed : (text : List Atom) → begins_with_pd text ≡ true → (entry_of n'.element).head ≡ (retyped text (entry_of n.element)).head
+      → present_page h w numbers ≡ edit_at path₀ (edited (edit.Retype number text)) (present_page g w numbers)
+  document_renamed text pd head =
+      document_changed g h path₀ canvas key number n n' (renames_so g h path₀ canvas key number n n' B) w numbers (retyped text) (entry_renamed text pd head)

@@ -18,19 +18,20 @@ use Rattle.pd_grove.specs.Telling.{inner_in}
 use Rattle.pd_grove.specs.TextOrder.{deep}
 use Rattle.pd_grove.proofs.PlaceLemmas.{seen_keys}
 use Rattle.pd_web.specs.Canvases.{keys_at}
+use Rattle.pd_present.specs.Contents.{present_head}
 use Rattle.pd_regrowth_law.specs.Canvases.{canvas_with}
 use Rattle.pd_reload_law.specs.Reloading.{RunsAs}
-use Rattle.pd_reload_law.specs.Saving.{AreSavable}
+use Rattle.pd_reload_law.specs.Saving.{AreSavable, TurnsWhole}
 use Rattle.pd_reload_law.proofs.EditLemmas.{sub_inner}
 use Rattle.pd_reload_law.proofs.FreshLemmas.{fresh_savable}
 use Rattle.pd_putting_law.specs.Puts.{change_inside, change_at}
 use Rattle.pd_putting_law.proofs.PathLemmas.{subs, sub_leads, LeadsNot, not_same, not_around}
 use Rattle.pd_putting_law.proofs.StandLemmas.{seen_inner, CanvasAt, keys_are, AreAside, AreBeside, aside_next, beside_first, beside_next, beside_here, aside_inside, aside_here, beside_on, deep_within}
 use Rattle.pd_retyping_law.specs.Retypes.{boxes_with, retyped_box, retyped_at}
-use Rattle.pd_retyping_law.specs.Retyping.{RetypesBoxAt, KeepsFirst, cell_in}
-use Rattle.pd_retyping_law.proofs.PlaceLemmas.{AreOthers, AreOthersBut, others_next, but_first, but_next, but_here, others_in, others_here, is_here, bare_here, now_seen, seen_still}
+use Rattle.pd_retyping_law.specs.Retyping.{RetypesBoxAt, RenamesBoxAt, ChangesBoxAt, KeepsFirst, cell_in}
+use Rattle.pd_retyping_law.proofs.PlaceLemmas.{AreOthers, AreOthersBut, others_next, but_first, but_next, but_here, others_in, others_here, is_here, now_seen, seen_still, retypes_so, renames_so}
 
-module _ (g h : Grove) (path₀ : List ℕ) (canvas key number : ℕ) (n n' : Node) (B : RetypesBoxAt g h path₀ canvas key number n n') where
+module _ (g h : Grove) (path₀ : List ℕ) (canvas key number : ℕ) (n n' : Node) (B : ChangesBoxAt g h path₀ canvas key number n n') where
   board_still : (j : ℕ) (z : BoardSeen) → option_map board_seen (get g.boards j) ≡ Some z → option_map board_seen (get h.boards j) ≡ Some z
   board_still j z e = ap (λ (s : Slab Board). option_map board_seen (get s j)) B.boards ∙ e
 
@@ -63,7 +64,15 @@ module _ (g h : Grove) (path₀ : List ℕ) (canvas key number : ℕ) (n n' : No
   stands_with b d (k ∷ ks) (Leaf c rest) (suc m) at o a S =
       (seen_still g h path₀ canvas key number n n' B k _ (but_here key m k ks o) S.0, stands_with b d ks rest m at (but_next key m k ks o) (aside_next g canvas k ks a) S.1)
   stands_with b d (k ∷ ks) (Holder c s inner rest) zero at o a S =
-      absurd (bare_here g h path₀ canvas key number n n' B k S.0 _ (same_Some k key at) S.2 refl)
+      let out : LeadsNot g canvas S.0 = a 0 k S.0 refl (seen_inner (get g.nodes k) _ S.2) in
+      let same : keys_at g S.0 ≡ S.1 = seen_keys (get g.boards S.0) _ S.3 in (
+        S.0,
+        S.1,
+        now_seen g h path₀ canvas key number n n' B k _ (same_Some k key at) S.2,
+        board_still S.0 _ S.3,
+        stands_aside S.0 (d + 1) S.1 inner (others_in g h path₀ canvas key number n n' B S.0 S.1 same (not_same g canvas S.0 out)) (aside_inside g canvas S.0 S.1 same out) S.4,
+        stands_aside b d ks rest (but_first key k ks o) (aside_next g canvas k ks a) S.5,
+      )
   stands_with b d (k ∷ ks) (Holder c s inner rest) (suc m) at o a S =
       let out : LeadsNot g canvas S.0 = a 0 k S.0 refl (seen_inner (get g.nodes k) _ S.2) in
       let same : keys_at g S.0 ≡ S.1 = seen_keys (get g.boards S.0) _ S.3 in (
@@ -138,9 +147,9 @@ module _ (g h : Grove) (path₀ : List ℕ) (canvas key number : ℕ) (n n' : No
 
   -- ---- the tree
 
-  pub grove_retyped : (t : Tree) → GroveStands g t.sheet t.boxes
+  pub grove_changed : (t : Tree) → GroveStands g t.sheet t.boxes
       → GroveStands h (retyped_at path₀ number (cell_in n') t).sheet (retyped_at path₀ number (cell_in n') t).boxes
-  grove_retyped t G =
+  grove_changed t G =
       let u = retyped_at path₀ number (cell_in n') t in
       let C = canvas_along path₀ g.root None 0 t B.leads (record { keys = G.keys; board = G.root; stands = G.stands }) in
       record {
@@ -148,6 +157,26 @@ module _ (g h : Grove) (path₀ : List ℕ) (canvas key number : ℕ) (n n' : No
         root = ap (λ z. option_map board_seen (get h.boards z)) B.root ∙ C.board;
         stands = subst (λ z. Stands (get h.nodes) (get h.boards) z 0 C.keys u.boxes) (sym B.root) C.stands;
       }
+
+  pub shallow_changed : (t : Tree) → GroveStands g t.sheet t.boxes → deep (retyped_at path₀ number (cell_in n') t).boxes ≤ 256
+  shallow_changed t S =
+      let u = retyped_at path₀ number (cell_in n') t in
+      let G = grove_changed t S in
+      plain (deep u.boxes) (deep_within (get h.nodes) (get h.boards) h.root 0 G.keys u.boxes
+      (λ c. subst (λ (s : Slab Board). depth_of (get s c) < 257) (sym B.boards) (B.forest.shallow c)) G.stands (omega arith))
+    where
+      plain : (m : ℕ) → m + 0 ≤ 256 → m ≤ 256
+      plain m e = omega (arith, e)
+
+-- ---- another box without a canvas
+
+module _ (g h : Grove) (path₀ : List ℕ) (canvas key number : ℕ) (n n' : Node) (B : RetypesBoxAt g h path₀ canvas key number n n') where
+  there : ChangesBoxAt g h path₀ canvas key number n n'
+  there = retypes_so g h path₀ canvas key number n n' B
+
+  pub grove_retyped : (t : Tree) → GroveStands g t.sheet t.boxes
+      → GroveStands h (retyped_at path₀ number (cell_in n') t).sheet (retyped_at path₀ number (cell_in n') t).boxes
+  grove_retyped t G = grove_changed g h path₀ canvas key number n n' there t G
 
   -- the new box keeps what a save may write of it
   fresh_here : (rate : Rate) (now : ℕ) → KeepsFirst rate now n' → AreSavable (λ _. Some n')
@@ -165,15 +194,39 @@ module _ (g h : Grove) (path₀ : List ℕ) (canvas key number : ℕ) (n n' : No
       }
 
   pub runs_retyped : (t : Tree) (rate : Rate) (now : ℕ) → RunsAs g t → KeepsFirst rate now n' → RunsAs h (retyped_at path₀ number (cell_in n') t)
-  runs_retyped t rate now R f =
-      let u = retyped_at path₀ number (cell_in n') t in
-      let G = grove_retyped t R.stands in
-      record {
-        stands = G;
-        shallow = plain (deep u.boxes) (deep_within (get h.nodes) (get h.boards) h.root 0 G.keys u.boxes
-            (λ c. subst (λ (s : Slab Board). depth_of (get s c) < 257) (sym B.boards) (B.forest.shallow c)) G.stands (omega arith));
-        savable = savable_on rate now f R.savable;
-      }
-    where
-      plain : (m : ℕ) → m + 0 ≤ 256 → m ≤ 256
-      plain m e = omega (arith, e)
+  runs_retyped t rate now R f = record {
+    stands = grove_retyped t R.stands;
+    shallow = shallow_changed g h path₀ canvas key number n n' there t R.stands;
+    savable = savable_on rate now f R.savable;
+  }
+
+-- ---- a subpatch with another text
+
+module _ (g h : Grove) (path₀ : List ℕ) (canvas key number : ℕ) (n n' : Node) (B : RenamesBoxAt g h path₀ canvas key number n n') where
+  pub grove_renamed : (t : Tree) → GroveStands g t.sheet t.boxes
+      → GroveStands h (retyped_at path₀ number (cell_in n') t).sheet (retyped_at path₀ number (cell_in n') t).boxes
+  grove_renamed t G = grove_changed g h path₀ canvas key number n n' (renames_so g h path₀ canvas key number n n' B) t G
+
+  -- it keeps what it kept
+  savable_still : AreSavable (get g.nodes) → AreSavable (get h.nodes)
+  savable_still S = record {
+    toggles = λ k m e. ⊎_elim
+        (λ (same : k ≡ key).
+        let is : n' ≡ m = same_Some n' m (sym B.becomes ∙ ap (λ j. get h.nodes j) (sym same) ∙ e) in
+        subst (λ (x : Node). TurnsWhole x.kind x.state) is
+        (subst (λ x. TurnsWhole x n'.state) (sym B.kind) (subst (TurnsWhole n.kind) (sym B.state) (S.toggles key n B.was))))
+        (λ (d : k ≢ key). S.toggles k m (sym (B.others k d) ∙ e)) (cases_eq k key);
+    canvases = λ k m x e c. ⊎_elim
+        (λ (same : k ≡ key).
+        let is : n' ≡ m = same_Some n' m (sym B.becomes ∙ ap (λ j. get h.nodes j) (sym same) ∙ e) in
+        ap (λ s. present_head s x) (sym (ap (λ (y : Node). y.state) is) ∙ B.state)
+        ∙ S.canvases key n x B.was (sym B.kind ∙ ap (λ (y : Node). y.kind) is ∙ c))
+        (λ (d : k ≢ key). S.canvases k m x (sym (B.others k d) ∙ e) c) (cases_eq k key);
+  }
+
+  pub runs_renamed : (t : Tree) → RunsAs g t → RunsAs h (retyped_at path₀ number (cell_in n') t)
+  runs_renamed t R = record {
+    stands = grove_renamed t R.stands;
+    shallow = shallow_changed g h path₀ canvas key number n n' (renames_so g h path₀ canvas key number n n' B) t R.stands;
+    savable = savable_still R.savable;
+  }

@@ -15,25 +15,26 @@ use Rattle.pd_grove.specs.TextOrder.{keys_inside}
 use Rattle.pd_grove.proofs.PlaceLemmas.{seen_keys}
 use Rattle.pd_web.specs.declared.web.Web.{Web}
 use Rattle.pd_web.specs.Canvases.{keys_at}
+use Rattle.pd_present.specs.Contents.{present_head}
 use Rattle.pd_present.specs.Presents.{wires_among}
 use Rattle.pd_regrowth_law.specs.Canvases.{canvas_with}
 use Rattle.pd_regrowth_law.specs.Rewiring.{with_wires}
-use Rattle.pd_reload_law.specs.Saving.{cell_now, holder_now, boxes_now, tree_now}
+use Rattle.pd_reload_law.specs.Saving.{cell_by, cell_now, holder_now, boxes_now, tree_now}
 use Rattle.pd_reload_law.proofs.EditLemmas.{sub_inner}
 use Rattle.pd_putting_law.specs.Puts.{change_inside, change_at}
 use Rattle.pd_putting_law.proofs.PathLemmas.{subs, sub_leads, LeadsNot, not_same, not_around}
 use Rattle.pd_putting_law.proofs.StandLemmas.{seen_inner, CanvasAt, keys_are, AreAside, AreBeside, aside_next, beside_first, beside_next, beside_here, aside_inside, aside_here, beside_on}
 use Rattle.pd_putting_law.proofs.TreeLemmas.{holder_next, seen_sub}
 use Rattle.pd_retyping_law.specs.Retypes.{boxes_with, retyped_box, retyped_at}
-use Rattle.pd_retyping_law.specs.Retyping.{RetypesBoxAt, cell_in}
-use Rattle.pd_retyping_law.proofs.PlaceLemmas.{AreOthers, AreOthersBut, others_next, but_first, but_next, but_here, others_in, others_here, is_now, bare_here}
+use Rattle.pd_retyping_law.specs.Retyping.{RetypesBoxAt, RenamesBoxAt, ChangesBoxAt, cell_in}
+use Rattle.pd_retyping_law.proofs.PlaceLemmas.{AreOthers, AreOthersBut, others_next, but_first, but_next, but_here, others_in, others_here, is_now, sub_was, sub_now, retypes_so, renames_so}
 
 holder_with : (f : Shape) (x : Cell) (s : Sheet) (inner : Trees) (now : Sheet) (boxes others : Trees) (m : ℕ) (c : Cell)
     → boxes_with (suc m) c (holder_now f x s inner now boxes others) ≡ holder_now f x s inner now boxes (boxes_with m c others)
 holder_with Sub x s inner now boxes others m c = refl
 holder_with f x s inner now boxes others m c = refl
 
-module _ (g h : Grove) (path₀ : List ℕ) (canvas key number : ℕ) (n n' : Node) (B : RetypesBoxAt g h path₀ canvas key number n n') (w : Web) (numbers : List ℕ) where
+module _ (g h : Grove) (path₀ : List ℕ) (canvas key number : ℕ) (n n' : Node) (B : ChangesBoxAt g h path₀ canvas key number n n') (w : Web) (numbers : List ℕ) where
   abbrev old : List ℕ → Trees → Trees
   old keys t = boxes_now w numbers (get g.nodes) (get g.boards) keys t
 
@@ -61,6 +62,36 @@ module _ (g h : Grove) (path₀ : List ℕ) (canvas key number : ℕ) (n n' : No
       ap (λ (ks : List ℕ). holder_now f c s inner (with_wires (wires_among w numbers ks) s) (new ks inner) rest) now
       ∙ ap (λ (b : Trees). holder_now f c s inner (with_wires (wires_among w numbers (keys_at g j)) s) b rest) same
       ∙ sym (ap (λ (ks : List ℕ). holder_now f c s inner (with_wires (wires_among w numbers ks) s) (old ks inner) rest) was)
+
+  abbrev was_holder : ℕ → Cell → Sheet → Trees → Trees → Trees
+  was_holder k c s inner rest =
+      let js = keys_inside (get g.boards) (inner_in (get g.nodes k)) in
+      holder_now c.head.form c s inner (with_wires (wires_among w numbers js) s) (old js inner) rest
+
+  -- a subpatch is kept as it is
+  sub_kept : (cell_in n').head.form ≡ Sub → cell_kept ≡ cell_in n'
+  sub_kept f = ap (λ (y : Shape). cell_by y n'.state (cell_in n') (present_head n'.state (cell_in n').head)) f
+
+  -- the box itself, where it holds a canvas
+  holder_here : (k j : ℕ) (c : Cell) (s : Sheet) (inner others : Trees) → k ≡ key → inner_in (get g.nodes k) ≡ Some j → c.head.form ≡ Sub → (cell_in n').head.form ≡ Sub
+      → new (keys_at g j) inner ≡ old (keys_at g j) inner
+      → (let ks = keys_inside (get g.boards) (inner_in (get h.nodes k)) in
+      holder_now (cell_in n').head.form (cell_in n') s inner (with_wires (wires_among w numbers ks) s) (new ks inner) others)
+      ≡ boxes_with zero cell_kept (was_holder k c s inner others)
+  holder_here k j c s inner others here holds form form' same =
+      let c' = cell_in n' in
+      let js = keys_inside (get g.boards) (inner_in (get g.nodes k)) in
+      let ks = keys_inside (get g.boards) (inner_in (get h.nodes k)) in
+      let still : inner_in (get h.nodes k) ≡ inner_in (get g.nodes k) =
+      ap inner_in (is_now g h path₀ canvas key number n n' B k here) ∙ B.inner ∙ sym (ap inner_in (ap (λ i. get g.nodes i) here ∙ B.was)) in
+      let was : js ≡ keys_at g j = ap (keys_inside (get g.boards)) holds in
+      let now : ks ≡ keys_at g j = ap (keys_inside (get g.boards)) still ∙ was in
+      ap (λ (y : Shape). holder_now y c' s inner (with_wires (wires_among w numbers ks) s) (new ks inner) others) form'
+      ∙ ap (λ (l : List ℕ). Holder c' (with_wires (wires_among w numbers l) s) (new l inner) others) now
+      ∙ ap (λ (b : Trees). Holder c' (with_wires (wires_among w numbers (keys_at g j)) s) b others) same
+      ∙ sym (ap (λ (y : Shape). boxes_with zero cell_kept (holder_now y c s inner (with_wires (wires_among w numbers js) s) (old js inner) others)) form
+      ∙ ap (λ (l : List ℕ). Holder cell_kept (with_wires (wires_among w numbers l) s) (old l inner) others) was
+      ∙ ap (λ (x : Cell). Holder x (with_wires (wires_among w numbers (keys_at g j)) s) (old (keys_at g j) inner) others) (sub_kept form'))
 
   now_aside : (b d : ℕ) (keys : List ℕ) (t : Trees) → AreOthers key keys → AreAside g canvas keys → Stands (get g.nodes) (get g.boards) b d keys t → new keys t ≡ old keys t
   now_aside b d [] t o a S = refl
@@ -90,7 +121,15 @@ module _ (g h : Grove) (path₀ : List ℕ) (canvas key number : ℕ) (n n' : No
       ap (λ x. Leaf (cell_now (state_in x) c) (new ks (boxes_with m (cell_in n') rest))) (B.others k (but_here key m k ks o))
       ∙ ap (Leaf (cell_now (state_in (get g.nodes k)) c)) (now_with b d ks rest m at (but_next key m k ks o) (aside_next g canvas k ks a) S.1)
   now_with b d (k ∷ ks) (Holder c s inner rest) zero at o a S =
-      absurd (bare_here g h path₀ canvas key number n n' B k S.0 _ (same_Some k key at) S.2 refl)
+      let here : k ≡ key = same_Some k key at in
+      let holds = seen_inner (get g.nodes k) _ S.2 in
+      let out : LeadsNot g canvas S.0 = a 0 k S.0 refl holds in
+      let same : keys_at g S.0 ≡ S.1 = seen_keys (get g.boards S.0) _ S.3 in
+      holder_here k S.0 c s inner (new ks rest) here holds (sub_was g h path₀ canvas key number n n' B k S.0 _ here S.2 refl)
+      (sub_now g h path₀ canvas key number n n' B k S.0 _ here S.2 refl)
+      (subst (λ (l : List ℕ). new l inner ≡ old l inner) (sym same)
+      (now_aside S.0 (d + 1) S.1 inner (others_in g h path₀ canvas key number n n' B S.0 S.1 same (not_same g canvas S.0 out)) (aside_inside g canvas S.0 S.1 same out) S.4))
+      ∙ ap (λ (r : Trees). boxes_with zero cell_kept (was_holder k c s inner r)) (now_aside b d ks rest (but_first key k ks o) (aside_next g canvas k ks a) S.5)
   now_with b d (k ∷ ks) (Holder c s inner rest) (suc m) at o a S =
       let holds = seen_inner (get g.nodes k) _ S.2 in
       let out : LeadsNot g canvas S.0 = a 0 k S.0 refl holds in
@@ -184,9 +223,27 @@ module _ (g h : Grove) (path₀ : List ℕ) (canvas key number : ℕ) (n n' : No
       let keys = keys_in (get boards root) in
       canvas_with (with_wires (wires_among w numbers keys) u.sheet) (boxes_now w numbers (get h.nodes) (get boards) keys u.boxes)
 
-  pub tree_retyped : (t : Tree) → GroveStands g t.sheet t.boxes
+  pub tree_changed : (t : Tree) → GroveStands g t.sheet t.boxes
       → tree_now h w numbers (retyped_at path₀ number (cell_in n') t) ≡ retyped_at path₀ number (cell_now n'.state (cell_in n')) (tree_now g w numbers t)
-  tree_retyped t G =
+  tree_changed t G =
       let u = retyped_at path₀ number (cell_in n') t in
       ap (λ (s : Slab Board). tree_in s h.root u) B.boards ∙ ap (λ r. tree_in g.boards r u) B.root
       ∙ now_canvas path₀ g.root None 0 t B.leads (record { keys = G.keys; board = G.root; stands = G.stands })
+
+  pub tree_kept : (t : Tree) → GroveStands g t.sheet t.boxes → (cell_in n').head.form ≡ Sub
+      → tree_now h w numbers (retyped_at path₀ number (cell_in n') t) ≡ retyped_at path₀ number (cell_in n') (tree_now g w numbers t)
+  tree_kept t G f = tree_changed t G ∙ ap (λ (c : Cell). retyped_at path₀ number c (tree_now g w numbers t)) (sub_kept f)
+
+-- ---- another box, and a subpatch with another text
+
+pub tree_retyped : (g h : Grove) (path₀ : List ℕ) (canvas key number : ℕ) (n n' : Node) → RetypesBoxAt g h path₀ canvas key number n n' → (w : Web) (numbers : List ℕ) (t : Tree)
+    → GroveStands g t.sheet t.boxes
+    → tree_now h w numbers (retyped_at path₀ number (cell_in n') t) ≡ retyped_at path₀ number (cell_now n'.state (cell_in n')) (tree_now g w numbers t)
+tree_retyped g h path₀ canvas key number n n' B w numbers t G =
+    tree_changed g h path₀ canvas key number n n' (retypes_so g h path₀ canvas key number n n' B) w numbers t G
+
+pub tree_renamed : (g h : Grove) (path₀ : List ℕ) (canvas key number : ℕ) (n n' : Node) → RenamesBoxAt g h path₀ canvas key number n n' → (w : Web) (numbers : List ℕ) (t : Tree)
+    → GroveStands g t.sheet t.boxes
+    → tree_now h w numbers (retyped_at path₀ number (cell_in n') t) ≡ retyped_at path₀ number (cell_in n') (tree_now g w numbers t)
+tree_renamed g h path₀ canvas key number n n' B w numbers t G =
+    tree_kept g h path₀ canvas key number n n' (renames_so g h path₀ canvas key number n n' B) w numbers t G B.form

@@ -31,7 +31,7 @@ ghost use Rattle.pd_reload_law.specs.Saving.{IsMade, cell_now, tree_now};
 ghost use Rattle.pd_putting_law.specs.Again.{StandsAgain};
 ghost use Rattle.pd_putting_law.specs.Putting.{IsBare, IsSavedAs, KeepsText, entry_kept};
 ghost use Rattle.pd_retyping_law.specs.Edits.{GivesText};
-ghost use Rattle.pd_retyping_law.specs.Retypes.{retyped_at};
+ghost use Rattle.pd_retyping_law.specs.Retypes.{BareAt, SuitsAt, retyped_at};
 ghost use Rattle.pd_retyping_law.specs.Retyping.{KeepsFirst, RetypesBoxAt, cell_in};
 
 /// Where a box becomes another one, the document of the patch has the element of the new box in its place, and nothing else changes. Where that
@@ -80,21 +80,22 @@ pub fn trees_follow_retypes()
         tree_now h w numbers (retyped_at path number (cell_in n') t) ≡ retyped_at path number (cell_in n') (tree_now g w numbers t) }
 {}
 
-/// The tree has as many boxes, and the same `$0` numbers. Of values of tables, arrays and delay lines it has those of the new box and lacks those
+/// The tree has as many boxes, and the same `$0` numbers where only a subpatch with another text keeps the canvas that it holds. Of values of tables, arrays and delay lines it has those of the new box and lacks those
 /// of the old one.
 pub fn retyped_trees_count()
     ensures boxes { (path : List ℕ) (number : ℕ) (c : Cell) (t : Tree) → weight (retyped_at path number c t).boxes ≡ weight t.boxes }
-    ensures zeros { (path : List ℕ) (number : ℕ) (c : Cell) (t : Tree) → zeros_of (retyped_at path number c t) ≡ zeros_of t }
+    ensures zeros { (path : List ℕ) (number : ℕ) (c : Cell) (t u : Tree) → own_along path t ≡ Some u → SuitsAt number c u.boxes →
+        zeros_of (retyped_at path number c t) ≡ zeros_of t }
     ensures sound { (rate : Rate) (g h : Grove) (path : List ℕ) (canvas key number : ℕ) (n n' : Node) (t : Tree) →
         RetypesBoxAt g h path canvas key number n n' → GroveStands g t.sheet t.boxes →
         sound_of rate (retyped_at path number (cell_in n') t).boxes + size_of n.kind rate ≡ sound_of rate t.boxes + size_of n'.kind rate }
 {}
 
-/// A tree that stands and grows again from its own document does so with another box in the place of one, that grew in its canvas by itself;
+/// A tree that stands and grows again from its own document does so with another box in the place of one without a canvas, that grew there by itself;
 /// so that of a patch in which a box became another one does. What grew is made.
 pub fn retyped_trees_grow_again()
     ensures one { (lib : ℕ → Option Answer) (file : List ℕ) (left : ℕ) (path : List ℕ) (number : ℕ) (t u : Tree) (e : Entry) (w v : Stock) (c : Cell) →
-        StandsAgain lib file w.names t → own_along path t ≡ Some u → length path + left ≡ 255 → IsEntryOf w.names e →
+        StandsAgain lib file w.names t → own_along path t ≡ Some u → BareAt number u.boxes → length path + left ≡ 255 → IsEntryOf w.names e →
         levels_of e.head.form (levels e.page.boxes) ≤ left → HoldsNone e.head.form e.page → HoldNone e.page.boxes →
         box_grown lib (without_ending file) left (inner_of lib (without_ending file) left) (around_root t.sheet.zero) e w ≡ gives (Leaf c Done) v →
         StandsAgain lib file v.names (retyped_at path number c t) }

@@ -1,4 +1,5 @@
-//! Laws of a box without a canvas that becomes another one in its place, in a canvas of a running patch. Nothing runs here.
+//! Laws of a box without a canvas that becomes another one in its place, in a canvas of a running patch, and of a subpatch that gets another text and
+//! keeps what it holds. Nothing runs here.
 //!
 //! The document that is saved has then the element of the new box there, and is else as it was: it is the one after the edit
 //! that gives the box another text (`documents_follow_retypes`). The tree that stands is the former one with the new box there,
@@ -12,8 +13,10 @@
 #![tactic(auto)]
 
 mod laws;
+mod renames;
 
 pub use laws::{
     documents_follow_retypes, edits_retype_boxes, retyped_boxes_are_saved, retyped_trees_count,
     retyped_trees_grow_again, trees_follow_retypes,
 };
+pub use renames::{documents_follow_renames, renamed_trees_grow_again, trees_follow_renames};
