@@ -1,6 +1,6 @@
-//! Laws over a running patch of which an edit made a box another one, and its tree.
+//! Laws over a running patch of which an edit made a box another one or gave a subpatch another text, and its tree.
 
-ghost use Rattle.std.specs.Prelude.{◌≡◌, ◌≤◌, ◌+◌, ℕ, List, length};
+ghost use Rattle.std.specs.Prelude.{◌≡◌, ◌≤◌, ◌+◌, ℕ, List};
 ghost use Rattle.pd_atom.specs.declared.Atom.{Atom};
 ghost use Rattle.pd_atom.specs.Names.{Names, Extends, IsTable};
 ghost use Rattle.pd_canvas.specs.Edits.{edited, retyped};
@@ -29,21 +29,21 @@ ghost use Rattle.pd_misfits.specs.Shedding.{numbered};
 ghost use Rattle.pd_adding.specs.declared.counts.Counts.{Counts};
 ghost use Rattle.pd_retyping.specs.declared.retyping.RetypedBox.{RetypedBox};
 ghost use Rattle.pd_retyping.specs.Asking.{settled_text};
-ghost use Rattle.pd_retyping.specs.Retypes.{RetypesBox};
+ghost use Rattle.pd_retyping.specs.Retypes.{RetypesBox, cell_become};
 ghost use Rattle.pd_retyping_law.specs.Retypes.{retyped_at};
-ghost use Rattle.pd_retype_law.specs.Losing.{less_wires};
+ghost use Rattle.pd_retype_law.specs.Losing.{less_wires, lost_by};
 
 /// Where an edit made a box another one, the document of the patch has the element with the new text in its place, with what the new box keeps of it, and
 /// in its canvas less the wires that didn't fit: but for these it is the document after the edit, unless the box is a toggle with other values in its text
-/// than it keeps at first.
+/// than it keeps at first. A subpatch with another text has the page that it had.
 pub fn documents_follow_retypes()
     ensures kept { (old new : Patch) (n : Counts) (name path : List ℕ) (number : ℕ) (text : List Atom) (now : ℕ) (k after : Known) (steps steps' : ℕ) (b : RetypedBox) (t : Tree) →
         (r : RetypesBox old new n name path number text now k after steps steps' b) → CanPut old → RunsAs old.grove t → StandsAgain (answer_in k.files) name k.names t → HoldsWires old t →
         present_document new ≡ edit_at path (less_wires (numbered b.gone.items))
-        (edit_at path (change_box number (λ e. entry_kept (Some (started (start_of r.became.can.cell.kind old.rate) now)) (retyped (settled_text k.names text) e))) (present_document old)) }
+        (edit_at path (change_box number (λ e. entry_kept (Some (started (start_of (cell_become r.became).kind old.rate) now)) (retyped (settled_text k.names text) e))) (present_document old)) }
     ensures edited { (old new : Patch) (n : Counts) (name path : List ℕ) (number : ℕ) (text : List Atom) (now : ℕ) (k after : Known) (steps steps' : ℕ) (b : RetypedBox) (t : Tree) →
         (r : RetypesBox old new n name path number text now k after steps steps' b) → CanPut old → RunsAs old.grove t → StandsAgain (answer_in k.files) name k.names t → HoldsWires old t →
-        KeepsText r.became.can.cell →
+        KeepsText (cell_become r.became) →
         present_document new ≡ edit_at path (less_wires (numbered b.gone.items)) (edit_at path (edited (edit.Retype number (settled_text k.names text))) (present_document old)) }
 {}
 
@@ -54,18 +54,18 @@ pub fn boxes_become_others_in_trees()
         RetypesBox old new n name path number text now k after steps steps' b → Extends k.names after.names }
     ensures runs { (old new : Patch) (n : Counts) (name path : List ℕ) (number : ℕ) (text : List Atom) (now : ℕ) (k after : Known) (steps steps' : ℕ) (b : RetypedBox) (t : Tree) →
         (r : RetypesBox old new n name path number text now k after steps steps' b) → CanPut old → RunsAs old.grove t → StandsAgain (answer_in k.files) name k.names t →
-        RunsAs new.grove (retyped_at path number r.became.can.cell t) }
+        RunsAs new.grove (retyped_at path number (cell_become r.became) t) }
     ensures again { (old new : Patch) (n : Counts) (name path : List ℕ) (number : ℕ) (text : List Atom) (now : ℕ) (k after : Known) (steps steps' : ℕ) (b : RetypedBox) (t : Tree) →
         (r : RetypesBox old new n name path number text now k after steps steps' b) → CanPut old → RunsAs old.grove t → StandsAgain (answer_in k.files) name k.names t →
-        StandsAgain (answer_in after.files) name after.names (retyped_at path number r.became.can.cell t) }
+        StandsAgain (answer_in after.files) name after.names (retyped_at path number (cell_become r.became) t) }
     ensures zeros { (old new : Patch) (n : Counts) (name path : List ℕ) (number : ℕ) (text : List Atom) (now : ℕ) (k after : Known) (steps steps' : ℕ) (b : RetypedBox) (t : Tree) →
-        (r : RetypesBox old new n name path number text now k after steps steps' b) → CanPut old → RunsAs old.grove t → zeros_of (retyped_at path number r.became.can.cell t) ≡ zeros_of t }
+        (r : RetypesBox old new n name path number text now k after steps steps' b) → CanPut old → RunsAs old.grove t → zeros_of (retyped_at path number (cell_become r.became) t) ≡ zeros_of t }
     ensures holds { (old new : Patch) (n : Counts) (name path : List ℕ) (number : ℕ) (text : List Atom) (now : ℕ) (k after : Known) (steps steps' : ℕ) (b : RetypedBox) (t : Tree) →
-        (r : RetypesBox old new n name path number text now k after steps steps' b) → CanPut old → RunsAs old.grove t → HoldsWires old t → HoldsWires new (retyped_at path number r.became.can.cell t) }
+        (r : RetypesBox old new n name path number text now k after steps steps' b) → CanPut old → RunsAs old.grove t → HoldsWires old t → HoldsWires new (retyped_at path number (cell_become r.became) t) }
     ensures fit { (old new : Patch) (n : Counts) (name path : List ℕ) (number : ℕ) (text : List Atom) (now : ℕ) (k after : Known) (steps steps' : ℕ) (b : RetypedBox) →
         RetypesBox old new n name path number text now k after steps steps' b → CanPut old → WiresFit old → WiresFit new }
     ensures wires { (old new : Patch) (n : Counts) (name path : List ℕ) (number : ℕ) (text : List Atom) (now : ℕ) (k after : Known) (steps steps' : ℕ) (b : RetypedBox) →
-        (r : RetypesBox old new n name path number text now k after steps steps' b) → wires_told new.web + length r.became.loosens.gone ≡ wires_told old.web }
+        (r : RetypesBox old new n name path number text now k after steps steps' b) → wires_told new.web + lost_by r.became ≡ wires_told old.web }
     ensures owners { (old new : Patch) (n : Counts) (name path : List ℕ) (number : ℕ) (text : List Atom) (now : ℕ) (k after : Known) (steps steps' : ℕ) (b : RetypedBox) (t : Tree) →
         RetypesBox old new n name path number text now k after steps steps' b → CanPut old → RunsAs old.grove t → StandsAgain (answer_in k.files) name k.names t →
         HasOwners old k.names name → HasOwners new after.names name }
@@ -74,11 +74,11 @@ pub fn boxes_become_others_in_trees()
 /// The counts with the new box are those of the tree with it.
 pub fn counts_follow_retypes()
     ensures boxes { (old new : Patch) (n : Counts) (name path : List ℕ) (number : ℕ) (text : List Atom) (now : ℕ) (k after : Known) (steps steps' : ℕ) (b : RetypedBox) (t : Tree) →
-        (r : RetypesBox old new n name path number text now k after steps steps' b) → CanPut old → RunsAs old.grove t → n.boxes ≡ weight t.boxes → b.counts.boxes ≡ weight (retyped_at path number r.became.can.cell t).boxes }
+        (r : RetypesBox old new n name path number text now k after steps steps' b) → CanPut old → RunsAs old.grove t → n.boxes ≡ weight t.boxes → b.counts.boxes ≡ weight (retyped_at path number (cell_become r.became) t).boxes }
     ensures wires { (old new : Patch) (n : Counts) (name path : List ℕ) (number : ℕ) (text : List Atom) (now : ℕ) (k after : Known) (steps steps' : ℕ) (b : RetypedBox) →
         RetypesBox old new n name path number text now k after steps steps' b → b.counts.wires ≡ wires_told new.web }
     ensures sound { (old new : Patch) (n : Counts) (name path : List ℕ) (number : ℕ) (text : List Atom) (now : ℕ) (k after : Known) (steps steps' : ℕ) (b : RetypedBox) (t : Tree) →
-        (r : RetypesBox old new n name path number text now k after steps steps' b) → CanPut old → RunsAs old.grove t → n.sound ≡ sound_of old.rate t.boxes → b.counts.sound ≡ sound_of old.rate (retyped_at path number r.became.can.cell t).boxes }
+        (r : RetypesBox old new n name path number text now k after steps steps' b) → CanPut old → RunsAs old.grove t → n.sound ≡ sound_of old.rate t.boxes → b.counts.sound ≡ sound_of old.rate (retyped_at path number (cell_become r.became) t).boxes }
     ensures next_zero { (old new : Patch) (n : Counts) (name path : List ℕ) (number : ℕ) (text : List Atom) (now : ℕ) (k after : Known) (steps steps' : ℕ) (b : RetypedBox) →
         RetypesBox old new n name path number text now k after steps steps' b → b.counts.next_zero ≡ n.next_zero }
 {}
@@ -88,7 +88,7 @@ pub fn retyped_boxes_can_be_saved()
     ensures proper { (old new : Patch) (n : Counts) (name path : List ℕ) (number : ℕ) (text : List Atom) (now : ℕ) (k after : Known) (steps steps' : ℕ) (b : RetypedBox) (t : Tree) (later : Names) →
         (r : RetypesBox old new n name path number text now k after steps steps' b) → CanPut old → RunsAs old.grove t → StandsAgain (answer_in k.files) name k.names t →
         Extends after.names later → IsTable later → weight t.boxes ≤ 16384 →
-        IsProper later (document_in t) → IsProper later (document_in (retyped_at path number r.became.can.cell t)) }
+        IsProper later (document_in t) → IsProper later (document_in (retyped_at path number (cell_become r.became) t)) }
     ensures contents { (old new : Patch) (n : Counts) (name path : List ℕ) (number : ℕ) (text : List Atom) (now : ℕ) (k after : Known) (steps steps' : ℕ) (b : RetypedBox) (t : Tree) →
         RetypesBox old new n name path number text now k after steps steps' b → CanPut old → RunsAs old.grove t → StandsAgain (answer_in k.files) name k.names t →
         HaveContents (IsWritten old.grove) (counts_of (kinds_of old)) k.names (states_of old) →
