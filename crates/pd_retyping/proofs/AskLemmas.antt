@@ -1,73 +1,84 @@
 -- Which box an edit makes another one, and the edit that would put what it becomes.
-use Rattle.std.proofs.Common.{◌≡◌, ℕ, Bool, true, false, cond, nat_lt, ◌&&◌, not, if◌then◌else◌, List, length, slice_get, Some, None, Result, Ok, Err, inl, inr, refl, sym, ap, ◌∙◌, subst}
-use Rattle.std.specs.Prelude.{◌⊎◌}
-use Rattle.std.proofs.lemmas.List.{length-map}
+use Rattle.std.proofs.Common.{◌≡◌, ℕ, Bool, true, false, cond, nat_lt, ◌&&◌, not, if◌then◌else◌, List, length, slice_get, Some, None, Result, Ok, Err, refl, sym, ap, ◌∙◌, subst}
+use Rattle.std.proofs.lemmas.Option.{same_Some}
 use Rattle.slab.specs.Slab.{get}
 use Rattle.pd_atom.specs.declared.Atom.{Atom}
 use Rattle.pd_atom.specs.Names.{Names}
-use Rattle.pd_atom.specs.Tokens.{settled}
-use Rattle.pd_canvas.specs.Pages.{Shape, Obj, Msg, Comment, FloatBox, SymbolBox, Sub, Array, Other, Entry}
-use Rattle.pd_canvas.specs.Edits.{begins_with_pd, element, object, retyped, retyped_as, takes_text}
+use Rattle.pd_canvas.specs.Pages.{Shape, Obj, Msg, Comment, FloatBox, SymbolBox, Sub, Array, Other, Entry, Head, empty_page, page_with_header}
+use Rattle.pd_canvas.specs.Edits.{begins_with_pd, element, new_header, object, retyped, retyped_as, takes_text}
 use Rattle.pd_canvas.specs.Views.{entry_of}
-use Rattle.pd_gather.specs.Gather.{Known}
 use Rattle.pd_grove.specs.declared.nodes.Node.{Node}
 use Rattle.pd_grove.specs.OwnPaths.{sub_reached}
 use Rattle.pd_grove.specs.TextOrder.{is_sub}
 use Rattle.pd_web.specs.Canvases.{keys_at}
 use Rattle.pd_patch.specs.declared.patch.Patch.{Patch}
 use Rattle.pd_wiring.specs.declared.refusals.EditRefusal.{EditRefusal}
-use Rattle.pd_wiring.specs.declared.refusals.EditRefusal.TheVariants.{NoCanvas, NoBox, NoDocument, TextTooLong, TooDeep}
+use Rattle.pd_wiring.specs.declared.refusals.EditRefusal.TheVariants.{NoCanvas, NoBox, TextTooLong, TooDeep}
 use Rattle.pd_adding.specs.Boxes.{settled_edit, box_put}
 use Rattle.pd_adding.specs.Coming.{coming, coming_by, coming_in, IsComing}
 use Rattle.pd_retyping.specs.Asking.{takes_text_so, keeps_inside, settled_text, retyping, retyping_in, retyping_box, retyping_node, retyping_to, IsRetyping, put_as, put_instead}
-use Rattle.pd_retyping.specs.Retypes.{IsChosen, IsKept}
+use Rattle.pd_retyping.specs.Retypes.{IsChosen}
 
--- ---- what an edit would put is what the box becomes
+-- ---- what an edit would put
 
+-- the box that an edit would put in place of one of a form
+abbrev entry_put : List Atom → Shape → Entry → Entry
+entry_put text Msg e = element Msg empty_page e.head.x e.head.y text
+entry_put text Comment e = element Comment empty_page e.head.x e.head.y text
+entry_put text s e = object e.head.x e.head.y text
+
+put_so : (names : Names) (s : Shape) (text : List Atom) (e : Entry) → box_put (settled_edit names (put_as s e.head.x e.head.y text)) ≡ Some (entry_put (settled_text names text) s e)
+put_so names Obj text e = refl
+put_so names Msg text e = refl
+put_so names Comment text e = refl
+put_so names FloatBox text e = refl
+put_so names SymbolBox text e = refl
+put_so names Sub text e = refl
+put_so names (Array vs) text e = refl
+put_so names (Other o) text e = refl
+
+-- it has the text and the form of what the box becomes
+sub_head : (text : List Atom) (e : Entry) (b : Bool) → (if b then element Sub (page_with_header (new_header text)) e.head.x e.head.y text else element Obj empty_page e.head.x e.head.y text).head
+    ≡ (if b then element Sub e.page e.head.x e.head.y text else if b then element Sub (page_with_header (new_header text)) e.head.x e.head.y text else element Obj empty_page e.head.x e.head.y text).head
+sub_head text e true = refl
+sub_head text e false = refl
+
+head_so : (s : Shape) (text : List Atom) (e : Entry) → takes_text s e.head.text ≡ true → (entry_put text s e).head ≡ (retyped_as s text e).head
+head_so Obj text e t = refl
+head_so Msg text e t = refl
+head_so Comment text e t = refl
+head_so FloatBox text e t = cc
+head_so SymbolBox text e t = cc
+head_so Sub text e t = sub_head text e (begins_with_pd text)
+head_so (Array vs) text e t = cc
+head_so (Other o) text e t = cc
+
+-- and is that, where it isn't a subpatch that keeps what it holds
 sub_so : (text : List Atom) (e : Entry) (b : Bool) → b ≡ false
     → object e.head.x e.head.y text ≡ (if b then element Sub e.page e.head.x e.head.y text else object e.head.x e.head.y text)
 sub_so text e true h = cc
 sub_so text e false h = refl
 
-put_so : (names : Names) (s : Shape) (text : List Atom) (e : Entry) → takes_text s e.head.text ≡ true → (is_sub s && begins_with_pd (settled_text names text)) ≡ false
-    → box_put (settled_edit names (put_as s e.head.x e.head.y text)) ≡ Some (retyped_as s (settled_text names text) e)
-put_so names Obj text e t k = refl
-put_so names Msg text e t k = refl
-put_so names Comment text e t k = refl
-put_so names FloatBox text e t k = cc
-put_so names SymbolBox text e t k = cc
-put_so names Sub text e t k = ap (λ (x : Entry). Some x) (sub_so (settled_text names text) e (begins_with_pd (settled_text names text)) k)
-put_so names (Array vs) text e t k = cc
-put_so names (Other o) text e t k = cc
+same_so : (s : Shape) (text : List Atom) (e : Entry) → takes_text s e.head.text ≡ true → (is_sub s && begins_with_pd text) ≡ false → entry_put text s e ≡ retyped_as s text e
+same_so Obj text e t k = refl
+same_so Msg text e t k = refl
+same_so Comment text e t k = refl
+same_so FloatBox text e t k = cc
+same_so SymbolBox text e t k = cc
+same_so Sub text e t k = sub_so text e (begins_with_pd text) k
+same_so (Array vs) text e t k = cc
+same_so (Other o) text e t k = cc
 
-pub put_is : (names : Names) (text : List Atom) (e : Entry) → takes_text_so e ≡ true → keeps_inside e (settled_text names text) ≡ false
-    → box_put (settled_edit names (put_instead e text)) ≡ Some (retyped (settled_text names text) e)
-put_is names text e t k = put_so names e.head.form text e t k
+-- what keeps what it holds is a subpatch
+kept_by : (a b : Bool) → (a && b) ≡ true → a ≡ true
+kept_by true b h = refl
+kept_by false b h = cc
 
--- ---- what a subpatch becomes that keeps what it holds
-
-kept_by : (text : List Atom) (e : Entry) (b : Bool) → b ≡ true → (if b then element Sub e.page e.head.x e.head.y text else object e.head.x e.head.y text).head.text ≡ text
-kept_by text e true h = refl
-kept_by text e false h = cc
-
-kept_text : (s : Shape) (text : List Atom) (e : Entry) → (is_sub s && begins_with_pd text) ≡ true → (retyped_as s text e).head.text ≡ text
-kept_text Obj text e k = cc
-kept_text Msg text e k = cc
-kept_text Comment text e k = cc
-kept_text FloatBox text e k = cc
-kept_text SymbolBox text e k = cc
-kept_text Sub text e k = kept_by text e (begins_with_pd text) k
-kept_text (Array vs) text e k = cc
-kept_text (Other o) text e k = cc
-
-kept_long : (names : Names) (depth : ℕ) (text : List Atom) (canvas key : ℕ) (e : Entry) → keeps_inside e (settled_text names text) ≡ true → nat_lt 1024 (length text) ≡ true
-    → retyping_to depth (settled_text names text) canvas key e ≡ Err TextTooLong
-kept_long names depth text canvas key e k long =
-    let st = settled_text names text in
-    let same : length (retyped st e).head.text ≡ length text = ap (λ (xs : List Atom). length xs) (kept_text e.head.form st e k) ∙ length-map text (settled names) in
-    let is : nat_lt 1024 (length (retyped st e).head.text) ≡ true = ap (λ n. nat_lt 1024 n) same ∙ long in
-    ap (λ (b : Bool). if b then Err TextTooLong else
-    if is_sub (retyped st e).head.form && (not (keeps_inside e st) && nat_lt 254 depth) then Err TooDeep else Ok (canvas, (key, retyped st e))) is
+pub kept_is_sub : (p : Patch) (key : ℕ) (node n : Node) (text : List Atom) (b : Bool) → get p.grove.nodes key ≡ Some node → b ≡ keeps_inside (entry_of node.element) text → b ≡ true
+    → get p.grove.nodes key ≡ Some n → is_sub (entry_of n.element).head.form ≡ true
+kept_is_sub p key node n text b was keeps t is =
+    subst (λ (x : Node). is_sub (entry_of x.element).head.form ≡ true) (same_Some node n (sym was ∙ is))
+    (kept_by (is_sub (entry_of node.element).head.form) (begins_with_pd text) (sym keeps ∙ t))
 
 place : ℕ → Result (ℕ × Entry) EditRefusal → ℕ
 place d (Ok x) = x.0
@@ -106,58 +117,57 @@ module _ (names : Names) (p : Patch) (path : List ℕ) (number : ℕ) (text : Li
     chosen_is : retyping names p path number text ≡ retyping_to depth written canvas key (entry_of node.element)
     chosen_is = node_by canvas C.leads key C.at node C.is true C.takes
 
-    -- a subpatch that keeps what it holds
-    pub kept_refused : (why : EditRefusal) (k : Known) → k.names ≡ names → keeps_inside (entry_of node.element) written ≡ true → (b : Bool) → nat_lt 1024 (length text) ≡ b
-        → why ≡ (if b then TextTooLong else NoDocument) → (retyping names p path number text ≡ Err why) ⊎ ((why ≡ NoDocument) × IsKept p path number text k)
-    kept_refused why k is kept true long same =
-        inl (chosen_is ∙ kept_long names depth text canvas key (entry_of node.element) kept long ∙ ap (λ (x : EditRefusal). Err x) (sym same))
-    kept_refused why k is kept false short same =
-        inr (
-          same,
-          record {
-            canvas = canvas;
-            key = key;
-            node = node;
-            chosen = C;
-            kept = subst (λ (t : Names). keeps_inside (entry_of node.element) (settled_text t text) ≡ true) (sym is) kept;
-          },
-        )
+    -- what would be put, and what the box becomes
+    abbrev coming_box : Entry
+    coming_box = entry_put written (entry_of node.element).head.form (entry_of node.element)
 
-    module _ (new : keeps_inside (entry_of node.element) written ≡ false) where
-      pub new_entry : box_put (settled_edit names (put_instead (entry_of node.element) text)) ≡ Some (retyped written (entry_of node.element))
-      new_entry = put_is names text (entry_of node.element) C.takes new
+    abbrev becoming : Entry
+    becoming = retyped written (entry_of node.element)
 
-      coming_is : coming names p path (put_instead (entry_of node.element) text) ≡ coming_in depth (retyped written (entry_of node.element)) (Some canvas)
-      coming_is = ap (coming_by p path) new_entry ∙ ap (coming_in depth (retyped written (entry_of node.element))) C.leads
+    pub put_entry : box_put (settled_edit names (put_instead (entry_of node.element) text)) ≡ Some coming_box
+    put_entry = put_so names (entry_of node.element).head.form text (entry_of node.element)
 
-      -- what an edit would put comes as the box is made another one
-      abbrev becoming : Entry
-      becoming = retyped written (entry_of node.element)
+    pub put_head : coming_box.head ≡ becoming.head
+    put_head = head_so (entry_of node.element).head.form written (entry_of node.element) C.takes
 
-      retyping_is : retyping names p path number text
-          ≡ (if nat_lt 1024 (length becoming.head.text) then Err TextTooLong else if is_sub becoming.head.form && nat_lt 254 depth then Err TooDeep else Ok (canvas, (key, becoming)))
-      retyping_is = chosen_is ∙ ap (λ (b : Bool). if nat_lt 1024 (length becoming.head.text) then Err TextTooLong else
-          if is_sub becoming.head.form && (not b && nat_lt 254 depth) then Err TooDeep else Ok (canvas, (key, becoming))) new
+    pub put_same : keeps_inside (entry_of node.element) written ≡ false → coming_box ≡ becoming
+    put_same new = same_so (entry_of node.element).head.form written (entry_of node.element) C.takes new
 
-      both_ok : (long deep : Bool) (c : ℕ × Entry) → ◌≡◌ {A = Result (ℕ × Entry) EditRefusal} (if long then Err TextTooLong else if deep then Err TooDeep else Ok (canvas, becoming)) (Ok c)
-          → (◌≡◌ {A = Result (ℕ × (ℕ × Entry)) EditRefusal} (if long then Err TextTooLong else if deep then Err TooDeep else Ok (canvas, (key, becoming))) (Ok (canvas, (key, becoming)))) × (canvas ≡ c.0)
-      unfolding place
-      both_ok true deep c h = cc
-      both_ok false true c h = cc
-      both_ok false false c h = (refl, ap (place canvas) h)
+    -- it comes as the box is made another one
 
-      both_ask : (long deep : Bool) → IsComing (if long then Err TextTooLong else if deep then Err TooDeep else Ok (canvas, becoming))
-          → IsRetyping (if long then Err TextTooLong else if deep then Err TooDeep else Ok (canvas, (key, becoming)))
-      both_ask true deep h = absurd h
-      both_ask false true h = absurd h
-      both_ask false false h = tt
+    coming_is : coming names p path (put_instead (entry_of node.element) text) ≡ coming_in depth coming_box (Some canvas)
+    coming_is = ap (coming_by p path) put_entry ∙ ap (coming_in depth coming_box) C.leads
 
-      pub comes_ok : (c : ℕ × Entry) → coming names p path (put_instead (entry_of node.element) text) ≡ Ok c
-          → (retyping names p path number text ≡ Ok (canvas, (key, becoming))) × (canvas ≡ c.0)
-      comes_ok c h =
-          let both = both_ok (nat_lt 1024 (length becoming.head.text)) (is_sub becoming.head.form && nat_lt 254 depth) c (sym coming_is ∙ h) in
-          (retyping_is ∙ both.0, both.1)
+    retyping_is : retyping names p path number text
+        ≡ (if nat_lt 1024 (length coming_box.head.text) then Err TextTooLong else
+        if is_sub coming_box.head.form && (not (keeps_inside (entry_of node.element) written) && nat_lt 254 depth) then Err TooDeep else Ok (canvas, (key, becoming)))
+    retyping_is = chosen_is ∙ ap (λ (h : Head). if nat_lt 1024 (length h.text) then Err TextTooLong else
+        if is_sub h.form && (not (keeps_inside (entry_of node.element) written) && nat_lt 254 depth) then Err TooDeep else Ok (canvas, (key, becoming))) (sym put_head)
 
-      pub comes_asks : IsComing (coming names p path (put_instead (entry_of node.element) text)) → IsRetyping (retyping names p path number text)
-      comes_asks h = subst IsRetyping (sym retyping_is)
-          (both_ask (nat_lt 1024 (length becoming.head.text)) (is_sub becoming.head.form && nat_lt 254 depth) (subst IsComing coming_is h))
+    both_ok : (long sub deep keeps : Bool) (c : ℕ × Entry)
+        → ◌≡◌ {A = Result (ℕ × Entry) EditRefusal} (if long then Err TextTooLong else if sub && deep then Err TooDeep else Ok (canvas, coming_box)) (Ok c)
+        → (◌≡◌ {A = Result (ℕ × (ℕ × Entry)) EditRefusal} (if long then Err TextTooLong else if sub && (not keeps && deep) then Err TooDeep else Ok (canvas, (key, becoming))) (Ok (canvas, (key, becoming)))) × (canvas ≡ c.0)
+    unfolding place
+    both_ok true sub deep keeps c h = cc
+    both_ok false true true keeps c h = cc
+    both_ok false true false true c h = (refl, ap (place canvas) h)
+    both_ok false true false false c h = (refl, ap (place canvas) h)
+    both_ok false false deep keeps c h = (refl, ap (place canvas) h)
+
+    both_ask : (long sub deep keeps : Bool) → IsComing (if long then Err TextTooLong else if sub && deep then Err TooDeep else Ok (canvas, coming_box))
+        → IsRetyping (if long then Err TextTooLong else if sub && (not keeps && deep) then Err TooDeep else Ok (canvas, (key, becoming)))
+    both_ask true sub deep keeps h = absurd h
+    both_ask false true true keeps h = absurd h
+    both_ask false true false true h = tt
+    both_ask false true false false h = tt
+    both_ask false false deep keeps h = tt
+
+    pub comes_ok : (c : ℕ × Entry) → coming names p path (put_instead (entry_of node.element) text) ≡ Ok c
+        → (retyping names p path number text ≡ Ok (canvas, (key, becoming))) × (canvas ≡ c.0)
+    comes_ok c h =
+        let both = both_ok (nat_lt 1024 (length coming_box.head.text)) (is_sub coming_box.head.form) (nat_lt 254 depth) (keeps_inside (entry_of node.element) written) c (sym coming_is ∙ h) in
+        (retyping_is ∙ both.0, both.1)
+
+    pub comes_asks : IsComing (coming names p path (put_instead (entry_of node.element) text)) → IsRetyping (retyping names p path number text)
+    comes_asks h = subst IsRetyping (sym retyping_is)
+        (both_ask (nat_lt 1024 (length coming_box.head.text)) (is_sub coming_box.head.form) (nat_lt 254 depth) (keeps_inside (entry_of node.element) written) (subst IsComing coming_is h))

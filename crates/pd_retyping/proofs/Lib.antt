@@ -5,4 +5,5 @@ mod TurnLemmas
 mod SeedLemmas
 mod BecomeLemmas
 mod MakeLemmas
+mod TakeLemmas
 pub mod RetypeLemmas

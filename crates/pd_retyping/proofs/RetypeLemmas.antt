@@ -32,9 +32,9 @@ use Rattle.pd_adding.specs.Adding.{ComesTo, GrewWith, Grows}
 use Rattle.pd_retyping.specs.declared.asking.Plan.{Plan}
 use Rattle.pd_retyping.specs.declared.retyping.RetypedBox.{RetypedBox}
 use Rattle.pd_retyping.specs.Asking.{settled_text, retyping, put_instead}
-use Rattle.pd_retyping.specs.Retypes.{counts_but, with_wires, RetypesTo, CanBecome, HasBecome, RetypesBox, IsKept, IsRefused, IsNotRetyped}
-use Rattle.pd_retyping.specs.Becoming.{IsPlanned, IsUnplanned, HasGrown, StaysItself}
-use Rattle.pd_retyping.proofs.AskLemmas.{new_entry, comes_ok, comes_asks}
+use Rattle.pd_retyping.specs.Retypes.{counts_but, with_wires, RetypesTo, CanBecome, CanTakeText, Becomes, RetypesBox, IsRefused, IsNotRetyped}
+use Rattle.pd_retyping.specs.Becoming.{IsPlanned, IsUnplanned, HasGrown, StaysAsItWas}
+use Rattle.pd_retyping.proofs.AskLemmas.{put_entry, put_head, put_same, comes_ok, comes_asks}
 
 -- the text isn't of the table
 pub not_known : (p : Patch) (n : Counts) (name path : List ℕ) (number : ℕ) (text : List Atom) (k : Known) → (All (IsOf k.names) text → ⊥)
@@ -44,17 +44,7 @@ not_known p n name path number text k other = inl (refl, inr (inr (inr (inr (ref
 -- the box, or its text, is refused
 pub not_planned : (p : Patch) (n : Counts) (name path : List ℕ) (number : ℕ) (text : List Atom) (k : Known) (why : EditRefusal)
     → IsUnplanned k.names p path number text why → IsNotRetyped p p n name path number text k why
-not_planned p n name path number text k why un = inl (
-  refl,
-  ⊎_elim
-      (λ (m : why ≡ NoMemory). inl m)
-      (λ (o : (retyping k.names p path number text ≡ Err why) ⊎ ((why ≡ NoDocument) × IsKept p path number text (known [] k.names))). ⊎_elim
-      (λ (r : retyping k.names p path number text ≡ Err why). inr (inl r))
-      (λ (q : (why ≡ NoDocument) × IsKept p path number text (known [] k.names)). inr (inr (inr (inr (q.0, inr (inl (kept_anyhow q.1))))))) o) un,
-)
-  where
-    kept_anyhow : IsKept p path number text (known [] k.names) → IsKept p path number text k
-    kept_anyhow K = record { canvas = K.canvas; key = K.key; node = K.node; chosen = K.chosen; kept = K.kept }
+not_planned p n name path number text k why un = inl (refl, ⊎_elim (λ (m : why ≡ NoMemory). inl m) (λ (r : retyping k.names p path number text ≡ Err why). inr (inl r)) un)
 
 -- it comes to the same where nothing is told of the shelf
 comes_anyhow : (holds : Option (List FileRow)) (p : Patch) (n : Counts) (name path : List ℕ) (e : Edit) (k : Known) (r : Result Added EditRefusal)
@@ -80,8 +70,8 @@ memory_no_fault why a b = cc
 document_no_fault : (why : EditRefusal) → why ≡ NoDocument → why ≡ ShelfFault → ⊥
 document_no_fault why a b = cc
 
-pub no_fault : (old new : Patch) (key : ℕ) (n : Node) (a : Added) (why : EditRefusal) → StaysItself old new key n a why → why ≡ ShelfFault → ⊥
-no_fault old new key n a why out f = ⊎_elim (λ s. memory_no_fault why s.0 f) (λ o. document_no_fault why o.0 f) out
+pub no_fault : (names : Names) (text : List Atom) (old new : Patch) (key : ℕ) (n : Node) (a : Added) (why : EditRefusal) → StaysAsItWas names text old new key n a why → why ≡ ShelfFault → ⊥
+no_fault names text old new key n a why out f = ⊎_elim (λ s. memory_no_fault why s.0 f) (λ o. document_no_fault why o.0 f) out
 
 -- counts with as many wires as are left
 pub within_left : (n c : Counts) (wires : ℕ) → AreWithin n → AreWithin c → wires ≤ n.wires → AreWithin (with_wires c wires)
@@ -104,14 +94,14 @@ module _ (p : Patch) (n left : Counts) (name path : List ℕ) (number : ℕ) (te
       (subst (λ (x : Edit). ComesTo None p left name path x k r) P.edit (comes_anyhow holds p left name path plan.edit k r c))
 
   pub retypes_to : (holds : Option (List FileRow)) (r : Result Added EditRefusal) → ComesTo holds p left name path plan.edit k r → RetypesTo p n name path number text k r
-  retypes_to holds r c = record { canvas = plan.canvas; key = plan.key; node = P.node; chosen = P.chosen; new = P.new; comes = comes_so holds r c }
+  retypes_to holds r c = record { canvas = plan.canvas; key = plan.key; node = P.node; chosen = P.chosen; comes = comes_so holds r c }
 
   -- growth is refused
   not_so : (holds : Option (List FileRow)) (why : EditRefusal) → (why ≢ NoMemory → why ≢ ShelfFault → ComesTo holds p left name path plan.edit k (Err why))
       → (why ≡ ShelfFault → IsComing (coming k.names p path plan.edit)) → IsRefused p n name path number text k why
   not_so holds NoMemory comes asks = inl refl
   not_so holds ShelfFault comes asks =
-      inr (inr (inl (refl, comes_asks k.names p path number text plan.canvas plan.key P.node P.chosen P.new (subst (λ (x : Edit). IsComing (coming k.names p path x)) P.edit (asks refl)))))
+      inr (inr (inl (refl, comes_asks k.names p path number text plan.canvas plan.key P.node P.chosen (subst (λ (x : Edit). IsComing (coming k.names p path x)) P.edit (asks refl)))))
   not_so holds why comes asks = inr (inr (inr (inl (retypes_to holds (Err why) (comes (λ q. cc) (λ q. cc))))))
 
   pub not_grown : (holds : Option (List FileRow)) (why : EditRefusal) → (why ≢ NoMemory → why ≢ ShelfFault → ComesTo holds p left name path plan.edit k (Err why))
@@ -119,14 +109,14 @@ module _ (p : Patch) (n left : Counts) (name path : List ℕ) (number : ℕ) (te
   not_grown holds why comes asks = inl (refl, not_so holds why comes asks)
 
   -- the box stays itself
-  pub left_so : (holds : Option (List FileRow)) (q : Patch) (a : Added) (why : EditRefusal) → ComesTo holds p left name path plan.edit k (Ok a) → CanPut q → StaysItself p q plan.key P.node a why
+  pub left_so : (holds : Option (List FileRow)) (q : Patch) (a : Added) (why : EditRefusal) → ComesTo holds p left name path plan.edit k (Ok a) → CanPut q → StaysAsItWas k.names text p q plan.key P.node a why
       → IsNotRetyped p q n name path number text k why
   unfolding retypes_to
   left_so holds q a why comes can out = ⊎_elim
-      (λ (s : (why ≡ NoMemory) × (CanBecome p plan.key P.node a × SameButRoom p q)).
+      (λ (s : (why ≡ NoMemory) × ((CanBecome p plan.key P.node a ⊎ CanTakeText k.names text P.node a) × SameButRoom p q)).
       inr (s.0, record { added = a; comes = retypes_to holds (Ok a) comes; can = s.1.0; room = s.1.1; goes_on = can }))
-      (λ (o : (why ≡ NoDocument) × ((q ≡ p) × (CanBecome p plan.key P.node a → ⊥))).
-      inl (o.1.0, inr (inr (inr (inr (o.0, inr (inr (record { added = a; comes = retypes_to holds (Ok a) comes; other = o.1.1 })))))))) out
+      (λ (o : (why ≡ NoDocument) × ((q ≡ p) × ((CanBecome p plan.key P.node a → ⊥) × (CanTakeText k.names text P.node a → ⊥)))).
+      inl (o.1.0, inr (inr (inr (inr (o.0, inr (record { added = a; comes = retypes_to holds (Ok a) comes; other = o.1.1.0; no_text = o.1.1.1 }))))))) out
 
   module _ (holds : Option (List FileRow)) (files : List (ℕ × Answer)) (names : Names) (g : Grown) (G : Grows holds p left name path plan.edit k (known files names) g) where
     pub names_grown : G.added.known.names ≡ names
@@ -136,29 +126,31 @@ module _ (p : Patch) (n left : Counts) (name path : List ℕ) (number : ℕ) (te
     has_grown = record { added = G.added; is = G.is; names_are = names_grown }
 
     comes_there : (retyping k.names p path number text ≡ Ok (plan.canvas, (plan.key, retyped (settled_text k.names text) (entry_of P.node.element)))) × (plan.canvas ≡ G.added.canvas)
-    comes_there = comes_ok k.names p path number text plan.canvas plan.key P.node P.chosen P.new (G.added.canvas, G.grew.entry) (subst (λ (x : Edit). coming k.names p path x ≡ Ok (G.added.canvas, G.grew.entry)) P.edit G.grew.comes)
+    comes_there = comes_ok k.names p path number text plan.canvas plan.key P.node P.chosen (G.added.canvas, G.grew.entry) (subst (λ (x : Edit). coming k.names p path x ≡ Ok (G.added.canvas, G.grew.entry)) P.edit G.grew.comes)
 
     pub retypes_box : (q : Patch) (now : ℕ) (b : RetypedBox) (last : Names) (steps steps' : ℕ) → AreProper k.names k.files → All (IsOf k.names) text → IfSome (box_put (settled_edit k.names plan.edit)) (CanBeWritten k.names)
-        → HasBecome p q now plan.key P.node G.added b.gone.items steps steps' → b.key ≡ plan.key → b.canvas ≡ g.canvas → b.counts ≡ with_wires g.counts (wires_told q.web) → last ≡ names
+        → Becomes p q k.names text now plan.key P.node G.added b.gone.items steps steps' → b.key ≡ plan.key → b.canvas ≡ g.canvas → b.counts ≡ with_wires g.counts (wires_told q.web) → last ≡ names
         → RetypesBox p q n name path number text now k (known files last) steps steps' b
     retypes_box q now b last steps steps' found is_known written H is_key canvas_is counts table =
         let there = comes_there in
         let there_canvas : b.canvas ≡ plan.canvas = canvas_is ∙ G.is.canvas ∙ sym there.1 in
-        let put = new_entry k.names p path number text plan.canvas plan.key P.node P.chosen P.new in
+        let put = put_entry k.names p path number text plan.canvas plan.key P.node P.chosen in
         record {
           node = P.node;
           chosen = record { leads = P.chosen.leads ∙ ap (λ (x : ℕ). Some x) (sym there_canvas); at = at_of b.canvas b.key there_canvas is_key; is = ap (λ (x : ℕ). get p.grove.nodes x) is_key ∙ P.chosen.is; takes = P.chosen.takes };
           is = there.0 ∙ (λ i. Ok (sym there_canvas i, (sym is_key i, retyped (settled_text k.names text) (entry_of P.node.element))));
           new_entry = put;
+          same_head = put_head k.names p path number text plan.canvas plan.key P.node P.chosen;
+          same_entry = put_same k.names p path number text plan.canvas plan.key P.node P.chosen;
           table = G.table;
           found = found;
           is_known = is_known;
-          written = written_so put (subst (λ (x : Edit). IfSome (box_put (settled_edit k.names x)) (CanBeWritten k.names)) P.edit written);
+          written = written_so _ put (subst (λ (x : Edit). IfSome (box_put (settled_edit k.names x)) (CanBeWritten k.names)) P.edit written);
           added = G.added;
           comes = comes_so holds (Ok G.added) G.comes;
           files = G.files;
           grew = grew_so;
-          became = subst (λ (x : ℕ). HasBecome p q now x P.node G.added b.gone.items steps steps') (sym is_key) H;
+          became = subst (λ (x : ℕ). Becomes p q k.names text now x P.node G.added b.gone.items steps steps') (sym is_key) H;
           canvas = canvas_is ∙ G.is.canvas;
           counts = counts ∙ ap (λ (c : Counts). with_wires c (wires_told q.web)) G.is.counts;
           known_is = ap (known files) table ∙ G.known;
@@ -168,9 +160,8 @@ module _ (p : Patch) (n left : Counts) (name path : List ℕ) (number : ℕ) (te
         at_of : (c x : ℕ) → c ≡ plan.canvas → x ≡ plan.key → slice_get (keys_at p.grove c) number ≡ Some x
         at_of c x e f = ap (λ (y : ℕ). slice_get (keys_at p.grove y) number) e ∙ P.chosen.at ∙ ap (λ (y : ℕ). Some y) (sym f)
 
-        written_so : box_put (settled_edit k.names instead) ≡ Some (retyped (settled_text k.names text) (entry_of P.node.element)) → IfSome (box_put (settled_edit k.names instead)) (CanBeWritten k.names)
-            → CanBeWritten k.names (retyped (settled_text k.names text) (entry_of P.node.element))
-        written_so is w = subst (λ (o : Option Entry). IfSome o (CanBeWritten k.names)) is w
+        written_so : (e : Entry) → box_put (settled_edit k.names instead) ≡ Some e → IfSome (box_put (settled_edit k.names instead)) (CanBeWritten k.names) → CanBeWritten k.names e
+        written_so e is w = subst (λ (o : Option Entry). IfSome o (CanBeWritten k.names)) is w
 
         grew_so : GrewWith p (counts_but p.rate P.node n) name path instead k G.files G.added
         grew_so = subst (λ (m : Counts). GrewWith p m name path instead k G.files G.added) at_left (subst (λ (x : Edit). GrewWith p left name path x k G.files G.added) P.edit G.grew)

@@ -1,14 +1,18 @@
 -- A box that is to become another one, and one that did.
-use Rattle.std.specs.Prelude.{◌≡◌, ◌⊎◌, ◌≤◌, ◌+◌, ℕ, false, List, [], Some, None, Err, slice_get}
+use Rattle.std.specs.Prelude.{◌≡◌, ◌⊎◌, ◌≤◌, ◌+◌, ℕ, true, false, List, Some, None, Err, slice_get}
 use Rattle.slab.specs.Slab.{get}
 use Rattle.pd_atom.specs.declared.Atom.{Atom}
 use Rattle.pd_atom.specs.Names.{Names}
 use Rattle.pd_object.specs.declared.kinds.Kind.{Kind}
+use Rattle.pd_object.specs.declared.kinds.Kind.TheVariants as kind
+use Rattle.pd_canvas.specs.Pages.{Sub}
 use Rattle.pd_canvas.specs.Views.{entry_of}
-use Rattle.pd_gather.specs.Gather.{known}
+use Rattle.pd_tree.specs.declared.rows.Sheet.{Sheet}
+use Rattle.pd_tree.specs.Trees.{Cell, Done, Holder, Trees}
 use Rattle.pd_grove.specs.declared.nodes.Node.{Node}
 use Rattle.pd_grove.specs.declared.seeds.Seed.{Seed}
 use Rattle.pd_grove.specs.declared.ports.Side.{Side}
+use Rattle.pd_grove.specs.TextOrder.{is_sub}
 use Rattle.pd_web.specs.declared.web.Hop.{Hop}
 use Rattle.pd_web.specs.declared.web.Web.{Web}
 use Rattle.pd_web.specs.Changes.{Meet}
@@ -19,6 +23,7 @@ use Rattle.pd_boxes.specs.Room.{SameButRoom}
 use Rattle.pd_boxes.specs.Put.{CanPut, IsLeaf}
 use Rattle.pd_taking.specs.Loosening.{hops_at, line_at, Loosens}
 use Rattle.pd_refitting.specs.Refits.{IsPlainIn, CanRefit, IsRefitted, refit_looks}
+use Rattle.pd_renaming.specs.Renaming.{CanRename, IsRenamed}
 use Rattle.pd_misfits.specs.declared.wires.BoxWire.{BoxWire}
 use Rattle.pd_misfits.specs.Misfits.{turns, misfits, NoneTurns}
 use Rattle.pd_misfits.specs.Shedding.{AreWiresAt, Sheds}
@@ -27,7 +32,7 @@ use Rattle.pd_adding.specs.Growing.{Added}
 use Rattle.pd_adding.specs.Adding.{IsAdded}
 use Rattle.pd_retyping.specs.declared.asking.Plan.{Plan}
 use Rattle.pd_retyping.specs.Asking.{keeps_inside, settled_text, retyping, put_instead}
-use Rattle.pd_retyping.specs.Retypes.{IsChosen, CanBecome, IsKept}
+use Rattle.pd_retyping.specs.Retypes.{IsChosen, CanBecome, CanTakeText}
 
 -- the box that is to become another one, and the edit that would put what it becomes
 pub record IsPlanned (names : Names) (p : Patch) (path : List ℕ) (number : ℕ) (text : List Atom) (plan : Plan) : Type 0 where
@@ -84,3 +89,43 @@ pub record HasGrown (g : Grown) (names : Names) : Type 0 where
   pub added : Added
   pub is : IsAdded g added
   pub names_are : added.known.names ≡ names
+
+-- one box that is a subpatch without boxes and could be made
+pub record IsBareSub (t : Trees) : Type 0 where
+  pub cell : Cell
+  pub sheet : Sheet
+  pub single : t ≡ Holder cell sheet Done Done
+  pub form : cell.head.form ≡ Sub
+  pub canvas : cell.kind ≡ kind.Canvas
+  pub whole : cell.fault ≡ None
+
+-- a box that holds a canvas can take the text of what grew
+pub record GivesText (n : Node) (a : Added) : Type 0 where
+  pub was_canvas : n.kind ≡ kind.Canvas
+  pub was_whole : n.fault ≡ None
+  pub bare : IsBareSub a.boxes
+
+-- the box of a key is a subpatch, and can take the text of what grew
+pub record IsTaking (p : Patch) (key : ℕ) (g : Grown) : Type 0 where
+  pub can : CanPut p
+  pub node : Node
+  pub is : get p.grove.nodes key ≡ Some node
+  pub sub : is_sub (entry_of node.element).head.form ≡ true
+  pub added : Added
+  pub grown : IsAdded g added
+  pub gives : GivesText node added
+
+-- room was set aside, and then the subpatch got the text of what grew
+pub record GotText (old new : Patch) (table : Names) (key : ℕ) (n : Node) (a : Added) : Type 0 where
+  pub gives : GivesText n a
+  pub ready : Patch
+  pub room : SameButRoom old ready
+  pub could : CanRename ready key n
+  pub renamed : IsRenamed ready new table key n gives.bare.cell.head.text gives.bare.cell.text
+  pub goes_on : CanPut new
+
+-- The box stays: memory was wanting, and there may be more room; or it can neither become what grew yet nor take its text, and the patch stays.
+abbrev pub StaysAsItWas : Names → List Atom → Patch → Patch → ℕ → Node → Added → EditRefusal → Type 0
+StaysAsItWas names text old new key n a why =
+    ((why ≡ NoMemory) × ((CanBecome old key n a ⊎ CanTakeText names text n a) × SameButRoom old new))
+    ⊎ ((why ≡ NoDocument) × ((new ≡ old) × ((CanBecome old key n a → ⊥) × (CanTakeText names text n a → ⊥))))

@@ -1,13 +1,12 @@
 //! Which box an edit makes another one, and the edit that would put what it becomes.
 
-ghost use Rattle.std.specs.Prelude.{◌≡◌, Some, IfOk, IfErr, length, nat_lt, if◌then◌else◌};
+ghost use Rattle.std.specs.Prelude.{◌≡◌, Some, IfOk, IfErr};
 ghost use Rattle.std.specs.List.{All};
 ghost use Rattle.slab.specs.Slab.{get};
 ghost use Rattle.pd_atom.specs.Atoms.{IsOf};
 ghost use Rattle.pd_canvas.specs.Edits.{begins_with_pd as begins_so, is_pd as is_pd_so};
 ghost use Rattle.pd_canvas.specs.Views.{entry_of};
 ghost use Rattle.pd_grove.specs.declared.nodes.Node.{Node};
-ghost use Rattle.pd_wiring.specs.declared.refusals.EditRefusal.TheVariants.{TextTooLong, NoDocument};
 ghost use Rattle.pd_adding.specs.Counts.{AreWithin};
 ghost use Rattle.pd_retyping.specs.Asking.{takes_text_so, keeps_inside as keeps_so, settled_text, put_instead};
 ghost use Rattle.pd_retyping.specs.Retypes.{counts_but};
@@ -20,9 +19,6 @@ use pd_kind::sound_size;
 use pd_patch::Patch;
 use pd_wiring::EditRefusal;
 use std::alloc::AllocError;
-
-/// How many atoms a text has at most.
-const MOST_ATOMS: usize = 1_024;
 
 /// A box that is to become another one: its key, that of its canvas, whether it is a subpatch that keeps what it holds, and the edit that would put what it
 /// becomes.
@@ -38,8 +34,7 @@ pub(crate) struct Plan {
 ///
 /// # Errors
 ///
-/// The first reason against it: `NoCanvas`, `NoBox`; for a subpatch that would keep what it holds `TextTooLong` or `NoDocument`, as it isn't
-/// made another one yet. `NoMemory` may come in place of any.
+/// The first reason against it: `NoCanvas`, `NoBox`. `NoMemory` may come in place of any.
 pub(crate) fn plan_of(
     patch: &Patch,
     symbols: &Symbols,
@@ -63,11 +58,14 @@ pub(crate) fn plan_of(
     if !takes_text(&node.element) {
         return Err(EditRefusal::NoBox { number });
     }
-    if keeps_inside(symbols, &node.element, text) {
-        return Err(refusal_of_kept(text));
-    }
+    let keeps = keeps_inside(symbols, &node.element, text);
     match edit_instead(&node.element, text) {
-        Ok(edit) => Ok(Plan { canvas, key, edit }),
+        Ok(edit) => Ok(Plan {
+            canvas,
+            key,
+            keeps,
+            edit,
+        }),
         Err(_) => Err(EditRefusal::NoMemory),
     }
 }
@@ -122,17 +120,6 @@ fn is_pd(atom: Atom) -> bool
     match atom {
         Atom::Symbol(sym) => sym == Sym::pd(),
         _ => false,
-    }
-}
-
-/// Why a subpatch doesn't become another one with a text and what it holds.
-fn refusal_of_kept(text: &Atoms) -> EditRefusal
-    ensures { result ≡ (if nat_lt 1024 (length text.now) then TextTooLong else NoDocument) }
-{
-    if text.len() > MOST_ATOMS {
-        EditRefusal::TextTooLong
-    } else {
-        EditRefusal::NoDocument
     }
 }
 

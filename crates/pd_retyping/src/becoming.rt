@@ -102,7 +102,7 @@ pub(crate) fn become_grown<L: Ledger>(
 }
 
 /// Counts with another number of wires.
-fn counts_left(counts: Counts, wires: usize) -> Counts
+pub(crate) fn counts_left(counts: Counts, wires: usize) -> Counts
     ensures { result ≡ with_wires counts wires }
 {
     Counts {

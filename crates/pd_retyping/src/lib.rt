@@ -6,9 +6,14 @@
 //! All else of the patch stays. Beside the mends signal wires are looked at 8 times at most, and only where the new box carries signals and the old one
 //! didn't. Messages, comments, objects and subpatches take a text; an edit of any other box is refused with `NoBox`.
 //!
-//! It makes a box without a canvas inside another one without, where each wire at it that fits the new box carries what it carried, and neither is a port
-//! of a box around. All other boxes it refuses with `NoDocument`, last of all reasons. A refused edit (`IsNotRetyped`) leaves the patch, the names and the files
-//! that are known as they were; where memory ran out there may be more room in the patch, and all that it tells stays.
+//! A subpatch whose new text begins with `pd` keeps what it holds, its wires and its ports: it takes the text of an empty subpatch that grew aside, and
+//! hears at the name that this gives it in place of the old one (`TakesText`). No signal wire is looked at then.
+//!
+//! Any other box it makes another one where neither holds a canvas, where each wire at it that fits the new box carries what it carried, and where neither
+//! is a port of a box around. The others it refuses with `NoDocument`, last of all reasons: a box that holds a canvas and becomes anything but a
+//! subpatch with what that held, or a box that would hold one; a port box; and a box of which a wire that stays would carry signals, or cease to.
+//! A refused edit (`IsNotRetyped`) leaves the patch, the names and the files that are known as they were; where memory ran out there may be more room in
+//! the patch, and all that it tells stays.
 //!
 //! The caller keeps the counts of the patch from one edit to the next. What the box becomes is counted, and grows, where the old one is
 //! counted no more.
@@ -22,6 +27,7 @@ mod alike;
 mod asking;
 mod becoming;
 mod known;
+mod renaming;
 mod retyping;
 mod wires;
 

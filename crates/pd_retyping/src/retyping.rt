@@ -12,8 +12,8 @@ ghost use Rattle.pd_adding.specs.Counts.{AreWithin};
 ghost use Rattle.pd_retyping.specs.Retypes.{RetypesBox, IsNotRetyped};
 
 use crate::asking::{counts_without, plan_of};
-use crate::becoming::become_grown;
 use crate::known::are_of;
+use crate::renaming::become_or_take;
 use pd_adding::{Counts, Site, grow_aside};
 use pd_atom::Symbols;
 use pd_canvas::Atoms;
@@ -90,10 +90,11 @@ pub fn retype_box<H: Shelf, L: Ledger>(
     let grown = grow_aside(
         alloc, patch, left, site.name, site.path, &plan.edit, library, shelf, symbols,
     )?;
-    match become_grown(
+    match become_or_take(
         alloc,
         patch,
         plan.key,
+        plan.keeps,
         grown,
         counts.wires,
         site.now,

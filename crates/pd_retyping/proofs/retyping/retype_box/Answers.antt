@@ -11,7 +11,9 @@ use Rattle.pd_web.specs.Changes.{wires_told}
 use Rattle.pd_adding.specs.declared.counts.Counts.{Counts}
 use Rattle.pd_adding.proofs.AddLemmas.{extends_same}
 use Rattle.pd_retyping.proofs.RetypeLemmas.{as_told, not_known, not_grown, left_so, no_fault, same_err, has_grown, names_grown, retypes_box, within_so}
+use Rattle.pd_retyping.specs.Asking.{settled_text}
 use Rattle.pd_retyping.specs.Retypes.{IsNotRetyped}
+use Rattle.pd_retyping.proofs.AskLemmas.{kept_is_sub}
 use Rattle.pd_retyping.proofs.BecomeLemmas.{lives_there}
 use Rattle.pd_retyping.proofs.retyping.retype_box.Goals as goal
 
@@ -24,16 +26,21 @@ returns-then-not-are_of-clause-refused g c =
     not_known c.args.patch.now c.args.counts c.args.site.name.now c.args.site.path.now c.args.number c.args.text.now (known c.args.library.now c.args.symbols.now)
     (subst (λ (text : List Atom). All (IsOf c.args.symbols.now) text → ⊥) c.as_slice.ensures (c.are_of.ensures.some c.if-not-are_of.true))
 
-pub become_grown-requires-clause-here : goal.become_grown-requires-clause-here
-become_grown-requires-clause-here g c =
+pub become_or_take-requires-clause-here : goal.become_or_take-requires-clause-here
+become_or_take-requires-clause-here g c =
     let P = c.in_ok-plan.ensures.planned in
     lives_there c.args.patch.now c.in_ok-plan.plan.key P.node P.chosen.is
 
-pub become_grown-requires-clause-grown : goal.become_grown-requires-clause-grown
-become_grown-requires-clause-grown g c =
+pub become_or_take-requires-clause-grown : goal.become_or_take-requires-clause-grown
+become_or_take-requires-clause-grown g c =
     has_grown c.args.patch.now c.args.counts c.counts_without-left.result c.args.site.name.now c.args.site.path.now c.args.number c.args.text.now (known c.args.library.now c.args.symbols.now)
     c.in_ok-plan.plan c.in_ok-plan.ensures.planned c.counts_without-left.ensures.less
     (g.H.Shelf.holds c.args.shelf.now) c.grow_aside.new.library c.grow_aside.new.symbols c.in_ok-grown.grown c.in_ok-grown.ensures.grown
+
+pub become_or_take-requires-clause-sub : goal.become_or_take-requires-clause-sub
+become_or_take-requires-clause-sub g c = λ kept n is.
+    let P = c.in_ok-plan.ensures.planned in
+    kept_is_sub c.args.patch.now c.in_ok-plan.plan.key P.node n (settled_text c.args.symbols.now c.args.text.now) c.in_ok-plan.plan.keeps P.chosen.is P.keeps kept is
 
 pub returns-in-Ok-clause-retyped : goal.returns-in-Ok-clause-retyped
 returns-in-Ok-clause-retyped g c =
@@ -45,36 +52,36 @@ returns-in-Ok-clause-retyped g c =
     c.counts_without-left.ensures.less holds c.grow_aside.new.library c.grow_aside.new.symbols c.in_ok-grown.grown G in
     retypes_box c.args.patch.now c.args.counts c.counts_without-left.result c.args.site.name.now c.args.site.path.now c.args.number c.args.text.now k c.in_ok-plan.plan P
     c.counts_without-left.ensures.less holds c.grow_aside.new.library c.grow_aside.new.symbols c.in_ok-grown.grown G
-    c.become_grown.new.patch c.args.site.now c.in-Ok.retyped c.become_grown.new.symbols c.args.steps.now c.become_grown.new.steps c.requires.found
+    c.become_or_take.new.patch c.args.site.now c.in-Ok.retyped c.become_or_take.new.symbols c.args.steps.now c.become_or_take.new.steps c.requires.found
     (subst (λ (text : List Atom). All (IsOf c.args.symbols.now) text) c.as_slice.ensures (c.are_of.ensures.all c.if-not-are_of.false)) c.in_ok-grown.ensures.written
-    (c.in-Ok.ensures.became P.node G.added P.chosen.is G.is names) c.in-Ok.ensures.key c.in-Ok.ensures.canvas c.in-Ok.ensures.counts c.become_grown.ensures.table
+    (c.in-Ok.ensures.became c.args.symbols.now c.args.text.now P.node G.added P.chosen.is G.is names P.keeps) c.in-Ok.ensures.key c.in-Ok.ensures.canvas c.in-Ok.ensures.counts c.become_or_take.ensures.table
 
 pub returns-in-Ok-clause-counted : goal.returns-in-Ok-clause-counted
 returns-in-Ok-clause-counted g c = ap (λ (n : Counts). n.wires) c.in-Ok.ensures.counts
 
 pub returns-in-Ok-clause-within : goal.returns-in-Ok-clause-within
 returns-in-Ok-clause-within g c =
-    within_so c.args.counts c.in-Ok.retyped.counts c.in_ok-grown.grown.counts (wires_told c.become_grown.new.patch.web) (wires_told c.args.patch.now.web)
-    c.requires.within c.in_ok-grown.ensures.within c.requires.counted c.become_grown.ensures.fewer c.in-Ok.ensures.counts
+    within_so c.args.counts c.in-Ok.retyped.counts c.in_ok-grown.grown.counts (wires_told c.become_or_take.new.patch.web) (wires_told c.args.patch.now.web)
+    c.requires.within c.in_ok-grown.ensures.within c.requires.counted c.become_or_take.ensures.fewer c.in-Ok.ensures.counts
 
 pub returns-clause-refused : goal.returns-clause-refused
 returns-clause-refused g c =
     let G = c.in_ok-grown.ensures.grown in
     let P = c.in_ok-plan.ensures.planned in
     left_so c.args.patch.now c.args.counts c.counts_without-left.result c.args.site.name.now c.args.site.path.now c.args.number c.args.text.now (known c.args.library.now c.args.symbols.now)
-    c.in_ok-plan.plan P c.counts_without-left.ensures.less (g.H.Shelf.holds c.args.shelf.now) c.become_grown.new.patch G.added c.in-Err.why G.comes c.become_grown.ensures.goes_on
-    (c.in-Err.ensures.refused P.node G.added P.chosen.is G.is)
+    c.in_ok-plan.plan P c.counts_without-left.ensures.less (g.H.Shelf.holds c.args.shelf.now) c.become_or_take.new.patch G.added c.in-Err.why G.comes c.become_or_take.ensures.goes_on
+    (c.in-Err.ensures.refused c.args.symbols.now c.args.text.now P.node G.added P.chosen.is G.is P.keeps)
 
 pub returns-clause-cause : goal.returns-clause-cause
 returns-clause-cause g c = λ h.
     let G = c.in_ok-grown.ensures.grown in
     let P = c.in_ok-plan.ensures.planned in
-    absurd (no_fault c.args.patch.now c.become_grown.new.patch c.in_ok-plan.plan.key P.node G.added c.in-Err.why (c.in-Err.ensures.refused P.node G.added P.chosen.is G.is) (same_err c.in-Err.why ShelfFault h))
+    absurd (no_fault c.args.symbols.now c.args.text.now c.args.patch.now c.become_or_take.new.patch c.in_ok-plan.plan.key P.node G.added c.in-Err.why (c.in-Err.ensures.refused c.args.symbols.now c.args.text.now P.node G.added P.chosen.is G.is P.keeps) (same_err c.in-Err.why ShelfFault h))
 
 pub returns-clause-extends : goal.returns-clause-extends
 returns-clause-extends g c =
     let same = names_cut c.args.symbols.now c.grow_aside.new.symbols c.forget.new.symbols c.len-names.result c.grow_aside.ensures.extends c.len-names.ensures.value
-    (c.forget.ensures.names ∙ ap (λ (names : Names). take c.len-names.result names) c.become_grown.ensures.table) in
+    (c.forget.ensures.names ∙ ap (λ (names : Names). take c.len-names.result names) c.become_or_take.ensures.table) in
     subst (Extends c.args.symbols.now) (sym same) (extends_same c.args.symbols.now)
 
 pub returns-in_err-grown-clause-refused : goal.returns-in_err-grown-clause-refused
