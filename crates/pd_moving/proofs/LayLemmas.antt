@@ -15,6 +15,7 @@ use Rattle.pd_web.specs.Sockets.{ports_at}
 use Rattle.pd_web.specs.Lines.{IsRoute}
 use Rattle.pd_web.specs.Hops.{fan_keys, fan_hops, feed_hops, places_of, hop_to}
 use Rattle.pd_web.specs.Changes.{line_told, hop_at, HasRoom, KeepsPorts, Joins, Meet}
+use Rattle.pd_web.proofs.CountLemmas.{joined_is_one_more}
 use Rattle.pd_seek.specs.Places.{label_at, comes_later, IsPlace, AreInOrder}
 use Rattle.pd_moving.specs.Outlets.{is_at, is_elsewhere, from_others, keys_of, line_at, sinks_of, AreFedAsFanned, Lays}
 use Rattle.pd_moving.proofs.ListLemmas.{at_yes, at_no, insert_missed, insert_behind, filter_last, map_last}
@@ -108,6 +109,7 @@ module _ (w v : Web) (labels : List ℕ) (l : Line) (key place : ℕ) (is : IsPl
     as_fanned = λ n i order e. fanned_stays n i e;
     lines_stay = λ k m h. joins.other_lines k (λ same. none-some m (sym joins.was_vacant ∙ ap (line_told w) (sym same) ∙ h)) ∙ h;
     kept = joins.kept;
+    wires = joined_is_one_more w v key l (length (fan_keys w l.source l.outlet)) place joins;
     room = λ k p n r. joins.room k p n (record { boxes = r.boxes; homes = r.homes; ends = (let x = r.ends in omega (arith, x)); wires = (let x = r.wires in omega (arith, x)) });
     meet = joined_meet w v key l (length (fan_keys w l.source l.outlet)) place joins meet;
   }
@@ -121,6 +123,7 @@ none_laid w labels node outlet meet = record {
   as_fanned = λ n i order e. e;
   lines_stay = λ k l h. h;
   kept = record { ports = λ side k. refl; made = λ k. refl; homes = λ j. refl };
+  wires = omega arith;
   room = λ k p n r. record { boxes = r.boxes; homes = r.homes; ends = (let x = r.ends in omega (arith, x)); wires = (let x = r.wires in omega (arith, x)) };
   meet = meet;
 }
@@ -141,6 +144,7 @@ laid_more w v u labels node outlet lines l a b = record {
   as_fanned = λ n i order e. b.as_fanned n i (a.in_order n i order) (a.as_fanned n i order e);
   lines_stay = λ k m h. b.lines_stay k m (a.lines_stay k m h);
   kept = record { ports = λ side k. b.kept.ports side k ∙ a.kept.ports side k; made = λ k. b.kept.made k ∙ a.kept.made k; homes = λ j. b.kept.homes j ∙ a.kept.homes j };
+  wires = (let x = a.wires in let y = b.wires in let len = length-append lines (l ∷ []) in omega (arith, x, y, len));
   room = λ k p n r.
       let len = length-append lines (l ∷ []) in
       b.room k p n (a.room k (p + 2 * 1) (n + 1) (record { boxes = r.boxes; homes = r.homes; ends = (let x = r.ends in omega (arith, x, len)); wires = (let x = r.wires in omega (arith, x, len)) }));

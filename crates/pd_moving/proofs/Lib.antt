@@ -1,7 +1,7 @@
-mod ListLemmas
+pub mod ListLemmas
 pub mod MeetLemmas
-mod PlaceLemmas
-mod LiftLemmas
-mod LayLemmas
-mod OrderLemmas
-mod MoveLemmas
+pub mod PlaceLemmas
+pub mod LiftLemmas
+pub mod LayLemmas
+pub mod OrderLemmas
+pub mod MoveLemmas

@@ -1,5 +1,5 @@
 -- The wires of an outlet, taken out one after the other.
-use Rattle.std.proofs.Common.{◌≡◌, ◌≢◌, ℕ, suc, ◌+◌, ◌≤◌, Bool, true, false, not, List, [], ◌∷◌, ◌++◌, length, slice_get, Option, Some, None, refl, sym, ap, ◌∙◌, append_assoc, length-append, arith}
+use Rattle.std.proofs.Common.{◌≡◌, ◌≢◌, ℕ, suc, ◌+◌, ◌≤◌, Bool, true, false, not, is_some, List, [], ◌∷◌, ◌++◌, length, slice_get, Option, Some, None, refl, sym, ap, ◌∙◌, append_assoc, length-append, arith}
 use Rattle.std.proofs.lemmas.List.{length-map, append-nil}
 use Rattle.std.proofs.lemmas.Option.{none-some, same_Some}
 use Rattle.pd_web.specs.declared.lines.Line.{Line}
@@ -7,7 +7,8 @@ use Rattle.pd_web.specs.declared.web.Hop.{Hop}
 use Rattle.pd_web.specs.declared.web.Web.{Web}
 use Rattle.pd_web.specs.Hops.{fan_keys, fan_hops, feed_hops}
 use Rattle.pd_web.specs.Wiring.{sink_at}
-use Rattle.pd_web.specs.Changes.{line_by, line_told, hop_at, HasRoom, KeepsPorts, CutsWire, Meet}
+use Rattle.pd_web.specs.Changes.{line_by, line_told, wires_told, hop_at, HasRoom, KeepsPorts, CutsWire, Meet}
+use Rattle.pd_web.proofs.CountLemmas.{cut_is_one_less}
 use Rattle.pd_web.proofs.HopLemmas.{key_listed}
 use Rattle.pd_moving.specs.Outlets.{is_at, is_elsewhere, from_others, line_ahead, lines_ahead, Lifts}
 use Rattle.pd_moving.proofs.ListLemmas.{at_yes, at_told, all_stay, nothing_there, absent_stays, first_gone, others_cut, empty_list}
@@ -21,6 +22,7 @@ pub record Lifting (w v : Web) (node outlet : ℕ) (lines : List Line) (next : O
   pub others : (n i : ℕ) → from_others node outlet (feed_hops v n i) ≡ from_others node outlet (feed_hops w n i)
   pub other_lines : (k : ℕ) (l : Line) → line_told w k ≡ Some l → (l.source ≡ node → l.outlet ≢ outlet) → line_told v k ≡ Some l
   pub kept : KeepsPorts w v
+  pub wires : wires_told v + length lines ≡ wires_told w
   pub room : (k p n : ℕ) → HasRoom w k p n → HasRoom v k p (n + length lines)
   pub meet : Meet v
 
@@ -38,6 +40,7 @@ lifting_begun w node outlet next meet first = record {
   others = λ n i. refl;
   other_lines = λ k l h ne. h;
   kept = record { ports = λ side k. refl; made = λ k. refl; homes = λ j. refl };
+  wires = omega arith;
   room = λ k p n r. record { boxes = r.boxes; homes = r.homes; ends = r.ends; wires = (let x = r.wires in omega (arith, x)) };
   meet = meet;
 }
@@ -94,6 +97,11 @@ module _ (w v u : Web) (node outlet : ℕ) (lines : List Line) (hop : Hop) (at :
         let e = same_Some l (line_ahead node outlet hop) (sym (at.other_lines k l h ne) ∙ ap (line_told v) same ∙ along) in
         ne (ap (λ (x : Line). x.source) e) (ap (λ (x : Line). x.outlet) e)) ∙ at.other_lines k l h ne;
     kept = kept_on w v u at.kept cuts.kept;
+    wires =
+        let one = cut_is_one_less v u hop.key cuts (ap is_some along) in
+        let so = at.wires in
+        let len = ap length noted ∙ length-append lines (line_ahead node outlet hop ∷ []) in
+        omega (arith, one, so, len);
     room = λ k p n r.
         let x = cuts.room k p (n + length lines) (at.room k p n r) in
         let len = ap length noted ∙ length-append lines (line_ahead node outlet hop ∷ []) in
@@ -138,6 +146,7 @@ module _ (w v : Web) (node outlet : ℕ) (lines : List Line) (at : Lifting w v n
     feeds = λ n i. sym (all_stay (is_elsewhere node outlet) (feed_hops v n i) (none_left n i)) ∙ at.others n i;
     other_lines = at.other_lines;
     kept = at.kept;
+    wires = (let so = at.wires in let e = noted_count w v node outlet lines at.taken in let z = ap length fan_over in omega (arith, so, e, z));
     room = λ k p n r.
         let x = at.room k p n r in
         let e = noted_count w v node outlet lines at.taken in

@@ -11,7 +11,9 @@ use Rattle.pd_web.specs.Jacks.{jacks_at}
 use Rattle.pd_web.specs.Sockets.{made_at}
 use Rattle.pd_web.specs.Hops.{ports_told, fan_keys, fan_hops, feed_hops, places_of}
 use Rattle.pd_seek.specs.Places.{label_at, AreInOrder}
-use Rattle.pd_ports.specs.Moves.{Goes}
+use Rattle.pd_web.specs.Changes.{line_by, line_told, hop_at}
+use Rattle.pd_ports.specs.Moves.{Goes, FollowsPorts}
+use Rattle.pd_moving.specs.Outlets.{lines_ahead, Lifts, Lays}
 
 -- the feeds of every inlet are in order
 abbrev pub AreAllInOrder : List ℕ → Web → Type 0
@@ -44,3 +46,16 @@ pub record MovesOutlet (w w' : Web) (key : ℕ) (jacks : List Jack) : Type 0 whe
   pub fans : (i m : ℕ) → Goes (ports_told w Outlets key) jacks i m → places_of (fan_hops w' key m) ≡ places_of (fan_hops w key i)
   pub came : (m : ℕ) → ((i : ℕ) → Goes (ports_told w Outlets key) jacks i m → ⊥) → fan_hops w' key m ≡ []
   pub other_fans : (n o : ℕ) → n ≢ key → fan_hops w' n o ≡ fan_hops w n o
+
+-- The wires of an outlet are out at first; then the box has these outlets, and wires go with their ports; and then the wires of the one are in at the place
+-- that it has now.
+pub record MovesBySteps (w w' : Web) (labels : List ℕ) (key outlet : ℕ) (jacks : List Jack) : Type 0 where
+  pub lifted : Web
+  pub lifts : Lifts w lifted key outlet
+  pub fans : (n o i : ℕ) (h : Hop) → slice_get (fan_hops lifted n o) i ≡ Some h → line_told lifted h.key ≡ Some (line_by (hop_at h.key n o) h)
+  pub feeds : (n inlet i : ℕ) (h : Hop) → slice_get (feed_hops lifted n inlet) i ≡ Some h → line_told lifted h.key ≡ Some (line_by h (hop_at h.key n inlet))
+  pub followed : Web
+  pub follows : FollowsPorts lifted followed key Outlets jacks
+  pub place : ℕ
+  pub goes : Goes (ports_told w Outlets key) jacks outlet place
+  pub lays : Lays followed w' labels key place (lines_ahead key outlet (fan_hops w key outlet))

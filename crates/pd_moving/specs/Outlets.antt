@@ -4,7 +4,7 @@ use Rattle.pd_web.specs.declared.web.Hop.{Hop}
 use Rattle.pd_web.specs.declared.web.Web.{Web}
 use Rattle.pd_web.specs.declared.lines.Line.{Line}
 use Rattle.pd_web.specs.Hops.{fan_hops, feed_hops, places_of}
-use Rattle.pd_web.specs.Changes.{line_by, line_told, hop_at, HasRoom, KeepsPorts, Meet}
+use Rattle.pd_web.specs.Changes.{line_by, line_told, wires_told, hop_at, HasRoom, KeepsPorts, Meet}
 use Rattle.pd_seek.specs.Places.{AreInOrder}
 
 -- whether the port at the wire's other end is this one
@@ -43,6 +43,7 @@ pub record Lifts (w w' : Web) (node outlet : ℕ) : Type 0 where
   pub feeds : (n i : ℕ) → feed_hops w' n i ≡ from_others node outlet (feed_hops w n i)
   pub other_lines : (k : ℕ) (l : Line) → line_told w k ≡ Some l → (l.source ≡ node → l.outlet ≢ outlet) → line_told w' k ≡ Some l
   pub kept : KeepsPorts w w'
+  pub wires : wires_told w' + length (fan_hops w node outlet) ≡ wires_told w
   pub room : (k p n : ℕ) → HasRoom w k p n → HasRoom w' k p (n + length (fan_hops w node outlet))
   pub meet : Meet w'
 
@@ -60,5 +61,6 @@ pub record Lays (w w' : Web) (labels : List ℕ) (node outlet : ℕ) (lines : Li
   pub as_fanned : (n i : ℕ) → AreInOrder labels (feed_hops w n i) → AreFedAsFanned w node outlet n i → AreFedAsFanned w' node outlet n i
   pub lines_stay : (k : ℕ) (l : Line) → line_told w k ≡ Some l → line_told w' k ≡ Some l
   pub kept : KeepsPorts w w'
+  pub wires : wires_told w' ≡ wires_told w + length lines
   pub room : (k p n : ℕ) → HasRoom w k (p + 2 * length lines) (n + length lines) → HasRoom w' k p n
   pub meet : Meet w'

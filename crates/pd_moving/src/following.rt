@@ -1,12 +1,12 @@
 //! A side of a box follows the canvas that the box holds, and feeds stay in order.
 
-ghost use Rattle.std.specs.Prelude.{◌+◌, ℕ, List, IsSome, length};
+ghost use Rattle.std.specs.Prelude.{◌≡◌, ◌+◌, ℕ, List, IsSome, length};
 ghost use Rattle.slab.specs.Slab.{get};
 ghost use Rattle.pd_grove.specs.declared.ports.Side.TheVariants.{Inlets, Outlets};
 ghost use Rattle.pd_grove.specs.Owning.{AreOwn};
 ghost use Rattle.pd_grove.specs.Telling.{inner_in};
 ghost use Rattle.pd_web.specs.Jacks.{jacks_at};
-ghost use Rattle.pd_web.specs.Changes.{HasRoom, KeepsRoom, Meet};
+ghost use Rattle.pd_web.specs.Changes.{HasRoom, KeepsRoom, Meet, wires_told};
 ghost use Rattle.pd_ports.specs.Room.{HasLists};
 ghost use Rattle.pd_ports.specs.Moves.{FollowsPorts};
 ghost use Rattle.pd_ports.specs.Known.{AreBareWithout, AreFreeFor, KnowsHomes};
@@ -30,6 +30,7 @@ pub fn follow_inlets(web: &mut Web, grove: &Grove, key: u32, room: PortRoom)
     ensures order { (labels : List ℕ) → AreAllInOrder labels web.old → AreAllInOrder labels web.new }
     ensures known { KnowsHomes web.new }
     ensures meet { Meet web.new }
+    ensures as_many { wires_told web.new ≡ wires_told web.old }
     ensures room { KeepsRoom web.old web.new }
 {
     web.laws();
@@ -52,6 +53,7 @@ pub fn follow_outlets(web: &mut Web, grove: &Grove, key: u32, room: PortRoom)
         AreAllInOrder labels web.old → AreAllInOrder labels web.new }
     ensures known { KnowsHomes web.new }
     ensures meet { Meet web.new }
+    ensures as_many { wires_told web.new ≡ wires_told web.old }
     ensures room { KeepsRoom web.old web.new }
 {
     web.laws();

@@ -7,10 +7,10 @@ ghost use Rattle.pd_grove.specs.Owning.{AreOwn};
 ghost use Rattle.pd_grove.specs.Telling.{inner_in};
 ghost use Rattle.pd_web.specs.Jacks.{jacks_at};
 ghost use Rattle.pd_web.specs.Hops.{fan_hops, port_told};
-ghost use Rattle.pd_web.specs.Changes.{HasRoom, Meet};
+ghost use Rattle.pd_web.specs.Changes.{HasRoom, Meet, wires_told};
 ghost use Rattle.pd_ports.specs.Room.{HasLists};
 ghost use Rattle.pd_ports.specs.Known.{AreBareWithout, AreFreeFor, KnowsHomes};
-ghost use Rattle.pd_moving.specs.Orders.{AreAllInOrder, HasOwnLabel, IsOutletThen, KeepTheirOrderBut, MovesOutlet};
+ghost use Rattle.pd_moving.specs.Orders.{AreAllInOrder, HasOwnLabel, IsOutletThen, KeepTheirOrderBut, MovesBySteps, MovesOutlet};
 
 use crate::following::follow_outlets;
 use crate::laying::lay_lines;
@@ -46,10 +46,12 @@ pub fn move_outlet(
     requires fits { length (fan_hops web.old key outlet) ≤ vec_capacity lines }
     requires ends { HasRoom web.old 0 (2 * length (fan_hops web.old key outlet)) 0 }
     ensures moves { MovesOutlet web.old web.new key (jacks_at Outlets grove.now key) }
+    ensures steps { MovesBySteps web.old web.new labels.now key outlet (jacks_at Outlets grove.now key) }
     ensures order { KeepTheirOrderBut web.old key outlet (jacks_at Outlets grove.now key) → HasOwnLabel labels.now web.old key →
         AreAllInOrder labels.now web.old → AreAllInOrder labels.now web.new }
     ensures known { KnowsHomes web.new }
     ensures meet { Meet web.new }
+    ensures as_many { wires_told web.new ≡ wires_told web.old }
 {
     let mut lines = lines;
     lift_outlet(web, key, outlet, &mut lines);

@@ -1,12 +1,12 @@
-use Rattle.std.proofs.Common.{◌+◌, ◌*◌, List, length, slice_get, sym, ap, ◌∙◌, arith}
+use Rattle.std.proofs.Common.{◌+◌, ◌*◌, List, length, slice_get, sym, ap, ◌∙◌, subst, arith}
 use Rattle.std.proofs.lemmas.List.{length-map}
 use Rattle.pd_grove.specs.declared.ports.Side.TheVariants.{Outlets}
 use Rattle.pd_web.specs.declared.lines.Line.{Line}
 use Rattle.pd_web.specs.Jacks.{jacks_at}
 use Rattle.pd_web.specs.Hops.{fan_hops}
 use Rattle.pd_ports.proofs.OnceLemmas.{jacks_once}
-use Rattle.pd_moving.specs.Outlets.{line_ahead}
-use Rattle.pd_moving.proofs.MoveLemmas.{kept_known, lifted_free, lifted_bare, lifted_keep, lifted_label, lifted_order, known_some, routes, moved}
+use Rattle.pd_moving.specs.Outlets.{line_ahead, Lays}
+use Rattle.pd_moving.proofs.MoveLemmas.{kept_known, lifted_free, lifted_bare, lifted_keep, lifted_label, lifted_order, known_some, routes, goes_there, moved}
 use Rattle.pd_moving.proofs.moving.move_outlet.Goals as goal
 
 pub follow_outlets-requires-clause-near : goal.follow_outlets-requires-clause-near
@@ -71,3 +71,27 @@ returns-clause-known c = kept_known c.follow_outlets.new.web c.lay_lines.new.web
 
 pub returns-clause-meet : goal.returns-clause-meet
 returns-clause-meet c = c.lay_lines.ensures.meet
+
+pub returns-clause-steps : goal.returns-clause-steps
+returns-clause-steps c =
+    let told = c.as_slice-noted.ensures.value ∙ c.lift_outlet.ensures.lines in
+    record {
+      lifted = c.lift_outlet.new.web;
+      lifts = c.lift_outlet.ensures.lifts;
+      fans = c.laws.ensures.fans;
+      feeds = c.laws.ensures.feeds;
+      followed = c.follow_outlets.new.web;
+      follows = c.follow_outlets.ensures.follows;
+      place = c.port_number-place.result;
+      goes = goes_there c.args.web.now c.lift_outlet.new.web c.follow_outlets.new.web c.args.key c.args.outlet c.args.port c.port_number-place.result (jacks_at Outlets c.args.grove.now c.args.key)
+          c.lift_outlet.ensures.lifts c.follow_outlets.ensures.follows c.requires.known c.follow_outlets.ensures.known c.requires.free c.requires.was c.requires.is c.port_number-place.ensures;
+      lays = subst (λ (ls : List Line). Lays c.follow_outlets.new.web c.lay_lines.new.web c.args.labels.now c.args.key c.port_number-place.result ls) told c.lay_lines.ensures;
+    }
+
+pub returns-clause-as_many : goal.returns-clause-as_many
+returns-clause-as_many c =
+    let out = c.lift_outlet.ensures.lifts.wires in
+    let same = c.follow_outlets.ensures.as_many in
+    let in_again = c.lay_lines.ensures.wires in
+    let told = ap length (c.as_slice-noted.ensures.value ∙ c.lift_outlet.ensures.lines) ∙ length-map (fan_hops c.args.web.now c.args.key c.args.outlet) (line_ahead c.args.key c.args.outlet) in
+    omega (arith, out, same, in_again, told)
