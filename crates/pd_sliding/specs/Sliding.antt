@@ -1,8 +1,9 @@
 -- A port box that moves in the canvas of a box.
-use Rattle.std.specs.Prelude.{◌≡◌, ℕ, ℤ, List, slice_get, Some, None}
+use Rattle.std.specs.Prelude.{◌≡◌, ℕ, ℤ, List, slice_get, Some}
 use Rattle.slab.specs.Slab.{get}
 use Rattle.pd_grove.specs.declared.nodes.Node.{Node}
 use Rattle.pd_grove.specs.declared.ports.Side.{Side}
+use Rattle.pd_grove.specs.declared.ports.Side.TheVariants.{Outlets}
 use Rattle.pd_grove.specs.Refits.{at_place, Alters}
 use Rattle.pd_web.specs.declared.web.Hop.{Hop}
 use Rattle.pd_web.specs.declared.web.Web.{Web}
@@ -12,18 +13,18 @@ use Rattle.pd_web.specs.Jacks.{jacks_at}
 use Rattle.pd_seek.specs.Places.{label_at, AreInOrder}
 use Rattle.pd_ports.specs.Known.{KnowsHomes}
 use Rattle.pd_patch.specs.declared.patch.Patch.{Patch}
+use Rattle.pd_patch.specs.Values.{block_count}
 use Rattle.pd_boxes.specs.declared.room.Place.{Place}
 use Rattle.pd_boxes.specs.Put.{CanPut}
 use Rattle.pd_following.specs.Ports.{IsPortAt}
 use Rattle.pd_sliding.specs.Slides.{inlet_slid, Slides}
 
--- Under the key stands a box without a canvas inside, which is this port of the box around.
+-- Under the key stands a box which is this port of the box around.
 pub record CanSlide (p : Patch) (key holder : ℕ) (side : Side) (from : ℕ) : Type 0 where
   pub can : CanPut p
   pub meet : Meet p.web
   pub node : Node
   pub stands : get p.grove.nodes key ≡ Some node
-  pub leaf : node.inner ≡ None
   pub place : Place
   pub canvas : place.canvas ≡ node.board
   pub at : IsPortAt p.grove place node.kind holder side
@@ -51,7 +52,7 @@ HaveOwnLabel labels feeds key = (i : ℕ) (h : Hop) → slice_get feeds i ≡ So
 
 -- The port box stands at another place of its canvas's window. The box around has the ports that this canvas has now: the port that was the first
 -- of two numbers is the second, and those between have made way, with their wires. Feeds that were in order by the numbers of their boxes are. All
--- else of the patch stays.
+-- else of the patch stays, and each box asks for as many blocks as it did.
 pub record IsSlid (p q : Patch) (key holder : ℕ) (side : Side) (x y : ℤ) (from to : ℕ) : Type 0 where
   pub box : Alters p.grove q.grove key (at_place x y)
   pub slides : Slides p.web q.web holder side from to
@@ -63,5 +64,6 @@ pub record IsSlid (p q : Patch) (key holder : ℕ) (side : Side) (x y : ℤ) (fr
   pub meet : Meet q.web
   pub fed : AreFedOnce q.web
   pub wires : wires_told q.web ≡ wires_told p.web
+  pub blocks : (k : ℕ) → block_count (ports_told q.web Outlets k) ≡ block_count (ports_told p.web Outlets k)
   pub rest : StaysButPorts p q
   pub can : CanPut q
