@@ -24,8 +24,10 @@ use Rattle.pd_bind.specs.Naming.{Owned, owned_by, owned_by_kind}
 use Rattle.pd_bind.specs.Owning.{is_owned, owned_at, boxes_owning, root_owning, owners_in}
 use Rattle.pd_patch.specs.declared.patch.Patch.{Patch}
 use Rattle.pd_boxes.specs.Put.{HasOwners}
+use Rattle.pd_shifting.specs.declared.shifting.MovedBox.{MovedBox}
 use Rattle.pd_shifting.specs.Moves.{MovesBox}
 use Rattle.pd_shifted_law.specs.Shifts.{cell_at}
+use Rattle.pd_shifted_law.proofs.EitherLemmas.{box_alters, rest_stays}
 
 spots_placed : (boards : ℕ → Option Board) (inside : Bool → List ℕ → List Spot) (top : Bool) (k : ℕ) (x y : ℤ) (o : Option Node)
     → box_spots boards inside top k (option_map (at_place x y) o) ≡ box_spots boards inside top k o
@@ -95,7 +97,8 @@ module _ (g h : Grove) (key : ℕ) (x y : ℤ) (A : Alters g h key (at_place x y
       ap (λ (l : List Spot). root_owning names file class name ++ boxes_owning names (get h.nodes) class name l) order_same
       ∙ ap (λ (l : List ℕ). root_owning names file class name ++ l) (owning_same names class name (spots_in_order g))
 
-pub owners_stay : (p q : Patch) (path : List ℕ) (number : ℕ) (x y : ℤ) (key : ℕ) (table : Names) (file : List ℕ) → MovesBox p q path number x y key
+pub owners_stay : (p q : Patch) (path : List ℕ) (number : ℕ) (x y : ℤ) (b : MovedBox) (table : Names) (file : List ℕ) → MovesBox p q path number x y b
     → HasOwners p table file → HasOwners q table file
-owners_stay p q path number x y key table file M H class name =
-    ap (λ r. owners_of r class name) M.rest.names ∙ H class name ∙ sym (owners_same p.grove q.grove key x y M.box table file class name)
+owners_stay p q path number x y b table file M H class name =
+    ap (λ r. owners_of r class name) (rest_stays p q b.canvas b.key x y M.shifts).names ∙ H class name
+    ∙ sym (owners_same p.grove q.grove b.key x y (box_alters p q b.canvas b.key x y M.shifts) table file class name)

@@ -1,130 +1,105 @@
 -- A box at another place, and the document of the patch.
-use Rattle.std.proofs.Common.{◌≡◌, ◌≢◌, ℕ, zero, suc, ℤ, ◌+◌, ◌<◌, ◌≤◌, List, [], ◌∷◌, length, slice_get, Option, Some, None, IsSome, refl, sym, ap, ◌∙◌, subst, arith}
-use Rattle.std.specs.Prelude.{◌-◌, option_map}
+use Rattle.std.proofs.Common.{◌≡◌, ℕ, ℤ, ◌==◌, Bool, true, false, cond, List, slice_get, Some, inl, inr, eqb-true, refl, sym, ap, ◌∙◌}
 use Rattle.std.proofs.lemmas.Option.{same_Some}
-use Rattle.slab.specs.Slab.{Slab, get}
-use Rattle.pd_canvas.specs.Pages.{Page, listed, with_elements}
-use Rattle.pd_canvas.specs.Paths.{at_place, change_box, inside, edit_at}
+use Rattle.slab.specs.Slab.{get}
+use Rattle.pd_canvas.specs.Pages.{Page}
+use Rattle.pd_canvas.specs.Paths.{change_box, edit_at}
 use Rattle.pd_canvas.specs.Edits.{moved}
-use Rattle.pd_grove.specs.declared.boards.Board.{Board}
-use Rattle.pd_grove.specs.declared.nodes.Node.{Node}
 use Rattle.pd_grove.specs.declared.grove.Grove.{Grove}
+use Rattle.pd_grove.specs.Forest.{holder_in}
 use Rattle.pd_grove.specs.OwnPaths.{sub_reached}
 use Rattle.pd_grove.specs.Owning.{board_in}
-use Rattle.pd_grove.specs.Refits.{at_place as standing_at, Alters}
-use Rattle.pd_grove.specs.Standing.{depth_of}
-use Rattle.pd_grove.specs.Telling.{inner_in}
 use Rattle.pd_web.specs.declared.web.Web.{Web}
 use Rattle.pd_web.specs.Canvases.{keys_at}
-use Rattle.pd_present.specs.Presents.{entry_at, page_within, present_page}
-use Rattle.pd_present.proofs.PresentLemmas.{within_none, within_suc}
+use Rattle.pd_web.specs.Hops.{places_of}
+use Rattle.pd_present.specs.Presents.{present_page}
 use Rattle.pd_patch.specs.declared.patch.Patch.{Patch}
 use Rattle.pd_patch.specs.Document.{present_document}
 use Rattle.pd_boxes.specs.Put.{CanPut}
-use Rattle.pd_putting_law.proofs.ListLemmas.{map_same, map_changed}
-use Rattle.pd_putting_law.proofs.PathLemmas.{Forest, subs, sub_leads, live_box, deep_as, LeadsNot, not_same, not_inside, not_below, not_around, not_beside}
-use Rattle.pd_putting_law.proofs.PageLemmas.{entry_same, sub_entry, page_same, page_changed}
-use Rattle.pd_shifting.specs.Moves.{MovesBox}
+use Rattle.pd_wiring.specs.Changes.{SameButRoom}
+use Rattle.pd_following_law.specs.Raised.{StandsAt}
+use Rattle.pd_sliding_law.specs.Slid.{with_slid}
+use Rattle.pd_sliding_law.proofs.PageLemmas.{page_after}
+use Rattle.pd_sliding_law.proofs.WireLemmas.{places_stay}
+use Rattle.pd_sliding_law.proofs.DocumentLemmas.{kept_document, moved_document, wires_document, within_same}
+use Rattle.pd_shifting.specs.declared.shifting.MovedBox.{MovedBox}
+use Rattle.pd_shifting.specs.Moves.{Shifts, ShiftsBox, ShiftsPort, MovesBox}
 use Rattle.pd_shifting.proofs.MoveLemmas.{is_moving}
+use Rattle.pd_shifted_law.specs.Ports.{edit_around, with_ports_moved}
+use Rattle.pd_shifted_law.proofs.EitherLemmas.{box_alters}
+use Rattle.pd_shifted_law.proofs.PathLemmas.{keys_same, sub_from_root}
+use Rattle.pd_shifted_law.proofs.AroundLemmas.{around_is, edit_around_is, IsAround}
 
-entry_moved : (x y : ℤ) (in1 : ℕ → Page) (o : Option Node) → IsSome o → entry_at in1 (option_map (standing_at x y) o) ≡ moved x y (entry_at in1 o)
-entry_moved x y in1 None live = cc
-entry_moved x y in1 (Some n) live = refl
+-- where there is more room the document is the same
+room_document : (p q : Patch) → SameButRoom p q → CanPut p → present_page q.grove q.web q.numbers.items ≡ present_document p
+room_document p q R C =
+    ap (λ (g : Grove). present_page g q.web q.numbers.items) R.grove ∙ ap (λ ns. present_page p.grove q.web ns.items) R.numbers
+    ∙ within_same p.grove p.web q.web p.numbers.items
+    (λ c. places_stay p.web q.web p.numbers.items (keys_at p.grove c) (C.runs.numbers c) (λ k o a. ap places_of (R.web.fans k o))) 257 p.grove.root
 
-module _ (g : Grove) (canvas key number : ℕ) (F : Forest g) (is : slice_get (keys_at g canvas) number ≡ Some key) where
-  -- a box of another canvas is another box, and so is one of another number
-  pub elsewhere : (c i k : ℕ) → c ≢ canvas → slice_get (keys_at g c) i ≡ Some k → k ≢ key
-  elsewhere c i k apart at same =
-      apart (same_Some c canvas (sym (F.own.home c i k at) ∙ ap (λ z. board_in (get g.nodes z)) same ∙ F.own.home canvas number key is))
+module _ (p q : Patch) (path : List ℕ) (canvas key number : ℕ) (x y : ℤ) (C : CanPut p) (leads : sub_reached p.grove (Some p.grove.root) path ≡ Some canvas)
+    (is : slice_get (keys_at p.grove canvas) number ≡ Some key) where
+  plain_document : Shifts p q canvas key x y → present_document q ≡ edit_at path (change_box number (moved x y)) (present_document p)
+  plain_document s =
+      ap (λ (w : Web). present_page q.grove w q.numbers.items) s.rest.web ∙ ap (λ v. present_page q.grove p.web v.items) s.rest.numbers
+      ∙ page_after p.grove q.grove canvas key number x y path p.web p.numbers.items C.forest is s.box leads
 
-  pub beside : (i k : ℕ) → i ≢ number → slice_get (keys_at g canvas) i ≡ Some k → k ≢ key
-  beside i k apart at same = apart (F.own.once canvas i number k at (is ∙ ap (λ z. Some z) (sym same)))
+  module _ (s : ShiftsPort p q canvas key x y) where
+    abbrev ready : Patch
+    ready = s.ready
 
-module _ (g h : Grove) (canvas key number : ℕ) (x y : ℤ) (F : Forest g) (is : slice_get (keys_at g canvas) number ≡ Some key) (A : Alters g h key (standing_at x y))
-    (w : Web) (numbers : List ℕ) where
-  abbrev old : ℕ → ℕ → Page
-  old n c = page_within w numbers (get g.nodes) (get g.boards) n c
+    -- the canvas of the port box is that in the box around
+    lies : s.could.place.canvas ≡ canvas
+    lies =
+        s.could.canvas
+        ∙ same_Some s.could.node.board canvas (sym (ap board_in s.could.stands) ∙ ap (λ (g : Grove). board_in (get g.nodes key)) s.room.grove ∙ C.forest.own.home canvas number key is)
 
-  abbrev new : ℕ → ℕ → Page
-  new n c = page_within w numbers (get h.nodes) (get g.boards) n c
+    held : holder_in (get p.grove.boards canvas) ≡ Some s.holder
+    held = ap (λ (g : Grove). holder_in (get g.boards canvas)) (sym s.room.grove) ∙ ap (λ c. holder_in (get ready.grove.boards c)) (sym lies) ∙ s.could.at.held
 
-  box_aside : (n k : ℕ) → k ≢ key → ((j : ℕ) → inner_in (get g.nodes k) ≡ Some j → new n j ≡ old n j) → entry_at (new n) (get h.nodes k) ≡ entry_at (old n) (get g.nodes k)
-  box_aside n k d inner = ap (entry_at (new n)) (A.others k d) ∙ entry_same (old n) (new n) (get g.nodes k) inner
+    pub port_around : IsAround p.grove path s.holder
+    port_around = around_is p.grove C.forest path canvas s.holder leads held
 
-  page_aside : (n c : ℕ) → LeadsNot g canvas c → new n c ≡ old n c
-  page_aside zero c a = within_none w numbers (get h.nodes) (get g.boards) c ∙ sym (within_none w numbers (get g.nodes) (get g.boards) c)
-  page_aside (suc n) c a =
-      within_suc w numbers (get h.nodes) (get g.boards) n c
-      ∙ page_same w w numbers numbers (get g.nodes) (get h.nodes) (old n) (new n) (get g.boards c)
-      (map_same (λ k. entry_at (old n) (get g.nodes k)) (λ k. entry_at (new n) (get h.nodes k)) (keys_at g c) (λ i k at.
-      box_aside n k (elsewhere g canvas key number F is c i k (not_same g canvas c a) at) (λ j holds. page_aside n j (not_inside g canvas c i k j a at holds))))
-      refl
-      ∙ sym (within_suc w numbers (get g.nodes) (get g.boards) n c)
+    pub port_stands : StandsAt q.grove port_around.way port_around.number s.holder
+    port_stands =
+        let A = box_alters p q canvas key x y (inr s) in
+        let r = port_around in
+        record {
+          canvas = r.stands.canvas;
+          leads = sym (sub_from_root p.grove q.grove key x y A r.way) ∙ r.stands.leads;
+          at = ap (λ (ks : List ℕ). slice_get ks r.number) (keys_same p.grove q.grove key x y A r.stands.canvas) ∙ r.stands.at;
+        }
 
-  box_here : (n : ℕ) → entry_at (new n) (get h.nodes key) ≡ moved x y (entry_at (old n) (get g.nodes key))
-  box_here n =
-      ap (entry_at (new n)) A.box ∙ entry_moved x y (new n) (get g.nodes key) (live_box g F canvas number key is)
-      ∙ ap (moved x y) (entry_same (old n) (new n) (get g.nodes key) (λ j holds. page_aside n j (not_below g F canvas number key j is holds)))
+    moved_there : present_page q.grove ready.web ready.numbers.items ≡ edit_at path (change_box number (moved x y)) (present_document p)
+    moved_there =
+        moved_document ready q key s.holder s.side x y s.from s.to s.could s.slid path canvas number
+        (ap (λ (g : Grove). sub_reached g (Some g.root) path) s.room.grove ∙ leads) (ap (λ (g : Grove). slice_get (keys_at g canvas) number) s.room.grove ∙ is)
+        ∙ ap (λ (z : Page). edit_at path (change_box number (moved x y)) z) (room_document p ready s.room C)
 
-  page_here : (n : ℕ) → new (suc n) canvas ≡ change_box number (moved x y) (old (suc n) canvas)
-  page_here n =
-      within_suc w numbers (get h.nodes) (get g.boards) n canvas
-      ∙ page_changed w w numbers numbers (get g.nodes) (get h.nodes) (old n) (new n) (moved x y) number key (get g.boards canvas) is
-      (map_changed (λ k. entry_at (old n) (get g.nodes k)) (λ k. entry_at (new n) (get h.nodes k)) (moved x y) number (keys_at g canvas)
-      (λ k at. subst (λ z. entry_at (new n) (get h.nodes z) ≡ moved x y (entry_at (old n) (get g.nodes z))) (same_Some key k (sym is ∙ at)) (box_here n))
-      (λ i k away at. box_aside n k (beside g canvas key number F is i k away at) (λ j holds. page_aside n j (not_below g F canvas i k j at holds))))
-      refl
-      ∙ sym (ap (change_box number (moved x y)) (within_suc w numbers (get g.nodes) (get g.boards) n canvas))
+    abbrev follow : ℕ → Page → Page
+    follow n = with_slid s.side n s.from s.to
 
-  pub page_moved : (m n c : ℕ) (path : List ℕ) → sub_reached g (Some c) path ≡ Some canvas → n ≡ length path + suc m
-      → new n c ≡ edit_at path (change_box number (moved x y)) (old n c)
-  page_moved m zero c path on low = absurd (nothing (length path) m low)
-    where
-      nothing : (n m : ℕ) → 0 ≡ n + suc m → ⊥
-      nothing n m l = omega (arith, l)
-  page_moved m (suc n) c [] on low =
-      let here : c ≡ canvas = same_Some c canvas on in
-      ap (new (suc n)) here ∙ page_here n ∙ ap (λ z. change_box number (moved x y) (old (suc n) z)) (sym here)
-  page_moved m (suc n) c (i ∷ path) on low =
-      let s = subs g c i path canvas on in
-      let way = sub_leads g c canvas (i ∷ path) on in
-      let apart : c ≢ canvas = not_around g F c i path canvas way in
-      let change : Page → Page = edit_at path (change_box number (moved x y)) in
-      within_suc w numbers (get h.nodes) (get g.boards) n c
-      ∙ page_changed w w numbers numbers (get g.nodes) (get h.nodes) (old n) (new n) (inside change) i s.key (get g.boards c) s.is
-      (map_changed (λ k. entry_at (old n) (get g.nodes k)) (λ k. entry_at (new n) (get h.nodes k)) (inside change) i (keys_at g c)
-      (λ k at. subst (λ z. entry_at (new n) (get h.nodes z) ≡ inside change (entry_at (old n) (get g.nodes z))) (same_Some s.key k (sym s.is ∙ at))
-      (ap (entry_at (new n)) (A.others s.key (elsewhere g canvas key number F is c i s.key apart s.is))
-      ∙ sub_entry (old n) (new n) (get g.nodes s.key) s.inner change s.sub (page_moved m n s.inner path s.on (fewer n (length path) m low))))
-      (λ i2 k away at. box_aside n k (elsewhere g canvas key number F is c i2 k apart at) (λ j inner. page_aside n j (not_beside g F c i path canvas i2 k j way away at inner))))
-      refl
-      ∙ sym (ap (λ (p : Page). with_elements (at_place i (inside change) (listed p.boxes)) p) (within_suc w numbers (get g.nodes) (get g.boards) n c))
-    where
-      fewer : (n l m : ℕ) → suc n ≡ suc l + suc m → n ≡ l + suc m
-      fewer n l m h = omega (arith, h)
+    port_document : (b : Bool) → (s.from == s.to) ≡ b
+        → present_document q ≡ cond (s.from == s.to) (edit_at path (change_box number (moved x y)) (present_document p))
+        (edit_around path follow (edit_at path (change_box number (moved x y)) (present_document p)))
+    port_document true e =
+        let page = edit_at path (change_box number (moved x y)) (present_document p) in
+        kept_document ready q key s.holder s.side x y s.from s.to s.slid (eqb-true s.from s.to e) ∙ moved_there
+        ∙ sym (ap (λ (t : Bool). cond t page (edit_around path follow page)) e)
+    port_document false e =
+        let page = edit_at path (change_box number (moved x y)) (present_document p) in
+        let r = port_around in
+        wires_document ready q key s.holder s.side x y s.from s.to s.could s.slid r.way r.number port_stands
+        ∙ ap (λ (z : Page). edit_at r.way (follow r.number) z) moved_there
+        ∙ sym (ap (λ (t : Bool). cond t page (edit_around path follow page)) e ∙ ap (λ (l : List ℕ). edit_around l follow page) r.whole ∙ edit_around_is r.way r.number follow page)
 
--- ---- the document
-
-page_after : (g h : Grove) (canvas key number : ℕ) (x y : ℤ) (path : List ℕ) (w : Web) (numbers : List ℕ) → Forest g → slice_get (keys_at g canvas) number ≡ Some key
-    → Alters g h key (standing_at x y) → sub_reached g (Some g.root) path ≡ Some canvas
-    → present_page h w numbers ≡ edit_at path (change_box number (moved x y)) (present_page g w numbers)
-page_after g h canvas key number x y path w numbers F is A on =
-    let deep = deep_as g F path g.root canvas (sub_leads g g.root canvas path on) in
-    let low : length path ≤ 256 = shallow (depth_of (get g.boards canvas)) (depth_of (get g.boards g.root)) (length path) deep F.rooted.2 (F.shallow canvas) in
-    ap (λ (s : Slab Board). page_within w numbers (get h.nodes) (get s) 257 h.root) A.boards
-    ∙ ap (page_within w numbers (get h.nodes) (get g.boards) 257) A.root
-    ∙ page_moved g h canvas key number x y F is A w numbers (256 - length path) 257 g.root path on (whole (length path) low)
+pub document_moved : (p q : Patch) (path : List ℕ) (number : ℕ) (x y : ℤ) (b : MovedBox) → (M : MovesBox p q path number x y b) → CanPut p
+    → present_document q ≡ with_ports_moved p q b.canvas b.key x y M.shifts path (edit_at path (change_box number (moved x y)) (present_document p))
+document_moved p q path number x y b M C =
+    let at = is_moving p.grove number (sub_reached p.grove (Some p.grove.root) path) b.canvas b.key M.is in
+    by at.leads at.is M.shifts
   where
-    shallow : (d r l : ℕ) → d ≡ r + l → r ≡ 0 → d < 257 → l ≤ 256
-    shallow d r l a b c = omega (arith, a, b, c)
-
-    whole : (l : ℕ) → l ≤ 256 → 257 ≡ l + suc (256 - l)
-    whole l h = omega (arith, h)
-
-pub document_moved : (p q : Patch) (path : List ℕ) (number : ℕ) (x y : ℤ) (key : ℕ) → MovesBox p q path number x y key → CanPut p
-    → present_document q ≡ edit_at path (change_box number (moved x y)) (present_document p)
-document_moved p q path number x y key M C =
-    let g = p.grove in
-    let at = is_moving g number (sub_reached g (Some g.root) path) M.canvas key M.is in
-    ap (λ (w : Web). present_page q.grove w q.numbers.items) M.rest.web ∙ ap (λ v. present_page q.grove p.web v.items) M.rest.numbers
-    ∙ page_after g q.grove M.canvas key number x y path p.web p.numbers.items C.forest at.is M.box at.leads
+    by : sub_reached p.grove (Some p.grove.root) path ≡ Some b.canvas → slice_get (keys_at p.grove b.canvas) number ≡ Some b.key → (s : ShiftsBox p q b.canvas b.key x y)
+        → present_document q ≡ with_ports_moved p q b.canvas b.key x y s path (edit_at path (change_box number (moved x y)) (present_document p))
+    by leads is (inl s) = plain_document p q path b.canvas b.key number x y C leads is s
+    by leads is (inr s) = port_document p q path b.canvas b.key number x y C leads is s (s.from == s.to) refl

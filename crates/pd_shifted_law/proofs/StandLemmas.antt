@@ -11,7 +11,6 @@ use Rattle.pd_tree.specs.Trees.{Trees, Done, Leaf, Holder, Tree}
 use Rattle.pd_grove.specs.declared.nodes.Node.{Node}
 use Rattle.pd_grove.specs.declared.boards.Board.{Board}
 use Rattle.pd_grove.specs.declared.grove.Grove.{Grove}
-use Rattle.pd_grove.specs.Forest.{holder_in}
 use Rattle.pd_grove.specs.OwnPaths.{sub_reached}
 use Rattle.pd_grove.specs.Refits.{at_place, Alters}
 use Rattle.pd_grove.specs.Standing.{NodeSeen, node_seen, BoardSeen, board_seen, Stands, GroveStands}
@@ -29,10 +28,12 @@ use Rattle.pd_reload_law.proofs.EditLemmas.{sub_inner}
 use Rattle.pd_putting_law.specs.Puts.{change_inside, change_at}
 use Rattle.pd_putting_law.proofs.PathLemmas.{Forest, subs, sub_leads, LeadsNot, not_same, not_around}
 use Rattle.pd_putting_law.proofs.StandLemmas.{seen_inner, CanvasAt, keys_are, AreAside, AreBeside, aside_next, beside_first, beside_next, beside_here, aside_inside, aside_here, beside_on, deep_within}
+use Rattle.pd_shifting.specs.declared.shifting.MovedBox.{MovedBox}
 use Rattle.pd_shifting.specs.Moves.{MovesBox}
-use Rattle.pd_shifting.proofs.MoveLemmas.{forest_as, is_moving, no_spot}
+use Rattle.pd_shifting.proofs.MoveLemmas.{is_moving}
 use Rattle.pd_shifted_law.specs.Shifts.{cell_at, boxes_shifted, shifted_box, shifted_at}
-use Rattle.pd_shifted_law.proofs.PageLemmas.{elsewhere, beside}
+use Rattle.pd_sliding_law.proofs.PageLemmas.{elsewhere, beside}
+use Rattle.pd_shifted_law.proofs.EitherLemmas.{box_alters, forest_then}
 
 seen_moved : (x y : ℤ) (o : Option Node) (z : NodeSeen) → option_map node_seen o ≡ Some z
     → option_map node_seen (option_map (at_place x y) o) ≡ Some (record { board = z.board; cell = cell_at x y z.cell; inner = z.inner })
@@ -230,19 +231,20 @@ still_savable g h key x y A S = record {
       ap (λ (z : Option State). present_head z head) L.states ∙ S.canvases k L.node head L.was (sym L.kinds ∙ c);
 }
 
-pub runs_shifted : (p q : Patch) (path : List ℕ) (number : ℕ) (x y : ℤ) (key : ℕ) (t : Tree) → MovesBox p q path number x y key → CanPut p → RunsAs p.grove t
+pub runs_shifted : (p q : Patch) (path : List ℕ) (number : ℕ) (x y : ℤ) (b : MovedBox) (t : Tree) → MovesBox p q path number x y b → CanPut p → RunsAs p.grove t
     → RunsAs q.grove (shifted_at path number x y t)
-runs_shifted p q path number x y key t M C R =
+runs_shifted p q path number x y b t M C R =
     let g = p.grove in
     let h = q.grove in
     let u = shifted_at path number x y t in
-    let at = is_moving g number (sub_reached g (Some g.root) path) M.canvas key M.is in
-    let G = grove_shifted g h M.canvas key number x y C.forest at.is M.box path t at.leads R.stands in
-    let H = forest_as g h M.canvas key number x y C.forest at.is (no_spot (holder_in (get g.boards M.canvas)) (get g.nodes key) at.no_port) M.box in
+    let at = is_moving g number (sub_reached g (Some g.root) path) b.canvas b.key M.is in
+    let A = box_alters p q b.canvas b.key x y M.shifts in
+    let G = grove_shifted g h b.canvas b.key number x y C.forest at.is A path t at.leads R.stands in
+    let H = forest_then p q b.canvas b.key x y C.forest number at.is M.shifts in
     record {
       stands = G;
       shallow = plain (deep u.boxes) (deep_within (get h.nodes) (get h.boards) h.root 0 G.keys u.boxes H.shallow G.stands (omega arith));
-      savable = still_savable g h key x y M.box R.savable;
+      savable = still_savable g h b.key x y A R.savable;
     }
   where
     plain : (n : ℕ) → n + 0 ≤ 256 → n ≤ 256

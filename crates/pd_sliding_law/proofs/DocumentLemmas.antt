@@ -8,10 +8,9 @@ use Rattle.pd_canvas.specs.Pages.{boxed, Page}
 use Rattle.pd_canvas.specs.Paths.{change_box, edit_at}
 use Rattle.pd_grove.specs.declared.boards.Board.{Board}
 use Rattle.pd_grove.specs.declared.grove.Grove.{Grove}
-use Rattle.pd_grove.specs.declared.nodes.Node.{Node}
 use Rattle.pd_grove.specs.declared.ports.Side.{Side}
 use Rattle.pd_grove.specs.OwnPaths.{sub_reached}
-use Rattle.pd_grove.specs.Telling.{keys_in, reached}
+use Rattle.pd_grove.specs.Telling.{keys_in}
 use Rattle.pd_web.specs.declared.web.Web.{Web}
 use Rattle.pd_web.specs.Canvases.{keys_at}
 use Rattle.pd_present.specs.Presents.{entry_at, page_on, page_within, present_page, wires_among}
@@ -42,7 +41,7 @@ module _ (g : Grove) (w v : Web) (numbers : List ℕ) (same : (c : ℕ) → wire
         coords = b.sheet.coords;
       }) e
 
-  within_same : (n c : ℕ) → page_within v numbers (get g.nodes) (get g.boards) n c ≡ page_within w numbers (get g.nodes) (get g.boards) n c
+  pub within_same : (n c : ℕ) → page_within v numbers (get g.nodes) (get g.boards) n c ≡ page_within w numbers (get g.nodes) (get g.boards) n c
   within_same zero c = within_none v numbers (get g.nodes) (get g.boards) c ∙ sym (within_none w numbers (get g.nodes) (get g.boards) c)
   within_same (suc n) c =
       within_suc v numbers (get g.nodes) (get g.boards) n c ∙ ap (λ (f : ℕ → Page). page_on v numbers (get g.nodes) f (get g.boards c)) (λ i x. within_same n x i)

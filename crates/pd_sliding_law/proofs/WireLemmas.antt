@@ -1,5 +1,5 @@
 -- The wires that are saved of a canvas where a port of a box of it went to another number.
-use Rattle.std.proofs.Common.{◌≡◌, ◌≢◌, ℕ, suc, ◌==◌, ◌&&◌, Bool, true, false, cond, List, [], ◌∷◌, map, slice_get, Option, Some, None, inl, inr, eq-eqb, eqb-true, refl, sym, ap, ◌∙◌, subst}
+use Rattle.std.proofs.Common.{◌≡◌, ℕ, suc, ◌==◌, ◌&&◌, Bool, true, false, cond, List, [], ◌∷◌, map, slice_get, Option, Some, None, inl, inr, eq-eqb, eqb-true, refl, sym, ap, ◌∙◌, subst}
 use Rattle.std.proofs.lemmas.Bool.{cases_eq}
 use Rattle.std.proofs.lemmas.Option.{same_Some}
 use Rattle.pd_canvas.specs.declared.wires.Wire.{Wire}

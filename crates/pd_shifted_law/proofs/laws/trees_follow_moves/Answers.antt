@@ -3,7 +3,7 @@ use Rattle.pd_shifted_law.proofs.StandLemmas.{runs_shifted}
 use Rattle.pd_shifted_law.proofs.laws.trees_follow_moves.Goals as goal
 
 pub returns-clause-runs : goal.returns-clause-runs
-returns-clause-runs c = λ old new path number x y key t M C R. runs_shifted old new path number x y key t M C R
+returns-clause-runs c = λ old new path number x y b t M C R. runs_shifted old new path number x y b t M C R
 
 pub returns-clause-boxes : goal.returns-clause-boxes
 returns-clause-boxes c = λ path number x y t. weight_same path number x y t
