@@ -4,7 +4,7 @@ use Rattle.pd_atom.specs.Names.{Names, Extends}
 use Rattle.pd_canvas.specs.Pages.{Boxes, Page, Entry, boxed, listed}
 use Rattle.pd_canvas.specs.Proper.{levels, levels_of, HoldsNone}
 use Rattle.pd_library.specs.declared.answers.Answer.{Answer}
-use Rattle.pd_tree.specs.Trees.{Trees, Done, Tree, join, weight, document_boxes, document_in, zeros_of}
+use Rattle.pd_tree.specs.Trees.{Trees, Done, Tree, join, width, weight, document_boxes, document_in, zeros_of}
 use Rattle.pd_growth.specs.Steps.{Stock, gives, ◌>>=◌}
 use Rattle.pd_growth.specs.Growth.{box_grown, boxes_grown, without_ending, around_root, grown}
 use Rattle.pd_grove.specs.declared.grove.Grove.{Grove}
@@ -19,6 +19,7 @@ use Rattle.pd_regrowth_law.proofs.AgainLemmas.{texts_more, library_more, patch_a
 use Rattle.pd_regrowth_law.proofs.ChangeLemmas.{alike_all}
 use Rattle.pd_regrowth_law.proofs.DocumentLemmas.{boxes_stay, inner_stays, patch_stays}
 use Rattle.pd_regrowth_law.proofs.EditLemmas.{nest_texts, patch_grown, texts_join, texts_nested}
+use Rattle.pd_regrowth_law.proofs.OwnLemmas.{texts_before, texts_behind}
 use Rattle.pd_regrowth_law.proofs.FillLemmas.{patch_refilled}
 use Rattle.pd_regrowth_law.proofs.NestLemmas.{patch_edited, patch_inside}
 use Rattle.pd_regrowth_law.proofs.PartLemmas.{join_done}
@@ -28,8 +29,8 @@ use Rattle.pd_reload_law.specs.Saving.{AreMade, tree_now}
 use Rattle.pd_reload_law.proofs.NowLemmas.{document_told, tree_refilled, tree_zeros, tree_weight}
 use Rattle.pd_reload_law.proofs.MadeLemmas.{patch_made}
 use Rattle.pd_putting_law.specs.Again.{StandsAgain}
-use Rattle.pd_putting_law.specs.Puts.{change_at, put_at, with_boxes}
-use Rattle.pd_putting_law.proofs.WithinLemmas.{path_within, levels_join, inside_levels, outside_levels, made_last}
+use Rattle.pd_putting_law.specs.Puts.{boxes_before, change_at, put_at, put_before, with_before}
+use Rattle.pd_putting_law.proofs.WithinLemmas.{path_within, parts_at, put_before_last, levels_join, inside_levels, outside_levels, made_before}
 
 pub grown_stands : (lib : ℕ → Option Answer) (file : List ℕ) (page : Page) (w v : Stock) (t : Tree) → HasGrown lib file page w t v → StandsAgain lib file v.names t
 grown_stands lib file page w v t h =
@@ -107,40 +108,66 @@ change_stands lib file names left path t u f s at low o l k =
 
 -- ---- with boxes more
 
-pub put_stands : (lib : ℕ → Option Answer) (file : List ℕ) (left : ℕ) (path : List ℕ) (t u : Tree) (b : Boxes) (w v : Stock) (new : Trees)
+texts_more_boxes : (names : Names) (n : ℕ) (t new : Trees) → TextsOf names (document_boxes t) → TextsOf names (document_boxes new)
+    → TextsOf names (document_boxes (boxes_before n new t))
+texts_more_boxes names n t new o k =
+    let q = parts_at n t in
+    let all = subst (λ (x : Trees). TextsOf names (document_boxes x)) q.whole o in
+    subst (λ (x : Trees). TextsOf names (document_boxes x)) (sym (q.more new))
+    (texts_join names q.before (join new q.behind) (texts_before names q.before q.behind all)
+    (texts_join names new q.behind k (texts_behind names q.before q.behind all)))
+
+levels_more : (n : ℕ) (t new : Trees) (left : ℕ) → levels (document_boxes t) ≤ left → levels (document_boxes new) ≤ left
+    → levels (document_boxes (boxes_before n new t)) ≤ left
+levels_more n t new left low deep =
+    let q = parts_at n t in
+    let levels_of_all : Trees → ℕ = λ x. levels (document_boxes x) in
+    all (levels_of_all q.before) (levels_of_all new) (levels_of_all q.behind) (levels_of_all (join new q.behind)) (levels_of_all t) (levels_of_all (boxes_before n new t)) left
+    (levels_join new q.behind) (ap levels_of_all q.whole ∙ levels_join q.before q.behind)
+    (ap levels_of_all (q.more new) ∙ levels_join q.before (join new q.behind)) low deep
+  where
+    all : (a n b i t x left : ℕ) → i ≡ max n b → t ≡ max a b → x ≡ max a i → t ≤ left → n ≤ left → x ≤ left
+    all a n b i t x left p q r h k = omega (arith, p, q, r, h, k)
+
+pub boxes_stand : (lib : ℕ → Option Answer) (file : List ℕ) (left : ℕ) (path : List ℕ) (n : ℕ) (t u : Tree) (b : Boxes) (w v : Stock) (new : Trees)
     → StandsAgain lib file w.names t → own_along path t ≡ Some u → length path + left ≡ 255 → TextsOf w.names b → levels b ≤ left → HoldNone b
     → boxes_grown lib (without_ending file) left (inner_of lib (without_ending file) left) (around_root t.sheet.zero) (listed b) w ≡ gives new v
-    → StandsAgain lib file v.names (put_at path new t)
-put_stands lib file left path t u b w v new s at low ob lev none grows =
+    → StandsAgain lib file v.names (put_before path n new t)
+boxes_stand lib file left path n t u b w v new s at low ob lev none grows =
     let p = path_within path t u at in
+    let q = parts_at n u.boxes in
     let root = without_ending file in
     let up = (several_take lib root left (around_root t.sheet.zero) (listed b) w v new grows).names in
     let document : document_boxes new ≡ b = boxes_stay lib root left (inner_of lib root left) (around_root t.sheet.zero) b w new v (inner_stays lib root left) lev none grows in
-    let old : t ≡ nested p.nest (canvas_with u.sheet (join u.boxes Done)) = p.whole ∙ ap (λ (x : Trees). nested p.nest (canvas_with u.sheet x)) (sym (join_done u.boxes)) in
-    let put : nested p.nest (canvas_with u.sheet (join u.boxes (join new Done))) ≡ put_at path new t =
-    ap (λ (x : Trees). nested p.nest (canvas_with u.sheet (join u.boxes x))) (join_done new) ∙ sym (p.changed (with_boxes new)) in
+    let old : t ≡ nested p.nest (canvas_with u.sheet (join q.before (join Done q.behind))) =
+    p.whole ∙ ap (λ (x : Trees). nested p.nest (canvas_with u.sheet x)) q.whole in
+    let put : nested p.nest (canvas_with u.sheet (join q.before (join new q.behind))) ≡ put_before path n new t =
+    ap (λ (x : Trees). nested p.nest (canvas_with u.sheet x)) (sym (q.more new)) ∙ sym (p.changed (with_before n new)) in
     let out = p.deep left ∙ low in
     let inside : TextsOf w.names (document_boxes (nested p.nest u).boxes) = subst (λ (x : Tree). TextsOf w.names (document_boxes x.boxes)) p.whole s.texts in
     let inside2 : TextsOf v.names (document_boxes (nested p.nest u).boxes) = texts_more w.names v.names up (document_boxes (nested p.nest u).boxes) inside in
     let deep : levels (document_boxes (nested p.nest u).boxes) ≤ 255 = subst (λ (x : Tree). levels (document_boxes x.boxes) ≤ 255) p.whole s.shallow in
     record {
       library = library_more w.names v.names up lib s.library;
-      texts = subst (λ (x : Tree). TextsOf v.names (document_boxes x.boxes)) (sym (p.changed (with_boxes new)))
-          (texts_nested v.names p.nest u (with_boxes new u) p.subpatches inside2
-          (texts_join v.names u.boxes new (nest_texts v.names p.nest u p.subpatches inside2)
+      texts = subst (λ (x : Tree). TextsOf v.names (document_boxes x.boxes)) (sym (p.changed (with_before n new)))
+          (texts_nested v.names p.nest u (with_before n new u) p.subpatches inside2
+          (texts_more_boxes v.names n u.boxes new (nest_texts v.names p.nest u p.subpatches inside2)
           (subst (TextsOf v.names) (sym document) (texts_more w.names v.names up b ob))));
-      shallow = subst (λ (x : Tree). levels (document_boxes x.boxes) ≤ 255) (sym (p.changed (with_boxes new)))
-          (outside_levels p.nest u (with_boxes new u) left 255 p.subpatches out deep
-          (both (levels (document_boxes u.boxes)) (levels (document_boxes new)) left (levels (document_boxes (join u.boxes new))) (levels_join u.boxes new)
-          (inside_levels p.nest u left 255 p.subpatches out deep) (subst (λ x. levels x ≤ left) (sym document) lev)));
+      shallow = subst (λ (x : Tree). levels (document_boxes x.boxes) ≤ 255) (sym (p.changed (with_before n new)))
+          (outside_levels p.nest u (with_before n new u) left 255 p.subpatches out deep
+          (levels_more n u.boxes new left (inside_levels p.nest u left 255 p.subpatches out deep) (subst (λ x. levels x ≤ left) (sym document) lev)));
       regrows = subst (PatchRegrows lib file v.names) put
-          (patch_grown lib file left p.nest u.sheet u.sheet u.boxes Done Done b w v new s.library p.subpatches out
+          (patch_grown lib file left p.nest u.sheet u.sheet q.before Done q.behind b w v new s.library p.subpatches out
           (subst (λ (x : Tree). TextsOf w.names (document_boxes x.boxes)) old s.texts) (subst (PatchRegrows lib file w.names) old s.regrows) refl refl ob lev none
           (subst (λ (x : Tree). boxes_grown lib root left (inner_of lib root left) (around_root x.sheet.zero) (listed b) w ≡ gives new v) old grows));
     }
-  where
-    both : (a b left x : ℕ) → x ≡ max a b → a ≤ left → b ≤ left → x ≤ left
-    both a b left x h k l = omega (arith, h, k, l)
+
+pub put_stands : (lib : ℕ → Option Answer) (file : List ℕ) (left : ℕ) (path : List ℕ) (t u : Tree) (b : Boxes) (w v : Stock) (new : Trees)
+    → StandsAgain lib file w.names t → own_along path t ≡ Some u → length path + left ≡ 255 → TextsOf w.names b → levels b ≤ left → HoldNone b
+    → boxes_grown lib (without_ending file) left (inner_of lib (without_ending file) left) (around_root t.sheet.zero) (listed b) w ≡ gives new v
+    → StandsAgain lib file v.names (put_at path new t)
+put_stands lib file left path t u b w v new s at low ob lev none grows =
+    subst (StandsAgain lib file v.names) (put_before_last path t u new at) (boxes_stand lib file left path (width u.boxes) t u b w v new s at low ob lev none grows)
 
 -- an element, as it is put: its text is of the table, and it holds a canvas only as a subpatch
 one_grown : (lib : ℕ → Option Answer) (root : List ℕ) (left own : ℕ) (e : Entry) (w v : Stock) (new : Trees)
@@ -157,14 +184,22 @@ one_grown lib root left own e w v new h =
 one_low : (n left : ℕ) → n ≤ left → max n 0 ≤ left
 one_low n left h = omega (arith, h)
 
+pub one_stands : (lib : ℕ → Option Answer) (file : List ℕ) (left : ℕ) (path : List ℕ) (n : ℕ) (t u : Tree) (e : Entry) (w v : Stock) (new : Trees)
+    → StandsAgain lib file w.names t → own_along path t ≡ Some u → length path + left ≡ 255 → IsEntryOf w.names e
+    → levels_of e.head.form (levels e.page.boxes) ≤ left → HoldsNone e.head.form e.page → HoldNone e.page.boxes
+    → box_grown lib (without_ending file) left (inner_of lib (without_ending file) left) (around_root t.sheet.zero) e w ≡ gives new v
+    → StandsAgain lib file v.names (put_before path n new t)
+one_stands lib file left path n t u e w v new s at low o lev none inner grows =
+    boxes_stand lib file left path n t u (boxed (e ∷ [])) w v new s at low (o.text, o.inner, tt) (one_low (levels_of e.head.form (levels e.page.boxes)) left lev) (none, inner, tt)
+    (one_grown lib (without_ending file) left t.sheet.zero e w v new grows)
+
 pub box_stands : (lib : ℕ → Option Answer) (file : List ℕ) (left : ℕ) (path : List ℕ) (t u : Tree) (e : Entry) (w v : Stock) (new : Trees)
     → StandsAgain lib file w.names t → own_along path t ≡ Some u → length path + left ≡ 255 → IsEntryOf w.names e
     → levels_of e.head.form (levels e.page.boxes) ≤ left → HoldsNone e.head.form e.page → HoldNone e.page.boxes
     → box_grown lib (without_ending file) left (inner_of lib (without_ending file) left) (around_root t.sheet.zero) e w ≡ gives new v
     → StandsAgain lib file v.names (put_at path new t)
 box_stands lib file left path t u e w v new s at low o lev none inner grows =
-    put_stands lib file left path t u (boxed (e ∷ [])) w v new s at low (o.text, o.inner, tt) (one_low (levels_of e.head.form (levels e.page.boxes)) left lev) (none, inner, tt)
-    (one_grown lib (without_ending file) left t.sheet.zero e w v new grows)
+    subst (StandsAgain lib file v.names) (put_before_last path t u new at) (one_stands lib file left path (width u.boxes) t u e w v new s at low o lev none inner grows)
 
 -- what came has the element, and is made
 pub box_is : (lib : ℕ → Option Answer) (file : List ℕ) (left own : ℕ) (e : Entry) (w v : Stock) (new : Trees)
@@ -176,8 +211,13 @@ box_is lib file left own e w v new lev none inner grows =
     boxes_stay lib root left (inner_of lib root left) (around_root own) (boxed (e ∷ [])) w new v (inner_stays lib root left)
     (one_low (levels_of e.head.form (levels e.page.boxes)) left lev) (none, inner, tt) (one_grown lib root left own e w v new grows)
 
+pub made_more : (lib : ℕ → Option Answer) (file : List ℕ) (names : Names) (path : List ℕ) (n : ℕ) (t u : Tree) (new : Trees) → own_along path t ≡ Some u
+    → StandsAgain lib file names (put_before path n new t) → AreMade new
+made_more lib file names path n t u new at s =
+    let p = path_within path t u at in
+    made_before p.nest u n new (subst (λ (x : Tree). AreMade x.boxes) (p.changed (with_before n new)) (stands_made lib file names (put_before path n new t) s))
+
 pub new_made : (lib : ℕ → Option Answer) (file : List ℕ) (names : Names) (path : List ℕ) (t u : Tree) (new : Trees) → own_along path t ≡ Some u
     → StandsAgain lib file names (put_at path new t) → AreMade new
 new_made lib file names path t u new at s =
-    let p = path_within path t u at in
-    made_last p.nest u new (subst (λ (x : Tree). AreMade x.boxes) (p.changed (with_boxes new)) (stands_made lib file names (put_at path new t) s))
+    made_more lib file names path (width u.boxes) t u new at (subst (StandsAgain lib file names) (sym (put_before_last path t u new at)) s)

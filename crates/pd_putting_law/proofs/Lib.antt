@@ -1,10 +1,11 @@
 pub mod ListLemmas
 pub mod PathLemmas
+pub mod PlaceLemmas
 pub mod WireLemmas
 pub mod PageLemmas
+pub mod WithinLemmas
 pub mod StandLemmas
 pub mod TreeLemmas
 pub mod NewLemmas
-pub mod WithinLemmas
 pub mod AgainLemmas
 pub mod GrownLemmas

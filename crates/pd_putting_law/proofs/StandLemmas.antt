@@ -1,5 +1,5 @@
 -- A box more in one canvas, and the tree that stands.
-use Rattle.std.proofs.Common.{◌≡◌, ◌≢◌, ℕ, zero, suc, ◌+◌, ◌<◌, ◌≤◌, max, cond, List, [], ◌∷◌, ◌++◌, length, slice_get, Option, Some, None, IsSome, refl, sym, ap, ◌∙◌, subst, arith}
+use Rattle.std.proofs.Common.{◌≡◌, ◌≢◌, ℕ, zero, suc, ◌+◌, ◌<◌, ◌≤◌, max, cond, List, [], ◌∷◌, ◌++◌, length, take, drop, slice_get, Option, Some, None, IsSome, refl, sym, ap, ◌∙◌, subst, arith}
 use Rattle.std.specs.Prelude.{option_map, option_and_then}
 use Rattle.std.proofs.lemmas.Option.{none-some, same_Some}
 use Rattle.slab.specs.Slab.{get}
@@ -8,7 +8,7 @@ use Rattle.pd_kind.specs.States.{start_of}
 use Rattle.pd_kind.specs.Tables.{started}
 use Rattle.pd_canvas.specs.Pages.{Shape, Sub}
 use Rattle.pd_tree.specs.declared.rows.Sheet.{Sheet}
-use Rattle.pd_tree.specs.Trees.{Trees, Done, Leaf, Holder, Tree}
+use Rattle.pd_tree.specs.Trees.{Trees, Done, Leaf, Holder, Tree, width}
 use Rattle.pd_grove.specs.declared.nodes.Node.{Node}
 use Rattle.pd_grove.specs.declared.boards.Board.{Board}
 use Rattle.pd_grove.specs.declared.grove.Grove.{Grove}
@@ -29,9 +29,11 @@ use Rattle.pd_reload_law.specs.Reloading.{RunsAs}
 use Rattle.pd_reload_law.specs.Saving.{AreSavable}
 use Rattle.pd_reload_law.proofs.EditLemmas.{sub_inner}
 use Rattle.pd_reload_law.proofs.FreshLemmas.{fresh_savable}
-use Rattle.pd_putting_law.specs.Puts.{change_inside, change_at, with_boxes, put_at}
-use Rattle.pd_putting_law.specs.Putting.{HasBoxLast, ComeFresh}
+use Rattle.pd_putting_law.specs.Puts.{boxes_before, change_inside, with_before, put_at, put_before}
+use Rattle.pd_putting_law.specs.Putting.{HasBoxAt, HasBoxLast, ComeFresh}
 use Rattle.pd_putting_law.proofs.PathLemmas.{Forest, subs, sub_leads, deep_as, LeadsNot, not_same, not_inside, not_below, not_around, not_beside}
+use Rattle.pd_putting_law.proofs.PlaceLemmas.{last_at}
+use Rattle.pd_putting_law.proofs.WithinLemmas.{put_before_last}
 
 -- ---- what is seen
 
@@ -111,8 +113,36 @@ beside_on g c n path canvas ks F on same i k j apart is holds =
 
 -- ---- what stands
 
-module _ (g h : Grove) (canvas key : ℕ) (F : Forest g)
-    (M : HasPartMore (get g.nodes) (get h.nodes) (get g.boards) (get h.boards) canvas key (keys_at g canvas) []) where
+-- one box more
+pub stands_more : (nodes : ℕ → Option Node) (boards : ℕ → Option Board) (b d : ℕ) (keys : List ℕ) (t new : Trees) (n k : ℕ) → Stands nodes boards b d keys t
+    → Stands nodes boards b d (k ∷ []) new → Stands nodes boards b d (take n keys ++ k ∷ drop n keys) (boxes_before n new t)
+stands_more nodes boards b d [] t new zero k S N = stands_join nodes boards b d (k ∷ []) [] new t N S
+stands_more nodes boards b d (l ∷ ls) t new zero k S N = stands_join nodes boards b d (k ∷ []) (l ∷ ls) new t N S
+stands_more nodes boards b d [] Done new (suc n) k S N = N
+stands_more nodes boards b d (l ∷ ls) Done new (suc n) k S N = absurd S
+stands_more nodes boards b d [] (Leaf c rest) new (suc n) k S N = absurd S
+stands_more nodes boards b d (l ∷ ls) (Leaf c rest) new (suc n) k S N = (S.0, stands_more nodes boards b d ls rest new n k S.1 N)
+stands_more nodes boards b d [] (Holder c s inner rest) new (suc n) k S N = absurd S
+stands_more nodes boards b d (l ∷ ls) (Holder c s inner rest) new (suc n) k S N =
+    (S.0, S.1, S.2, S.3, S.4, stands_more nodes boards b d ls rest new n k S.5 N)
+
+-- as many boxes stand as there are keys
+pub stands_wide : (nodes : ℕ → Option Node) (boards : ℕ → Option Board) (b d : ℕ) (keys : List ℕ) (t : Trees) → Stands nodes boards b d keys t → length keys ≡ width t
+stands_wide nodes boards b d [] Done S = refl
+stands_wide nodes boards b d (k ∷ ks) Done S = absurd S
+stands_wide nodes boards b d [] (Leaf c rest) S = absurd S
+stands_wide nodes boards b d (k ∷ ks) (Leaf c rest) S = one_more (length ks) (width rest) (stands_wide nodes boards b d ks rest S.1)
+  where
+    one_more : (m n : ℕ) → m ≡ n → suc m ≡ n + 1
+    one_more m n h = omega (arith, h)
+stands_wide nodes boards b d [] (Holder c s inner rest) S = absurd S
+stands_wide nodes boards b d (k ∷ ks) (Holder c s inner rest) S = one_more (length ks) (width rest) (stands_wide nodes boards b d ks rest S.5)
+  where
+    one_more : (m n : ℕ) → m ≡ n → suc m ≡ n + 1
+    one_more m n h = omega (arith, h)
+
+module _ (g h : Grove) (canvas key number : ℕ) (F : Forest g)
+    (M : HasPartMore (get g.nodes) (get h.nodes) (get g.boards) (get h.boards) canvas key (take number (keys_at g canvas)) (drop number (keys_at g canvas))) where
   pub box_stays : (k : ℕ) (x : NodeSeen) → option_map node_seen (get g.nodes k) ≡ Some x → get h.nodes k ≡ get g.nodes k
   box_stays k x e = M.boxes_stay k (seen_there (get g.nodes k) x e)
 
@@ -143,14 +173,16 @@ module _ (g h : Grove) (canvas key : ℕ) (F : Forest g)
       )
 
   put_here : (new : Trees) (holder : Option ℕ) (d : ℕ) (u : Tree) → Stands (get h.nodes) (get h.boards) canvas (depth_of (get g.boards canvas)) (key ∷ []) new
-      → CanvasAt g canvas holder d u → CanvasAt h canvas holder d (with_boxes new u)
+      → CanvasAt g canvas holder d u → CanvasAt h canvas holder d (with_before number new u)
   put_here new holder d u N C =
       let same = keys_are g canvas holder d u C in
       let low : depth_of (get g.boards canvas) ≡ d = seen_depth (get g.boards canvas) _ C.board in
+      let keys = take number C.keys ++ key ∷ drop number C.keys in
       record {
-        keys = C.keys ++ key ∷ [];
-        board = seen_more (get g.boards canvas) (get h.boards canvas) _ (C.keys ++ key ∷ []) C.board M.lives M.holder M.depth M.sheet (M.has ∙ ap (λ (l : List ℕ). l ++ key ∷ []) same);
-        stands = stands_join (get h.nodes) (get h.boards) canvas d C.keys (key ∷ []) u.boxes new
+        keys = keys;
+        board = seen_more (get g.boards canvas) (get h.boards canvas) _ keys C.board M.lives M.holder M.depth M.sheet
+            (M.has ∙ ap (λ (l : List ℕ). take number l ++ key ∷ drop number l) same);
+        stands = stands_more (get h.nodes) (get h.boards) canvas d C.keys u.boxes new number key
             (stands_aside canvas d C.keys u.boxes (aside_here g canvas C.keys F same) C.stands)
             (subst (λ x. Stands (get h.nodes) (get h.boards) canvas x (key ∷ []) new) low N);
       }
@@ -182,29 +214,29 @@ module _ (g h : Grove) (canvas key : ℕ) (F : Forest g)
 
   pub put_canvas : (new : Trees) (path : List ℕ) (c : ℕ) (holder : Option ℕ) (d : ℕ) (u : Tree)
       → Stands (get h.nodes) (get h.boards) canvas (depth_of (get g.boards canvas)) (key ∷ []) new → sub_reached g (Some c) path ≡ Some canvas
-      → CanvasAt g c holder d u → CanvasAt h c holder d (put_at path new u)
+      → CanvasAt g c holder d u → CanvasAt h c holder d (put_before path number new u)
   put_canvas new [] c holder d u N on C =
       let here : c ≡ canvas = same_Some c canvas on in
-      subst (λ x. CanvasAt h x holder d (with_boxes new u)) (sym here) (put_here new holder d u N (subst (λ x. CanvasAt g x holder d u) here C))
+      subst (λ x. CanvasAt h x holder d (with_before number new u)) (sym here) (put_here new holder d u N (subst (λ x. CanvasAt g x holder d u) here C))
   put_canvas new (n ∷ path) c holder d u N on C =
       let s = subs g c n path canvas on in
       let same = keys_are g c holder d u C in
       record {
         keys = C.keys;
         board = board_still c _ C.board (not_around g F c n path canvas (sub_leads g c canvas (n ∷ path) on));
-        stands = put_inside (change_at path (with_boxes new)) c d C.keys u.boxes n s.key s.inner (ap (λ (l : List ℕ). slice_get l n) (sym same) ∙ s.is)
+        stands = put_inside (put_before path number new) c d C.keys u.boxes n s.key s.inner (ap (λ (l : List ℕ). slice_get l n) (sym same) ∙ s.is)
             (sub_inner (get g.nodes s.key) s.inner s.sub) (beside_on g c n path canvas C.keys F on same)
             (λ v D. put_canvas new path s.inner (Some s.key) (d + 1) v N s.on D) C.stands;
       }
 
 -- ---- the tree
 
-pub grove_put : (g h : Grove) (path : List ℕ) (canvas key : ℕ) (t : Tree) (new : Trees) → HasBoxLast g h path canvas key → GroveStands g t.sheet t.boxes
+pub grove_before : (g h : Grove) (path : List ℕ) (canvas key number : ℕ) (t : Tree) (new : Trees) → HasBoxAt g h path canvas key number → GroveStands g t.sheet t.boxes
     → Stands (get h.nodes) (get h.boards) canvas (depth_of (get g.boards canvas)) (key ∷ []) new
-    → GroveStands h (put_at path new t).sheet (put_at path new t).boxes
-grove_put g h path canvas key t new B G N =
-    let u = put_at path new t in
-    let C = put_canvas g h canvas key B.forest B.part new path g.root None 0 t N B.leads (record { keys = G.keys; board = G.root; stands = G.stands }) in
+    → GroveStands h (put_before path number new t).sheet (put_before path number new t).boxes
+grove_before g h path canvas key number t new B G N =
+    let u = put_before path number new t in
+    let C = put_canvas g h canvas key number B.forest B.part new path g.root None 0 t N B.leads (record { keys = G.keys; board = G.root; stands = G.stands }) in
     record {
       keys = C.keys;
       root = ap (λ x. option_map board_seen (get h.boards x)) B.root ∙ C.board;
@@ -254,15 +286,17 @@ savable_on rate now nodes nodes' f stay a =
     by s n None is = n is
     by s n (Some m) is = s (subst IsSome (sym is) refl)
 
-pub runs_put : (g h : Grove) (path : List ℕ) (canvas key : ℕ) (t : Tree) (new : Trees) (rate : Rate) (now : ℕ) → HasBoxLast g h path canvas key → RunsAs g t
+pub runs_before : (g h : Grove) (path : List ℕ) (canvas key number : ℕ) (t : Tree) (new : Trees) (rate : Rate) (now : ℕ) → HasBoxAt g h path canvas key number → RunsAs g t
     → Stands (get h.nodes) (get h.boards) canvas (depth_of (get g.boards canvas)) (key ∷ []) new → ComeFresh rate now (get g.nodes) (get h.nodes)
-    → RunsAs h (put_at path new t)
-runs_put g h path canvas key t new rate now B R N f =
-    let G = grove_put g h path canvas key t new B R.stands N in
-    let H = forest_part (get g.nodes) (get h.nodes) (get g.boards) (get h.boards) g.root canvas key (keys_at g canvas) [] B.part B.forest in
+    → RunsAs h (put_before path number new t)
+runs_before g h path canvas key number t new rate now B R N f =
+    let u = put_before path number new t in
+    let keys = keys_at g canvas in
+    let G = grove_before g h path canvas key number t new B R.stands N in
+    let H = forest_part (get g.nodes) (get h.nodes) (get g.boards) (get h.boards) g.root canvas key (take number keys) (drop number keys) B.part B.forest in
     record {
       stands = G;
-      shallow = plain (deep (put_at path new t).boxes) (deep_within (get h.nodes) (get h.boards) h.root 0 G.keys (put_at path new t).boxes H.shallow G.stands (omega arith));
+      shallow = plain (deep u.boxes) (deep_within (get h.nodes) (get h.boards) h.root 0 G.keys u.boxes H.shallow G.stands (omega arith));
       savable = savable_on rate now (get g.nodes) (get h.nodes) f B.part.boxes_stay R.savable;
     }
   where
@@ -309,3 +343,28 @@ path_along g path canvas t F G on =
           subst (λ x. CanvasStands g x u) same L.2,
           plain (depth_of (get g.boards canvas)) (depth_of (get g.boards g.root)) (length path) (deep_as g F path g.root canvas (sub_leads g g.root canvas path on)) F.rooted.2,
         )
+
+-- ---- a box that comes last
+
+pub put_last : (g : Grove) (path : List ℕ) (canvas : ℕ) (t : Tree) (new : Trees) → Forest g → sub_reached g (Some g.root) path ≡ Some canvas
+    → GroveStands g t.sheet t.boxes → put_before path (length (keys_at g canvas)) new t ≡ put_at path new t
+put_last g path canvas t new F on G =
+    let a = path_along g path canvas t F G on in
+    let C = a.2 in
+    ap (λ n. put_before path n new t)
+    (ap length (seen_keys (get g.boards canvas) _ C.board) ∙ stands_wide (get g.nodes) (get g.boards) canvas C.depth C.keys a.0.boxes C.stands)
+    ∙ put_before_last path t a.0 new a.1
+
+pub grove_put : (g h : Grove) (path : List ℕ) (canvas key : ℕ) (t : Tree) (new : Trees) → HasBoxLast g h path canvas key → GroveStands g t.sheet t.boxes
+    → Stands (get h.nodes) (get h.boards) canvas (depth_of (get g.boards canvas)) (key ∷ []) new
+    → GroveStands h (put_at path new t).sheet (put_at path new t).boxes
+grove_put g h path canvas key t new B G N =
+    subst (λ (x : Tree). GroveStands h x.sheet x.boxes) (put_last g path canvas t new B.forest B.leads G)
+    (grove_before g h path canvas key (length (keys_at g canvas)) t new (last_at g h path canvas key B) G N)
+
+pub runs_put : (g h : Grove) (path : List ℕ) (canvas key : ℕ) (t : Tree) (new : Trees) (rate : Rate) (now : ℕ) → HasBoxLast g h path canvas key → RunsAs g t
+    → Stands (get h.nodes) (get h.boards) canvas (depth_of (get g.boards canvas)) (key ∷ []) new → ComeFresh rate now (get g.nodes) (get h.nodes)
+    → RunsAs h (put_at path new t)
+runs_put g h path canvas key t new rate now B R N f =
+    subst (RunsAs h) (put_last g path canvas t new B.forest B.leads R.stands)
+    (runs_before g h path canvas key (length (keys_at g canvas)) t new rate now (last_at g h path canvas key B) R N f)

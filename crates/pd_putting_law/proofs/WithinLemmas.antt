@@ -1,14 +1,15 @@
 -- A change of the canvas to which a path leads, and what lies around it.
-use Rattle.std.proofs.Common.{◌≡◌, ℕ, zero, suc, ◌+◌, ◌≤◌, max, List, [], ◌∷◌, length, Option, Some, None, refl, sym, ap, ◌∙◌, arith}
+use Rattle.std.proofs.Common.{◌≡◌, ℕ, zero, suc, ◌+◌, ◌≤◌, max, List, [], ◌∷◌, length, Option, Some, None, refl, sym, ap, ◌∙◌, subst, arith}
 use Rattle.std.specs.Prelude.{option_and_then}
 use Rattle.std.proofs.lemmas.Option.{none-some, same_Some}
 use Rattle.pd_canvas.specs.Pages.{Shape, Sub, Head, Boxes}
 use Rattle.pd_canvas.specs.Proper.{levels, levels_of}
 use Rattle.pd_tree.specs.declared.rows.Sheet.{Sheet}
-use Rattle.pd_tree.specs.Trees.{Cell, Trees, Done, Leaf, Holder, Tree, join, box_with, document_boxes}
+use Rattle.pd_tree.specs.Trees.{Cell, Trees, Done, Leaf, Holder, Tree, join, width, box_with, document_boxes}
 use Rattle.pd_regrowth_law.specs.Canvases.{canvas_with, Nest, Alone, Inside, nested, AreSubpatches, left_outside, sub_canvas, own_in_box, own_along}
+use Rattle.pd_regrowth_law.proofs.PartLemmas.{join_done}
 use Rattle.pd_reload_law.specs.Saving.{AreMade}
-use Rattle.pd_putting_law.specs.Puts.{change_inside, change_at, with_boxes}
+use Rattle.pd_putting_law.specs.Puts.{boxes_before, change_inside, change_at, put_at, put_before, with_before, with_boxes}
 
 -- the subpatch of a number, between the boxes before and behind it, as it is and with another canvas
 record SubAt (n : ℕ) (boxes : Trees) (t : Tree) : Type 0 where
@@ -92,6 +93,45 @@ path_within (n ∷ path) t u h = on (λ v k. path_within path v u k) (own_in_box
           changed = λ f. ap (canvas_with t.sheet)
               (g.changed (change_at path f) ∙ ap (λ (y : Tree). join g.before (Holder g.cell y.sheet y.boxes g.behind)) (r.changed f));
         }
+
+-- ---- boxes before that of a number
+
+pub record PartsAt (n : ℕ) (t : Trees) : Type 0 where
+  pub before : Trees
+  pub behind : Trees
+  pub whole : t ≡ join before behind
+  pub more : (new : Trees) → boxes_before n new t ≡ join before (join new behind)
+
+pub parts_at : (n : ℕ) (t : Trees) → PartsAt n t
+parts_at zero t = record { before = Done; behind = t; whole = refl; more = λ new. refl }
+parts_at (suc n) Done = record { before = Done; behind = Done; whole = refl; more = λ new. sym (join_done new) }
+parts_at (suc n) (Leaf c rest) =
+    let p = parts_at n rest in
+    record { before = Leaf c p.before; behind = p.behind; whole = ap (Leaf c) p.whole; more = λ new. ap (Leaf c) (p.more new) }
+parts_at (suc n) (Holder c s inner rest) =
+    let p = parts_at n rest in
+    record {
+      before = Holder c s inner p.before;
+      behind = p.behind;
+      whole = ap (Holder c s inner) p.whole;
+      more = λ new. ap (Holder c s inner) (p.more new);
+    }
+
+next : (n : ℕ) → n + 1 ≡ suc n
+next n = omega arith
+
+-- with the number of all boxes they come last
+pub before_last : (new t : Trees) → boxes_before (width t) new t ≡ join t new
+before_last new Done = join_done new
+before_last new (Leaf c rest) = ap (λ n. boxes_before n new (Leaf c rest)) (next (width rest)) ∙ ap (Leaf c) (before_last new rest)
+before_last new (Holder c s inner rest) =
+    ap (λ n. boxes_before n new (Holder c s inner rest)) (next (width rest)) ∙ ap (Holder c s inner) (before_last new rest)
+
+pub put_before_last : (path : List ℕ) (t u : Tree) (new : Trees) → own_along path t ≡ Some u → put_before path (width u.boxes) new t ≡ put_at path new t
+put_before_last path t u new at =
+    let p = path_within path t u at in
+    p.changed (with_before (width u.boxes) new) ∙ ap (λ (x : Trees). nested p.nest (canvas_with u.sheet x)) (before_last new u.boxes)
+    ∙ sym (p.changed (with_boxes new))
 
 -- ---- how deep canvases lie in one another
 
@@ -180,6 +220,13 @@ made_inside (Inside sheet before c nest behind) u m =
     let t = nested nest u in
     made_inside nest u (made_behind before (Holder c t.sheet t.boxes behind) m).1
 
--- what came last is made
-pub made_last : (nest : Nest) (u : Tree) (new : Trees) → AreMade (nested nest (with_boxes new u)).boxes → AreMade new
-made_last nest u new m = made_behind u.boxes new (made_inside nest (with_boxes new u) m)
+made_front : (t u : Trees) → AreMade (join t u) → AreMade t
+made_front Done u m = tt
+made_front (Leaf c t) u m = (m.0, made_front t u m.1)
+made_front (Holder c s inner t) u m = (m.0, m.1, made_front t u m.2)
+
+-- what came is made
+pub made_before : (nest : Nest) (u : Tree) (n : ℕ) (new : Trees) → AreMade (nested nest (with_before n new u)).boxes → AreMade new
+made_before nest u n new m =
+    let q = parts_at n u.boxes in
+    made_front new q.behind (made_behind q.before (join new q.behind) (subst AreMade (q.more new) (made_inside nest (with_before n new u) m)))

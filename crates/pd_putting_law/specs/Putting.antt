@@ -1,5 +1,5 @@
--- A running patch with one box more, the last one of a canvas of its document.
-use Rattle.std.specs.Prelude.{◌≡◌, ℕ, true, false, List, [], ◌∷◌, ◌++◌, take, Option, Some, None, IsSome}
+-- A running patch with one box more in a canvas of its document.
+use Rattle.std.specs.Prelude.{◌≡◌, ◌≤◌, ℕ, true, false, List, [], ◌∷◌, ◌++◌, take, drop, length, Option, Some, None, IsSome}
 use Rattle.slab.specs.Slab.{get}
 use Rattle.pd_clock.specs.declared.times.Rate.{Rate}
 use Rattle.pd_atom.specs.declared.Atom.TheVariants.{Symbol}
@@ -31,6 +31,15 @@ use Rattle.pd_present.specs.Contents.{present_head}
 use Rattle.pd_regrowth_law.specs.Filling.{last_two}
 use Rattle.pd_regrowth_law.specs.Rewiring.{with_wires}
 use Rattle.pd_reload_law.specs.Wires.{AreNumbered, StayAmong}
+
+-- The canvas to which a path leads through subpatches has one box more, with all that lies in it. It has this number, and those that had this number
+-- and higher ones have the next; all else stays.
+pub record HasBoxAt (g h : Grove) (path : List ℕ) (canvas key number : ℕ) : Type 0 where
+  pub forest : IsForest (get g.nodes) (get g.boards) g.root
+  pub leads : sub_reached g (Some g.root) path ≡ Some canvas
+  pub part : HasPartMore (get g.nodes) (get h.nodes) (get g.boards) (get h.boards) canvas key (take number (keys_at g canvas)) (drop number (keys_at g canvas))
+  pub within : number ≤ length (keys_at g canvas)
+  pub root : h.root ≡ g.root
 
 -- The canvas to which a path leads through subpatches has one box more, its last one, with all that lies in it; all else stays.
 pub record HasBoxLast (g h : Grove) (path : List ℕ) (canvas key : ℕ) : Type 0 where

@@ -5,9 +5,9 @@ pub returns-clause-saved : goal.returns-clause-saved
 returns-clause-saved c = λ g canvas d key new e S n k. new_saved g canvas d key new e S n k
 
 pub returns-clause-written : goal.returns-clause-written
-returns-clause-written c = λ g h path canvas key d new rate now e B f S m n t k.
+returns-clause-written c = λ g h path canvas key number d new rate now e B f S m n t k.
     new_written h canvas d key new e rate now S (λ x is. f key x B.part.vacant is) m n t k
 
 pub returns-clause-stands : goal.returns-clause-stands
-returns-clause-stands c = λ g h path canvas key d web numbers new rate now B f S m n t.
+returns-clause-stands c = λ g h path canvas key number d web numbers new rate now B f S m n t.
     new_stands h canvas d key web numbers new rate now S (λ x is. f key x B.part.vacant is) m n t

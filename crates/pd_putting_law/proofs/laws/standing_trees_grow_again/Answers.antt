@@ -1,4 +1,4 @@
-use Rattle.pd_putting_law.proofs.AgainLemmas.{grown_stands, stands_made, stands_on, now_regrows, present_grows, canvas_regrows, change_stands, put_stands, box_stands, box_is, new_made}
+use Rattle.pd_putting_law.proofs.AgainLemmas.{grown_stands, stands_made, stands_on, now_regrows, present_grows, canvas_regrows, change_stands, boxes_stand, one_stands, put_stands, box_stands, box_is, made_more, new_made}
 use Rattle.pd_putting_law.proofs.laws.standing_trees_grow_again.Goals as goal
 
 pub returns-clause-grown : goal.returns-clause-grown
@@ -22,6 +22,12 @@ returns-clause-canvas c = canvas_regrows
 pub returns-clause-changed : goal.returns-clause-changed
 returns-clause-changed c = change_stands
 
+pub returns-clause-boxes_before : goal.returns-clause-boxes_before
+returns-clause-boxes_before c = boxes_stand
+
+pub returns-clause-one_before : goal.returns-clause-one_before
+returns-clause-one_before c = one_stands
+
 pub returns-clause-boxes : goal.returns-clause-boxes
 returns-clause-boxes c = put_stands
 
@@ -30,6 +36,9 @@ returns-clause-one c = box_stands
 
 pub returns-clause-element : goal.returns-clause-element
 returns-clause-element c = box_is
+
+pub returns-clause-new_before : goal.returns-clause-new_before
+returns-clause-new_before c = made_more
 
 pub returns-clause-new : goal.returns-clause-new
 returns-clause-new c = new_made
