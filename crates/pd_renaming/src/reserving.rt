@@ -34,9 +34,8 @@ pub fn reserve_name(
 {
     let owned = name_of_row(&row, true, symbols);
     reserve_owner(&mut patch.names, owned, 1)?;
-    Ok(NameRoom {
-        key,
-        written: row.element.text,
-        text: row.text,
-    })
+    let element = row.element;
+    let text = row.text;
+    let written = element.text;
+    Ok(NameRoom { key, written, text })
 }

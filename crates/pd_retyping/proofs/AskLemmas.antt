@@ -22,7 +22,7 @@ use Rattle.pd_retyping.specs.Retypes.{IsChosen}
 -- ---- what an edit would put
 
 -- the box that an edit would put in place of one of a form
-abbrev entry_put : List Atom → Shape → Entry → Entry
+abbrev pub entry_put : List Atom → Shape → Entry → Entry
 entry_put text Msg e = element Msg empty_page e.head.x e.head.y text
 entry_put text Comment e = element Comment empty_page e.head.x e.head.y text
 entry_put text s e = object e.head.x e.head.y text

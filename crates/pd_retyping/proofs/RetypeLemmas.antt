@@ -34,7 +34,7 @@ use Rattle.pd_retyping.specs.declared.retyping.RetypedBox.{RetypedBox}
 use Rattle.pd_retyping.specs.Asking.{settled_text, retyping, put_instead}
 use Rattle.pd_retyping.specs.Retypes.{counts_but, with_wires, RetypesTo, CanBecome, CanTakeText, Becomes, RetypesBox, IsRefused, IsNotRetyped}
 use Rattle.pd_retyping.specs.Becoming.{IsPlanned, IsUnplanned, HasGrown, StaysAsItWas}
-use Rattle.pd_retyping.proofs.AskLemmas.{put_entry, put_head, put_same, comes_ok, comes_asks}
+use Rattle.pd_retyping.proofs.AskLemmas.{entry_put, put_entry, put_head, put_same, comes_ok, comes_asks}
 
 -- the text isn't of the table
 pub not_known : (p : Patch) (n : Counts) (name path : List ℕ) (number : ℕ) (text : List Atom) (k : Known) → (All (IsOf k.names) text → ⊥)
@@ -128,6 +128,10 @@ module _ (p : Patch) (n left : Counts) (name path : List ℕ) (number : ℕ) (te
     comes_there : (retyping k.names p path number text ≡ Ok (plan.canvas, (plan.key, retyped (settled_text k.names text) (entry_of P.node.element)))) × (plan.canvas ≡ G.added.canvas)
     comes_there = comes_ok k.names p path number text plan.canvas plan.key P.node P.chosen (G.added.canvas, G.grew.entry) (subst (λ (x : Edit). coming k.names p path x ≡ Ok (G.added.canvas, G.grew.entry)) P.edit G.grew.comes)
 
+    -- the box that an edit would have put
+    abbrev entry_so : Entry
+    entry_so = entry_put (settled_text k.names text) (entry_of P.node.element).head.form (entry_of P.node.element)
+
     pub retypes_box : (q : Patch) (now : ℕ) (b : RetypedBox) (last : Names) (steps steps' : ℕ) → AreProper k.names k.files → All (IsOf k.names) text → IfSome (box_put (settled_edit k.names plan.edit)) (CanBeWritten k.names)
         → Becomes p q k.names text now plan.key P.node G.added b.gone.items steps steps' → b.key ≡ plan.key → b.canvas ≡ g.canvas → b.counts ≡ with_wires g.counts (wires_told q.web) → last ≡ names
         → RetypesBox p q n name path number text now k (known files last) steps steps' b
@@ -139,13 +143,14 @@ module _ (p : Patch) (n left : Counts) (name path : List ℕ) (number : ℕ) (te
           node = P.node;
           chosen = record { leads = P.chosen.leads ∙ ap (λ (x : ℕ). Some x) (sym there_canvas); at = at_of b.canvas b.key there_canvas is_key; is = ap (λ (x : ℕ). get p.grove.nodes x) is_key ∙ P.chosen.is; takes = P.chosen.takes };
           is = there.0 ∙ (λ i. Ok (sym there_canvas i, (sym is_key i, retyped (settled_text k.names text) (entry_of P.node.element))));
+          entry = entry_so;
           new_entry = put;
           same_head = put_head k.names p path number text plan.canvas plan.key P.node P.chosen;
           same_entry = put_same k.names p path number text plan.canvas plan.key P.node P.chosen;
           table = G.table;
           found = found;
           is_known = is_known;
-          written = written_so _ put (subst (λ (x : Edit). IfSome (box_put (settled_edit k.names x)) (CanBeWritten k.names)) P.edit written);
+          written = written_so put (subst (λ (x : Edit). IfSome (box_put (settled_edit k.names x)) (CanBeWritten k.names)) P.edit written);
           added = G.added;
           comes = comes_so holds (Ok G.added) G.comes;
           files = G.files;
@@ -160,8 +165,8 @@ module _ (p : Patch) (n left : Counts) (name path : List ℕ) (number : ℕ) (te
         at_of : (c x : ℕ) → c ≡ plan.canvas → x ≡ plan.key → slice_get (keys_at p.grove c) number ≡ Some x
         at_of c x e f = ap (λ (y : ℕ). slice_get (keys_at p.grove y) number) e ∙ P.chosen.at ∙ ap (λ (y : ℕ). Some y) (sym f)
 
-        written_so : (e : Entry) → box_put (settled_edit k.names instead) ≡ Some e → IfSome (box_put (settled_edit k.names instead)) (CanBeWritten k.names) → CanBeWritten k.names e
-        written_so e is w = subst (λ (o : Option Entry). IfSome o (CanBeWritten k.names)) is w
+        written_so : box_put (settled_edit k.names instead) ≡ Some entry_so → IfSome (box_put (settled_edit k.names instead)) (CanBeWritten k.names) → CanBeWritten k.names entry_so
+        written_so is w = subst (λ (o : Option Entry). IfSome o (CanBeWritten k.names)) is w
 
         grew_so : GrewWith p (counts_but p.rate P.node n) name path instead k G.files G.added
         grew_so = subst (λ (m : Counts). GrewWith p m name path instead k G.files G.added) at_left (subst (λ (x : Edit). GrewWith p left name path x k G.files G.added) P.edit G.grew)

@@ -36,7 +36,7 @@ use Rattle.pd_adding.specs.Adding.{IsAdded}
 use Rattle.pd_retyping.specs.declared.retyping.RetypedBox.{RetypedBox}
 use Rattle.pd_retyping.specs.Asking.{keeps_inside, settled_text}
 use Rattle.pd_retyping.specs.Retypes.{Becomes, CanBecome, CanTakeText, HasBecome}
-use Rattle.pd_retyping.specs.Becoming.{GivesText, GotText, IsBareSub, IsTaking, StaysAsItWas, StaysItself}
+use Rattle.pd_retyping.specs.Becoming.{OffersText, GotText, IsBareSub, IsTaking, StaysAsItWas, StaysItself}
 use Rattle.pd_retyping.proofs.BecomeLemmas.{room_wires, room_zero}
 
 -- ---- which of what grew is a subpatch without boxes
@@ -105,14 +105,14 @@ module _ (rows : List Row) (row : Row) (r : rows ≡ row ∷ []) (t : Trees) (e 
   pub bare_whole : IsBareSub t → row.fault ≡ None
   bare_whole B = ap (λ (s : Stand). s.cell.fault) (bare_row B) ∙ B.whole
 
-pub gives_of : (names : Names) (text : List Atom) (n : Node) (a : Added) → CanTakeText names text n a → GivesText n a
+pub gives_of : (names : Names) (text : List Atom) (n : Node) (a : Added) → CanTakeText names text n a → OffersText n a
 gives_of names text n a C = record {
   was_canvas = C.was_canvas;
   was_whole = C.was_whole;
   bare = record { cell = C.cell; sheet = C.sheet; single = C.single; form = C.form; canvas = C.canvas; whole = C.whole };
 }
 
-pub takes_of : (names : Names) (text : List Atom) (n : Node) (a : Added) → keeps_inside (entry_of n.element) (settled_text names text) ≡ true → GivesText n a → CanTakeText names text n a
+pub takes_of : (names : Names) (text : List Atom) (n : Node) (a : Added) → keeps_inside (entry_of n.element) (settled_text names text) ≡ true → OffersText n a → CanTakeText names text n a
 takes_of names text n a kept G = record {
   kept = kept;
   was_canvas = G.was_canvas;
@@ -175,7 +175,7 @@ module _ (p : Patch) (key : ℕ) (g : Grown) (T : IsTaking p key g) where
             (subst (λ (x : List Atom). IsRenamed ready q names room.key n room.written x) F.text
             (subst (λ (m : Node). IsRenamed ready q names room.key m room.written room.text) same named_there)))))
 
-        pub got_text : (n : Node) (a : Added) → get p.grove.nodes key ≡ Some n → IsAdded g a → GivesText n a → GotText p q table key n a
+        pub got_text : (n : Node) (a : Added) → get p.grove.nodes key ≡ Some n → IsAdded g a → OffersText n a → GotText p q table key n a
         got_text n a is A G =
             let same : T.node ≡ n = same_Some T.node n (sym T.is ∙ is) in
             record {
@@ -233,8 +233,8 @@ stays_so names text p q key n a why never out = ⊎_elim
 -- ---- either way
 
 module _ (p q : Patch) (key : ℕ) (keeps : Bool) (g : Grown) (r : Result RetypedBox EditRefusal) where
-  module _ (kept : keeps ≡ true) (yes : (n : Node) (a : Added) → get p.grove.nodes key ≡ Some n → IsAdded g a → GivesText n a) where
-    pub took_told : (table : Names) (now steps : ℕ) → IfOk r (λ b. (n : Node) (a : Added) → get p.grove.nodes key ≡ Some n → IsAdded g a → GivesText n a → GotText p q table key n a)
+  module _ (kept : keeps ≡ true) (yes : (n : Node) (a : Added) → get p.grove.nodes key ≡ Some n → IsAdded g a → OffersText n a) where
+    pub took_told : (table : Names) (now steps : ℕ) → IfOk r (λ b. (n : Node) (a : Added) → get p.grove.nodes key ≡ Some n → IsAdded g a → OffersText n a → GotText p q table key n a)
         → IfOk r (λ b. b.gone.items ≡ [])
         → IfOk r (λ b. (names : Names) (text : List Atom) (n : Node) (a : Added) → get p.grove.nodes key ≡ Some n → IsAdded g a → a.known.names ≡ table
         → keeps ≡ keeps_inside (entry_of n.element) (settled_text names text) → Becomes p q names text now key n a b.gone.items steps steps)
@@ -259,7 +259,7 @@ module _ (p q : Patch) (key : ℕ) (keeps : Bool) (g : Grown) (r : Result Retype
       by (Ok b) h = λ names text n a is A known same. inl (h n a is A known)
       by (Err why) h = tt
 
-  pub refused_told : (keeps ≡ true → (n : Node) (a : Added) → get p.grove.nodes key ≡ Some n → IsAdded g a → GivesText n a → ⊥)
+  pub refused_told : (keeps ≡ true → (n : Node) (a : Added) → get p.grove.nodes key ≡ Some n → IsAdded g a → OffersText n a → ⊥)
       → IfErr r (λ why. (n : Node) (a : Added) → get p.grove.nodes key ≡ Some n → IsAdded g a → StaysItself p q key n a why)
       → IfErr r (λ why. (names : Names) (text : List Atom) (n : Node) (a : Added) → get p.grove.nodes key ≡ Some n → IsAdded g a
       → keeps ≡ keeps_inside (entry_of n.element) (settled_text names text) → StaysAsItWas names text p q key n a why)

@@ -100,7 +100,7 @@ pub record IsBareSub (t : Trees) : Type 0 where
   pub whole : cell.fault ≡ None
 
 -- a box that holds a canvas can take the text of what grew
-pub record GivesText (n : Node) (a : Added) : Type 0 where
+pub record OffersText (n : Node) (a : Added) : Type 0 where
   pub was_canvas : n.kind ≡ kind.Canvas
   pub was_whole : n.fault ≡ None
   pub bare : IsBareSub a.boxes
@@ -113,11 +113,11 @@ pub record IsTaking (p : Patch) (key : ℕ) (g : Grown) : Type 0 where
   pub sub : is_sub (entry_of node.element).head.form ≡ true
   pub added : Added
   pub grown : IsAdded g added
-  pub gives : GivesText node added
+  pub gives : OffersText node added
 
 -- room was set aside, and then the subpatch got the text of what grew
 pub record GotText (old new : Patch) (table : Names) (key : ℕ) (n : Node) (a : Added) : Type 0 where
-  pub gives : GivesText n a
+  pub gives : OffersText n a
   pub ready : Patch
   pub room : SameButRoom old ready
   pub could : CanRename ready key n

@@ -19,7 +19,7 @@ ghost use Rattle.pd_adding.specs.Coming.{own_zero};
 ghost use Rattle.pd_adding.specs.Growing.{Added};
 ghost use Rattle.pd_retyping.specs.Asking.{keeps_inside, settled_text};
 ghost use Rattle.pd_retyping.specs.Retypes.{Becomes, with_wires};
-ghost use Rattle.pd_retyping.specs.Becoming.{GivesText, GotText, HasGrown, IsBareSub, IsTaking, StaysAsItWas};
+ghost use Rattle.pd_retyping.specs.Becoming.{OffersText, GotText, HasGrown, IsBareSub, IsTaking, StaysAsItWas};
 
 use crate::becoming::{become_grown, counts_left};
 use crate::retyping::RetypedBox;
@@ -84,8 +84,8 @@ pub(crate) fn become_or_take<L: Ledger>(
 /// Whether the box of a key keeps what it holds, and can take the text of what grew: that is a subpatch without boxes, and both could be made.
 fn gives_text(patch: &Patch, key: u32, keeps: bool, grown: &Grown) -> bool
     ensures keeps { result ≡ true → keeps ≡ true }
-    ensures yes { result ≡ true → (n : Node) (a : Added) → get patch.now.grove.nodes key ≡ Some n → IsAdded grown.now a → GivesText n a }
-    ensures no { result ≡ false → keeps ≡ true → (n : Node) (a : Added) → get patch.now.grove.nodes key ≡ Some n → IsAdded grown.now a → GivesText n a → ⊥ }
+    ensures yes { result ≡ true → (n : Node) (a : Added) → get patch.now.grove.nodes key ≡ Some n → IsAdded grown.now a → OffersText n a }
+    ensures no { result ≡ false → keeps ≡ true → (n : Node) (a : Added) → get patch.now.grove.nodes key ≡ Some n → IsAdded grown.now a → OffersText n a → ⊥ }
 {
     if !keeps {
         return false;
@@ -161,7 +161,7 @@ fn take_text(
     requires takes { IsTaking patch.old key grown }
     requires meet { Meet patch.old.web }
     requires counted { wires ≡ wires_told patch.old.web }
-    ensures took { IfOk result (λ b. (n : Node) (a : Added) → get patch.old.grove.nodes key ≡ Some n → IsAdded grown a → GivesText n a → GotText patch.old patch.new symbols.old key n a) }
+    ensures took { IfOk result (λ b. (n : Node) (a : Added) → get patch.old.grove.nodes key ≡ Some n → IsAdded grown a → OffersText n a → GotText patch.old patch.new symbols.old key n a) }
     ensures gone { IfOk result (λ b. b.gone.items ≡ []) }
     ensures key { IfOk result (λ b. b.key ≡ key) }
     ensures canvas { IfOk result (λ b. b.canvas ≡ grown.canvas) }

@@ -1,4 +1,4 @@
-use Rattle.std.proofs.Common.{[], ◌∷◌, refl, sym, subst}
+use Rattle.std.proofs.Common.{true, [], ◌∷◌, refl, sym, subst}
 use Rattle.slab.specs.Slab.{get}
 use Rattle.pd_grove.specs.Refits.{with_text}
 use Rattle.pd_grove.specs.Standing.{node_seen}
@@ -20,23 +20,23 @@ retext_box-requires c = is_live c.args.patch.now.grove c.args.room.key c.require
 
 pub bind_box-requires-clause-forest : goal.bind_box-requires-clause-forest
 bind_box-requires-clause-forest c =
-    forest_as c.args.patch.now.grove c.retext_box.new.grove c.args.room.key c.args.room.written c.args.room.text c.retext_box.ensures c.requires.can.1.can.forest
+    forest_as c.args.patch.now.grove c.retext_box.new.self c.args.room.key c.args.room.written c.args.room.text c.retext_box.ensures c.requires.can.1.can.forest
 
 pub bind_box-requires-clause-labelled : goal.bind_box-requires-clause-labelled
-bind_box-requires-clause-labelled c = (c.retext_box.new.grove).labelled
+bind_box-requires-clause-labelled c = (c.retext_box.new.self).labelled
 
 pub bind_box-requires-clause-apart : goal.bind_box-requires-clause-apart
 bind_box-requires-clause-apart c =
-    none_as c.args.patch.now.grove c.retext_box.new.grove c.args.room.key c.args.room.written c.args.room.text c.retext_box.ensures root_owner c.requires.can.1.can.apart
+    none_as c.args.patch.now.grove c.retext_box.new.self c.args.room.key c.args.room.written c.args.room.text c.retext_box.ensures root_owner c.requires.can.1.can.apart
 
 pub bind_box-requires-clause-here : goal.bind_box-requires-clause-here
 bind_box-requires-clause-here c =
-    stands c.args.patch.now.grove c.retext_box.new.grove c.args.room.key c.args.room.written c.args.room.text c.retext_box.ensures c.spot_at-spot.result c.spot_at-spot.ensures.stands
+    stands c.args.patch.now.grove c.retext_box.new.self c.args.room.key c.args.room.written c.args.room.text c.retext_box.ensures c.spot_at-spot.result c.spot_at-spot.ensures.stands
 
 pub bind_box-requires-clause-room : goal.bind_box-requires-clause-room
 bind_box-requires-clause-room c =
     let g = c.args.patch.now.grove in
-    let h = c.retext_box.new.grove in
+    let h = c.retext_box.new.self in
     let room = c.args.room in
     let n = c.requires.can.0 in
     let C = c.requires.can.1 in
@@ -51,7 +51,7 @@ returns-clause-renamed c = λ n is.
     let p = c.args.patch.now in
     let room = c.args.room in
     let table = c.args.symbols.now in
-    let h = c.retext_box.new.grove in
+    let h = c.retext_box.new.self in
     let A = c.retext_box.ensures in
     let spot = c.spot_at-spot.result in
     let same = c.spot_at-spot.ensures.node in
