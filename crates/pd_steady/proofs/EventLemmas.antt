@@ -12,10 +12,8 @@ use Rattle.pd_walk.specs.declared.walker.Start.TheVariants as start
 use Rattle.pd_walk.specs.Outcome.{outcome, all_loaded as own_loaded}
 use Rattle.pd_hearing.specs.Worlds.{Net, Kept}
 use Rattle.pd_grove.specs.declared.ports.Side.TheVariants.{Outlets}
-use Rattle.pd_web.specs.declared.jacks.Jack.{Jack}
 use Rattle.pd_web.specs.declared.web.Web.{Web}
 use Rattle.pd_web.specs.Changes.{KeepsPorts}
-use Rattle.pd_web.specs.Hops.{signal_in}
 use Rattle.pd_patch.specs.Values.{Blocks}
 use Rattle.pd_block.specs.Nets.{Net as BlockNet, Sound}
 use Rattle.pd_block.specs.Blocks.{block_of}
@@ -30,7 +28,7 @@ use Rattle.pd_sized.specs.Kinds.{KeepsOfKind}
 use Rattle.pd_sized.proofs.AlikeRunLemmas.{outcome_alike}
 use Rattle.pd_ends_law.specs.Ends.{AreOpen, kinds_in}
 use Rattle.pd_ends_law.proofs.RunLemmas.{outcome_open}
-use Rattle.pd_sound_law.specs.Ready.{HasBlocks, IsReady}
+use Rattle.pd_sound_law.specs.Ready.{IsReady}
 use Rattle.pd_sound_law.proofs.ReadyLemmas.{ready_lasts}
 use Rattle.pd_stage.specs.Choices.{Wanted, Asks, first_choice, loads_of_choice}
 use Rattle.pd_stage.specs.Stages.{Stage, Passage, joined, followed_by}
@@ -40,11 +38,12 @@ use Rattle.pd_stage.specs.Events as engine
 use Rattle.pd_stage.specs.Events.{Beginning, Message, Firing, Loading, Left, whole, left_after, going_on, begun, delivered, with_kept, after_deliveries, edit_taken, loaded_by, edit_loaded_by, asked_by, edits_taken_by, edits_of_by, event, edit_event}
 use Rattle.pd_stage.proofs.EditLemmas.{ButWires, but_wires, Alters}
 use Rattle.pd_steady.specs.Freely.{deliveries, event_freely, edit_freely}
-use Rattle.pd_steady.specs.Steady.{IsSteady}
+use Rattle.pd_steady.specs.Steady.{HasRows, IsSteady}
 use Rattle.pd_steady.proofs.FairLemmas.{AreFair, fair_first, fair_second, taken_left}
 use Rattle.pd_steady.proofs.ExtendLemmas.{outcome_extends}
 use Rattle.pd_engine.proofs.TreeLemmas.{HasBoth, altered_both}
 use Rattle.pd_engine.proofs.WholeLemmas.{both_on}
+use Rattle.pd_steady.proofs.KeyLemmas.{rows_blocks, same_row}
 use Rattle.pd_steady.proofs.PutLemmas.{put_steady, room_steady}
 use Rattle.pd_steady.proofs.TakeLemmas.{take_steady}
 use Rattle.pd_steady.proofs.MoveLemmas.{move_steady}
@@ -121,9 +120,9 @@ pub record IsFree (most : ℕ) (p q : Passage) : Type 0 where
   pub same : q ≡ p
   pub steady : AreFair p.edits → IsSteady most p.stage
 
--- where the ports stay each outlet that carries signals has its block
-blocks_stay : (w v : Web) (blocks : Blocks) → KeepsPorts w v → HasBlocks w blocks → HasBlocks v blocks
-blocks_stay w v blocks kept h k o sounds = h k o (ap (λ (js : List Jack). signal_in (slice_get js o)) (sym (kept.ports Outlets k)) ∙ sounds)
+-- where the ports stay boxes have their blocks
+rows_stay : (w v : Web) (blocks : Blocks) → KeepsPorts w v → HasRows w blocks → HasRows v blocks
+rows_stay w v blocks kept h k o l = h k o (same_row w v k o (kept.ports Outlets k) l)
 
 -- other wires leave a stage steady
 wires_steady : (most : ℕ) (s r : Stage) → IsSteady most s → ButWires s r → HasBoth r → IsSteady most r
@@ -141,8 +140,9 @@ wires_steady most s r h e tree =
         channels = h.ready.channels;
         keys = h.ready.keys;
         fed = e.kept.fed h.ready.fed;
-        blocks = blocks_stay s.net.web e.web s.net.blocks e.kept.ports h.ready.blocks;
+        blocks = rows_blocks e.web s.net.blocks (rows_stay s.net.web e.web s.net.blocks e.kept.ports h.rows);
       };
+      rows = rows_stay s.net.web e.web s.net.blocks e.kept.ports h.rows;
       block = h.block;
       ends = h.ends;
       tree = t.tree;
@@ -178,6 +178,7 @@ kept_steady most s v u h d = record {
   ready = let r : IsReady (block_net s) (record { states = v.kept.states; blocks = s.net.blocks }) =
       ready_lasts (block_net s) (sound_at s) (record { states = v.kept.states; blocks = s.net.blocks }) h.ready d.objects (record { states = d.sizes; blocks = h.ready.whole.blocks }) h.ready.blocks in
       record { kinds = r.kinds; whole = record { states = r.whole.states; blocks = r.whole.blocks }; owners = r.owners; channels = r.channels; keys = r.keys; fed = r.fed; blocks = r.blocks };
+  rows = h.rows;
   block = h.block;
   ends = d.ends (s.block_end - block_units) h.ends;
   tree = (kept_owned most s v u h d).tree;

@@ -15,7 +15,7 @@ use Rattle.pd_web.specs.declared.jacks.Jack.{Jack}
 use Rattle.pd_web.specs.declared.lines.Line.{Line}
 use Rattle.pd_web.specs.declared.web.Hop.{Hop}
 use Rattle.pd_web.specs.declared.web.Web.{Web}
-use Rattle.pd_web.specs.Hops.{ports_told, signal_in, feed_hops}
+use Rattle.pd_web.specs.Hops.{ports_told, feed_hops}
 use Rattle.pd_web.specs.Changes.{line_told, wires_told}
 use Rattle.pd_web.proofs.CountLemmas.{held, holds, held_alike}
 use Rattle.pd_patch.specs.declared.patch.Patch.{Patch}
@@ -29,9 +29,9 @@ use Rattle.pd_guards.specs.Sounds.{AreValues}
 use Rattle.pd_guards.proofs.SignalLemmas.{silent_values}
 use Rattle.pd_sized.specs.Sizes.{IsBlock}
 use Rattle.pd_sized.proofs.StartLemmas.{silent_count}
-use Rattle.pd_sound_law.specs.Ready.{HasBlocks}
+use Rattle.pd_steady.specs.Steady.{HasRows}
 use Rattle.pd_stage.proofs.FedLemmas.{told_some}
-use Rattle.pd_steady.proofs.KeyLemmas.{KeepsBoxes, put_blocks, put_each}
+use Rattle.pd_steady.proofs.KeyLemmas.{KeepsBoxes, same_row, put_blocks, put_each}
 
 -- ---- as many places of a list hold something, and none more, so they are the same
 
@@ -122,9 +122,8 @@ raised_fed w v from wires f = record {
 -- ---- the blocks of outlets
 
 pub follow_blocks : (side : Side) (r q : Patch) (holder : ℕ) → BlocksFollow side r q holder
-    → ((k : ℕ) → (k ≡ holder → Outlets ≢ side) → ports_told q.web Outlets k ≡ ports_told r.web Outlets k) → HasBlocks r.web (blocks_told r) → HasBlocks q.web (blocks_told q)
-follow_blocks Inlets r q holder same ports h = λ k o sounds.
-    subst (λ (b : Blocks). IsSome (block_at b k o)) (sym same) (h k o (ap (λ (js : List Jack). signal_in (slice_get js o)) (sym (ports k (λ _ e. cc))) ∙ sounds))
+    → ((k : ℕ) → (k ≡ holder → Outlets ≢ side) → ports_told q.web Outlets k ≡ ports_told r.web Outlets k) → HasRows r.web (blocks_told r) → HasRows q.web (blocks_told q)
+follow_blocks Inlets r q holder same ports h = λ k o l. subst (λ (b : Blocks). IsSome (block_at b k o)) (sym same) (h k o (same_row r.web q.web k o (ports k (λ _ e. cc)) l))
 follow_blocks Outlets r q holder puts ports h = put_blocks r q holder puts (λ k other. ports k (λ e. absurd (other e))) h
 
 pub follow_each : (P : List ℤ → Type 0) (side : Side) (r q : Patch) (holder : ℕ) → BlocksFollow side r q holder → P silent_block → AllByRecursion (AllByRecursion P) (blocks_told r)

@@ -5,6 +5,7 @@ use Rattle.std.specs.List.{AllByRecursion}
 use Rattle.std.proofs.lemmas.Option.{none-some, slice_get-get_or}
 use Rattle.std.proofs.lemmas.List.{length-replicate}
 use Rattle.slab.specs.Slab.{get}
+use Rattle.pd_clock.specs.declared.times.Rate.{Rate}
 use Rattle.pd_kind.specs.States.{silent_block}
 use Rattle.pd_order.specs.Graph.{tally}
 use Rattle.pd_order.proofs.Basics.{by_test, same_node, other_node}
@@ -15,10 +16,12 @@ use Rattle.pd_web.specs.declared.jacks.Jack.{Jack}
 use Rattle.pd_web.specs.declared.web.Hop.{Hop}
 use Rattle.pd_web.specs.declared.web.Web.{Web}
 use Rattle.pd_web.specs.declared.lines.Line.{Line}
-use Rattle.pd_web.specs.Hops.{ports_told, jack_told, signal_in, feed_hops}
+use Rattle.pd_web.specs.Hops.{ports_told, signal_in, feed_hops}
 use Rattle.pd_web.specs.Changes.{line_told}
+use Rattle.pd_web.specs.Jacks.{jacks_in}
 use Rattle.pd_patch.specs.declared.patch.Patch.{Patch}
 use Rattle.pd_patch.specs.Fed.{keys_of, AreFed}
+use Rattle.pd_patch.specs.Grown.{IsFresh}
 use Rattle.pd_patch.specs.Values.{Blocks, block_count, block_at, blocks_told, first_blocks}
 use Rattle.pd_patch.proofs.BlockLemmas.{blocks_some}
 use Rattle.pd_boxes.specs.declared.room.Place.{Place}
@@ -34,6 +37,7 @@ use Rattle.pd_guards.proofs.SignalLemmas.{all-same, silent_values}
 use Rattle.pd_sized.specs.Sizes.{IsBlock}
 use Rattle.pd_sized.proofs.StartLemmas.{silent_count}
 use Rattle.pd_sound_law.specs.Ready.{HasBlocks}
+use Rattle.pd_steady.specs.Steady.{HasRows}
 use Rattle.pd_atom.specs.Names.{Names}
 
 -- what holds at one key and at all others holds at all
@@ -69,7 +73,7 @@ pub longer_block : (old new : Blocks) → IsLonger [] old new → (k o : ℕ) �
 longer_block old new l k o h =
     row_some (slice_get old k) old new k o refl (λ own e. ap (λ (xs : Blocks). slice_get xs k) l.1 ∙ cut_short old (replicate l.0 []) k own e) h
 
-below_all : (ports : List Jack) (o : ℕ) → signal_in (slice_get ports o) ≡ true → o < length ports
+pub below_all : (ports : List Jack) (o : ℕ) → signal_in (slice_get ports o) ≡ true → o < length ports
 below_all [] o h = absurd (true≢false (sym h))
 below_all (j ∷ ports) zero h = omega arith
 below_all (j ∷ ports) (suc o) h = let rest : o < length ports = below_all ports o h in omega (arith, rest)
@@ -77,11 +81,36 @@ below_all (j ∷ ports) (suc o) h = let rest : o < length ports = below_all port
 silent_there : (n o : ℕ) → o < n → IsSome (slice_get (replicate n silent_block) o)
 silent_there n o l = let all = length-replicate n silent_block in ap is_some (slice_get-get_or (replicate n silent_block) o silent_block (omega (arith, all, l)))
 
--- a new box has a block for each outlet that carries signals
-pub first_there : (w : Web) (key o : ℕ) → signal_in (slice_get (ports_told w Outlets key) o) ≡ true → IsSome (slice_get (first_blocks w key) o)
-first_there w key o sounds =
-    let js : List Jack = ports_told w Outlets key in
-    silent_there (block_count js) o (subst (λ (n : ℕ). o < n) (blocks_some js o sounds) (below_all js o sounds))
+-- a new box has its blocks
+pub first_there : (w : Web) (key o : ℕ) → o < block_count (ports_told w Outlets key) → IsSome (slice_get (first_blocks w key) o)
+first_there w key o l = silent_there (block_count (ports_told w Outlets key)) o l
+
+-- so each outlet that carries signals has one
+pub rows_blocks : (w : Web) (blocks : Blocks) → HasRows w blocks → HasBlocks w blocks
+rows_blocks w blocks h k o sounds =
+    let js : List Jack = ports_told w Outlets k in
+    h k o (subst (λ (n : ℕ). o < n) (blocks_some js o sounds) (below_all js o sounds))
+
+pub below_none : (n : ℕ) → n < 0 → ⊥
+below_none n l = omega (arith, l)
+
+-- where there are no outlets there are no blocks
+pub no_outlets : (js : List Jack) (o : ℕ) → js ≡ [] → o < block_count js → ⊥
+no_outlets js o e l = below_none o (subst (λ (xs : List Jack). o < block_count xs) e l)
+
+-- where a patch has grown, boxes have their blocks
+fresh_row : (p : Patch) (names : Names) (file : List ℕ) (rate : Rate) → IsFresh p names file rate → (k o : ℕ) (n : Option Node) → get p.grove.nodes k ≡ n → o < block_count (ports_told p.web Outlets k)
+    → IsSome (block_at (blocks_told p) k o)
+fresh_row p names file rate fresh k o None e l = absurd (no_outlets (ports_told p.web Outlets k) o (fresh.wires.ports Outlets k ∙ ap (jacks_in Outlets p.grove) e) l)
+fresh_row p names file rate fresh k o (Some n) e l =
+    subst (λ (row : Option (List (List ℤ))). IsSome (option_and_then (λ (own : List (List ℤ)). slice_get own o) row)) (sym (fresh.blocks k (ap is_some e))) (first_there p.web k o l)
+
+pub fresh_rows : (p : Patch) (names : Names) (file : List ℕ) (rate : Rate) → IsFresh p names file rate → HasRows p.web (blocks_told p)
+fresh_rows p names file rate fresh k o l = fresh_row p names file rate fresh k o (get p.grove.nodes k) refl l
+
+-- where a box has the outlets that it had, it has their blocks
+pub same_row : (w v : Web) (k o : ℕ) → ports_told v Outlets k ≡ ports_told w Outlets k → o < block_count (ports_told v Outlets k) → o < block_count (ports_told w Outlets k)
+same_row w v k o e l = subst (λ (js : List Jack). o < block_count js) e l
 
 -- ---- two webs with the same wires
 
@@ -96,14 +125,14 @@ fed_same w v lines feeds h = record {
 
 -- all that is said of outlets and their blocks
 abbrev HasBlock : Patch → ℕ → Type 0
-HasBlock p k = (o : ℕ) → signal_in (jack_told p.web Outlets k o) ≡ true → IsSome (block_at (blocks_told p) k o)
+HasBlock p k = (o : ℕ) → o < block_count (ports_told p.web Outlets k) → IsSome (block_at (blocks_told p) k o)
 
 -- under a key stands this box now, and all others stay
 pub record HasOneNew (p q : Patch) (key : ℕ) (n : Node) : Type 0 where
   pub is : get q.grove.nodes key ≡ Some n
   pub others : (k : ℕ) → k ≢ key → get q.grove.nodes k ≡ get p.grove.nodes k
   pub fed : AreFed p.web → AreFed q.web
-  pub blocks : HasBlocks p.web (blocks_told p) → HasBlocks q.web (blocks_told q)
+  pub blocks : HasRows p.web (blocks_told p) → HasRows q.web (blocks_told q)
   pub values : AllByRecursion (AllByRecursion AreValues) (blocks_told p) → AllByRecursion (AllByRecursion AreValues) (blocks_told q)
   pub sizes : AllByRecursion (AllByRecursion IsBlock) (blocks_told p) → AllByRecursion (AllByRecursion IsBlock) (blocks_told q)
 
@@ -114,9 +143,9 @@ pub record HasOneMore (p q : Patch) (key : ℕ) (n : Node) : Type 0 where
   pub low : key < 2 ^ 32
 
 -- where room was set aside the blocks are there
-pub room_blocks : (p r : Patch) → SameButRoom p r → HasBlocks p.web (blocks_told p) → HasBlocks r.web (blocks_told r)
-room_blocks p r room h k o sounds =
-    longer_block (blocks_told p) (blocks_told r) room.values k o (h k o (ap (λ (js : List Jack). signal_in (slice_get js o)) (sym (room.web.kept.ports Outlets k)) ∙ sounds))
+pub room_blocks : (p r : Patch) → SameButRoom p r → HasRows p.web (blocks_told p) → HasRows r.web (blocks_told r)
+room_blocks p r room h k o l =
+    longer_block (blocks_told p) (blocks_told r) room.values k o (h k o (same_row p.web r.web k o (room.web.kept.ports Outlets k) l))
 
 pub room_fed : (p r : Patch) → SameButRoom p r → AreFed p.web → AreFed r.web
 room_fed p r room h = fed_same p.web r.web room.web.lines room.web.feeds h
@@ -128,7 +157,7 @@ room_all p r P room none h = longer_all P [] (blocks_told p) (blocks_told r) roo
 pub record KeepsBoxes (p q : Patch) : Type 0 where
   pub nodes : (k : ℕ) → get q.grove.nodes k ≡ get p.grove.nodes k
   pub fed : AreFed p.web → AreFed q.web
-  pub blocks : HasBlocks p.web (blocks_told p) → HasBlocks q.web (blocks_told q)
+  pub blocks : HasRows p.web (blocks_told p) → HasRows q.web (blocks_told q)
   pub values : AllByRecursion (AllByRecursion AreValues) (blocks_told p) → AllByRecursion (AllByRecursion AreValues) (blocks_told q)
   pub sizes : AllByRecursion (AllByRecursion IsBlock) (blocks_told p) → AllByRecursion (AllByRecursion IsBlock) (blocks_told q)
 
@@ -215,14 +244,14 @@ refit_under p q table key n seed refit = record {
   blocks = refit.blocks;
 }
 
--- where a box has its first blocks, each outlet that carries signals has a block if each of every other box has
+-- where a box has its first blocks, each box has its blocks if each other one has
 pub put_blocks : (r q : Patch) (key : ℕ) → PutsUnder (blocks_told r) (blocks_told q) key (first_blocks q.web key)
-    → ((k : ℕ) → k ≢ key → ports_told q.web Outlets k ≡ ports_told r.web Outlets k) → HasBlocks r.web (blocks_told r) → HasBlocks q.web (blocks_told q)
+    → ((k : ℕ) → k ≢ key → ports_told q.web Outlets k ≡ ports_told r.web Outlets k) → HasRows r.web (blocks_told r) → HasRows q.web (blocks_told q)
 put_blocks r q key puts ports h =
     by_key (HasBlock q) key
-    (λ o sounds. subst (λ (row : Option (List (List ℤ))). IsSome (option_and_then (λ (own : List (List ℤ)). slice_get own o) row)) (sym puts.is) (first_there q.web key o sounds))
-    (λ k other o sounds. subst (λ (row : Option (List (List ℤ))). IsSome (option_and_then (λ (own : List (List ℤ)). slice_get own o) row)) (sym (puts.others k other))
-    (h k o (ap (λ (js : List Jack). signal_in (slice_get js o)) (sym (ports k other)) ∙ sounds)))
+    (λ o l. subst (λ (row : Option (List (List ℤ))). IsSome (option_and_then (λ (own : List (List ℤ)). slice_get own o) row)) (sym puts.is) (first_there q.web key o l))
+    (λ k other o l. subst (λ (row : Option (List (List ℤ))). IsSome (option_and_then (λ (own : List (List ℤ)). slice_get own o) row)) (sym (puts.others k other))
+    (h k o (same_row r.web q.web k o (ports k other) l)))
 
 -- and what holds of each block, and of silence, holds of each then
 pub put_each : (P : List ℤ → Type 0) (r q : Patch) (key : ℕ) → PutsUnder (blocks_told r) (blocks_told q) key (first_blocks q.web key) → P silent_block

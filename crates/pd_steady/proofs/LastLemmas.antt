@@ -41,13 +41,13 @@ use Rattle.pd_steady.specs.Steps.{Step, Does, Learns, Comes, step_by, steps_by}
 use Rattle.pd_steady.specs.Serving.{EndsIn, Ends, LeavesBox, LeaveBox, StayAlike}
 use Rattle.pd_steady.proofs.EventLemmas.{start_of, outcome_is, loads_alike}
 use Rattle.pd_steady.proofs.ComeLemmas.{IsFirst, come_new}
-use Rattle.pd_steady.proofs.KeyLemmas.{HasOneNew}
 use Rattle.pd_steady.proofs.NewLemmas.{HasNew, new_alike}
 use Rattle.pd_steady.proofs.LessLemmas.{HasLess}
 use Rattle.pd_steady.proofs.MadeLemmas.{take_at, retype_at}
 use Rattle.pd_steady.proofs.TakeLemmas.{taken_less}
-use Rattle.pd_steady.proofs.MoveLemmas.{moved_state}
-use Rattle.pd_steady.proofs.RetypeLemmas.{retyped_node, retyped_new}
+use Rattle.pd_steady.proofs.AlikeLemmas.{KeepsAlike}
+use Rattle.pd_steady.proofs.MoveLemmas.{moved_alike}
+use Rattle.pd_steady.proofs.RetypeLemmas.{retyped_others}
 use Rattle.pd_steady.proofs.OwnLemmas.{commanded_own, advanced_own}
 
 -- so it is along a part of a run whose edits are lawful
@@ -148,9 +148,10 @@ take_same s ahead path number wanted (Makes m) h k is left =
 move_same : (s : Stage) (ahead : List Choice) (path : List ℕ) (number : ℕ) (x y : ℤ) (c : Choice) → IsMovingLawful (with_ahead s []) path number x y c → (k : ℕ)
     → IsSameAt s (stage_by (with_ahead s ahead) c) k
 move_same s ahead path number x y (Refuses why) h k = refl
-move_same s ahead path number x y (Lacks net) h k = absurd h
+move_same s ahead path number x y (Lacks net) h k = refl
 move_same s ahead path number x y (Makes m) h k =
-    ap (λ (states : ℕ → Option State). option_map blank (states k)) h.states ∙ ap (λ (o : Option State). option_map blank o) (moved_state h.old h.new path number x y h.key h.moves k)
+    let alike : KeepsAlike h.old h.new = moved_alike h.old h.new path number x y h.box h.moves in
+    ap (λ (states : ℕ → Option State). option_map blank (states k)) h.states ∙ ap (λ (o : Option State). option_map blank o) (alike.state k)
     ∙ sym (ap (λ (states : ℕ → Option State). option_map blank (states k)) h.stands.states)
 
 -- a box that became another one
@@ -159,10 +160,8 @@ retype_same : (s : Stage) (ahead : List Choice) (path : List ℕ) (number : ℕ)
 retype_same s ahead path number text wanted (Refuses why) h k is left = refl
 retype_same s ahead path number text wanted (Lacks net) h k is left = refl
 retype_same s ahead path number text wanted (Makes m) h k is left =
-    let n : Node = retyped_node (with_ahead s []) path number text m h in
-    let new : HasOneNew h.old h.new h.box.key n = retyped_new (with_ahead s []) path number text m h in
     let other : k ≢ h.box.key = λ e. left (is (retype_at (with_ahead s []) path number text m h ∙ ap (λ (x : ℕ). Some x) (sym e))) in
-    ap (λ (states : ℕ → Option State). option_map blank (states k)) h.states ∙ ap (λ (o : Option Node). option_map blank (state_in o)) (new.others k other)
+    ap (λ (states : ℕ → Option State). option_map blank (states k)) h.states ∙ ap (λ (o : Option State). option_map blank o) (retyped_others (with_ahead s []) path number text m h k other)
     ∙ sym (ap (λ (states : ℕ → Option State). option_map blank (states k)) h.stands.states)
 
 -- saves, and what is refused

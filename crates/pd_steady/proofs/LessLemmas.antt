@@ -1,5 +1,5 @@
 -- A patch with a box less and all that lay in it: what holds of all boxes of the old one holds of all that are left.
-use Rattle.std.proofs.Common.{arith, ◌≡◌, ◌⊎◌, inl, inr, ⊎_elim, ℕ, ℤ, zero, suc, ◌<◌, ◌≤◌, ◌==◌, Bool, true, false, List, [], ◌∷◌, length, slice_get, Option, Some, None, IfSome, IsSome, is_some, option_map, refl, sym, ap, subst, ◌∙◌, true≢false}
+use Rattle.std.proofs.Common.{arith, ◌≡◌, ◌⊎◌, inl, inr, ⊎_elim, ℕ, ℤ, zero, suc, ◌<◌, ◌≤◌, ◌==◌, Bool, true, false, List, [], ◌∷◌, length, slice_get, Option, Some, None, IfSome, IsSome, is_some, option_map, refl, sym, ap, subst, ◌∙◌}
 use Rattle.std.specs.Prelude.{option_and_then, not, filter}
 use Rattle.std.specs.List.{AllByRecursion}
 use Rattle.std.proofs.lemmas.Option.{none-some, same_Some}
@@ -18,15 +18,14 @@ use Rattle.pd_grove.specs.Forest.{IsForest, holder_in, around, out_of}
 use Rattle.pd_grove.specs.Grafts.{LiesInBox, TakesBox}
 use Rattle.pd_grove.specs.Owning.{board_in}
 use Rattle.pd_grove.specs.Telling.{kind_in, state_in}
-use Rattle.pd_web.specs.declared.jacks.Jack.{Jack}
 use Rattle.pd_web.specs.declared.lines.Line.{Line}
 use Rattle.pd_web.specs.declared.web.Hop.{Hop}
 use Rattle.pd_web.specs.declared.web.Web.{Web}
 use Rattle.pd_web.specs.Changes.{line_told, without_hop, CutsWire}
-use Rattle.pd_web.specs.Hops.{ports_told, signal_in, feed_hops}
+use Rattle.pd_web.specs.Hops.{ports_told, feed_hops}
 use Rattle.pd_patch.specs.declared.patch.Patch.{Patch}
 use Rattle.pd_patch.specs.Fed.{keys_of, AreFed}
-use Rattle.pd_patch.specs.Values.{Blocks, block_at, blocks_told}
+use Rattle.pd_patch.specs.Values.{Blocks, blocks_told}
 use Rattle.pd_wiring.specs.Changes.{SameButRoom}
 use Rattle.pd_boxes.specs.declared.room.Place.{Place}
 use Rattle.pd_boxes.specs.Put.{keys_before}
@@ -40,9 +39,9 @@ use Rattle.pd_guards.specs.Sounds.{AreValues}
 use Rattle.pd_guards.proofs.FactLemmas.{either, all-at, all-from}
 use Rattle.pd_sized.specs.Sizes.{IsBlock}
 use Rattle.pd_sized.specs.Kinds.{blank_of, KeepsOfKind}
-use Rattle.pd_sound_law.specs.Ready.{HasBlocks}
+use Rattle.pd_steady.specs.Steady.{HasRows}
 use Rattle.pd_stage.proofs.FedLemmas.{same_fed}
-use Rattle.pd_steady.proofs.KeyLemmas.{fed_same}
+use Rattle.pd_steady.proofs.KeyLemmas.{fed_same, no_outlets, same_row}
 
 -- ---- wires that went
 
@@ -138,7 +137,7 @@ pub record HasLess (p q : Patch) (key : ℕ) : Type 0 where
   pub each : (k : ℕ) → (get q.grove.nodes k ≡ None) ⊎ (get q.grove.nodes k ≡ get p.grove.nodes k)
   pub others : (k : ℕ) → (LiesWithin (get p.grove.nodes) (get p.grove.boards) key k → ⊥) → get q.grove.nodes k ≡ get p.grove.nodes k
   pub fed : AreFed p.web → AreFed q.web
-  pub blocks : HasBlocks p.web (blocks_told p) → HasBlocks q.web (blocks_told q)
+  pub blocks : HasRows p.web (blocks_told p) → HasRows q.web (blocks_told q)
   pub values : AllByRecursion (AllByRecursion AreValues) (blocks_told p) → AllByRecursion (AllByRecursion AreValues) (blocks_told q)
   pub sizes : AllByRecursion (AllByRecursion IsBlock) (blocks_told p) → AllByRecursion (AllByRecursion IsBlock) (blocks_told q)
 
@@ -151,10 +150,6 @@ gone_or (Some n) was f = inr (f refl)
 row_empty : (P : List ℤ → Type 0) (row : Option (List (List ℤ))) → ((o : ℕ) → option_and_then (λ (own : List (List ℤ)). slice_get own o) row ≡ None) → IfSome row (AllByRecursion P)
 row_empty P None h = tt
 row_empty P (Some own) h = all-from P own (λ o. subst (λ (x : Option (List ℤ)). IfSome x P) (sym (h o)) tt)
-
--- all that is said of outlets and their blocks
-abbrev HasBlock : Patch → ℕ → Type 0
-HasBlock p k = (o : ℕ) → signal_in (slice_get (ports_told p.web Outlets k) o) ≡ true → IsSome (block_at (blocks_told p) k o)
 
 module _ (p r q : Patch) (table : Names) (place : Place) (key steps steps' : ℕ) (room : SameButRoom p r) (cleared : IsCleared r q table place key steps steps')
     (F : IsForest (get p.grove.nodes) (get p.grove.boards) p.grove.root) where
@@ -175,11 +170,11 @@ module _ (p r q : Patch) (table : Names) (place : Place) (key steps steps' : ℕ
       fed_same cleared.loose.web q.web cleared.lines cleared.feeds
       (lost_fed cleared.part r cleared.lost cleared.loose cleared.one_by_one (same_fed p.web r.web room.web h))
 
-  left_blocks : HasBlocks p.web (blocks_told p) → HasBlocks q.web (blocks_told q)
+  left_blocks : HasRows p.web (blocks_told p) → HasRows q.web (blocks_told q)
   left_blocks h k = by_test (went k)
-      (λ goes o sounds. absurd (true≢false (sym sounds ∙ ap (λ (js : List Jack). signal_in (slice_get js o)) (cleared.ports.gone Outlets k goes))))
-      (λ stays o sounds. subst (λ (row : Option (List (List ℤ))). IsSome (option_and_then (λ (own : List (List ℤ)). slice_get own o) row)) (sym (other_row k stays))
-      (h k o (ap (λ (js : List Jack). signal_in (slice_get js o)) (sym (same_ports k stays)) ∙ sounds)))
+      (λ goes o l. absurd (no_outlets (ports_told q.web Outlets k) o (cleared.ports.gone Outlets k goes) l))
+      (λ stays o l. subst (λ (row : Option (List (List ℤ))). IsSome (option_and_then (λ (own : List (List ℤ)). slice_get own o) row)) (sym (other_row k stays))
+      (h k o (same_row p.web q.web k o (same_ports k stays) l)))
 
   left_all : (P : List ℤ → Type 0) → AllByRecursion (AllByRecursion P) (blocks_told p) → AllByRecursion (AllByRecursion P) (blocks_told q)
   left_all P h =

@@ -1,11 +1,10 @@
 -- Some wires at a box go, or room is set aside: each box stays, and what is said of the wires to inlets and of blocks is still so.
-use Rattle.std.proofs.Common.{◌≡◌, ℕ, ℤ, List, [], ◌∷◌, slice_get, IsSome, refl, sym, ap, subst, ◌∙◌}
+use Rattle.std.proofs.Common.{◌≡◌, ℕ, ℤ, List, [], ◌∷◌, IsSome, refl, sym, ap, subst}
 use Rattle.std.specs.List.{AllByRecursion}
 use Rattle.slab.specs.Slab.{get}
 use Rattle.pd_grove.specs.declared.grove.Grove.{Grove}
 use Rattle.pd_grove.specs.declared.ports.Side.TheVariants.{Outlets}
-use Rattle.pd_web.specs.declared.jacks.Jack.{Jack}
-use Rattle.pd_web.specs.Hops.{ports_told, signal_in}
+use Rattle.pd_web.specs.Hops.{ports_told}
 use Rattle.pd_patch.specs.declared.patch.Patch.{Patch}
 use Rattle.pd_patch.specs.Fed.{AreFed}
 use Rattle.pd_patch.specs.Values.{Blocks, block_at, blocks_told}
@@ -13,9 +12,9 @@ use Rattle.pd_wiring.specs.Changes.{SameButRoom}
 use Rattle.pd_taking.specs.Loosening.{Gone, AreGone, Loosens}
 use Rattle.pd_guards.specs.Sounds.{AreValues}
 use Rattle.pd_sized.specs.Sizes.{IsBlock}
-use Rattle.pd_sound_law.specs.Ready.{HasBlocks}
+use Rattle.pd_steady.specs.Steady.{HasRows}
 use Rattle.pd_stage.proofs.FedLemmas.{same_fed}
-use Rattle.pd_steady.proofs.KeyLemmas.{KeepsBoxes}
+use Rattle.pd_steady.proofs.KeyLemmas.{KeepsBoxes, same_row}
 use Rattle.pd_steady.proofs.LessLemmas.{cut_fed}
 
 -- one after the other
@@ -28,9 +27,8 @@ module _ (p q : Patch) (grove : q.grove ≡ p.grove) (values : q.values ≡ p.va
   same_blocks : blocks_told q ≡ blocks_told p
   same_blocks = rw values refl
 
-  still_blocks : HasBlocks p.web (blocks_told p) → HasBlocks q.web (blocks_told q)
-  still_blocks h k o sounds =
-      subst (λ (b : Blocks). IsSome (block_at b k o)) (sym same_blocks) (h k o (ap (λ (js : List Jack). signal_in (slice_get js o)) (sym (ports k)) ∙ sounds))
+  still_blocks : HasRows p.web (blocks_told p) → HasRows q.web (blocks_told q)
+  still_blocks h k o l = subst (λ (b : Blocks). IsSome (block_at b k o)) (sym same_blocks) (h k o (same_row p.web q.web k o (ports k) l))
 
   still_all : (P : List ℤ → Type 0) → AllByRecursion (AllByRecursion P) (blocks_told p) → AllByRecursion (AllByRecursion P) (blocks_told q)
   still_all P h = subst (AllByRecursion (AllByRecursion P)) (sym same_blocks) h

@@ -29,14 +29,15 @@ use Rattle.pd_patch.specs.declared.report.Remark.TheVariants.{Loop}
 use Rattle.pd_patch.specs.Telling.{order_in}
 use Rattle.pd_wiring.specs.declared.asking.WireRefusal.{WireRefusal}
 use Rattle.pd_wiring.specs.declared.refusals.EditRefusal.{EditRefusal}
-use Rattle.pd_wiring.specs.declared.refusals.EditRefusal.TheVariants.{TooManyWires, NoDocument, NoBox}
+use Rattle.pd_wiring.specs.declared.refusals.EditRefusal.TheVariants.{TooManyWires, NoBox}
 use Rattle.pd_wiring.specs.Changes.{CanRewire}
 use Rattle.pd_wiring.specs.Plans.{Plan, Attaches, Detaches, canvas_of, attaching, wire_found, detaching, connecting, disconnecting, planned, IsCarriedOut, IsRewired}
 use Rattle.pd_boxes.specs.Put.{CanPut}
 use Rattle.pd_adding.specs.declared.counts.Counts.{Counts}
 use Rattle.pd_deleting.specs.Deletes.{going, going_box, going_in, DeletesBox}
 use Rattle.pd_deleting.specs.declared.deleting.OldBox.{OldBox}
-use Rattle.pd_shifting.specs.Moves.{is_array_in, is_port_around, moving_box, moving_in}
+use Rattle.pd_shifting.specs.Moves.{is_array_in, moving_box, moving_in, Shifts, ShiftsPort, ShiftsBox, canvas_changed}
+use Rattle.pd_retyping.specs.Retypes.{Becomes}
 use Rattle.pd_hearing.specs.Worlds.{Net, bare, net_of}
 use Rattle.pd_block.specs.Nets as block
 use Rattle.pd_stage.specs.Choices.{Made, Makes}
@@ -49,7 +50,7 @@ use Rattle.pd_stage.specs.Times.{with_wires, IsStageOf}
 use Rattle.pd_stage.proofs.EditLemmas.{AsksAlike}
 use Rattle.pd_engine.specs.Commands.{led_to}
 use Rattle.pd_engine.proofs.ShowLemmas.{led_is}
-use Rattle.pd_engine.proofs.TreeLemmas.{at_stands, lost_tree, more_tree, stands_more, boxes_more, low_more}
+use Rattle.pd_engine.proofs.TreeLemmas.{at_stands, lost_tree, moved_tree, more_tree, stands_more, boxes_more, low_more}
 use Rattle.pd_steady.specs.Serving.{box_of}
 use Rattle.pd_steady.specs.Told.{TellsLoop}
 use Rattle.pd_steady.proofs.ComeLemmas.{seen_keys, come_goes_on}
@@ -325,16 +326,15 @@ take_told s path number m t h c =
       meet = deleted_meet h.old h.new s.base.counts s.names path number h.steps h.steps' h.box h.deletes;
     }) c
 
--- ---- the order of the canvas in which an edit moved a box
+-- ---- the orders of the canvases in and around which an edit moved a box
 
-free_at : (array port : Bool) (e f : EditRefusal) (x y : ℕ × ℕ) → cond array (Err e) (cond port (Err f) (Ok x)) ≡ Ok y → x.0 ≡ y.0
-free_at true port e f x y h = absurd (cc)
-free_at false true e f x y h = absurd (cc)
-free_at false false e f x y h = ap (λ (z : ℕ × ℕ). z.0) (ok_same x y (Ok x) refl h)
+free_at : (array : Bool) (e : EditRefusal) (x y : ℕ × ℕ) → cond array (Err e) (Ok x) ≡ Ok y → x.0 ≡ y.0
+free_at true e x y h = absurd (cc)
+free_at false e x y h = ap (λ (z : ℕ × ℕ). z.0) (ok_same x y (Ok x) refl h)
 
 moving_from : (g : Grove) (c number : ℕ) (o : Option ℕ) (x : ℕ × ℕ) → moving_box g c number o ≡ Ok x → c ≡ x.0
 moving_from g c number None x h = absurd (cc)
-moving_from g c number (Some key) x h = free_at (is_array_in (get g.nodes key)) (is_port_around g c key) (NoBox number) NoDocument (c, key) x h
+moving_from g c number (Some key) x h = free_at (is_array_in (get g.nodes key)) (NoBox number) (c, key) x h
 
 moving_at : (g : Grove) (number : ℕ) (o : Option ℕ) (x : ℕ × ℕ) → moving_in g number o ≡ Ok x → o ≡ Some x.0
 moving_at g number None x h = absurd (cc)
@@ -344,22 +344,66 @@ moving_at g number (Some c) x h = ap (λ (y : ℕ). Some y) (moving_from g c num
 few_there : (n m b : ℕ) → n ≤ m → b ≡ m → b ≤ 16384 → n ≤ 16384
 few_there n m b l g h = omega (arith, l, g, h)
 
-pub move_short : (s : Stage) (path : List ℕ) (number : ℕ) (x y : ℤ) (m : Made) → HasTree s → (h : IsMovedTo s path number x y m) → (o : Listing)
-    → order_in h.new.orders.items h.moves.canvas ≡ Some o → length o.chain + length o.stuck ≤ most_boxes
-move_short s path number x y m t h o order =
-    let p : Patch = h.old in
-    let c : ℕ = h.moves.canvas in
-    let leads : reached p.grove (Some p.grove.root) path ≡ Some c =
-    sub_leads p.grove path (Some p.grove.root) c (moving_at p.grove number (sub_reached p.grove (Some p.grove.root) path) (c, h.key) h.moves.is) in
-    let there : reached t.patch.grove (Some t.patch.grove.root) path ≡ Some c = led_at (patch_now s t) p s path c h.stands.net t.of.net leads in
-    let few : length (keys_at t.patch.grove c) ≤ weight t.tree.boxes = canvas_few t.patch.grove t.tree t.stands path c there in
-    let same : keys_at p.grove c ≡ keys_at t.patch.grove c = ap (λ (boards : Slab Board). keys_in (get boards c)) (boards_same s t p h.stands.net) in
-    let all : length (keys_at p.grove c) ≤ 16384 =
-    few_there (length (keys_at p.grove c)) (weight t.tree.boxes) s.base.counts.boxes (subst (λ (ks : List ℕ). length ks ≤ weight t.tree.boxes) (sym same) few) t.boxes t.within.boxes in
-    let here : order_in p.orders.items c ≡ Some o = rw (sym h.moves.rest.orders) order in
-    let short : length o.chain + length o.stuck ≤ length (keys_at p.grove c) =
-    order_keys p.grove p.web (get p.grove.boards c) (order_in p.orders.items c) o (h.stands.puts.runs.orders c) here in
-    through (length o.chain + length o.stuck) (length (keys_at p.grove c)) short all
+module _ (s : Stage) (path : List ℕ) (number : ℕ) (x y : ℤ) (m : Made) (t : HasTree s) (h : IsMovedTo s path number x y m) where
+  -- a box that is no port
+  shift_short : Shifts h.old h.new h.box.canvas h.box.key x y → (o : Listing) → order_in h.new.orders.items h.box.canvas ≡ Some o → length o.chain + length o.stuck ≤ most_boxes
+  shift_short shifts o order =
+      let p : Patch = h.old in
+      let c : ℕ = h.box.canvas in
+      let leads : reached p.grove (Some p.grove.root) path ≡ Some c =
+      sub_leads p.grove path (Some p.grove.root) c (moving_at p.grove number (sub_reached p.grove (Some p.grove.root) path) (c, h.box.key) h.moves.is) in
+      let there : reached t.patch.grove (Some t.patch.grove.root) path ≡ Some c = led_at (patch_now s t) p s path c h.stands.net t.of.net leads in
+      let few : length (keys_at t.patch.grove c) ≤ weight t.tree.boxes = canvas_few t.patch.grove t.tree t.stands path c there in
+      let same : keys_at p.grove c ≡ keys_at t.patch.grove c = ap (λ (boards : Slab Board). keys_in (get boards c)) (boards_same s t p h.stands.net) in
+      let all : length (keys_at p.grove c) ≤ 16384 =
+      few_there (length (keys_at p.grove c)) (weight t.tree.boxes) s.base.counts.boxes (subst (λ (ks : List ℕ). length ks ≤ weight t.tree.boxes) (sym same) few) t.boxes t.within.boxes in
+      let here : order_in p.orders.items c ≡ Some o = rw (sym shifts.rest.orders) order in
+      let short : length o.chain + length o.stuck ≤ length (keys_at p.grove c) =
+      order_keys p.grove p.web (get p.grove.boards c) (order_in p.orders.items c) o (h.stands.puts.runs.orders c) here in
+      through (length o.chain + length o.stuck) (length (keys_at p.grove c)) short all
+
+  abbrev move_now : IsMovedTo (with_ahead s []) path number x y m
+  move_now = record {
+    old = h.old;
+    new = h.new;
+    box = h.box;
+    stands = record { net = h.stands.net; states = h.stands.states; puts = h.stands.puts; meet = h.stands.meet };
+    moves = h.moves;
+    net = h.net;
+    states = h.states;
+    clocks = h.clocks;
+    names = h.names;
+    base = h.base;
+    lines = h.lines;
+    files = h.files;
+    loads = h.loads;
+    looks = h.looks;
+  }
+
+  -- a port of a box around: the line of a loop of each canvas tells all its boxes
+  port_told : ShiftsPort h.old h.new h.box.canvas h.box.key x y → (c : ℕ) → TellsLoop h.new (Loop c)
+  port_told port c =
+      stage_told (stage_by (with_ahead s []) (Makes m)) (moved_tree s t path number x y m [] move_now) h.new (record {
+        net = h.net;
+        states = h.states;
+        puts = port.slid.can;
+        meet = port.slid.meet;
+      }) c
+
+  pub move_told : TellsLoop h.new (Loop h.box.canvas)
+  move_told = by h.moves.shifts
+    where
+      by : ShiftsBox h.old h.new h.box.canvas h.box.key x y → TellsLoop h.new (Loop h.box.canvas)
+      by (inl plain) = made_told h.new h.box.canvas (shift_short plain)
+      by (inr port) = port_told port h.box.canvas
+
+  -- and that of the canvas around, where ports there changed places
+  pub move_around : (c : ℕ) → h.box.around ≡ Some c → TellsLoop h.new (Loop c)
+  move_around c at = by h.moves.shifts h.moves.around
+    where
+      by : (shifts : ShiftsBox h.old h.new h.box.canvas h.box.key x y) → h.box.around ≡ canvas_changed h.old h.new h.box.canvas h.box.key x y shifts → TellsLoop h.new (Loop c)
+      by (inl plain) e = absurd (none-some c (sym e ∙ at))
+      by (inr port) e = port_told port c
 
 -- ---- the order of the canvas in which an edit made a box another one
 
@@ -372,21 +416,35 @@ retype_at s path number text m h =
     ap (λ (n : Net). box_of n path number) h.stands.net ∙ ap (λ (o : Option ℕ). option_and_then (λ c. slice_get (keys_at g c) number) o) there
     ∙ h.retypes.chosen.at
 
-pub retype_short : (s : Stage) (path : List ℕ) (number : ℕ) (text : List Atom) (m : Made) → HasTree s → (h : IsRetypedTo s path number text m) → (o : Listing)
-    → order_in h.new.orders.items h.box.canvas ≡ Some o → length o.chain + length o.stuck ≤ most_boxes
-retype_short s path number text m t h o order =
-    let p : Patch = h.old in
-    let q : Patch = h.new in
-    let c : ℕ = h.box.canvas in
-    let b = h.retypes.became in
-    let leads : reached p.grove (Some p.grove.root) path ≡ Some c = sub_leads p.grove path (Some p.grove.root) c h.retypes.chosen.leads in
-    let there : reached t.patch.grove (Some t.patch.grove.root) path ≡ Some c = led_at (patch_now s t) p s path c h.stands.net t.of.net leads in
+-- an order of a canvas that has the boxes that it had
+few_still : (s : Stage) (t : HasTree s) (p q : Patch) (path : List ℕ) (c : ℕ) → s.net ≡ net_of p → sub_reached p.grove (Some p.grove.root) path ≡ Some c
+    → keys_at q.grove c ≡ keys_at p.grove c → CanPut q → (o : Listing) → order_in q.orders.items c ≡ Some o → length o.chain + length o.stuck ≤ most_boxes
+few_still s t p q path c stands found keys can o order =
+    let leads : reached p.grove (Some p.grove.root) path ≡ Some c = sub_leads p.grove path (Some p.grove.root) c found in
+    let there : reached t.patch.grove (Some t.patch.grove.root) path ≡ Some c = led_at (patch_now s t) p s path c stands t.of.net leads in
     let few : length (keys_at t.patch.grove c) ≤ weight t.tree.boxes = canvas_few t.patch.grove t.tree t.stands path c there in
-    let same : keys_at q.grove c ≡ keys_at t.patch.grove c =
-    ap (λ (boards : Slab Board). keys_in (get boards c)) b.refit.grove.boards ∙ ap (λ (g : Grove). keys_at g c) b.loosens.rest.grove ∙ seen_keys (get p.grove.boards c) (get b.ready.grove.boards c) (b.room.grove.boards c)
-    ∙ ap (λ (boards : Slab Board). keys_in (get boards c)) (boards_same s t p h.stands.net) in
+    let same : keys_at q.grove c ≡ keys_at t.patch.grove c = keys ∙ ap (λ (boards : Slab Board). keys_in (get boards c)) (boards_same s t p stands) in
     let all : length (keys_at q.grove c) ≤ 16384 =
     few_there (length (keys_at q.grove c)) (weight t.tree.boxes) s.base.counts.boxes (subst (λ (ks : List ℕ). length ks ≤ weight t.tree.boxes) (sym same) few) t.boxes t.within.boxes in
     let short : length o.chain + length o.stuck ≤ length (keys_at q.grove c) =
-    order_keys q.grove q.web (get q.grove.boards c) (order_in q.orders.items c) o (b.goes_on.runs.orders c) order in
+    order_keys q.grove q.web (get q.grove.boards c) (order_in q.orders.items c) o (can.runs.orders c) order in
     through (length o.chain + length o.stuck) (length (keys_at q.grove c)) short all
+
+pub retype_short : (s : Stage) (path : List ℕ) (number : ℕ) (text : List Atom) (m : Made) → HasTree s → (h : IsRetypedTo s path number text m) → (o : Listing)
+    → order_in h.new.orders.items h.box.canvas ≡ Some o → length o.chain + length o.stuck ≤ most_boxes
+retype_short s path number text m t h o order = by h.retypes.became
+  where
+    abbrev p : Patch
+    p = h.old
+
+    abbrev c : ℕ
+    c = h.box.canvas
+
+    by : Becomes h.old h.new s.names text s.time h.box.key h.retypes.node h.retypes.added h.box.gone.items h.steps h.steps' → length o.chain + length o.stuck ≤ most_boxes
+    by (inl b) =
+        few_still s t p h.new path c h.stands.net h.retypes.chosen.leads
+        (ap (λ (boards : Slab Board). keys_in (get boards c)) b.refit.grove.boards ∙ ap (λ (g : Grove). keys_at g c) b.loosens.rest.grove
+        ∙ seen_keys (get p.grove.boards c) (get b.ready.grove.boards c) (b.room.grove.boards c)) b.goes_on o order
+    by (inr b) =
+        few_still s t p h.new path c h.stands.net h.retypes.chosen.leads
+        (ap (λ (boards : Slab Board). keys_in (get boards c)) b.renamed.box.boards ∙ seen_keys (get p.grove.boards c) (get b.ready.grove.boards c) (b.room.grove.boards c)) b.goes_on o order

@@ -10,10 +10,9 @@ use Rattle.pd_grove.specs.declared.nodes.Node.{Node}
 use Rattle.pd_grove.specs.declared.ports.Side.TheVariants.{Outlets}
 use Rattle.pd_grove.specs.Telling.{kind_in, state_in}
 use Rattle.pd_owning.specs.Bound.{is_among}
-use Rattle.pd_web.specs.declared.jacks.Jack.{Jack}
 use Rattle.pd_web.specs.declared.web.Hop.{Hop}
 use Rattle.pd_web.specs.declared.web.Web.{Web}
-use Rattle.pd_web.specs.Hops.{ports_told, jack_told, signal_in, feed_hops, feed_keys}
+use Rattle.pd_web.specs.Hops.{ports_told, feed_hops, feed_keys}
 use Rattle.pd_web.specs.Changes.{line_told, wires_told}
 use Rattle.pd_patch.specs.declared.patch.Patch.{Patch}
 use Rattle.pd_patch.specs.Fed.{keys_of, AreFed}
@@ -26,9 +25,9 @@ use Rattle.pd_guards.proofs.FactLemmas.{all-at, all-from}
 use Rattle.pd_guards.proofs.SignalLemmas.{all-same}
 use Rattle.pd_sized.specs.Kinds.{blank_of, KeepsOfKind}
 use Rattle.pd_sized.specs.Sizes.{IsBlock}
-use Rattle.pd_sound_law.specs.Ready.{HasBlocks}
+use Rattle.pd_steady.specs.Steady.{HasRows}
 use Rattle.pd_stage.proofs.FedLemmas.{few_keys}
-use Rattle.pd_steady.proofs.KeyLemmas.{by_key, HasOneNew, first_there}
+use Rattle.pd_steady.proofs.KeyLemmas.{by_key, HasOneNew, first_there, same_row}
 
 -- under a key there is a box of which this holds
 abbrev pub IsNew : (Node → Type 0) → Option Node → Type 0
@@ -39,7 +38,7 @@ IsNew P o = (n : Node) × (o ≡ Some n) × P n
 pub record HasNew (p q : Patch) (P : ℕ → Node → Type 0) : Type 0 where
   pub each : (k : ℕ) → (get q.grove.nodes k ≡ get p.grove.nodes k) ⊎ IsNew (P k) (get q.grove.nodes k)
   pub fed : wires_told q.web ≤ 65536 → AreFed p.web → AreFed q.web
-  pub blocks : HasBlocks p.web (blocks_told p) → HasBlocks q.web (blocks_told q)
+  pub blocks : HasRows p.web (blocks_told p) → HasRows q.web (blocks_told q)
   pub values : AllByRecursion (AllByRecursion AreValues) (blocks_told p) → AllByRecursion (AllByRecursion AreValues) (blocks_told q)
   pub sizes : AllByRecursion (AllByRecursion IsBlock) (blocks_told p) → AllByRecursion (AllByRecursion IsBlock) (blocks_told q)
 
@@ -128,13 +127,13 @@ by_part P part here others k = by (is_among part k) refl
     by false e = others k e
 
 module _ (p q : Patch) (part : List ℕ) (ports : HasPartPorts p q part) (blocks : HasPartBlocks p q part) where
-  -- each outlet that carries signals has a block
-  pub part_blocks : HasBlocks p.web (blocks_told p) → HasBlocks q.web (blocks_told q)
+  -- boxes have their blocks
+  pub part_blocks : HasRows p.web (blocks_told p) → HasRows q.web (blocks_told q)
   part_blocks h =
-      by_part (λ k. (o : ℕ) → signal_in (jack_told q.web Outlets k o) ≡ true → IsSome (block_at (blocks_told q) k o)) part
-      (λ k e o sounds. subst (λ (row : Option (List (List ℤ))). IsSome (option_and_then (λ (own : List (List ℤ)). slice_get own o) row)) (sym (blocks.blocks k e)) (first_there q.web k o sounds))
-      (λ k e o sounds. subst (λ (row : Option (List (List ℤ))). IsSome (option_and_then (λ (own : List (List ℤ)). slice_get own o) row)) (sym (blocks.other_blocks k e))
-      (h k o (ap (λ (js : List Jack). signal_in (slice_get js o)) (sym (ports.other_ports Outlets k e)) ∙ sounds)))
+      by_part (λ k. (o : ℕ) → o < block_count (ports_told q.web Outlets k) → IsSome (block_at (blocks_told q) k o)) part
+      (λ k e o l. subst (λ (row : Option (List (List ℤ))). IsSome (option_and_then (λ (own : List (List ℤ)). slice_get own o) row)) (sym (blocks.blocks k e)) (first_there q.web k o l))
+      (λ k e o l. subst (λ (row : Option (List (List ℤ))). IsSome (option_and_then (λ (own : List (List ℤ)). slice_get own o) row)) (sym (blocks.other_blocks k e))
+      (h k o (same_row p.web q.web k o (ports.other_ports Outlets k e) l)))
 
   -- what holds of each block, and of silence, holds of each
   pub part_each : (P : List ℤ → Type 0) → P silent_block → AllByRecursion (AllByRecursion P) (blocks_told p) → AllByRecursion (AllByRecursion P) (blocks_told q)

@@ -8,9 +8,6 @@ use Rattle.pd_canvas.specs.Pages.{Page}
 use Rattle.pd_clock.specs.declared.times.Rate.{Rate}
 use Rattle.pd_clock.specs.Queue.{Clock}
 use Rattle.pd_kind.specs.declared.states.State.{State}
-use Rattle.pd_kind.specs.Fit.{blank}
-use Rattle.pd_kind.specs.States.{start_of}
-use Rattle.pd_kind.specs.Tables.{started}
 use Rattle.pd_script.specs.declared.commands.Command.{Command}
 use Rattle.pd_script.specs.declared.commands.Command.TheVariants as command
 use Rattle.pd_grove.specs.declared.nodes.Node.{Node}
@@ -41,14 +38,15 @@ use Rattle.pd_steady.proofs.EventLemmas.{start_of as start_at, outcome_is, loads
 use Rattle.pd_steady.proofs.ExtendLemmas.{outcome_extends}
 use Rattle.pd_steady.proofs.FairLemmas.{lawful_fair, event_keeps, edit_event_keeps}
 use Rattle.pd_steady.proofs.ComeLemmas.{IsFirst, come_new}
-use Rattle.pd_steady.proofs.NewLemmas.{HasNew, one_by, new_objects}
+use Rattle.pd_steady.proofs.AlikeLemmas.{alike_objects}
+use Rattle.pd_steady.proofs.NewLemmas.{HasNew, new_objects}
 use Rattle.pd_steady.proofs.LessLemmas.{left_objects}
 use Rattle.pd_steady.proofs.TakeLemmas.{taken_less}
-use Rattle.pd_steady.proofs.MoveLemmas.{moved_objects}
-use Rattle.pd_steady.proofs.RetypeLemmas.{retyped_node, retyped_new, retyped_fresh}
+use Rattle.pd_steady.proofs.MoveLemmas.{moved_alike}
+use Rattle.pd_steady.proofs.PutLemmas.{fresh_objects}
+use Rattle.pd_steady.proofs.RetypeLemmas.{retyped_objects}
 use Rattle.pd_steady.proofs.OwnLemmas.{commanded_own, advanced_own, finished_own}
 use Rattle.pd_steady.proofs.StandLemmas.{tree_serves}
-use Rattle.pd_steady.proofs.StartLemmas.{first_blank}
 use Rattle.pd_engine.proofs.TreeLemmas.{HasBoth, altered_both}
 use Rattle.pd_engine.proofs.WholeLemmas.{both_on, first_both}
 
@@ -78,10 +76,6 @@ alike_kinds s r kinds alike h k = alike k ∙ h k ∙ ap (option_map blank_of) (
 
 wires_kinds : (s r : Stage) → ButWires s r → AreOfKinds s → AreOfKinds r
 wires_kinds s r e h = subst AreOfKinds (sym e.is) h
-
--- what a new box keeps at first is of its kind
-fresh_objects : (n : Node) (rate : Rate) (now : ℕ) → n.state ≡ Some (started (start_of n.kind rate) now) → option_map blank n.state ≡ Some (blank_of n.kind)
-fresh_objects n rate now fresh = ap (option_map blank) fresh ∙ ap (λ (x : State). Some x) (first_blank n.kind rate now)
 
 -- a box that came, with all that lies in it
 box_kinds : (s r : Stage) → HasNewBox s r → AreOfKinds s → AreOfKinds r
@@ -123,28 +117,22 @@ moved_kinds s r x h =
     let now : KeepsOfKind (λ k. kind_in (x.made.net.nodes k)) x.made.states =
     subst (λ (y : ℕ → Option State). KeepsOfKind (λ k. kind_in (x.made.net.nodes k)) y) (sym to.states)
     (subst (λ (y : Net). KeepsOfKind (λ k. kind_in (y.nodes k)) (states_of to.new)) (sym to.net)
-    (moved_objects to.old to.new x.path x.number x.x x.y to.key to.moves was)) in
+    (alike_objects to.old to.new (moved_alike to.old to.new x.path x.number x.x x.y to.box to.moves) was)) in
     subst AreOfKinds (sym x.is) now
 
 -- a box that became another one
-abbrev KeepsOwn : ℕ → Node → Type 0
-KeepsOwn k n = option_map blank n.state ≡ Some (blank_of n.kind)
-
 retyped_kinds : (s r : Stage) → HasRetypedBox s r → AreOfKinds s → AreOfKinds r
 retyped_kinds s r x h =
     let to = x.retyped in
     let p = to.old in
     let q = to.new in
-    let n : Node = retyped_node (with_ahead s []) x.path x.number x.text x.made to in
-    let objects : option_map blank n.state ≡ Some (blank_of n.kind) = fresh_objects n p.rate s.time (retyped_fresh (with_ahead s []) x.path x.number x.text x.made to) in
-    let new : HasNew p q KeepsOwn = one_by p q KeepsOwn to.box.key n (retyped_new (with_ahead s []) x.path x.number x.text x.made to) objects in
     let was : KeepsOfKind (λ k. kind_in ((net_of p).nodes k)) (states_of p) =
     subst (λ (y : ℕ → Option State). KeepsOfKind (λ k. kind_in ((net_of p).nodes k)) y) to.stands.states
     (subst (λ (y : Net). KeepsOfKind (λ k. kind_in (y.nodes k)) s.states) to.stands.net h) in
     let now : KeepsOfKind (λ k. kind_in (x.made.net.nodes k)) x.made.states =
     subst (λ (y : ℕ → Option State). KeepsOfKind (λ k. kind_in (x.made.net.nodes k)) y) (sym to.states)
     (subst (λ (y : Net). KeepsOfKind (λ k. kind_in (y.nodes k)) (states_of q)) (sym to.net)
-    (new_objects p q KeepsOwn new (λ k m own. own) was)) in
+    (retyped_objects (with_ahead s []) x.path x.number x.text x.made to was)) in
     subst AreOfKinds (sym x.is) now
 
 -- a box that could come, or become another one

@@ -21,6 +21,7 @@ use Rattle.pd_vline.specs.Rows.{IsOpen}
 use Rattle.pd_grove.specs.declared.nodes.Node.{Node}
 use Rattle.pd_grove.specs.Telling.{kind_in, state_in}
 use Rattle.pd_patch.specs.declared.patch.Patch.{Patch}
+use Rattle.pd_patch.specs.Values.{blocks_told}
 use Rattle.pd_boxes.specs.Room.{SameButRoom}
 use Rattle.pd_hearing.specs.Worlds.{Net, bare, net_of, states_of}
 use Rattle.pd_channels_law.specs.Channels.{HasFewChannels}
@@ -42,7 +43,7 @@ use Rattle.pd_steady.specs.Steady.{IsSteady}
 use Rattle.pd_steady.proofs.StartLemmas.{first_blank, started_kept, started_values, small_few}
 use Rattle.pd_steady.proofs.AddedLemmas.{IsAddedWell, added_well}
 use Rattle.pd_steady.proofs.ComeLemmas.{IsFirst, come_new}
-use Rattle.pd_steady.proofs.KeyLemmas.{room_blocks, room_fed, room_all}
+use Rattle.pd_steady.proofs.KeyLemmas.{rows_blocks, room_blocks, room_fed, room_all}
 use Rattle.pd_steady.proofs.NewLemmas.{HasNew, new_weaker, all_new, new_objects}
 use Rattle.pd_steady.proofs.StandLemmas.{tree_near, tree_serves}
 use Rattle.pd_engine.proofs.TreeLemmas.{HasBoth}
@@ -81,6 +82,10 @@ new_well rate now names n fresh few w =
       few = few;
       opens = λ t e. subst (λ (j : Kind). IsOpen t (started (start_of j rate) now)) (sym e) (first_open rate now t);
     }
+
+-- what a new box keeps at first is of its kind
+pub fresh_objects : (n : Node) (rate : Rate) (now : ℕ) → n.state ≡ Some (started (start_of n.kind rate) now) → option_map blank n.state ≡ Some (blank_of n.kind)
+fresh_objects n rate now fresh = ap (option_map blank) fresh ∙ ap (λ (x : State). Some x) (first_blank n.kind rate now)
 
 -- under no key that is too far off
 abbrev pub IsWellAt : Names → ℕ → ℕ → Node → Type 0
@@ -171,7 +176,7 @@ pub named_is : (s : Stage) (q : Patch) (names : Names) (ahead : List Choice) (m 
     → stage_by (with_ahead s ahead) (Makes m) ≡ put_stage s q m.clocks names m.base ahead
 named_is s q names ahead m net states told = rw (net, states, told) refl
 
-no_more_wires : (n m : ℕ) → n ≡ m → n ≤ 65536 → m ≤ 65536
+pub no_more_wires : (n m : ℕ) → n ≡ m → n ≤ 65536 → m ≤ 65536
 no_more_wires n m e l = omega (arith, e, l)
 
 -- a patch with new boxes stands
@@ -207,8 +212,9 @@ new_steady most s p q clocks names base ahead h on new tree =
         channels = all_kinds p q names s.time new HasFewChannels (λ k n w. w.0.few) h.ready.channels;
         keys = all_keys p q names s.time new h.ready.keys;
         fed = new.fed (no_more_wires base.counts.wires (wires_told q.web) tree.tree.wires tree.tree.within.wires) h.ready.fed;
-        blocks = new.blocks h.ready.blocks;
+        blocks = rows_blocks q.web (blocks_told q) (new.blocks h.rows);
       };
+      rows = new.blocks h.rows;
       block = h.block;
       ends = record { each = all_ends p q names s.time new (s.block_end - block_units) objects h.ends.each };
       tree = tree.tree;
@@ -263,8 +269,9 @@ more_room most s p q ahead h room tree =
         channels = room_kinds p q HasFewChannels room h.ready.channels;
         keys = h.ready.keys;
         fed = room_fed p q room h.ready.fed;
-        blocks = room_blocks p q room h.ready.blocks;
+        blocks = rows_blocks q.web (blocks_told q) (room_blocks p q room h.rows);
       };
+      rows = room_blocks p q room h.rows;
       block = h.block;
       ends = h.ends;
       tree = tree.tree;

@@ -9,6 +9,7 @@ use Rattle.pd_grove.specs.TextOrder.{keys_in_order}
 use Rattle.pd_grove.specs.Telling.{kind_in}
 use Rattle.pd_patch.specs.declared.patch.Patch.{Patch}
 use Rattle.pd_patch.specs.Report.{notices_in, loads_among}
+use Rattle.pd_patch.specs.Values.{blocks_told}
 use Rattle.pd_hearing.specs.Worlds.{net_of, states_of, kept_of}
 use Rattle.pd_guards.specs.Order.{HasFirst, IsKept, IsKind}
 use Rattle.pd_guards.specs.Near.{AreNear}
@@ -30,7 +31,7 @@ use Rattle.pd_engine.specs.Remarks.{remarks_text}
 use Rattle.pd_engine.specs.Opening.{first_stage, opened}
 use Rattle.pd_steady.specs.Runs.{own_ways, commanded_by, advanced_by, finished_by, opened_by}
 use Rattle.pd_steady.specs.Freely.{event_freely, free_ways}
-use Rattle.pd_steady.specs.Steady.{IsSteady, IsCommand}
+use Rattle.pd_steady.specs.Steady.{HasRows, IsSteady, IsCommand}
 use Rattle.pd_steady.specs.Steps.{Step, Does, Learns, Comes, IsStep, AreSteps, step_by, steps_by, run_by}
 use Rattle.pd_steady.proofs.FairLemmas.{AreFair, fair_first, fair_second}
 use Rattle.pd_engine.proofs.TreeLemmas.{HasBoth}
@@ -81,6 +82,7 @@ named_steady most s names h e =
       };
       values = h.values;
       ready = h.ready;
+      rows = h.rows;
       block = h.block;
       ends = h.ends;
       tree = (both_on s (with_names s names) refl refl refl e (owned_at most s h)).tree;
@@ -89,13 +91,14 @@ named_steady most s names h e =
 
 -- where a patch opens, at first
 pub first_steady : (most : ℕ) (file : List ℕ) (p : Patch) (table : Names) (base : Base) (ahead : List Choice) → AreNear (net_of p) → IsInOrder (net_of p) 0 (kept_of p table []) → IsSounding (sound_with (net_of p) (kept_of p table [])) → IsReady (nets.net_of p) (sound_of p)
-    → AreOpen 0 (states_of p) → HasBoth (first_stage file p table base ahead) → IsSteady most (first_stage file p table base ahead)
-first_steady most file p table base ahead near o v w ended tree = record {
+    → HasRows p.web (blocks_told p) → AreOpen 0 (states_of p) → HasBoth (first_stage file p table base ahead) → IsSteady most (first_stage file p table base ahead)
+first_steady most file p table base ahead near o v w rows ended tree = record {
   time = early most;
   near = near;
   order = record { time = o.time; first = o.first; kinds = o.kinds; states = o.states };
   values = record { states = v.states; blocks = v.blocks };
   ready = record { kinds = w.kinds; whole = record { states = w.whole.states; blocks = w.whole.blocks }; owners = w.owners; channels = w.channels; keys = w.keys; fed = w.fed; blocks = w.blocks };
+  rows = rows;
   block = first_end;
   ends = ended;
   tree = tree.tree;
@@ -103,12 +106,12 @@ first_steady most file p table base ahead near o v w ended tree = record {
 }
 
 pub opened_free : (g : Guards) (most : ℕ) (file : List ℕ) (p : Patch) (table : Names) (base : Base) (ahead : List Choice) → AreNear (net_of p) → IsInOrder (net_of p) 0 (kept_of p table []) → IsSounding (sound_with (net_of p) (kept_of p table [])) → IsReady (nets.net_of p) (sound_of p)
-    → AreOpen 0 (states_of p) → HasBoth (first_stage file p table base ahead) → AreFair (opened file p table base ahead).edits
+    → HasRows p.web (blocks_told p) → AreOpen 0 (states_of p) → HasBoth (first_stage file p table base ahead) → AreFair (opened file p table base ahead).edits
     → IsFree most (opened file p table base ahead) (opened_by free_ways file p table base ahead)
-opened_free g most file p table base ahead near o v w ended tree l =
+opened_free g most file p table base ahead near o v w rows ended tree l =
     let s : Stage = first_stage file p table base ahead in
     let b : Beginning = Loading (loads_among p.grove (keys_in_order p.grove)) in
-    said_free most s (remarks_text table p (notices_in p.grove p.web p.orders.items)) (event s b) (event_freely s b) (event_free g most s b (first_steady most file p table base ahead near o v w ended tree) tt l)
+    said_free most s (remarks_text table p (notices_in p.grove p.web p.orders.items)) (event s b) (event_freely s b) (event_free g most s b (first_steady most file p table base ahead near o v w rows ended tree) tt l)
 
 pub at_first : 0 ≤ 2 ^ 101
 at_first = early (2 ^ 101)
@@ -142,7 +145,7 @@ module _ (g : Guards) (most : ℕ) (top : most ≤ 2 ^ 101) where
 
 -- whole runs
 module _ (g : Guards) (file : List ℕ) (p : Patch) (table : Names) (base : Base) (ahead : List Choice) (near : AreNear (net_of p)) (first : IsInOrder (net_of p) 0 (kept_of p table []))
-    (sounds : IsSounding (sound_with (net_of p) (kept_of p table []))) (ready : IsReady (nets.net_of p) (sound_of p)) (ended : AreOpen 0 (states_of p)) (tree : HasBoth (first_stage file p table base ahead)) where
+    (sounds : IsSounding (sound_with (net_of p) (kept_of p table []))) (ready : IsReady (nets.net_of p) (sound_of p)) (rows : HasRows p.web (blocks_told p)) (ended : AreOpen 0 (states_of p)) (tree : HasBoth (first_stage file p table base ahead)) where
   abbrev begun : List Step → Passage
   begun xs = followed_by (opened file p table base ahead) (steps_by own_ways xs)
 
@@ -150,7 +153,7 @@ module _ (g : Guards) (file : List ℕ) (p : Patch) (table : Names) (base : Base
       → IsFree most (begun xs) (followed_by (opened_by free_ways file p table base ahead) (steps_by free_ways xs))
   begun_free most xs top k l =
       followed most (opened file p table base ahead) (opened_by free_ways file p table base ahead) (steps_by own_ways xs) (steps_by free_ways xs)
-      (opened_free g most file p table base ahead near first sounds ready ended tree (fair_first (opened file p table base ahead).edits (steps_by own_ways xs (opened file p table base ahead).stage).edits l))
+      (opened_free g most file p table base ahead near first sounds ready rows ended tree (fair_first (opened file p table base ahead).edits (steps_by own_ways xs (opened file p table base ahead).stage).edits l))
       (λ h v. steps_free g most top xs (opened file p table base ahead).stage h k v) l
 
   pub begun_steady : (most : ℕ) (xs : List Step) → most ≤ 2 ^ 101 → AreSteps most xs (opened file p table base ahead).stage → AreFair (begun xs).edits → IsSteady most (begun xs).stage

@@ -7,6 +7,7 @@ use Rattle.pd_vline.specs.Rows.{IsOpen}
 use Rattle.pd_grove.specs.Forest.{IsForest}
 use Rattle.pd_grove.specs.Telling.{kind_in}
 use Rattle.pd_patch.specs.declared.patch.Patch.{Patch}
+use Rattle.pd_patch.specs.Values.{blocks_told}
 use Rattle.pd_adding.specs.declared.counts.Counts.{Counts}
 use Rattle.pd_deleting.specs.Deletes.{DeletesBox}
 use Rattle.pd_deleting.specs.declared.deleting.OldBox.{OldBox}
@@ -22,6 +23,7 @@ use Rattle.pd_stage.specs.Events.{stage_by}
 use Rattle.pd_stage.specs.Times.{block_units}
 use Rattle.pd_stage.specs.Lawful.{IsTakenOut}
 use Rattle.pd_steady.specs.Steady.{IsSteady}
+use Rattle.pd_steady.proofs.KeyLemmas.{rows_blocks}
 use Rattle.pd_steady.proofs.LessLemmas.{HasLess, has_less, left_states, left_kinds, left_objects, left_keys}
 use Rattle.pd_steady.proofs.LeaveLemmas.{port_less}
 use Rattle.pd_steady.proofs.PutLemmas.{standing, is_standing}
@@ -81,8 +83,9 @@ less_steady most s p q clocks base ahead key h less tree =
         channels = left_kinds p q key less HasFewChannels h.ready.channels;
         keys = left_keys p q key less (2 ^ 32) h.ready.keys;
         fed = less.fed h.ready.fed;
-        blocks = less.blocks h.ready.blocks;
+        blocks = rows_blocks q.web (blocks_told q) (less.blocks h.rows);
       };
+      rows = less.blocks h.rows;
       block = h.block;
       ends = record { each = left_states p q key less (IsOpen (s.block_end - block_units)) h.ends.each };
       tree = tree.tree;

@@ -15,6 +15,7 @@ use Rattle.pd_ends_law.proofs.OpenLemmas.{open_later}
 use Rattle.pd_ends_law.proofs.BlockLemmas.{block_open}
 use Rattle.pd_sound_law.specs.Ready.{IsReady}
 use Rattle.pd_sound_law.proofs.ReadyLemmas.{ready_on, whole_free}
+use Rattle.pd_sound_law.proofs.SlotLemmas.{block_holds}
 use Rattle.pd_steady.specs.Runs.{fires_by, fires_or_not_by, fires_below_by, clocks_fire_by, block_runs_by, blocks_run_by, comes_to_by, advanced_by, finished_by}
 use Rattle.pd_steady.specs.Freely.{block_freely, free_ways}
 use Rattle.pd_steady.specs.Steady.{IsSteady}
@@ -77,7 +78,7 @@ early_start : (end most : ℕ) → end ≤ most → most ≤ 2 ^ 101 → end - b
 early_start end most l top = omega arith
 
 pub steady_longer : (most more : ℕ) (s : Stage) → most ≤ more → IsSteady most s → IsSteady more s
-steady_longer most more s l h = record { time = within s.time most more h.time l; near = h.near; order = h.order; values = h.values; ready = h.ready; block = h.block; ends = h.ends; tree = h.tree; owners = h.owners }
+steady_longer most more s l h = record { time = within s.time most more h.time l; near = h.near; order = h.order; values = h.values; ready = h.ready; rows = h.rows; block = h.block; ends = h.ends; tree = h.tree; owners = h.owners }
 
 -- the block that comes next passes nothing over
 sounds_freely : (most : ℕ) (s : Stage) → IsSteady most s → s.block_end - block_units ≤ 2 ^ 101 → block_freely s ≡ block_sounds s
@@ -101,6 +102,7 @@ module _ (g : Guards) (most : ℕ) (top : most ≤ 2 ^ 101) where
         order = record { time = o.time; first = o.first; kinds = o.kinds; states = o.states };
         values = h.values;
         ready = record { kinds = h.ready.kinds; whole = h.ready.whole; owners = h.ready.owners; channels = h.ready.channels; keys = h.ready.keys; fed = h.ready.fed; blocks = h.ready.blocks };
+        rows = h.rows;
         block = h.block;
         ends = h.ends;
         tree = (both_on s (with_fired (with_taken s (taken_off s.clocks)) c.time) refl refl refl (extends_same s.names) (owned_at most s h)).tree;
@@ -116,6 +118,7 @@ module _ (g : Guards) (most : ℕ) (top : most ≤ 2 ^ 101) where
         order = record { time = o.time; first = o.first; kinds = o.kinds; states = o.states };
         values = h.values;
         ready = record { kinds = h.ready.kinds; whole = h.ready.whole; owners = h.ready.owners; channels = h.ready.channels; keys = h.ready.keys; fed = h.ready.fed; blocks = h.ready.blocks };
+        rows = h.rows;
         block = h.block;
         ends = h.ends;
         tree = (both_on s (with_time to s) refl refl refl (extends_same s.names) (owned_at most s h)).tree;
@@ -163,6 +166,7 @@ module _ (g : Guards) (most : ℕ) (top : most ≤ 2 ^ 101) where
             record { states = v.states; blocks = v.blocks };
         ready = let r : IsReady (block_net s) (block_of (block_net s) (sound_at s) start).sound = ready_on (block_net s) start (sound_at s) h.ready in
             record { kinds = r.kinds; whole = record { states = r.whole.states; blocks = r.whole.blocks }; owners = r.owners; channels = r.channels; keys = r.keys; fed = r.fed; blocks = r.blocks };
+        rows = λ k o l. block_holds (block_net s) start (sound_at s) k o ∙ h.rows k o l;
         block = later_end s.block_end h.block;
         ends = record { each = block_open (block_net s) start next (sound_at s) h.ready.kinds soon (open_later start next s.states (no_earlier start next soon) h.ends.each) };
         tree = (both_on s (with_played s (played_at s)) refl refl refl (extends_same s.names) (owned_at most s h)).tree;

@@ -5,7 +5,7 @@ use Rattle.pd_wiring.specs.Changes.{CanRewire}
 use Rattle.pd_stage.specs.Times.{with_wires}
 use Rattle.pd_steady.proofs.ToldLemmas.{tree_short}
 use Rattle.pd_steady.proofs.LoopLemmas.{notices_told}
-use Rattle.pd_steady.proofs.MadeLemmas.{rewires_with, made_at, made_told, put_told, all_put_told, take_told, move_short, retype_short}
+use Rattle.pd_steady.proofs.MadeLemmas.{rewires_with, made_at, made_told, put_told, all_put_told, take_told, move_told, move_around, retype_short}
 use Rattle.pd_steady.proofs.laws.loops_tell_all_boxes.Goals as goal
 
 pub returns : goal.returns
@@ -22,7 +22,8 @@ returns c = record {
     within = λ path e m made. all_put_told s path e m t made _;
     taken = λ path number m made. take_told s path number m t made made.box.canvas;
     taken_around = λ path number m canvas made at. take_told s path number m t made canvas;
-    moved = λ path number x y m made. made_told made.new made.moves.canvas (λ o order. move_short s path number x y m t made o order);
+    moved = λ path number x y m made. move_told s path number x y m t made;
+    moved_around = λ path number x y m canvas made at. move_around s path number x y m t made canvas at;
     retyped = λ path number text m made. made_told made.new made.box.canvas (λ o order. retype_short s path number text m t made o order);
   };
 }
