@@ -24,6 +24,7 @@ use Rattle.pd_hearing.specs.Worlds.{Net, net_of, states_of}
 use Rattle.pd_reload_law.specs.Reloading.{RunsAs}
 use Rattle.pd_putting_law.specs.Again.{StandsAgain}
 use Rattle.pd_taking_law.specs.Takes.{taken_at}
+use Rattle.pd_retyping.specs.Retypes.{cell_become}
 use Rattle.pd_retyping_law.specs.Retypes.{retyped_at}
 use Rattle.pd_boxes.specs.Put.{CanPut}
 use Rattle.pd_boxes.specs.Room.{SameButRoom}
@@ -37,7 +38,7 @@ use Rattle.pd_sized.specs.Kinds.{kinds_of, blank_of, KeepsOfKind}
 use Rattle.pd_contents_law.proofs.SettledLemmas.{onward}
 use Rattle.pd_proper_law.proofs.SavableLemmas.{kinds_savable}
 use Rattle.pd_stage.specs.Choices.{Base, base_of, Wanted, Edits, Asks, Saves, Undoes, Redoes, Made, Choice, Refuses, Lacks, Makes, later}
-use Rattle.pd_stage.specs.Lawful.{StandsAt, known_at, IsMade, IsShort, IsRewiringLawful, IsPutIn, IsUnputForRoom, IsPutLawful, IsTakenOut, IsLeftInForRoom, IsTakingLawful, IsMovedTo, IsMovingLawful, IsRetypedTo, IsUnretypedForRoom, IsRetypingLawful, IsEditLawful, IsSaved, MayCome}
+use Rattle.pd_stage.specs.Lawful.{StandsAt, known_at, IsMade, IsShort, IsRewiringLawful, IsPutIn, IsUnputForRoom, IsPutLawful, IsTakenOut, IsLeftInForRoom, IsTakingLawful, IsMovedTo, IsLeftAtForRoom, IsMovingLawful, IsRetypedTo, IsUnretypedForRoom, IsRetypingLawful, IsEditLawful, IsSaved, MayCome}
 use Rattle.pd_stage.specs.Stages.{Stage, with_ahead}
 use Rattle.pd_stage.specs.Events.{with_net, stage_by}
 use Rattle.pd_steady.specs.Steady.{IsSteady}
@@ -51,6 +52,7 @@ use Rattle.pd_again_law.proofs.PutLemmas as put
 use Rattle.pd_again_law.proofs.TakeLemmas.{TakeLaws}
 use Rattle.pd_again_law.proofs.TakeLemmas as take
 use Rattle.pd_again_law.proofs.ShiftLemmas.{ShiftLaws}
+use Rattle.pd_again_law.proofs.ShiftLemmas as shift
 use Rattle.pd_again_law.proofs.RetypeLemmas.{RetypeLaws}
 use Rattle.pd_again_law.proofs.RetypeLemmas as retype
 
@@ -352,10 +354,10 @@ module _ (library : List (ℕ × Answer)) (rate : Rate) (name : List ℕ) (clean
     ran_there = runs_at most s x.old h steady x.stands
 
     runs_moved : RunsAs x.new.grove moved
-    runs_moved = shifts.runs x.old x.new path number a b x.key h.tree x.moves x.stands.puts ran_there
+    runs_moved = shifts.runs x.old x.new path number a b x.box h.tree x.moves x.stands.puts ran_there
 
     grows_moved : StandsAgain (answer_in s.base.files) s.file s.names moved
-    grows_moved = shifts.again x.old x.new path number a b x.key h.tree x.moves x.stands.puts ran_there (answer_in s.base.files) s.file s.names h.again
+    grows_moved = shifts.again x.old x.new path number a b x.box h.tree x.moves x.stands.puts ran_there (answer_in s.base.files) s.file s.names h.again
 
     same_counted : HasCounted rate s.base moved
     same_counted = record {
@@ -366,24 +368,24 @@ module _ (library : List (ℕ × Answer)) (rate : Rate) (name : List ℕ) (clean
     held_moved : IsHeld s.file s.names (states_of x.new) moved x.new
     held_moved = record {
       stands = runs_moved.stands;
-      fit = shifts.fit x.old x.new path number a b x.key x.moves there.fit;
-      holds = shifts.holds x.old x.new path number a b x.key h.tree x.moves x.stands.puts ran_there there.holds;
-      owners = shifts.owners x.old x.new path number a b x.key s.names s.file x.moves there.owners;
-      contents = shifts.contents x.old x.new path number a b x.key s.names x.moves x.stands.puts
+      fit = shifts.fit x.old x.new path number a b x.box x.moves there.fit;
+      holds = shifts.holds x.old x.new path number a b x.box h.tree x.moves x.stands.puts ran_there there.holds;
+      owners = shifts.owners x.old x.new path number a b x.box s.names s.file x.moves there.owners;
+      contents = shifts.contents x.old x.new path number a b x.box s.names x.moves x.stands.puts
           (subst (λ (f : ℕ → Option State). Settled x.old s.names f) x.stands.states there.contents);
     }
 
     moved_stands : IsStanding (stage_by s (Makes m))
     moved_stands = record {
       file = h.file;
-      rates = ap (λ (n : Net). n.rate) x.net ∙ x.moves.rest.rate ∙ rate_at s x.old h x.stands;
+      rates = ap (λ (n : Net). n.rate) x.net ∙ shift.same_rate x.old x.new path number a b x.box x.moves ∙ rate_at s x.old h x.stands;
       six = subst (λ (ns : Names). 6 ≤ length ns) (sym x.names) h.six;
       tree = moved;
       low = runs_moved.shallow;
       again = subst (λ (c : Base). StandsAgain (answer_in c.files) s.file m.names moved) (sym x.base)
           (subst (λ (ns : Names). StandsAgain (answer_in s.base.files) s.file ns moved) (sym x.names) grows_moved);
       proper = subst (λ (ns : Names). StaysProper ns moved) (sym x.names) (λ more on table.
-          shifts.proper x.old x.new path number a b x.key h.tree more x.moves x.stands.puts ran_there (h.proper more on table));
+          shifts.proper x.old x.new path number a b x.box h.tree more x.moves x.stands.puts ran_there (h.proper more on table));
       numbers = λ k. still_first h.tree moved (shifts.zeros path number a b h.tree) (h.numbers k);
       files = subst (λ (c : Base). GoesOn library c.files) (sym x.base) h.files;
       counted = subst (λ (c : Base). HasCounted rate c moved) (sym x.base) same_counted;
@@ -392,6 +394,14 @@ module _ (library : List (ℕ × Answer)) (rate : Rate) (name : List ℕ) (clean
           (subst (λ (f : ℕ → Option State). IsHeld s.file s.names f moved x.new) (sym x.states) held_moved));
     }
 
+  -- a box could have moved
+  unmoved_stands : (s : Stage) (path : List ℕ) (number : ℕ) (net : Net) → IsLeftAtForRoom s path number net → IsStanding s → IsStanding (with_net s net)
+  unmoved_stands s path number net x h =
+      let held : IsHeld s.file s.names s.states h.tree x.new =
+      held_room s.file s.names s.states h.tree h.low x.old x.new x.short.room (held_at s x.old h x.stands) in
+      let rest = rewired_stands s net s.base x.old x.new h x.stands x.net_is x.short.room.rate refl refl refl held in
+      record { file = h.file; rates = rest.3; six = h.six; tree = h.tree; low = h.low; again = rest.0; proper = h.proper; numbers = h.numbers; files = h.files; counted = rest.1; held = rest.2 }
+
   -- an edit that made a box another one
   module _ (retypes : RetypeLaws) (most : ℕ) (s : Stage) (path : List ℕ) (number : ℕ) (text : List Atom) (m : Made) (x : IsRetypedTo s path number text m) (steady : IsSteady most s) (h : IsStanding s)
     where
@@ -399,7 +409,7 @@ module _ (library : List (ℕ × Answer)) (rate : Rate) (name : List ℕ) (clean
       known_then = known_at s
 
       abbrev other : Tree
-      other = retyped_at path number x.retypes.became.can.cell h.tree
+      other = retyped_at path number (cell_become x.retypes.became) h.tree
 
       one_stood : IsHeld s.file s.names s.states h.tree x.old
       one_stood = held_at s x.old h x.stands
@@ -511,7 +521,7 @@ module _ (library : List (ℕ × Answer)) (rate : Rate) (name : List ℕ) (clean
 
     placed_stands : (path : List ℕ) (number : ℕ) (a b : ℤ) (c : Choice) → IsMovingLawful (with_ahead s []) path number a b c → IsStanding (stage_by (with_ahead s ahead) c)
     placed_stands path number a b (Refuses why) x = on_ahead (with_ahead s []) h
-    placed_stands path number a b (Lacks net) x = absurd x
+    placed_stands path number a b (Lacks net) x = on_ahead (with_net (with_ahead s []) net) (unmoved_stands (with_ahead s []) path number net x h)
     placed_stands path number a b (Makes m) x = on_ahead (stage_by (with_ahead s []) (Makes m)) (moved_stands laws.shifts most (with_ahead s []) path number a b m x steady h)
 
     become_stands : (path : List ℕ) (number : ℕ) (text : List Atom) (c : Choice) → IsRetypingLawful (with_ahead s []) path number text c → IsStanding (stage_by (with_ahead s ahead) c)

@@ -2,24 +2,24 @@
 //!
 //! Messages are delivered under conditions that the program looks at when it runs, and what is out of order is passed
 //! over, in the definitions of pd_engine and pd_play too. In a run that never comes. So the clause `plays` of `play`
-//! says what a call prints, writes and puts into the folder by the run in which each event is the depth-first
-//! recursion over the objects' own definitions. Where the words ask for the patch of a file name, its file is read
-//! and grows; then come the lines of opening, the run of the script, whatever its bytes are, and the line of the
-//! status, with lines, samples and files that are put in one list in their order. Edits of wires and edits that put a
-//! box with all that lies in it, a port of the box around or an abstraction too, which the script or a message asks
-//! for, edits of the script that delete a box with all that lies in it, or a port of the box around with the wires at
-//! it, make a box without a canvas inside another such one, without the wires that don't fit that, or move a box, and
-//! saves of the patch's own document are made, but that no port of a box around moves or becomes another box: what
-//! each came to stands in the run, and it is lawful (pd_stage's `Lawful`). The load boxes that lie in what came fire
-//! behind the edit that put it, in the same event. Each save puts a text that opens again as the patch that was
-//! saved, under the `$0` numbers that it had and with the files that were known by then; and as a file that is opened
-//! does, where these numbers are the first ones from 1001 on, as they are until a box that goes takes one of them
-//! away or one that comes brings one (pd_again_law's `Again`). All of the list was taken, and the status is the
-//! run's; or a sink failed, the status is `WriteFault`, and what was taken and put is one first part of it. The
-//! folder then holds what it held with the files of that list, one after the other, where it still tells what it
-//! holds, and of the saves and edits no more were refused for a fault of it than it counted. With `Done` nothing is
-//! left of the script, where the source tells that, or the run met an `end`. Where the patch doesn't open, its cause
-//! is told, no script is read, no sample is written, and the folder holds what it held.
+//! says what a call prints, writes and puts into the folder by the run in which each event is the depth-first recursion
+//! over the objects' own definitions. Where the words ask for the patch of a file name, its file is read and grows;
+//! then come the lines of opening, the run of the script, whatever its bytes are, and the line of the status, with
+//! lines, samples and files that are put in one list in their order. Edits of wires and edits that put a box with all
+//! that lies in it, a port of the box around or an abstraction too, which the script or a message asks for, edits of
+//! the script that delete a box with all that lies in it, or a port of the box around with the wires at it, make a box
+//! without a canvas inside another such one, without the wires that don't fit that, give a subpatch another text with
+//! which it keeps what it holds, or move a box, a port of the box around too, and saves of the patch's own document are
+//! made, but that no port of a box around becomes another box: what each came to stands in the run, and it is lawful
+//! (pd_stage's `Lawful`). The load boxes that lie in what came fire behind the edit that put it, in the same event.
+//! Each save puts a text that opens again as the patch that was saved, under the `$0` numbers that it had and with the
+//! files that were known by then; and as a file that is opened does, where these numbers are the first ones from 1001
+//! on, as they are until a box that goes takes one of them away or one that comes brings one (pd_again_law's `Again`).
+//! All of the list was taken, and the status is the run's; or a sink failed, the status is `WriteFault`, and what was
+//! taken and put is one first part of it. The folder then holds what it held with the files of that list, one after the
+//! other, where it still tells what it holds, and of the saves and edits no more were refused for a fault of it than it
+//! counted. With `Done` nothing is left of the script, where the source tells that, or the run met an `end`. Where the
+//! patch doesn't open, its cause is told, no script is read, no sample is written, and the folder holds what it held.
 //!
 //! Where they ask for a made patch, the document and the script are those of pd_made, and all else is the same; nothing
 //! of the script's source is read (`unread`), and the last line of a run that is done tells what it came to.

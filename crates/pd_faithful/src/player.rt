@@ -18,15 +18,15 @@ use std::alloc::Global;
 /// `lines` and the samples to `pcm`, 16 bits little-endian, left then right.
 ///
 /// `plays` says what is printed, written and put into the folder, in one order of lines, samples and files: the lines of opening, the run of the
-/// script in which each box does with each message what its object's definition says, and then the line of the status. Where a sink fails, it is
-/// a first part of that. Edits of wires and edits that put a box with all that lies in it, a port of the box around or an abstraction too, which
-/// the script or a message asks for, edits of the script that delete a box with all that lies in it, or a port of the box around with the wires
-/// at it, make a box without a canvas inside another such one, without the wires that don't fit that, or move a box, and saves of the patch's own
-/// document are made; other edits and saves are refused so far, those too that move or retype a port of a box around, and there is nothing to
-/// undo. The load boxes that lie in what came fire behind the edit that put it. The text of a save opens again, under the `$0` numbers of the
-/// patch, as the patch that was saved; and as a file that is opened does, until a box that goes takes one of these away or one that comes brings
-/// one (`again`). With `--make` a made patch is played by its own script, nothing of `script` is read, and the last line tells what the run came
-/// to.
+/// script in which each box does with each message what its object's definition says, and then the line of the status. Where a sink fails, it is a
+/// first part of that. Edits of wires and edits that put a box with all that lies in it, a port of the box around or an abstraction too, which the
+/// script or a message asks for, edits of the script that delete a box with all that lies in it, or a port of the box around with the wires at it,
+/// make a box without a canvas inside another such one, without the wires that don't fit that, give a subpatch another text with which it keeps what
+/// it holds, or move a box, a port of the box around too, and saves of the patch's own document are made; other edits and saves are refused so far,
+/// those too that retype a port of a box around, and there is nothing to undo. The load boxes that lie in what came fire behind the edit that put it.
+/// The text of a save opens again, under the `$0` numbers of the patch, as the patch that was saved; and as a file that is opened does, until a box
+/// that goes takes one of these away or one that comes brings one (`again`). With `--make` a made patch is played by its own script, nothing of
+/// `script` is read, and the last line tells what the run came to.
 ///
 /// `completes` says when the run is sure to come to its end.
 pub fn play<H: Shelf, S: Source, L: Sink, P: Sink>(

@@ -10,12 +10,13 @@
 //! are those of the run, and then comes the line of the status.
 //!
 //! Edits of wires and edits that put a box with all that lies in it, a port of the box around or an abstraction too,
-//! which the script or a message asks for, edits of the script that delete a box with all that lies in it, or a port
-//! of the box around with the wires at it, make a box without a canvas inside another such one, without the wires
-//! that don't fit that, or move a box, and saves of the patch's own document are made: what each came to stands in
-//! the run, and it is lawful (pd_stage's `Lawful`). The load boxes that lie in what came fire behind the edit that
-//! put it, in the same event. Other edits and saves are refused so far, with their lines, and so are those that
-//! retype or move a port of a box around; there is nothing to undo or redo. Then the run goes on.
+//! which the script or a message asks for, edits of the script that delete a box with all that lies in it, or a port of
+//! the box around with the wires at it, make a box without a canvas inside another such one, without the wires that
+//! don't fit that, give a subpatch another text with which it keeps what it holds, or move a box, a port of the box
+//! around too, and saves of the patch's own document are made: what each came to stands in the run, and it is lawful
+//! (pd_stage's `Lawful`). The load boxes that lie in what came fire behind the edit that put it, in the same event.
+//! Other edits and saves are refused so far, with their lines, and so are those that retype a port of a box around;
+//! there is nothing to undo or redo. Then the run goes on.
 //!
 //! Where the source fails, the script is what it gave until then: its whole records are run, and the status is
 //! `ReadFault`. Lines and samples of the run and the files that are put, with the line of the status, stand in one list

@@ -26,14 +26,15 @@ use std::sync::ledger::{Blank, Ledger};
 /// Plays a patch by a script: `words` are the words after the program's name, `shelf` is the folder of patches, printed lines go to
 /// `lines` and the samples to `pcm`, 16 bits little-endian, left then right.
 ///
-/// `plays` says what is printed, written and put into the folder: the lines of opening, the lines, samples and files of the script's run, and
-/// then the line of the status. Edits of wires and edits that put a box with all that lies in it, a port of the box around or an abstraction
-/// too, which the script or a message asks for, edits of the script that delete a box with all that lies in it, or a port of the box around
-/// with the wires at it, make a box without a canvas inside another such one, without the wires that don't fit that, or move a box, and saves
-/// of the patch's own document are made; other edits and saves are refused so far, those too that move or retype a port of a box around, and
-/// there is nothing to undo. The load boxes that lie in what came fire behind the edit that put it. With `--make` a made patch is played by its
-/// own script, nothing of `script` is read, and the last line tells what the run came to. After the usage line the folder, the script and the
-/// samples' sink are as they were; where memory is short, the script and the samples' sink are, and what the folder holds.
+/// `plays` says what is printed, written and put into the folder: the lines of opening, the lines, samples and files of the script's run, and then
+/// the line of the status. Edits of wires and edits that put a box with all that lies in it, a port of the box around or an abstraction too, which
+/// the script or a message asks for, edits of the script that delete a box with all that lies in it, or a port of the box around with the wires at
+/// it, make a box without a canvas inside another such one, without the wires that don't fit that, give a subpatch another text with which it keeps
+/// what it holds, or move a box, a port of the box around too, and saves of the patch's own document are made; other edits and saves are refused so
+/// far, those too that retype a port of a box around, and there is nothing to undo. The load boxes that lie in what came fire behind the edit that
+/// put it. With `--make` a made patch is played by its own script, nothing of `script` is read, and the last line tells what the run came to. After
+/// the usage line the folder, the script and the samples' sink are as they were; where memory is short, the script and the samples' sink are, and
+/// what the folder holds.
 pub fn play<H: Shelf, S: Source, L: Sink, P: Sink>(
     alloc: Global,
     words: &[String],

@@ -73,7 +73,7 @@ pub longer_block : (old new : Blocks) → IsLonger [] old new → (k o : ℕ) �
 longer_block old new l k o h =
     row_some (slice_get old k) old new k o refl (λ own e. ap (λ (xs : Blocks). slice_get xs k) l.1 ∙ cut_short old (replicate l.0 []) k own e) h
 
-pub below_all : (ports : List Jack) (o : ℕ) → signal_in (slice_get ports o) ≡ true → o < length ports
+below_all : (ports : List Jack) (o : ℕ) → signal_in (slice_get ports o) ≡ true → o < length ports
 below_all [] o h = absurd (true≢false (sym h))
 below_all (j ∷ ports) zero h = omega arith
 below_all (j ∷ ports) (suc o) h = let rest : o < length ports = below_all ports o h in omega (arith, rest)
@@ -91,7 +91,7 @@ rows_blocks w blocks h k o sounds =
     let js : List Jack = ports_told w Outlets k in
     h k o (subst (λ (n : ℕ). o < n) (blocks_some js o sounds) (below_all js o sounds))
 
-pub below_none : (n : ℕ) → n < 0 → ⊥
+below_none : (n : ℕ) → n < 0 → ⊥
 below_none n l = omega (arith, l)
 
 -- where there are no outlets there are no blocks

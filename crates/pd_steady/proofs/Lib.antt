@@ -15,7 +15,6 @@ pub mod StandLemmas
 pub mod ExtendLemmas
 pub mod PutLemmas
 pub mod TakeLemmas
-pub mod SlideLemmas
 pub mod AlikeLemmas
 pub mod MoveLemmas
 pub mod RetypeLemmas

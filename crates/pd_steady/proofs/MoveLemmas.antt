@@ -1,5 +1,5 @@
 -- An edit that moves a box leaves a steady stage steady, where a tree and its owners stand after it.
-use Rattle.std.proofs.Common.{◌≡◌, inl, inr, ℕ, ℤ, List, [], Option, Some, None, option_map, refl, sym, subst}
+use Rattle.std.proofs.Common.{◌≡◌, inl, inr, ◌<◌, ℕ, ℤ, List, [], Option, Some, None, IsSome, option_map, refl, sym, subst}
 use Rattle.slab.specs.Slab.{get}
 use Rattle.pd_regrowth_law.proofs.StepLemmas.{extends_same}
 use Rattle.pd_grove.specs.declared.nodes.Node.{Node}
@@ -8,7 +8,7 @@ use Rattle.pd_grove.specs.Telling.{kind_in, state_in}
 use Rattle.pd_web.specs.declared.web.Web.{Web}
 use Rattle.pd_patch.specs.declared.patch.Patch.{Patch}
 use Rattle.pd_patch.specs.Fed.{AreFed}
-use Rattle.pd_patch.specs.Values.{Blocks, blocks_told}
+use Rattle.pd_patch.specs.Values.{Blocks, block_at, blocks_told}
 use Rattle.pd_shifting.specs.Moves.{Shifts, ShiftsPort, ShiftsBox, MovesBox}
 use Rattle.pd_shifting.specs.declared.shifting.MovedBox.{MovedBox}
 use Rattle.pd_hearing.specs.Worlds.{bare}
@@ -22,7 +22,6 @@ use Rattle.pd_steady.proofs.KeyLemmas.{KeepsBoxes}
 use Rattle.pd_steady.proofs.LooseLemmas.{web_room_keeps}
 use Rattle.pd_steady.proofs.NewLemmas.{once_fed}
 use Rattle.pd_steady.proofs.PutLemmas.{standing, is_standing, named_is}
-use Rattle.pd_steady.proofs.SlideLemmas.{slid_rows}
 use Rattle.pd_engine.proofs.TreeLemmas.{HasBoth}
 
 -- at another place a box keeps what it kept, and is of the same kind
@@ -53,7 +52,10 @@ module _ (p q : Patch) (canvas key : ℕ) (x y : ℤ) where
   port_alike s =
       altered_alike (at_place x y) (same_state x y) (same_kind x y) p s.ready q key (web_room_keeps p s.ready s.room) s.slid.box s.slid.rest.values
       (λ few h. once_fed q.web few (record { lines = s.slid.fed.lines; once = s.slid.fed.once }))
-      (slid_rows s.ready q s.holder s.from s.to s.side s.slid.slides s.slid.rest.values)
+      (λ h k o l. subst (λ (b : Blocks). IsSome (block_at b k o)) (sym same_blocks) (h k o (subst (λ (n : ℕ). o < n) (s.slid.blocks k) l)))
+    where
+      same_blocks : blocks_told q ≡ blocks_told s.ready
+      same_blocks = rw (s.slid.rest.values) refl
 
   shifted_alike : ShiftsBox p q canvas key x y → KeepsAlike p q
   shifted_alike (inl s) = plain_alike s
