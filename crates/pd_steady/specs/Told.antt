@@ -39,8 +39,8 @@ TellsLoop p r = Unit {0}
 abbrev pub GrowthTellsLoops : Patch → Type 0
 GrowthTellsLoops p = AllByRecursion (TellsLoop p) (notices_in p.grove p.web p.orders.items)
 
--- the line of a loop of its canvas that an edit tells at a stage does, and so do that of a loop of the canvas around where it puts or takes a port, and
--- those of loops of the canvases in the box that it puts
+-- the line of a loop of its canvas that an edit tells at a stage does, and so do that of a loop of the canvas around where it puts, takes or moves a
+-- port, and those of loops of the canvases in the box that it puts
 pub record EditsTellLoops (s : Stage) : Type 0 where
   pub rewired : (path : List ℕ) (e : Edit) (m : Made) → (made : IsMade s path e m) → TellsLoop made.new (Loop made.canvas)
   pub put : (path : List ℕ) (e : Edit) (m : Made) → (made : IsPutIn s path e m) → TellsLoop made.new (Loop made.box.canvas)

@@ -75,7 +75,7 @@ pub fn lines_tell_all_boxes()
 {}
 
 /// Where a patch opens, the line of each signal loop tells all boxes of the loop, and so does each line that an edit tells of one, also of one in the
-/// canvas around where it puts or takes a port, and of those in the box that it puts: there are never more than a line has room for.
+/// canvas around where it puts, takes or moves a port, and of those in the box that it puts: there are never more than a line has room for.
 pub fn loops_tell_all_boxes()
     ensures { LoopsTellAllBoxes }
 {

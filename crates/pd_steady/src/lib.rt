@@ -1,20 +1,20 @@
 //! Laws of whole runs: all stays in order in them, so that nothing is ever passed over. It has no code that runs.
 //!
 //! A stage is steady where the patch is in order at its time, the canvases that own names are near, the values of
-//! signals are in their range, and all is ready for the next block: what boxes keep is of their kinds, with its
-//! sizes, who looks for a box by its name finds it, each outlet that carries signals has a block, no inlet has more
-//! wires than a patch may have, and no `vline~` has run a block that ends later; and a tree stands, so that no box
-//! runs twice in a block. Where a patch opens the stage is steady
-//! (`opening_is_steady`); it stays so through commands whose names are of the table (`commands_stay_steady`), names
-//! that records bring (`names_stay_steady`) and time (`time_stays_steady`), in a run in which each edit is lawful:
-//! edits of wires and saves leave all that steadiness speaks of; a box that an edit puts, with all that lies in it,
-//! also a port of the box around, is of a kind in order and keeps what its kind keeps at first, and so does one
-//! that another box becomes, whatever ports the two have and whatever wires don't fit any more; where wires follow
-//! a port that came, or one that went, each inlet has wires as it had them; where an edit takes a box out with all
-//! that lies in it, also a port of the box around, all others keep what they kept, and their names have their
-//! owners; and where one moves a box all keep what they kept. So it is with those that a script asks for and with
-//! those that messages ask for, which are taken at the end of their event; and the boxes that are loaded behind an
-//! edit, with what is left of its event, leave a steady stage steady as its deliveries do.
+//! signals are in their range, and all is ready for the next block: what boxes keep is of their kinds, with its sizes,
+//! who looks for a box by its name finds it, a box has a block for each outlet where one of them carries signals, no
+//! inlet has more wires than a patch may have, and no `vline~` has run a block that ends later; and a tree stands, so
+//! that no box runs twice in a block. Where a patch opens the stage is steady (`opening_is_steady`); it stays so
+//! through commands whose names are of the table (`commands_stay_steady`), names that records bring
+//! (`names_stay_steady`) and time (`time_stays_steady`), in a run in which each edit is lawful: edits of wires and
+//! saves leave all that steadiness speaks of; a box that an edit puts, with all that lies in it, also a port of the box
+//! around, is of a kind in order and keeps what its kind keeps at first, and so does one that another box becomes,
+//! whatever ports the two have and whatever wires don't fit any more; where wires follow a port that came, or one that
+//! went, each inlet has wires as it had them; where an edit takes a box out with all that lies in it, also a port of
+//! the box around, all others keep what they kept, and their names have their owners; and where one moves a box, also a
+//! port of the box around, or gives a subpatch another text, all keep what they kept. So it is with those that a script
+//! asks for and with those that messages ask for, which are taken at the end of their event; and the boxes that are
+//! loaded behind an edit, with what is left of its event, leave a steady stage steady as its deliveries do.
 //!
 //! So a whole run in which each edit is lawful, from where a patch opens to its end, is the one in which each event
 //! is the depth-first recursion over the objects' own definitions, and in each block each box runs its own row
