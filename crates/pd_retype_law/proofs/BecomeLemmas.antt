@@ -53,47 +53,14 @@ use Rattle.pd_put_law.proofs.ComeLemmas.{MayCome, may_come, goes_alike}
 use Rattle.pd_put_law.proofs.RoomLemmas.{room_runs, room_subs}
 use Rattle.pd_retyping.specs.declared.retyping.RetypedBox.{RetypedBox}
 use Rattle.pd_retyping.specs.Asking.{settled_text, put_instead}
-use Rattle.pd_retyping.specs.Retypes.{counts_but, RetypesBox}
+use Rattle.pd_retyping.specs.Retypes.{HasBecome, RetypesBox}
 use Rattle.pd_retyping_law.specs.Edits.{GivesText, element_with}
 use Rattle.pd_retyping_law.specs.Retypes.{retyped_at}
-use Rattle.pd_retyping_law.specs.Retyping.{RetypesBoxAt, cell_in}
+use Rattle.pd_retyping_law.specs.Retyping.{RetypesBoxAt, ChangesBoxAt, cell_in}
 use Rattle.pd_retyping_law.proofs.AgainLemmas.{box_made}
 use Rattle.pd_retyping_law.proofs.EditLemmas.{text_again, text_runs}
-
--- ---- the element that the edit gives
-
-none_left : (m : ℕ) → box_put (edit.Delete m) ≡ None
-none_left zero = refl
-none_left (suc m) = refl
-
-put_same : (x : Edit) (b : Entry) → box_put x ≡ Some b → element_put x ≡ Some b
-put_same (edit.Obj x y text) b h = h
-put_same (edit.Msg x y text) b h = h
-put_same (edit.Comment x y text) b h = h
-put_same (edit.FloatBox x y text) b h = h
-put_same (edit.SymbolBox x y text) b h = h
-put_same (edit.Sub x y name) b h = h
-put_same (edit.Connect wire) b h = h
-put_same (edit.Disconnect wire) b h = h
-put_same (edit.Delete m) b h = sym (none_left m) ∙ h
-put_same (edit.Retype m text) b h = h
-put_same (edit.Move m x y) b h = h
-
-not_deep : (depth : ℕ) → nat_lt 254 depth ≡ false → depth ≤ 254
-not_deep depth h = grind (arith, nat_tests)
-
-levels_fit : (form : Shape) (boxes : Boxes) (depth : ℕ) → boxes ≡ End → (is_sub form && nat_lt 254 depth) ≡ false → levels_of form (levels boxes) ≤ 255 - depth
-levels_fit Sub boxes depth none high =
-    let l = ap levels none in
-    let d = not_deep depth high in
-    omega (arith, l, d)
-levels_fit Obj boxes depth none high = omega arith
-levels_fit Msg boxes depth none high = omega arith
-levels_fit Comment boxes depth none high = omega arith
-levels_fit FloatBox boxes depth none high = omega arith
-levels_fit SymbolBox boxes depth none high = omega arith
-levels_fit (Array values) boxes depth none high = omega arith
-levels_fit (Other s) boxes depth none high = omega arith
+use Rattle.pd_retyping_law.proofs.PlaceLemmas.{retypes_so}
+use Rattle.pd_retype_law.proofs.GrewLemmas.{drawn, entry_named, none_held, low, bare, lib, from, again_then, deep, document_by, grew, grew_own, known_after, same_head}
 
 -- a subpatch that would keep what it holds would be one still
 not_kept : (f : Shape) (text : List Atom) (e : Entry) (b : Bool) → begins_with_pd text ≡ b → is_sub (retyped_as f text e).head.form ≡ false → (is_sub f && b) ≡ false
@@ -102,128 +69,41 @@ not_kept Sub text e true pd h =
 not_kept Sub text e false pd h = refl
 not_kept f text e b pd h = refl
 
--- ---- how long the path is
-
-nest_short : (nest : Nest) (u : Tree) → AreSubpatches nest → left_outside nest 0 ≤ levels (document_boxes (nested nest u).boxes)
-nest_short Alone u f = omega arith
-nest_short (Inside sheet before c nest behind) u f =
-    let t = nested nest u in
-    step (levels (document_boxes before)) (levels (document_boxes t.boxes)) (levels (document_boxes behind)) (left_outside nest 0)
-    (levels (document_boxes (nested (Inside sheet before c nest behind) u).boxes)) (around_levels before behind c t f.0) (nest_short nest u f.1)
-  where
-    step : (a i b m x : ℕ) → x ≡ max a (max (i + 1) b) → m ≤ i → suc m ≤ x
-    step a i b m x e h = omega (arith, e, h)
-
-path_short : (path : List ℕ) (t u : Tree) → ChangesWithin path t u → levels (document_boxes t.boxes) ≤ 255 → length path ≤ 255
-path_short path t u w low =
-    short (length path) (left_outside w.nest 0) (levels (document_boxes (nested w.nest u).boxes)) (w.deep 0) (nest_short w.nest u w.subpatches)
-    (subst (λ (x : Tree). levels (document_boxes x.boxes) ≤ 255) w.whole low)
-  where
-    short : (l m x : ℕ) → m ≡ l + 0 → m ≤ x → x ≤ 255 → l ≤ 255
-    short l m x e h k = omega (arith, e, h, k)
-
-all_in : (l : ℕ) → l ≤ 255 → l + (255 - l) ≡ 255
-all_in l h = omega (arith, h)
-
--- ---- names and heads
-
-ready_of : (names : Names) (text : List Atom) → AreReady names text → AreOf names text
-ready_of names [] h = tt
-ready_of names (a ∷ text) h = (h.0.0, ready_of names text h.1)
-
-zero_seen : (o : Option Board) (y : BoardSeen) → option_map board_seen o ≡ Some y → zero_in o ≡ y.sheet.zero
-zero_seen None y h = absurd (none-some y h)
-zero_seen (Some b) y h = ap (λ (x : BoardSeen). x.sheet.zero) (same_Some (board_seen b) y h)
-
-head_or : Head → Boxes → Head
-head_or d End = d
-head_or d (Box h f inner rest) = h
-
-same_head : (c : Cell) (e : Entry) → document_boxes (Leaf c Done) ≡ boxed (e ∷ []) → c.head ≡ e.head
-unfolding head_or
-same_head c e h = ap (head_or c.head) h
-
 -- ---- an edit that made a box another one
 
 module _ (old new : Patch) (n : Counts) (name path : List ℕ) (number : ℕ) (text : List Atom) (now : ℕ) (k after : Known) (steps steps' : ℕ) (b : RetypedBox)
-    (X : RetypesBox old new n name path number text now k after steps steps' b) where
-  abbrev pub was : Node
-  was = X.node
-
+    (X : RetypesBox old new n name path number text now k after steps steps' b)
+    (Y : HasBecome old new now b.key X.node X.added b.gone.items steps steps') where
   abbrev pub is_now : Node
-  is_now = node_of was.board X.became.seed
+  is_now = node_of X.node.board Y.seed
 
-  abbrev pub cell : Cell
-  cell = X.became.can.cell
+  abbrev cell : Cell
+  cell = Y.can.cell
 
   -- the patch from which the wires went that don't fit
   abbrev pub mid : Patch
-  mid = X.became.loose
+  mid = Y.loose
+
+  abbrev grown_from : Entry
+  grown_from = drawn old new n name path number text now k after steps steps' b X
 
   -- its boxes are those that there were
   pub same_boxes : IsSameButRoom old.grove mid.grove
-  same_boxes = subst (IsSameButRoom old.grove) (sym X.became.loosens.rest.grove) X.became.room.grove
-
-  abbrev pub written_as : List Atom
-  written_as = settled_text k.names text
-
-  abbrev pub drawn : Entry
-  drawn = element_with written_as was
-
-  -- the counts without the box that was there, from which the new one grew
-  abbrev pub without_it : Counts
-  without_it = counts_but old.rate was n
-
-  abbrev puts_it : Edit
-  puts_it = put_instead (entry_of was.element) text
-
-  abbrev pub grew_so : GrewWith old without_it name path puts_it k X.files X.added
-  grew_so = X.grew
-
-  pub six : 6 ≤ length k.names
-  six = six_names k.names X.table
-
-  pub known_names : after.names ≡ grew_so.after.names
-  known_names = ap (λ (x : Known). x.names) (X.known_is ∙ grew_so.known_is)
-
-  pub known_files : after.files ≡ X.files.files
-  known_files = ap (λ (x : Known). x.files) (X.known_is ∙ grew_so.known_is)
-
-  pub goes_on : Extends k.names after.names
-  goes_on =
-      subst (λ (x : Known). Extends k.names x.names) (sym (X.known_is ∙ grew_so.known_is)) (extends_on k.names X.files.names grew_so.after.names grew_so.extends grew_so.onward)
-
-  first : MayCome old path (box_put (settled_edit k.names puts_it)) X.added.canvas grew_so.entry
-  first = may_come old path X.added.canvas grew_so.entry (box_put (settled_edit k.names puts_it)) grew_so.comes
-
-  same_entry : grew_so.entry ≡ drawn
-  same_entry = same_Some grew_so.entry drawn (sym first.is ∙ X.new_entry)
-
-  pub may : MayCome old path (box_put (settled_edit k.names puts_it)) X.added.canvas drawn
-  may = subst (MayCome old path (box_put (settled_edit k.names puts_it)) X.added.canvas) same_entry first
-
-  pub puts : element_put (settled_edit k.names puts_it) ≡ Some drawn
-  puts = put_same (settled_edit k.names puts_it) drawn X.new_entry
-
-  pub bare : IsBare drawn
-  bare = put_bare (settled_edit k.names puts_it) drawn puts
-
-  pub low : levels_of drawn.head.form (levels drawn.page.boxes) ≤ 255 - length path
-  low = levels_fit drawn.head.form drawn.page.boxes (length path) bare.boxes may.low
+  same_boxes = subst (IsSameButRoom old.grove) (sym Y.loosens.rest.grove) Y.room.grove
 
   pub cell_is : cell_in is_now ≡ cell
-  cell_is = ap (λ (x : Stand). x.cell) X.became.is_row
+  cell_is = ap (λ (x : Stand). x.cell) Y.is_row
 
-  pub box : RetypesBoxAt mid.grove new.grove path b.canvas b.key number was is_now
+  pub box : RetypesBoxAt mid.grove new.grove path b.canvas b.key number X.node is_now
   box =
       let S = same_boxes in
-      let G = X.became.refit.grove in
+      let G = Y.refit.grove in
       record {
-        forest = X.became.could.can.forest;
+        forest = Y.could.can.forest;
         leads = room_subs old.grove mid.grove S path ∙ X.chosen.leads;
         is = ap (λ (ks : List ℕ). slice_get ks number) (keys_same old.grove mid.grove S b.canvas) ∙ X.chosen.at;
-        was = X.became.could.is;
-        bare = X.became.could.bare;
+        was = Y.could.is;
+        bare = Y.could.bare;
         becomes = G.is;
         leaf = refl;
         board = refl;
@@ -232,92 +112,78 @@ module _ (old new : Patch) (n : Counts) (name path : List ℕ) (number : ℕ) (t
         root = G.root;
       }
 
+  pub there : ChangesBoxAt mid.grove new.grove path b.canvas b.key number X.node is_now
+  there = retypes_so mid.grove new.grove path b.canvas b.key number X.node is_now box
+
+  abbrev library : ℕ → Option Answer
+  library = lib old new n name path number text now k after steps steps' b X
+
+  abbrev stock_then : Stock
+  stock_then = from old new n name path number text now k after steps steps' b X
+
+  abbrev after_it : Stock
+  after_it = X.grew.after
+
+  pub document : document_boxes (Leaf cell Done) ≡ boxed (grown_from ∷ [])
+  document = document_by old new n name path number text now k after steps steps' b X (Leaf cell Done) Y.can.single
+
+  pub head_is : cell.head ≡ grown_from.head
+  head_is = same_head cell grown_from document
+
+  pub no_sub : is_sub cell.head.form ≡ false
+  no_sub =
+      new_grown library (without_ending name) (255 - length path) (around_root (own_zero old)) grown_from stock_then after_it (Leaf cell Done) (bare old new n name path number text now k after steps steps' b X)
+      (grew_own old new n name path number text now k after steps steps' b X (Leaf cell Done) Y.can.single)
+
+  is_new : (is_sub (entry_of X.node.element).head.form && begins_with_pd (settled_text k.names text)) ≡ false
+  is_new =
+      let written = settled_text k.names text in
+      not_kept (entry_of X.node.element).head.form written (entry_of X.node.element) (begins_with_pd written) refl
+      (sym (ap (λ (h : Head). is_sub h.form) (head_is ∙ X.same_head)) ∙ no_sub)
+
+  -- it grew from the grown_from with the new text
+  pub same_drawn : grown_from ≡ element_with (settled_text k.names text) X.node
+  same_drawn = X.same_entry is_new
+
   module _ (can : CanPut old) (t : Tree) (R : RunsAs old.grove t) (A : StandsAgain (answer_in k.files) name k.names t) where
-    abbrev lib : ℕ → Option Answer
-    lib = answer_in X.files.files
-
-    abbrev left : ℕ
-    left = 255 - length path
-
-    abbrev from : Stock
-    from = stock_by X.files.names without_it
+    grew_leaf : box_grown library (without_ending name) (255 - length path) (inner_of library (without_ending name) (255 - length path)) (around_root t.sheet.zero) grown_from stock_then
+        ≡ gives (Leaf cell Done) after_it
+    grew_leaf = grew old new n name path number text now k after steps steps' b X can t R (Leaf cell Done) Y.can.single
 
     pub runs_ready : RunsAs mid.grove t
     runs_ready = room_runs old.grove mid.grove same_boxes t R
 
-    pub again_then : StandsAgain lib name X.files.names t
-    again_then =
-        stands_on (answer_in k.files) lib name k.names X.files.names t A (goes_alike k.files X.files.files grew_so.behind) grew_so.extends
-        (library_of X.files.names X.files.files grew_so.found)
-
-    pub long : length path ≤ 255
-    long =
-        let at = path_along old.grove path b.canvas t can.forest R.stands X.chosen.leads in
-        path_short path t at.0 (path_within path t at.0 at.1) A.shallow
-
-    own : own_zero old ≡ t.sheet.zero
-    own = zero_seen (get old.grove.boards old.grove.root) _ R.stands.root
-
-    grew : box_grown lib (without_ending name) left (inner_of lib (without_ending name) left) (around_root t.sheet.zero) drawn from ≡ gives (Leaf cell Done) grew_so.after
-    grew =
-        ap (λ (z : ℕ). box_grown lib (without_ending name) left (inner_of lib (without_ending name) left) (around_root z) drawn from) (sym own)
-        ∙ ap (λ (inner : Inner). box_grown lib (without_ending name) left inner (around_root (own_zero old)) drawn from)
-        (sym (same_inner lib (without_ending name) left))
-        ∙ ap (λ (e : Entry). box_grown lib (without_ending name) left (inside_grown lib (without_ending name) left) (around_root (own_zero old)) e from) (sym same_entry)
-        ∙ sym (growth_is (own_zero old) without_it name left grew_so.entry X.files) ∙ grew_so.grew
-        ∙ ap (λ (boxes : Trees). gives boxes grew_so.after) X.became.can.single
-
-    none_held : HoldNone drawn.page.boxes
-    none_held = subst HoldNone (sym bare.boxes) tt
-
-    pub document : document_boxes (Leaf cell Done) ≡ boxed (drawn ∷ [])
-    document = box_is lib name left t.sheet.zero drawn from grew_so.after (Leaf cell Done) low bare.holds none_held grew
-
-    pub head_is : cell.head ≡ drawn.head
-    head_is = same_head cell drawn document
-
-    pub no_sub : is_sub cell.head.form ≡ false
-    no_sub = new_grown lib (without_ending name) left (around_root t.sheet.zero) drawn from grew_so.after (Leaf cell Done) bare grew
-
-    is_new : (is_sub (entry_of was.element).head.form && begins_with_pd written_as) ≡ false
-    is_new =
-        not_kept (entry_of was.element).head.form written_as (entry_of was.element) (begins_with_pd written_as) refl
-        (sym (ap (λ (h : Head). is_sub h.form) head_is) ∙ no_sub)
-
-    entry_named : IsEntryOf X.files.names drawn
-    entry_named = record {
-      text = are_of_more k.names X.files.names grew_so.extends drawn.head.text (ready_of k.names drawn.head.text X.written.text);
-      inner = subst (TextsOf X.files.names) (sym bare.boxes) tt;
-    }
-
-    pub gives_text : GivesText mid.grove new.grove path b.canvas b.key number lib name t written_as was is_now from grew_so.after
+    pub gives_text : GivesText mid.grove new.grove path b.canvas b.key number library name t (settled_text k.names text) X.node is_now stock_then after_it
     gives_text = record {
       box = box;
       takes = X.chosen.takes;
       new = is_new;
-      names = entry_named;
-      left = left;
-      deep = all_in (length path) long;
-      room = low;
-      grew = grew ∙ ap (λ (c : Cell). gives (Leaf c Done) grew_so.after) (sym cell_is);
+      names = subst (IsEntryOf X.files.names) same_drawn (entry_named old new n name path number text now k after steps steps' b X);
+      left = 255 - length path;
+      deep = deep old new n name path number text now k after steps steps' b X can t R A;
+      room = subst (λ (e : Entry). levels_of e.head.form (levels e.page.boxes) ≤ 255 - length path) same_drawn (low old new n name path number text now k after steps steps' b X);
+      grew =
+          subst (λ (e : Entry). box_grown library (without_ending name) (255 - length path) (inner_of library (without_ending name) (255 - length path)) (around_root t.sheet.zero) e stock_then
+          ≡ gives (Leaf cell Done) after_it) same_drawn grew_leaf
+          ∙ ap (λ (c : Cell). gives (Leaf c Done) after_it) (sym cell_is);
       rate = old.rate;
       now = now;
-      first = ap (λ s. Some s) X.became.fresh;
+      first = ap (λ s. Some s) Y.fresh;
     }
 
     pub made : IsMade cell.head.form cell
     made =
         let at = path_along old.grove path b.canvas t can.forest R.stands X.chosen.leads in
-        box_made lib name left path t at.0 drawn from grew_so.after cell again_then at.1 (all_in (length path) long) entry_named low bare.holds none_held grew
+        box_made library name (255 - length path) path t at.0 grown_from stock_then after_it cell (again_then old new n name path number text now k after steps steps' b X can t R A) at.1 (deep old new n name path number text now k after steps steps' b X can t R A) (entry_named old new n name path number text now k after steps steps' b X) (low old new n name path number text now k after steps steps' b X)
+        (bare old new n name path number text now k after steps steps' b X).holds (none_held old new n name path number text now k after steps steps' b X) grew_leaf
 
     pub box_runs : RunsAs new.grove (retyped_at path number cell t)
     box_runs =
         subst (λ (c : Cell). RunsAs new.grove (retyped_at path number c t)) cell_is
-        (text_runs mid.grove new.grove path b.canvas b.key number lib name t written_as was is_now from grew_so.after runs_ready again_then gives_text)
+        (text_runs mid.grove new.grove path b.canvas b.key number library name t (settled_text k.names text) X.node is_now stock_then after_it runs_ready (again_then old new n name path number text now k after steps steps' b X can t R A) gives_text)
 
     pub box_again : StandsAgain (answer_in after.files) name after.names (retyped_at path number cell t)
     box_again =
-        subst (λ (fs : List (ℕ × Answer)). StandsAgain (answer_in fs) name after.names (retyped_at path number cell t)) (sym known_files)
-        (subst (λ (ns : Names). StandsAgain lib name ns (retyped_at path number cell t)) (sym known_names)
-        (subst (λ (c : Cell). StandsAgain lib name grew_so.after.names (retyped_at path number c t)) cell_is
-        (text_again mid.grove new.grove path b.canvas b.key number lib name t written_as was is_now from grew_so.after runs_ready again_then gives_text)))
+        known_after old new n name path number text now k after steps steps' b X (retyped_at path number cell t)
+        (subst (λ (c : Cell). StandsAgain library name after_it.names (retyped_at path number c t)) cell_is
+        (text_again mid.grove new.grove path b.canvas b.key number library name t (settled_text k.names text) X.node is_now stock_then after_it runs_ready (again_then old new n name path number text now k after steps steps' b X can t R A) gives_text))

@@ -1,5 +1,5 @@
 -- The counts of a patch in which a box became another one are those of its tree.
-use Rattle.std.proofs.Common.{◌≡◌, ◌≤◌, ◌+◌, ◌-◌, ℕ, zero, suc, List, [], ◌∷◌, slice_get, Some, sym, ap, ◌∙◌, subst, arith}
+use Rattle.std.proofs.Common.{◌≡◌, ◌≤◌, ◌+◌, ◌-◌, ℕ, zero, suc, List, [], ◌∷◌, length, slice_get, Some, refl, sym, ap, ◌∙◌, subst, arith}
 use Rattle.std.specs.Prelude.{option_map}
 use Rattle.std.proofs.lemmas.Option.{none-some, same_Some}
 use Rattle.slab.specs.Slab.{get}
@@ -7,10 +7,10 @@ use Rattle.pd_atom.specs.declared.Atom.{Atom}
 use Rattle.pd_clock.specs.declared.times.Rate.{Rate}
 use Rattle.pd_kind.specs.States.{size_of}
 use Rattle.pd_tree.specs.declared.rows.Sheet.{Sheet}
-use Rattle.pd_tree.specs.Trees.{Cell, Trees, Done, Leaf, Holder, Tree, join, weight, zeros_of}
+use Rattle.pd_tree.specs.Trees.{Cell, Trees, Done, Leaf, Holder, Tree, join, weight, zeros_in, zeros_of}
 use Rattle.pd_grove.specs.declared.nodes.Node.{Node}
 use Rattle.pd_grove.specs.declared.grove.Grove.{Grove}
-use Rattle.pd_grove.specs.Standing.{NodeSeen, node_seen, Stands}
+use Rattle.pd_grove.specs.Standing.{NodeSeen, node_seen, GroveStands, Stands}
 use Rattle.pd_grove.proofs.PlaceLemmas.{seen_keys}
 use Rattle.pd_web.specs.Changes.{wires_told}
 use Rattle.pd_patch.specs.declared.patch.Patch.{Patch}
@@ -25,10 +25,11 @@ use Rattle.pd_adding.specs.declared.counts.Counts.{Counts}
 use Rattle.pd_adding.specs.Counts.{with_boxes}
 use Rattle.pd_put_law.proofs.RoomLemmas.{room_runs}
 use Rattle.pd_retyping.specs.declared.retyping.RetypedBox.{RetypedBox}
-use Rattle.pd_retyping.specs.Retypes.{counts_but, with_wires, RetypesBox}
+use Rattle.pd_retyping.specs.Retypes.{counts_but, with_wires, HasBecome, RetypesBox}
 use Rattle.pd_retyping_law.specs.Retypes.{retyped_at}
-use Rattle.pd_retyping_law.proofs.CountLemmas.{tree_trades, weight_same, zeros_same}
-use Rattle.pd_retype_law.proofs.BecomeLemmas.{mid, is_now, box, cell_is, grew_so, same_boxes}
+use Rattle.pd_retyping_law.proofs.CountLemmas.{tree_trades, weight_same, zeros_retyped}
+use Rattle.pd_retype_law.proofs.BecomeLemmas.{mid, is_now, box, cell_is, same_boxes}
+use Rattle.pd_retype_law.proofs.GrewLemmas.{grew_so}
 
 -- ---- what the box that was there counts
 
@@ -121,30 +122,25 @@ module _ (rate : Rate) (g : Grove) (key : ℕ) (n : Node) (is : get g.nodes key 
   stands_counts b d (k ∷ ks) (Holder c s inner rest) zero at S = holder_counts c s inner rest (ap (λ (y : NodeSeen). y.cell.kind) (seen_as k _ at S.2))
   stands_counts b d (k ∷ ks) (Holder c s inner rest) (suc m) at S = with_holder rate (size_of n.kind rate) c s inner rest (stands_counts b d ks rest m at S.5)
 
--- ---- an edit that made a box another one
+-- ---- an edit that gave a box another text
 
 module _ (old new : Patch) (n : Counts) (name path : List ℕ) (number : ℕ) (text : List Atom) (now : ℕ) (k after : Known) (steps steps' : ℕ) (b : RetypedBox)
     (X : RetypesBox old new n name path number text now k after steps steps' b) where
-  abbrev cell : Cell
-  cell = X.became.can.cell
-
-  counted : b.counts ≡ with_wires (with_boxes old.rate (Leaf cell Done) (counts_but old.rate X.node n)) (wires_told new.web)
-  counted =
+  counted : (boxes : Trees) → X.added.boxes ≡ boxes → b.counts ≡ with_wires (with_boxes old.rate boxes (counts_but old.rate X.node n)) (wires_told new.web)
+  counted boxes is =
       X.counts
       ∙ ap (λ (c : Counts). with_wires c (wires_told new.web)) ((grew_so old new n name path number text now k after steps steps' b X).counts
-      ∙ ap (λ (t : Trees). with_boxes old.rate t (counts_but old.rate X.node n)) X.became.can.single)
+      ∙ ap (λ (t : Trees). with_boxes old.rate t (counts_but old.rate X.node n)) is)
 
-  none_more : (a x : ℕ) → x ≡ a + 0 → x ≡ a
-  none_more a x h = omega (arith, h)
+  none_more : (a m x : ℕ) → m ≡ 0 → x ≡ a + m → x ≡ a
+  none_more a m x e h = omega (arith, e, h)
 
   pub as_many_wires : b.counts.wires ≡ wires_told new.web
-  as_many_wires = ap (λ (x : Counts). x.wires) counted
+  as_many_wires = ap (λ (x : Counts). x.wires) (counted X.added.boxes refl)
 
-  pub same_next : b.counts.next_zero ≡ n.next_zero
-  same_next = none_more n.next_zero b.counts.next_zero (ap (λ (x : Counts). x.next_zero) counted)
-
-  pub tree_zeros : (t : Tree) → zeros_of (retyped_at path number cell t) ≡ zeros_of t
-  tree_zeros t = zeros_same path number cell t
+  -- what grew has no `$0` of its own
+  pub same_next : (boxes : Trees) → X.added.boxes ≡ boxes → length (zeros_in boxes) ≡ 0 → b.counts.next_zero ≡ n.next_zero
+  same_next boxes is none = none_more n.next_zero (length (zeros_in boxes)) b.counts.next_zero none (ap (λ (x : Counts). x.next_zero) (counted boxes is))
 
   module _ (can : CanPut old) (t : Tree) (R : RunsAs old.grove t) where
     was_counted : CountsOne old.rate (size_of X.node.kind old.rate) t.boxes
@@ -158,25 +154,50 @@ module _ (old new : Patch) (n : Counts) (name path : List ℕ) (number : ℕ) (t
         (stands_counts old.rate g b.key X.node X.chosen.is b.canvas S.depth S.keys at.0.boxes number
         (ap (λ (ks : List ℕ). slice_get ks number) (sym (seen_keys (get g.boards b.canvas) _ S.board)) ∙ X.chosen.at) S.stands))
 
-    pub as_many_boxes : n.boxes ≡ weight t.boxes → b.counts.boxes ≡ weight (retyped_at path number cell t).boxes
-    as_many_boxes h =
-        again n.boxes (weight t.boxes) b.counts.boxes (weight (retyped_at path number cell t).boxes) h was_counted.boxes (ap (λ (x : Counts). x.boxes) counted) (weight_same path number cell t)
+    -- what grew is one box
+    pub as_many_boxes : (boxes : Trees) → X.added.boxes ≡ boxes → weight boxes ≡ 1 → (cell : Cell) → n.boxes ≡ weight t.boxes
+        → b.counts.boxes ≡ weight (retyped_at path number cell t).boxes
+    as_many_boxes boxes is one cell h =
+        again n.boxes (weight t.boxes) (weight boxes) b.counts.boxes (weight (retyped_at path number cell t).boxes) h was_counted.boxes one
+        (ap (λ (x : Counts). x.boxes) (counted boxes is)) (weight_same path number cell t)
       where
-        again : (a w x v : ℕ) → a ≡ w → 1 ≤ w → x ≡ (a - 1) + (0 + 1) → v ≡ w → x ≡ v
-        again a w x v h k l e = omega (arith, h, k, l, e)
+        again : (a w m x v : ℕ) → a ≡ w → 1 ≤ w → m ≡ 1 → x ≡ (a - 1) + m → v ≡ w → x ≡ v
+        again a w m x v h k o l e = omega (arith, h, k, o, l, e)
 
-    traded : sound_of old.rate (retyped_at path number cell t).boxes + size_of X.node.kind old.rate ≡ sound_of old.rate t.boxes + size_of cell.kind old.rate
-    traded =
-        let p = mid old new n name path number text now k after steps steps' b X in
-        subst (λ (c : Cell). sound_of old.rate (retyped_at path number c t).boxes + size_of X.node.kind old.rate ≡ sound_of old.rate t.boxes + size_of c.kind old.rate)
-        (cell_is old new n name path number text now k after steps steps' b X)
-        (tree_trades old.rate p.grove new.grove path b.canvas b.key number X.node (is_now old new n name path number text now k after steps steps' b X)
-        (box old new n name path number text now k after steps steps' b X) t (room_runs old.grove p.grove (same_boxes old new n name path number text now k after steps steps' b X) t R).stands)
-
-    pub as_much_sound : n.sound ≡ sound_of old.rate t.boxes → b.counts.sound ≡ sound_of old.rate (retyped_at path number cell t).boxes
-    as_much_sound h =
-        again n.sound (sound_of old.rate t.boxes) (size_of X.node.kind old.rate) (size_of cell.kind old.rate) b.counts.sound (sound_of old.rate (retyped_at path number cell t).boxes)
-        h was_counted.sound (ap (λ (x : Counts). x.sound) counted) traded
+    pub as_much_sound : (boxes : Trees) → X.added.boxes ≡ boxes → (cell : Cell)
+        → sound_of old.rate (retyped_at path number cell t).boxes + size_of X.node.kind old.rate ≡ sound_of old.rate t.boxes + sound_of old.rate boxes
+        → n.sound ≡ sound_of old.rate t.boxes → b.counts.sound ≡ sound_of old.rate (retyped_at path number cell t).boxes
+    as_much_sound boxes is cell traded h =
+        again n.sound (sound_of old.rate t.boxes) (size_of X.node.kind old.rate) (sound_of old.rate boxes) b.counts.sound (sound_of old.rate (retyped_at path number cell t).boxes)
+        h was_counted.sound (ap (λ (x : Counts). x.sound) (counted boxes is)) traded
       where
-        again : (a s o m x v : ℕ) → a ≡ s → o ≤ s → x ≡ (a - o) + (m + 0) → v + o ≡ s + m → x ≡ v
+        again : (a s o m x v : ℕ) → a ≡ s → o ≤ s → x ≡ (a - o) + m → v + o ≡ s + m → x ≡ v
         again a s o m x v h k l e = omega (arith, h, k, l, e)
+
+-- ---- the box became another one
+
+module _ (old new : Patch) (n : Counts) (name path : List ℕ) (number : ℕ) (text : List Atom) (now : ℕ) (k after : Known) (steps steps' : ℕ) (b : RetypedBox)
+    (X : RetypesBox old new n name path number text now k after steps steps' b) (Y : HasBecome old new now b.key X.node X.added b.gone.items steps steps')
+    (t : Tree) (R : RunsAs old.grove t) where
+  abbrev loose : Patch
+  loose = mid old new n name path number text now k after steps steps' b X Y
+
+  stands : GroveStands loose.grove t.sheet t.boxes
+  stands = (room_runs old.grove loose.grove (same_boxes old new n name path number text now k after steps steps' b X Y) t R).stands
+
+  pub box_zeros : zeros_of (retyped_at path number Y.can.cell t) ≡ zeros_of t
+  box_zeros =
+      subst (λ (c : Cell). zeros_of (retyped_at path number c t) ≡ zeros_of t) (cell_is old new n name path number text now k after steps steps' b X Y)
+      (zeros_retyped loose.grove new.grove path b.canvas b.key number X.node (is_now old new n name path number text now k after steps steps' b X Y)
+      (box old new n name path number text now k after steps steps' b X Y) t stands)
+
+  pub box_traded : sound_of old.rate (retyped_at path number Y.can.cell t).boxes + size_of X.node.kind old.rate ≡ sound_of old.rate t.boxes + sound_of old.rate (Leaf Y.can.cell Done)
+  box_traded =
+      none (sound_of old.rate (retyped_at path number Y.can.cell t).boxes + size_of X.node.kind old.rate) (sound_of old.rate t.boxes) (size_of Y.can.cell.kind old.rate)
+      (subst (λ (c : Cell). sound_of old.rate (retyped_at path number c t).boxes + size_of X.node.kind old.rate ≡ sound_of old.rate t.boxes + size_of c.kind old.rate)
+      (cell_is old new n name path number text now k after steps steps' b X Y)
+      (tree_trades old.rate loose.grove new.grove path b.canvas b.key number X.node (is_now old new n name path number text now k after steps steps' b X Y)
+      (box old new n name path number text now k after steps steps' b X Y) t stands))
+    where
+      none : (a s m : ℕ) → a ≡ s + m → a ≡ s + (m + 0)
+      none a s m h = omega (arith, h)

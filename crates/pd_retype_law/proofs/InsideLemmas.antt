@@ -23,8 +23,10 @@ use Rattle.pd_grove.specs.TextOrder.{is_sub}
 use Rattle.pd_grove.specs.Telling.{inner_in, keys_in, step_in, reached}
 use Rattle.pd_grove.proofs.SubLemmas.{sub_path_leads}
 use Rattle.pd_web.specs.declared.jacks.Jack.{Jack}
+use Rattle.pd_web.specs.declared.web.Web.{Web}
 use Rattle.pd_web.specs.Canvases.{keys_at}
-use Rattle.pd_web.specs.Changes.{wires_told}
+use Rattle.pd_web.specs.Changes.{wires_told, Meet}
+use Rattle.pd_web.specs.Hops.{feed_hops}
 use Rattle.pd_web.specs.Jacks.{kind_jacks}
 use Rattle.pd_ports.specs.Boxes.{HasPorts}
 use Rattle.pd_seek.specs.Places.{AreInOrder}
@@ -33,6 +35,7 @@ use Rattle.pd_gather.specs.Gather.{Known}
 use Rattle.pd_boxes.specs.Put.{CanPut, HasOwners}
 use Rattle.pd_boxes.proofs.RoomLemmas.{keys_same, room_put}
 use Rattle.pd_misfits.specs.Shedding.{is_left, Sheds}
+use Rattle.pd_alike_law.specs.Feeds.{FedOnce}
 use Rattle.pd_inside_law.specs.Inside.{HasWiresOf, HoldsWires}
 use Rattle.pd_reload_law.specs.Reloading.{RunsAs}
 use Rattle.pd_saved_law.specs.Fitting.{WiresFit}
@@ -43,10 +46,11 @@ use Rattle.pd_adding.specs.declared.counts.Counts.{Counts}
 use Rattle.pd_put_law.proofs.OwnerLemmas.{own_more, room_own}
 use Rattle.pd_put_law.proofs.RoomLemmas.{same_canvas, lists_fed, lists_meet, told_same, laid_same, room_subs, room_runs, room_holds, room_fits, room_wires}
 use Rattle.pd_retyping.specs.declared.retyping.RetypedBox.{RetypedBox}
-use Rattle.pd_retyping.specs.Retypes.{RetypesBox}
+use Rattle.pd_retyping.specs.Retypes.{HasBecome, RetypesBox}
 use Rattle.pd_retyping_law.specs.Retypes.{boxes_with, retyped_at}
-use Rattle.pd_retyping_law.specs.Retyping.{RetypesBoxAt, cell_in}
-use Rattle.pd_retype_law.proofs.BecomeLemmas.{mid, is_now, box, cell_is, goes_on, same_boxes}
+use Rattle.pd_retyping_law.specs.Retyping.{ChangesBoxAt, cell_in}
+use Rattle.pd_retype_law.proofs.BecomeLemmas.{mid, is_now, cell_is, same_boxes, there}
+use Rattle.pd_retype_law.proofs.GrewLemmas.{goes_on}
 use Rattle.pd_retype_law.proofs.FitLemmas.{ports_fit, ports_wires}
 use Rattle.pd_retype_law.proofs.LooseLemmas.{loose_fits, loose_holds}
 
@@ -140,7 +144,7 @@ each_told : (f g : ℕ → Option ℕ) → ((k : ℕ) → f k ≡ g k) → (o : 
 each_told f g e None = refl
 each_told f g e (Some k) = e k
 
-module _ (g h : Grove) (path₀ : List ℕ) (canvas key number : ℕ) (n n' : Node) (B : RetypesBoxAt g h path₀ canvas key number n n') where
+module _ (g h : Grove) (path₀ : List ℕ) (canvas key number : ℕ) (n n' : Node) (B : ChangesBoxAt g h path₀ canvas key number n n') where
   -- what both boxes tell alike
   told_as : {X : Type 0} (f : Option Node → X) → f (Some n') ≡ f (Some n) → (k : ℕ) → f (get h.nodes k) ≡ f (get g.nodes k)
   told_as f e k = ⊎_elim
@@ -148,18 +152,27 @@ module _ (g h : Grove) (path₀ : List ℕ) (canvas key number : ℕ) (n n' : No
       (λ (d : k ≢ key). ap f (B.others k d))
       (cases_eq k key)
 
+  -- both hold the same canvas of the document
+  sub_same : sub_in (Some n') ≡ sub_in (Some n)
+  sub_same = by n.inner refl
+    where
+      by : (o : Option ℕ) → n.inner ≡ o → sub_in (Some n') ≡ sub_in (Some n)
+      by None e = sub_none n' (B.inner ∙ e) ∙ sym (sub_none n e)
+      by (Some j) e =
+          ap (λ f. cond (is_sub f) n'.inner None) (B.form j e) ∙ B.inner ∙ sym (ap (λ f. cond (is_sub f) n.inner None) (B.sub j e))
+
   pub keys_stay : (c : ℕ) → keys_at h c ≡ keys_at g c
   keys_stay c = ap (λ (s : Slab Board). keys_in (get s c)) B.boards
 
   step_same : (c m : ℕ) → step_in h c m ≡ step_in g c m
   step_same c m =
       ap (λ (s : Slab Board). option_and_then (λ k. inner_in (get h.nodes k)) (slice_get (keys_in (get s c)) m)) B.boards
-      ∙ each_told (λ k. inner_in (get h.nodes k)) (λ k. inner_in (get g.nodes k)) (told_as inner_in (B.leaf ∙ sym B.bare)) (slice_get (keys_in (get g.boards c)) m)
+      ∙ each_told (λ k. inner_in (get h.nodes k)) (λ k. inner_in (get g.nodes k)) (told_as inner_in B.inner) (slice_get (keys_in (get g.boards c)) m)
 
   sub_step_same : (c m : ℕ) → sub_step_in h c m ≡ sub_step_in g c m
   sub_step_same c m =
       ap (λ (s : Slab Board). option_and_then (λ k. sub_in (get h.nodes k)) (slice_get (keys_in (get s c)) m)) B.boards
-      ∙ each_told (λ k. sub_in (get h.nodes k)) (λ k. sub_in (get g.nodes k)) (told_as sub_in (sub_none n' B.leaf ∙ sym (sub_none n B.bare))) (slice_get (keys_in (get g.boards c)) m)
+      ∙ each_told (λ k. sub_in (get h.nodes k)) (λ k. sub_in (get g.nodes k)) (told_as sub_in sub_same) (slice_get (keys_in (get g.boards c)) m)
 
   reached_same : (way : List ℕ) (o : Option ℕ) → reached h o way ≡ reached g o way
   reached_same [] o = refl
@@ -190,11 +203,10 @@ some_along : (g : Grove) (key : Option ℕ) (o : Option Tree) (c : ℕ) → Lead
 some_along g key None c L e = absurd (none-some c (sym L ∙ e))
 some_along g key (Some u) c L e = (u, refl)
 
--- the box has other ports, and all wires stay
-module _ (p q : Patch) (path : List ℕ) (canvas key number : ℕ) (n n' : Node) (B : RetypesBoxAt p.grove q.grove path canvas key number n n')
-    (jacks : Side → List Jack) (made : Bool) (P : HasPorts p.web q.web key jacks made) (numbers : q.numbers ≡ p.numbers) where
+-- wires hold where each canvas inside an abstraction has the wires that it had
+module _ (p q : Patch) (path : List ℕ) (canvas key number : ℕ) (n n' : Node) (B : ChangesBoxAt p.grove q.grove path canvas key number n n') (numbers : q.numbers ≡ p.numbers) where
   -- no canvas inside an abstraction has the box
-  not_inside : (way : List ℕ) (c : ℕ) → reached p.grove (Some p.grove.root) way ≡ Some c → sub_reached p.grove (Some p.grove.root) way ≡ None
+  pub not_inside : (way : List ℕ) (c : ℕ) → reached p.grove (Some p.grove.root) way ≡ Some c → sub_reached p.grove (Some p.grove.root) way ≡ None
       → (i k : ℕ) → slice_get (keys_at p.grove c) i ≡ Some k → k ≢ key
   not_inside way c leads off i k at e =
       let g = p.grove in
@@ -202,18 +214,11 @@ module _ (p q : Patch) (path : List ℕ) (canvas key number : ℕ) (n n' : Node)
       let same : path ≡ way = paths_once g B.forest path way g.root c (sub_leads g g.root c path (B.leads ∙ ap (λ x. Some x) (sym here))) leads in
       none-some canvas (sym off ∙ ap (sub_reached g (Some g.root)) (sym same) ∙ B.leads)
 
-  wired_on : (way : List ℕ) (c : ℕ) (u : Tree) → reached p.grove (Some p.grove.root) way ≡ Some c → sub_reached p.grove (Some p.grove.root) way ≡ None
-      → HasWiresOf p.web (keys_at p.grove c) u → HasWiresOf q.web (keys_at q.grove c) u
-  wired_on way c u leads off h =
-      let keys = keys_at p.grove c in
-      subst (λ (ks : List ℕ). HasWiresOf q.web ks u) (sym (keys_stay p.grove q.grove path canvas key number n n' B c))
-      (same_canvas p.web q.web keys u (told_same p.web q.web keys (λ i k at.
-      let d = not_inside way c leads off i k at in
-      laid_same p.web q.web k (P.other_ports Inlets k d) (P.other_ports Outlets k d) (P.others_made k d)))
-      (λ k o _. P.fans k o) (λ k i _. P.feeds k i) h)
-
-  held_on : (t : Tree) → RunsAs p.grove t → HoldsWires p t → HoldsWires q (retyped_at path number (cell_in n') t)
-  held_on t R H =
+  pub all_held : FedOnce q.web → Meet q.web → ((k inlet : ℕ) → feed_hops q.web k inlet ≡ feed_hops p.web k inlet)
+      → ((way : List ℕ) (c : ℕ) (u : Tree) → reached p.grove (Some p.grove.root) way ≡ Some c → sub_reached p.grove (Some p.grove.root) way ≡ None
+      → HasWiresOf p.web (keys_at p.grove c) u → HasWiresOf q.web (keys_at q.grove c) u)
+      → (t : Tree) → RunsAs p.grove t → HoldsWires p t → HoldsWires q (retyped_at path number (cell_in n') t)
+  all_held fed meet feeds wired t R H =
       let g = p.grove in
       let h = q.grove in
       let c' = cell_in n' in
@@ -221,50 +226,74 @@ module _ (p q : Patch) (path : List ℕ) (canvas key number : ℕ) (n n' : Node)
       let stands : CanvasStands g g.root t = record { holder = None; depth = 0; keys = G.keys; board = G.root; stands = G.stands } in
       let own = some_along g (sub_reached g (Some g.root) path) (sub_along path t) canvas (sub_path_leads g path g.root t stands) B.leads in
       record {
-        fed = lists_fed p.web q.web P.lines P.feeds H.fed;
-        meet = lists_meet p.web q.web P.fans P.feeds H.meet;
+        fed = fed;
+        meet = meet;
         inside = record {
           all = λ way c u l.
               let leads : reached g (Some g.root) way ≡ Some c = from_root g h path canvas key number n n' B way ∙ l.here.key in
               let off : sub_reached g (Some g.root) way ≡ None = sub_from_root g h path canvas key number n n' B way ∙ l.inside in
               let same = inside_same path way number c' t own.0 own.1
               (none_along g (sub_reached g (Some g.root) way) (sub_along way t) (sub_path_leads g way g.root t stands) off) in
-              wired_on way c u leads off (H.inside.all way c u (record { here = record { key = leads; canvas = sym same ∙ l.here.canvas }; inside = off }));
+              wired way c u leads off (H.inside.all way c u (record { here = record { key = leads; canvas = sym same ∙ l.here.canvas }; inside = off }));
         };
         order = λ way c l.
             let O = H.order way c (sub_from_root g h path canvas key number n n' B way ∙ l) in
             record {
               all = λ i k inlet is.
-                  rw numbers (subst (AreInOrder p.numbers.items) (sym (P.feeds k inlet)) (O.all i k inlet (number_stays g h path canvas key number n n' B c i k is)));
+                  rw numbers (subst (AreInOrder p.numbers.items) (sym (feeds k inlet)) (O.all i k inlet (number_stays g h path canvas key number n n' B c i k is)));
             };
       }
 
+-- the box has other ports, and all wires stay
+module _ (p q : Patch) (path : List ℕ) (canvas key number : ℕ) (n n' : Node) (B : ChangesBoxAt p.grove q.grove path canvas key number n n')
+    (jacks : Side → List Jack) (made : Bool) (P : HasPorts p.web q.web key jacks made) (numbers : q.numbers ≡ p.numbers) where
+  wired_on : (way : List ℕ) (c : ℕ) (u : Tree) → reached p.grove (Some p.grove.root) way ≡ Some c → sub_reached p.grove (Some p.grove.root) way ≡ None
+      → HasWiresOf p.web (keys_at p.grove c) u → HasWiresOf q.web (keys_at q.grove c) u
+  wired_on way c u leads off h =
+      let keys = keys_at p.grove c in
+      subst (λ (ks : List ℕ). HasWiresOf q.web ks u) (sym (keys_stay p.grove q.grove path canvas key number n n' B c))
+      (same_canvas p.web q.web keys u (told_same p.web q.web keys (λ i k at.
+      let d = not_inside p q path canvas key number n n' B numbers way c leads off i k at in
+      laid_same p.web q.web k (P.other_ports Inlets k d) (P.other_ports Outlets k d) (P.others_made k d)))
+      (λ k o _. P.fans k o) (λ k i _. P.feeds k i) h)
+
+  held_on : (t : Tree) → RunsAs p.grove t → HoldsWires p t → HoldsWires q (retyped_at path number (cell_in n') t)
+  held_on t R H =
+      all_held p q path canvas key number n n' B numbers (lists_fed p.web q.web P.lines P.feeds H.fed) (lists_meet p.web q.web P.fans P.feeds H.meet) P.feeds
+      (λ way c u leads off h. wired_on way c u leads off h) t R H
+
+-- all wires stay as they are
+pub held_still : (p q : Patch) (path : List ℕ) (canvas key number : ℕ) (n n' : Node) → ChangesBoxAt p.grove q.grove path canvas key number n n' → q.numbers ≡ p.numbers
+    → q.web ≡ p.web → (t : Tree) → RunsAs p.grove t → HoldsWires p t → HoldsWires q (retyped_at path number (cell_in n') t)
+held_still p q path canvas key number n n' B numbers web t R H =
+    all_held p q path canvas key number n n' B numbers (subst FedOnce (sym web) H.fed) (subst Meet (sym web) H.meet) (λ k inlet. ap (λ (w : Web). feed_hops w k inlet) web)
+    (λ way c u leads off h.
+    subst (λ (ks : List ℕ). HasWiresOf q.web ks u) (sym (keys_stay p.grove q.grove path canvas key number n n' B c))
+    (subst (λ (w : Web). HasWiresOf w (keys_at p.grove c) u) (sym web) h)) t R H
+
 -- names have the owners that they had, where boxes and owners stay
-own_still : (p q : Patch) → q.names ≡ p.names → q.grove ≡ p.grove → (names : Names) (file : List ℕ) → HasOwners p names file → HasOwners q names file
+pub own_still : (p q : Patch) → q.names ≡ p.names → q.grove ≡ p.grove → (names : Names) (file : List ℕ) → HasOwners p names file → HasOwners q names file
 own_still p q owners grove names file h class name = rw (owners, grove) (h class name)
 
 module _ (old new : Patch) (n : Counts) (name path : List ℕ) (number : ℕ) (text : List Atom) (now : ℕ) (k after : Known) (steps steps' : ℕ) (b : RetypedBox)
-    (X : RetypesBox old new n name path number text now k after steps steps' b) where
+    (X : RetypesBox old new n name path number text now k after steps steps' b) (Y : HasBecome old new now b.key X.node X.added b.gone.items steps steps') where
   abbrev loose : Patch
-  loose = mid old new n name path number text now k after steps steps' b X
+  loose = mid old new n name path number text now k after steps steps' b X Y
 
   abbrev new_node : Node
-  new_node = is_now old new n name path number text now k after steps steps' b X
-
-  abbrev there : RetypesBoxAt loose.grove new.grove path b.canvas b.key number X.node new_node
-  there = box old new n name path number text now k after steps steps' b X
+  new_node = is_now old new n name path number text now k after steps steps' b X Y
 
   boxes_same : IsSameButRoom old.grove loose.grove
-  boxes_same = same_boxes old new n name path number text now k after steps steps' b X
+  boxes_same = same_boxes old new n name path number text now k after steps steps' b X Y
 
   -- the patch in which room was set aside, and from which nothing went yet
   abbrev ready : Patch
-  ready = X.became.ready
+  ready = Y.ready
 
   shed : Sheds ready.web loose.web b.gone.items
   shed =
-      let S = X.became.sheds in
-      let W = X.became.room.web in
+      let S = Y.sheds in
+      let W = Y.room.web in
       record {
         fans = λ node outlet. S.fans node outlet ∙ ap (filter (is_left b.gone.items)) (sym (W.fans node outlet));
         feeds = λ node inlet. S.feeds node inlet ∙ ap (filter (is_left b.gone.items)) (sym (W.feeds node inlet));
@@ -273,29 +302,29 @@ module _ (old new : Patch) (n : Counts) (name path : List ℕ) (number : ℕ) (t
   loose_held : CanPut old → (t : Tree) → HoldsWires old t → HoldsWires loose t
   loose_held can t H =
       let g = ready.grove in
-      let S = X.became.room.grove in
-      let held = room_holds old ready X.became.room t H in
-      loose_holds ready loose b.key steps X.became.between X.became.loosens b.gone.items shed (room_put old ready X.became.room can) held.meet path b.canvas number
+      let S = Y.room.grove in
+      let held = room_holds old ready Y.room t H in
+      loose_holds ready loose b.key steps Y.between Y.loosens b.gone.items shed (room_put old ready Y.room can) held.meet path b.canvas number
       (room_subs old.grove g S path ∙ X.chosen.leads) (ap (λ (ks : List ℕ). slice_get ks number) (keys_same old.grove g S b.canvas) ∙ X.chosen.at) t held
 
-  pub box_holds : CanPut old → (t : Tree) → RunsAs old.grove t → HoldsWires old t → HoldsWires new (retyped_at path number X.became.can.cell t)
+  pub box_holds : CanPut old → (t : Tree) → RunsAs old.grove t → HoldsWires old t → HoldsWires new (retyped_at path number Y.can.cell t)
   box_holds can t R H =
-      subst (λ (c : Cell). HoldsWires new (retyped_at path number c t)) (cell_is old new n name path number text now k after steps steps' b X)
-      (held_on loose new path b.canvas b.key number X.node new_node there (λ side. kind_jacks side X.became.seed.row.kind) (is_made X.became.seed.row.kind)
-      X.became.refit.ports X.became.refit.numbers t (room_runs old.grove loose.grove boxes_same t R) (loose_held can t H))
+      subst (λ (c : Cell). HoldsWires new (retyped_at path number c t)) (cell_is old new n name path number text now k after steps steps' b X Y)
+      (held_on loose new path b.canvas b.key number X.node new_node (there old new n name path number text now k after steps steps' b X Y) (λ side. kind_jacks side Y.seed.row.kind) (is_made Y.seed.row.kind)
+      Y.refit.ports Y.refit.numbers t (room_runs old.grove loose.grove boxes_same t R) (loose_held can t H))
 
   pub box_fits : WiresFit old → WiresFit new
   box_fits F =
-      ports_fit loose new b.key X.became.seed.row.kind X.became.refit.ports X.became.could.wires X.became.could.meet X.became.could.can.runs
-      X.became.refit.grove.boards X.became.refit.numbers
-      (loose_fits ready loose b.key steps X.became.between X.became.loosens b.gone.items shed (room_fits old ready X.became.room F))
+      ports_fit loose new b.key Y.seed.row.kind Y.refit.ports Y.could.wires Y.could.meet Y.could.can.runs
+      Y.refit.grove.boards Y.refit.numbers
+      (loose_fits ready loose b.key steps Y.between Y.loosens b.gone.items shed (room_fits old ready Y.room F))
 
   -- as many fewer as went
-  pub box_wires : wires_told new.web + length X.became.loosens.gone ≡ wires_told old.web
+  pub box_wires : wires_told new.web + length Y.loosens.gone ≡ wires_told old.web
   box_wires =
-      let a = ports_wires loose new b.key X.became.seed.row.kind X.became.refit.ports in
-      let c = X.became.loosens.count in
-      let d = room_wires old ready X.became.room in
+      let a = ports_wires loose new b.key Y.seed.row.kind Y.refit.ports in
+      let c = Y.loosens.count in
+      let d = room_wires old ready Y.room in
       omega (arith, a, c, d)
 
   pub box_owners : (t : Tree) → RunsAs old.grove t → StandsAgain (answer_in k.files) name k.names t → HasOwners old k.names name → HasOwners new after.names name
@@ -304,4 +333,4 @@ module _ (old new : Patch) (n : Counts) (name path : List ℕ) (number : ℕ) (t
       let more : HasOwners old after.names name =
       own_more (answer_in k.files) name old k.names after.names t R.stands R.shallow A (goes_on old new n name path number text now k after steps steps' b X) h in
       let again : HasOwners old X.added.known.names name = subst (λ (ns : Names). HasOwners old ns name) is more in
-      subst (λ (ns : Names). HasOwners new ns name) (sym is) (X.became.refit.owners name (own_still ready loose X.became.loosens.rest.names X.became.loosens.rest.grove X.added.known.names name (room_own old ready X.added.known.names name X.became.room again)))
+      subst (λ (ns : Names). HasOwners new ns name) (sym is) (Y.refit.owners name (own_still ready loose Y.loosens.rest.names Y.loosens.rest.grove X.added.known.names name (room_own old ready X.added.known.names name Y.room again)))

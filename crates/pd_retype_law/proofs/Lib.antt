@@ -1,3 +1,4 @@
+pub mod GrewLemmas
 pub mod BecomeLemmas
 pub mod FitLemmas
 pub mod KeptLemmas
@@ -7,3 +8,5 @@ pub mod CountLemmas
 pub mod ProperLemmas
 pub mod WrittenLemmas
 pub mod PageLemmas
+pub mod RenameLemmas
+pub mod CaseLemmas

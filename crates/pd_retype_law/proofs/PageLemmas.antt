@@ -54,11 +54,12 @@ use Rattle.pd_putting_law.proofs.PathLemmas.{paths_once, sub_leads}
 use Rattle.pd_adding.specs.declared.counts.Counts.{Counts}
 use Rattle.pd_adding.specs.Counts.{stock_by}
 use Rattle.pd_retyping.specs.declared.retyping.RetypedBox.{RetypedBox}
-use Rattle.pd_retyping.specs.Retypes.{RetypesBox}
-use Rattle.pd_retyping_law.specs.Retyping.{RetypesBoxAt}
+use Rattle.pd_retyping.specs.Retypes.{HasBecome, RetypesBox}
+use Rattle.pd_retyping_law.specs.Retyping.{RetypesBoxAt, ChangesBoxAt}
 use Rattle.pd_retyping_law.proofs.EditLemmas.{text_kept, text_document}
 use Rattle.pd_retype_law.specs.Losing.{less_wires}
-use Rattle.pd_retype_law.proofs.BecomeLemmas.{mid, is_now, box, same_boxes, cell_is, written_as, without_it, grew_so, runs_ready, again_then, gives_text, long}
+use Rattle.pd_retype_law.proofs.BecomeLemmas.{mid, is_now, box, same_boxes, cell_is, runs_ready, gives_text, there as changed_so}
+use Rattle.pd_retype_law.proofs.GrewLemmas.{written_as, without_it, grew_so, again_then, long}
 use Rattle.pd_retype_law.proofs.FitLemmas.{flat_same, saved_stay}
 use Rattle.pd_retype_law.proofs.InsideLemmas.{keys_stay, sub_from_root}
 
@@ -80,7 +81,7 @@ longer_number [] n k = number_none n k
 longer_number (x ∷ xs) n zero = refl
 longer_number (x ∷ xs) n (suc k) = longer_number xs n k
 
-number_same : (old new : List ℕ) (k : ℕ) → IsLonger 0 old new → number_in new k ≡ number_in old k
+pub number_same : (old new : List ℕ) (k : ℕ) → IsLonger 0 old new → number_in new k ≡ number_in old k
 number_same old new k l = ap (λ (ns : List ℕ). number_in ns k) l.1 ∙ longer_number old l.0 k
 
 each_same : {X Y : Type 0} (f g : X → Y) (xs : List X) → ((x : X) → f x ≡ g x) → map f xs ≡ map g xs
@@ -136,11 +137,11 @@ module _ (w v : Web) (a b : List ℕ) (saved : (keys : List ℕ) → wires_among
       ∙ canvas_same before now (same_functions now before (λ d. within_same n d)) c
       ∙ sym (within_suc w a (get g.nodes) (get g.boards) n c)
 
-  document_same : h.root ≡ g.root → present_page h v b ≡ present_page g w a
+  pub document_same : h.root ≡ g.root → present_page h v b ≡ present_page g w a
   document_same root = within_same 257 h.root ∙ ap (page_within w a (get g.nodes) (get g.boards) 257) root
 
 -- the same wires by numbers that are the same
-numbers_among : (w : Web) (a b : List ℕ) → ((j : ℕ) → number_in b j ≡ number_in a j) → (keys : List ℕ) → wires_among w b keys ≡ wires_among w a keys
+pub numbers_among : (w : Web) (a b : List ℕ) → ((j : ℕ) → number_in b j ≡ number_in a j) → (keys : List ℕ) → wires_among w b keys ≡ wires_among w a keys
 numbers_among w a b same keys =
     flat_same (box_wires w b) (box_wires w a) keys (λ k.
     flat_same (outlet_wires w b k) (outlet_wires w a k) (range_with_len 0 (length (ports_told w Outlets k))) (λ o.
@@ -161,16 +162,16 @@ lives_by (Some b) i k e = refl
 -- ---- an edit that made a box another one
 
 module _ (old new : Patch) (n : Counts) (name path : List ℕ) (number : ℕ) (text : List Atom) (now : ℕ) (k after : Known) (steps steps' : ℕ) (b : RetypedBox)
-    (X : RetypesBox old new n name path number text now k after steps steps' b) (can : CanPut old) (t : Tree) (R : RunsAs old.grove t)
+    (X : RetypesBox old new n name path number text now k after steps steps' b) (Y : HasBecome old new now b.key X.node X.added b.gone.items steps steps') (can : CanPut old) (t : Tree) (R : RunsAs old.grove t)
     (A : StandsAgain (answer_in k.files) name k.names t) (H : HoldsWires old t) where
   abbrev cell : Cell
-  cell = X.became.can.cell
+  cell = Y.can.cell
 
   abbrev loose : Patch
-  loose = mid old new n name path number text now k after steps steps' b X
+  loose = mid old new n name path number text now k after steps steps' b X Y
 
   abbrev new_node : Node
-  new_node = is_now old new n name path number text now k after steps steps' b X
+  new_node = is_now old new n name path number text now k after steps steps' b X Y
 
   abbrev new_text : List Atom
   new_text = written_as old new n name path number text now k after steps steps' b X
@@ -185,30 +186,33 @@ module _ (old new : Patch) (n : Counts) (name path : List ℕ) (number : ℕ) (t
   last = (grew_so old new n name path number text now k after steps steps' b X).after
 
   abbrev there : RetypesBoxAt loose.grove new.grove path b.canvas b.key number X.node new_node
-  there = box old new n name path number text now k after steps steps' b X
+  there = box old new n name path number text now k after steps steps' b X Y
+
+  abbrev changes : ChangesBoxAt loose.grove new.grove path b.canvas b.key number X.node new_node
+  changes = changed_so old new n name path number text now k after steps steps' b X Y
 
   boxes_same : IsSameButRoom old.grove loose.grove
-  boxes_same = same_boxes old new n name path number text now k after steps steps' b X
+  boxes_same = same_boxes old new n name path number text now k after steps steps' b X Y
 
   -- ---- the wires that went
 
   keys_still : (c : ℕ) → keys_at new.grove c ≡ keys_at old.grove c
-  keys_still c = keys_stay loose.grove new.grove path b.canvas b.key number X.node new_node there c ∙ keys_same old.grove loose.grove boxes_same c
+  keys_still c = keys_stay loose.grove new.grove path b.canvas b.key number X.node new_node changes c ∙ keys_same old.grove loose.grove boxes_same c
 
   board_is : X.node.board ≡ b.canvas
   board_is = same_Some X.node.board b.canvas (sym (ap board_in X.chosen.is) ∙ can.runs.own.home b.canvas number b.key X.chosen.at)
 
   gone_are : b.gone.items ≡ misfits old b.canvas b.key cell.kind
-  gone_are = X.became.gone_are ∙ ap (λ c. misfits old c b.key cell.kind) board_is
+  gone_are = Y.gone_are ∙ ap (λ c. misfits old c b.key cell.kind) board_is
 
   ports_kept : KeepsPorts old.web loose.web
   ports_kept =
-      let a = X.became.room.web.kept in
-      let c = X.became.loosens.web.kept in
+      let a = Y.room.web.kept in
+      let c = Y.loosens.web.kept in
       record { ports = λ side j. c.ports side j ∙ a.ports side j; made = λ j. c.made j ∙ a.made j; homes = λ j. c.homes j ∙ a.homes j }
 
   shed : Sheds old.web loose.web (misfits old b.canvas b.key cell.kind)
-  shed = subst (Sheds old.web loose.web) gone_are X.became.sheds
+  shed = subst (Sheds old.web loose.web) gone_are Y.sheds
 
   rewires : RewiresAt new.grove old.web loose.web old.numbers.items path b.canvas (without_wires (numbered b.gone.items))
   rewires =
@@ -217,7 +221,7 @@ module _ (old new : Patch) (n : Counts) (name path : List ℕ) (number : ℕ) (t
       let at : IsThere (keys_at old.grove b.canvas) b.key = (number, X.chosen.at) in
       record {
         lives = lives_by (get g.boards b.canvas) number b.key (ap (λ (ks : List ℕ). slice_get ks number) (keys_still b.canvas) ∙ X.chosen.at);
-        once = λ other to. paths_once g X.became.goes_on.forest path other g.root b.canvas (sub_leads g g.root b.canvas path leads) to;
+        once = λ other to. paths_once g Y.goes_on.forest path other g.root b.canvas (sub_leads g g.root b.canvas path leads) to;
         here = subst (λ (ks : List ℕ). wires_among loose.web old.numbers.items ks ≡ without_wires (numbered b.gone.items) (wires_among old.web old.numbers.items ks)) (sym (keys_still b.canvas))
             (subst (λ (ms : List BoxWire). wires_among loose.web old.numbers.items (keys_at old.grove b.canvas) ≡ without_wires (numbered ms) (wires_among old.web old.numbers.items (keys_at old.grove b.canvas))) (sym gone_are)
             (canvas_less old b.canvas b.key cell.kind can.runs H.meet W at loose.web ports_kept shed));
@@ -227,19 +231,19 @@ module _ (old new : Patch) (n : Counts) (name path : List ℕ) (number : ℕ) (t
       }
     where
       leads : sub_reached new.grove (Some new.grove.root) path ≡ Some b.canvas
-      leads = sym (sub_from_root loose.grove new.grove path b.canvas b.key number X.node new_node there path) ∙ there.leads
+      leads = sym (sub_from_root loose.grove new.grove path b.canvas b.key number X.node new_node changes path) ∙ there.leads
 
   -- ---- the document
 
   number_still : (j : ℕ) → number_in new.numbers.items j ≡ number_in old.numbers.items j
   number_still j =
-      ap (λ (v : _). number_in v.items j) (X.became.refit.numbers ∙ X.became.loosens.rest.numbers)
-      ∙ number_same old.numbers.items X.became.ready.numbers.items j X.became.room.numbers
+      ap (λ (v : _). number_in v.items j) (Y.refit.numbers ∙ Y.loosens.rest.numbers)
+      ∙ number_same old.numbers.items Y.ready.numbers.items j Y.room.numbers
 
   by_old_numbers : present_document new ≡ present_page new.grove loose.web old.numbers.items
   by_old_numbers =
       document_same loose.web new.web old.numbers.items new.numbers.items (λ keys.
-      saved_stay loose.web new.web new.numbers.items X.became.refit.ports.fans keys ∙ numbers_among loose.web old.numbers.items new.numbers.items number_still keys)
+      saved_stay loose.web new.web new.numbers.items Y.refit.ports.fans keys ∙ numbers_among loose.web old.numbers.items new.numbers.items number_still keys)
       new.grove new.grove (λ j. refl) (λ c. refl) refl
 
   -- the document is that in which no wire went, less these
@@ -248,7 +252,7 @@ module _ (old new : Patch) (n : Counts) (name path : List ℕ) (number : ℕ) (t
       let far = long old new n name path number text now k after steps steps' b X can t R A in
       by_old_numbers
       ∙ document_edited new.grove old.web loose.web old.numbers.items path b.canvas (without_wires (numbered b.gone.items)) rewires
-      (sym (sub_from_root loose.grove new.grove path b.canvas b.key number X.node new_node there path) ∙ there.leads) (omega (arith, far))
+      (sym (sub_from_root loose.grove new.grove path b.canvas b.key number X.node new_node changes path) ∙ there.leads) (omega (arith, far))
 
   before : present_page loose.grove old.web old.numbers.items ≡ present_document old
   before = document_same old.web old.web old.numbers.items old.numbers.items (λ keys. refl) old.grove loose.grove boxes_same.nodes boxes_same.boards boxes_same.root
@@ -261,14 +265,14 @@ module _ (old new : Patch) (n : Counts) (name path : List ℕ) (number : ℕ) (t
       less_wired
       ∙ ap (λ (d : Page). edit_at path (less_wires (numbered b.gone.items)) d)
       (text_kept loose.grove new.grove path b.canvas b.key number lib name t new_text X.node new_node from last
-      (runs_ready old new n name path number text now k after steps steps' b X can t R A) (again_then old new n name path number text now k after steps steps' b X can t R A)
-      (gives_text old new n name path number text now k after steps steps' b X can t R A) old.web old.numbers.items
+      (runs_ready old new n name path number text now k after steps steps' b X Y can t R A) (again_then old new n name path number text now k after steps steps' b X can t R A)
+      (gives_text old new n name path number text now k after steps steps' b X Y can t R A) old.web old.numbers.items
       ∙ ap (λ s. edit_at path (change_box number (λ e. entry_kept s (retyped new_text e))) (present_page loose.grove old.web old.numbers.items)) state_is
       ∙ ap (λ (d : Page). edit_at path (change_box number (λ e. entry_kept (Some (started (start_of cell.kind old.rate) now)) (retyped new_text e))) d) before)
     where
       state_is : new_node.state ≡ Some (started (start_of cell.kind old.rate) now)
       state_is =
-          ap (λ s. Some s) X.became.fresh ∙ ap (λ (c : Cell). Some (started (start_of c.kind old.rate) now)) (cell_is old new n name path number text now k after steps steps' b X)
+          ap (λ s. Some s) Y.fresh ∙ ap (λ (c : Cell). Some (started (start_of c.kind old.rate) now)) (cell_is old new n name path number text now k after steps steps' b X Y)
 
   pub document_after : KeepsText cell → present_document new
       ≡ edit_at path (less_wires (numbered b.gone.items)) (edit_at path (edited (edit.Retype number new_text)) (present_document old))
@@ -276,7 +280,7 @@ module _ (old new : Patch) (n : Counts) (name path : List ℕ) (number : ℕ) (t
       less_wired
       ∙ ap (λ (d : Page). edit_at path (less_wires (numbered b.gone.items)) d)
       (text_document loose.grove new.grove path b.canvas b.key number lib name t new_text X.node new_node from last
-      (runs_ready old new n name path number text now k after steps steps' b X can t R A) (again_then old new n name path number text now k after steps steps' b X can t R A)
-      (gives_text old new n name path number text now k after steps steps' b X can t R A) old.web old.numbers.items
-      (subst KeepsText (sym (cell_is old new n name path number text now k after steps steps' b X)) keeps)
+      (runs_ready old new n name path number text now k after steps steps' b X Y can t R A) (again_then old new n name path number text now k after steps steps' b X can t R A)
+      (gives_text old new n name path number text now k after steps steps' b X Y can t R A) old.web old.numbers.items
+      (subst KeepsText (sym (cell_is old new n name path number text now k after steps steps' b X Y)) keeps)
       ∙ ap (λ (d : Page). edit_at path (edited (edit.Retype number new_text)) d) before)

@@ -1,6 +1,8 @@
 -- A document with another box in the place of one: it is proper where it was and the new box is.
-use Rattle.std.proofs.Common.{◌≡◌, ◌≤◌, ◌+◌, ℕ, zero, suc, List, [], ◌∷◌, length, refl, sym, ap, subst, arith}
+use Rattle.std.proofs.Common.{◌≡◌, ◌≤◌, ◌+◌, ℕ, zero, suc, List, [], ◌∷◌, length, Some, refl, sym, ap, subst, arith}
 use Rattle.std.specs.List.{AllByRecursion}
+use Rattle.std.proofs.lemmas.Option.{none-some}
+use Rattle.slab.specs.Slab.{get}
 use Rattle.pd_atom.specs.declared.Atom.{Atom}
 use Rattle.pd_atom.specs.Names.{Names, Extends, IsTable}
 use Rattle.pd_atom.specs.Tokens.{IsSettled}
@@ -11,12 +13,14 @@ use Rattle.pd_doc.proofs.GrowLaws.{are_ready_grows}
 use Rattle.pd_library.specs.Files.{answer_in}
 use Rattle.pd_tree.specs.declared.rows.Sheet.{Sheet}
 use Rattle.pd_tree.specs.Trees.{Cell, Trees, Done, Leaf, Holder, Tree, join, frame_in, box_with, document_boxes, document_in}
+use Rattle.pd_grove.specs.Places.{CanvasStands}
+use Rattle.pd_grove.specs.Standing.{depth_of}
 use Rattle.pd_patch.specs.declared.patch.Patch.{Patch}
 use Rattle.pd_gather.specs.Gather.{Known}
 use Rattle.pd_boxes.specs.Put.{CanPut}
 use Rattle.pd_contents_law.specs.Contents.{StaySettled}
 use Rattle.pd_contents_law.proofs.SettledLemmas.{onward, table_before}
-use Rattle.pd_regrowth_law.specs.Canvases.{Nest, Alone, Inside, nested, AreSubpatches}
+use Rattle.pd_regrowth_law.specs.Canvases.{Nest, Alone, Inside, nested, AreSubpatches, own_along, own_in_box, sub_canvas}
 use Rattle.pd_reload_law.specs.Reloading.{RunsAs}
 use Rattle.pd_putting_law.specs.Again.{StandsAgain}
 use Rattle.pd_putting_law.proofs.StandLemmas.{path_along}
@@ -27,9 +31,11 @@ use Rattle.pd_put_law.proofs.CountLemmas.{entry_boxes}
 use Rattle.pd_put_law.proofs.HeadLemmas.{IsPlainHead, put_plain, put_frame}
 use Rattle.pd_retyping.specs.declared.retyping.RetypedBox.{RetypedBox}
 use Rattle.pd_retyping.specs.Asking.{put_instead}
-use Rattle.pd_retyping.specs.Retypes.{RetypesBox}
-use Rattle.pd_retyping_law.specs.Retypes.{boxes_with, retyped_box, retyped_at}
-use Rattle.pd_retype_law.proofs.BecomeLemmas.{drawn, six, goes_on, may, puts, bare, document, box_again}
+use Rattle.pd_retyping.specs.Retypes.{HasBecome, RetypesBox}
+use Rattle.pd_retyping_law.specs.Retypes.{boxes_with, retyped_box, retyped_at, BareAt}
+use Rattle.pd_retyping_law.proofs.AgainLemmas.{bare_there}
+use Rattle.pd_retype_law.proofs.BecomeLemmas.{document, box_again}
+use Rattle.pd_retype_law.proofs.GrewLemmas.{drawn, six, goes_on, may, puts, bare}
 
 -- ---- texts that are ready go on to be so
 
@@ -48,10 +54,10 @@ stays_settled names more x six text h = λ later y table. settled_of later text 
 
 module _ (names : Names) where
   -- the second boxes are as many as the first, with as many wires inside, and well formed where those are
-  record StayProper (old new : Boxes) : Type 0 where
-    boxes : weight new ≡ weight old
-    wires : inner_wires new ≡ inner_wires old
-    sound : AreBoxes names old → AreBoxes names new
+  pub record StayProper (old new : Boxes) : Type 0 where
+    pub boxes : weight new ≡ weight old
+    pub wires : inner_wires new ≡ inner_wires old
+    pub sound : AreBoxes names old → AreBoxes names new
 
   all_stay : (b : Boxes) → StayProper b b
   all_stay b = record { boxes = refl; wires = refl; sound = λ a. a }
@@ -80,7 +86,7 @@ module _ (names : Names) where
 
   -- ---- boxes of a tree
 
-  abbrev TreesStay : Trees → Trees → Type 0
+  abbrev pub TreesStay : Trees → Trees → Type 0
   TreesStay t u = StayProper (document_boxes t) (document_boxes u)
 
   around_stay : (before t u : Trees) → TreesStay t u → TreesStay (join before t) (join before u)
@@ -95,14 +101,36 @@ module _ (names : Names) where
     first_stays : (old : Cell) (rest : Boxes) → StayProper (Box old.head (frame_of empty_page) End rest) (Box c.head (frame_of empty_page) End rest)
     first_stays old rest = record { boxes = refl; wires = refl; sound = λ a. (well.0, well.1, well.2, well.3, a.4) }
 
-    boxes_stay : (n : ℕ) (t : Trees) → TreesStay t (boxes_with n c t)
-    boxes_stay n Done = all_stay End
-    boxes_stay zero (Leaf old rest) = first_stays old (document_boxes rest)
-    boxes_stay zero (Holder old s inner rest) = all_stay (document_boxes (Holder old s inner rest))
-    boxes_stay (suc n) (Leaf old rest) =
-        rest_stays old.head (frame_of empty_page) End (document_boxes rest) (document_boxes (boxes_with n c rest)) (boxes_stay n rest)
-    boxes_stay (suc n) (Holder old s inner rest) =
-        with_rest old.head.form old.head s (document_boxes inner) (document_boxes rest) (document_boxes (boxes_with n c rest)) (boxes_stay n rest)
+    pub boxes_stay : (n : ℕ) (t : Trees) → BareAt n t → TreesStay t (boxes_with n c t)
+    boxes_stay n Done holds = all_stay End
+    boxes_stay zero (Leaf old rest) holds = first_stays old (document_boxes rest)
+    boxes_stay zero (Holder old s inner rest) holds = absurd holds
+    boxes_stay (suc n) (Leaf old rest) holds =
+        rest_stays old.head (frame_of empty_page) End (document_boxes rest) (document_boxes (boxes_with n c rest)) (boxes_stay n rest holds)
+    boxes_stay (suc n) (Holder old s inner rest) holds =
+        with_rest old.head.form old.head s (document_boxes inner) (document_boxes rest) (document_boxes (boxes_with n c rest)) (boxes_stay n rest holds)
+
+  -- a subpatch with another text, which is well formed
+  module _ (c : Cell) (form : c.head.form ≡ Sub) (head : IsHead names c.head) where
+    sub_first : (old : Cell) (s : Sheet) (inner rest : Boxes) → old.head.form ≡ Sub
+        → StayProper (box_with old.head.form old.head s inner rest) (box_with c.head.form c.head s inner rest)
+    sub_first old s inner rest f =
+        subst (λ (y : Shape). StayProper (box_with y old.head s inner rest) (box_with c.head.form c.head s inner rest)) (sym f)
+        (subst (λ (y : Shape). StayProper (Box old.head (frame_in s) inner rest) (box_with y c.head s inner rest)) (sym form)
+        (record { boxes = refl; wires = refl; sound = λ a. (head, subst (λ (y : Shape). HoldsNone y (page_of (frame_in s) inner)) (sym form) tt, a.2, a.3, a.4) }))
+
+    sub_form : (f : Shape) (s : Sheet) (inner : Trees) (y : Tree) → sub_canvas f s inner ≡ Some y → f ≡ Sub
+    sub_form Sub s inner y h = refl
+    sub_form f s inner y h = absurd (none-some y h)
+
+    pub sub_stays : (n : ℕ) (t : Trees) (y : Tree) → own_in_box n t ≡ Some y → TreesStay t (boxes_with n c t)
+    sub_stays n Done y h = absurd (none-some y h)
+    sub_stays zero (Leaf old rest) y h = absurd (none-some y h)
+    sub_stays zero (Holder old s inner rest) y h = sub_first old s (document_boxes inner) (document_boxes rest) (sub_form old.head.form s inner y h)
+    sub_stays (suc n) (Leaf old rest) y h =
+        rest_stays old.head (frame_of empty_page) End (document_boxes rest) (document_boxes (boxes_with n c rest)) (sub_stays n rest y h)
+    sub_stays (suc n) (Holder old s inner rest) y h =
+        with_rest old.head.form old.head s (document_boxes inner) (document_boxes rest) (document_boxes (boxes_with n c rest)) (sub_stays n rest y h)
 
   -- ---- a canvas, and what lies around it
 
@@ -137,21 +165,17 @@ module _ (names : Names) where
       more : (n : ℕ) → n ≤ 255 → n + 1 ≤ 256
       more n h = omega (arith, h)
 
--- ---- an edit that made a box another one
+-- ---- an edit that gave a box another text
 
 module _ (old new : Patch) (n : Counts) (name path : List ℕ) (number : ℕ) (text : List Atom) (now : ℕ) (k after : Known) (steps steps' : ℕ) (b : RetypedBox)
-    (X : RetypesBox old new n name path number text now k after steps steps' b) (can : CanPut old) (t : Tree) (R : RunsAs old.grove t)
-    (A : StandsAgain (answer_in k.files) name k.names t) where
-  abbrev cell : Cell
-  cell = X.became.can.cell
-
+    (X : RetypesBox old new n name path number text now k after steps steps' b) where
   abbrev element : Entry
   element = drawn old new n name path number text now k after steps steps' b X
 
   pub text_later : (later : Names) → Extends k.names later → IsTable later → AreReady later element.head.text
   text_later later on table = ready_later k.names later on (six old new n name path number text now k after steps steps' b X) table element.head.text X.written.text
 
-  head_proper : (later : Names) → Extends k.names later → IsTable later → IsHead later element.head
+  pub head_proper : (later : Names) → Extends k.names later → IsTable later → IsHead later element.head
   head_proper later on table =
       let p : IsPlainHead element.head =
       put_plain (settled_edit k.names (put_instead (entry_of X.node.element) text)) element (puts old new n name path number text now k after steps steps' b X) in
@@ -164,27 +188,49 @@ module _ (old new : Patch) (n : Counts) (name path : List ℕ) (number : ℕ) (t
         form = p.form later;
       }
 
+  -- the canvas in which the box stands
+  module _ (can : CanPut old) (t : Tree) (R : RunsAs old.grove t) where
+    abbrev pub around : (u : Tree) × (own_along path t ≡ Some u) × CanvasStands old.grove b.canvas u × (depth_of (get old.grove.boards b.canvas) ≡ length path)
+    around = path_along old.grove path b.canvas t can.forest R.stands X.chosen.leads
+
+    -- the tree with the box in its place, where its canvas stays proper
+    tree_stays : (cell : Cell) (later : Names) → TreesStay later around.0.boxes (boxes_with number cell around.0.boxes) → CanvasStays later t (retyped_at path number cell t)
+    tree_stays cell later stays =
+        let u = around.0 in
+        let v = retyped_box number cell u in
+        let w = path_within path t u around.1 in
+        subst (λ (z : Tree). CanvasStays later t z) (sym (w.changed (retyped_box number cell)))
+        (subst (λ (z : Tree). CanvasStays later z (nested w.nest v)) (sym w.whole)
+        (nest_stays later w.nest u v w.subpatches (record { sheet = refl; boxes = stays })))
+
+    pub tree_proper : (cell : Cell) (later : Names) → levels (document_boxes (retyped_at path number cell t).boxes) ≤ 255
+        → TreesStay later around.0.boxes (boxes_with number cell around.0.boxes) → IsProper later (document_in t) → IsProper later (document_in (retyped_at path number cell t))
+    tree_proper cell later low stays h = stays_proper later t (retyped_at path number cell t) (tree_stays cell later stays) low h
+
+-- ---- the box became another one
+
+module _ (old new : Patch) (n : Counts) (name path : List ℕ) (number : ℕ) (text : List Atom) (now : ℕ) (k after : Known) (steps steps' : ℕ) (b : RetypedBox)
+    (X : RetypesBox old new n name path number text now k after steps steps' b) (Y : HasBecome old new now b.key X.node X.added b.gone.items steps steps') (can : CanPut old) (t : Tree) (R : RunsAs old.grove t)
+    (A : StandsAgain (answer_in k.files) name k.names t) where
+  abbrev cell : Cell
+  cell = Y.can.cell
+
+  abbrev grown_from : Entry
+  grown_from = drawn old new n name path number text now k after steps steps' b X
+
   box_well : (later : Names) → Extends k.names later → IsTable later → AreBoxes later (document_boxes (Leaf cell Done))
   box_well later on table =
       let B = bare old new n name path number text now k after steps steps' b X in
-      let f : IsFrame later (frame_of element.page) =
-      put_frame later table (settled_edit k.names (put_instead (entry_of X.node.element) text)) element (puts old new n name path number text now k after steps steps' b X)
-      (text_later later on table) in
-      subst (AreBoxes later) (sym (document old new n name path number text now k after steps steps' b X can t R A))
-      (entry_boxes later element (head_proper later on table) B.holds f B.boxes)
-
-  tree_stays : (later : Names) → Extends k.names later → IsTable later → CanvasStays later t (retyped_at path number cell t)
-  tree_stays later on table =
-      let at = path_along old.grove path b.canvas t can.forest R.stands X.chosen.leads in
-      let u = at.0 in
-      let v = retyped_box number cell u in
-      let w = path_within path t u at.1 in
-      subst (λ (z : Tree). CanvasStays later t z) (sym (w.changed (retyped_box number cell)))
-      (subst (λ (z : Tree). CanvasStays later z (nested w.nest v)) (sym w.whole)
-      (nest_stays later w.nest u v w.subpatches (record { sheet = refl; boxes = boxes_stay later cell (box_well later on table) number u.boxes })))
+      let f : IsFrame later (frame_of grown_from.page) =
+      put_frame later table (settled_edit k.names (put_instead (entry_of X.node.element) text)) grown_from (puts old new n name path number text now k after steps steps' b X)
+      (text_later old new n name path number text now k after steps steps' b X later on table) in
+      subst (AreBoxes later) (sym (document old new n name path number text now k after steps steps' b X Y))
+      (entry_boxes later grown_from (head_proper old new n name path number text now k after steps steps' b X later on table) B.holds f B.boxes)
 
   pub box_proper : (later : Names) → Extends after.names later → IsTable later → IsProper later (document_in t) → IsProper later (document_in (retyped_at path number cell t))
   box_proper later on table h =
-      stays_proper later t (retyped_at path number cell t)
-      (tree_stays later (onward k.names after.names later (goes_on old new n name path number text now k after steps steps' b X) on) table)
-      (box_again old new n name path number text now k after steps steps' b X can t R A).shallow h
+      let more = onward k.names after.names later (goes_on old new n name path number text now k after steps steps' b X) on in
+      let u = around old new n name path number text now k after steps steps' b X can t R in
+      tree_proper old new n name path number text now k after steps steps' b X can t R cell later (box_again old new n name path number text now k after steps steps' b X Y can t R A).shallow
+      (boxes_stay later cell (box_well later more table) number u.0.boxes
+      (bare_there old.grove b.canvas b.key number X.node X.chosen.at X.chosen.is Y.can.bare u.0 u.2)) h

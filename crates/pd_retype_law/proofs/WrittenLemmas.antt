@@ -32,9 +32,10 @@ use Rattle.pd_putting_law.specs.Again.{StandsAgain}
 use Rattle.pd_adding.specs.declared.counts.Counts.{Counts}
 use Rattle.pd_put_law.proofs.RoomLemmas.{room_subs}
 use Rattle.pd_retyping.specs.declared.retyping.RetypedBox.{RetypedBox}
-use Rattle.pd_retyping.specs.Retypes.{RetypesBox}
-use Rattle.pd_retyping_law.specs.Retyping.{RetypesBoxAt, cell_in}
-use Rattle.pd_retype_law.proofs.BecomeLemmas.{mid, is_now, box, cell_is, head_is, made, six, goes_on, same_boxes}
+use Rattle.pd_retyping.specs.Retypes.{HasBecome, RetypesBox}
+use Rattle.pd_retyping_law.specs.Retyping.{ChangesBoxAt, cell_in}
+use Rattle.pd_retype_law.proofs.BecomeLemmas.{mid, is_now, cell_is, head_is, made, same_boxes, there}
+use Rattle.pd_retype_law.proofs.GrewLemmas.{six, goes_on}
 use Rattle.pd_retype_law.proofs.InsideLemmas.{sub_from_root, number_stays}
 use Rattle.pd_retype_law.proofs.ProperLemmas.{stays_settled}
 
@@ -54,58 +55,70 @@ more_state : (old new : Names) (n : ℕ) → Extends old new → (o : Option Sta
 more_state old new n x None h = tt
 more_state old new n x (Some s) h = contents_more n old new x s h
 
--- ---- an edit that made a box another one
+-- ---- all boxes but one are those that there were
 
-module _ (old new : Patch) (n : Counts) (name path : List ℕ) (number : ℕ) (text : List Atom) (now : ℕ) (k after : Known) (steps steps' : ℕ) (b : RetypedBox)
-    (X : RetypesBox old new n name path number text now k after steps steps' b) (can : CanPut old) (t : Tree) (R : RunsAs old.grove t)
-    (A : StandsAgain (answer_in k.files) name k.names t) where
-  abbrev c : Cell
-  c = X.became.can.cell
-
-  abbrev x : Node
-  x = is_now old new n name path number text now k after steps steps' b X
-
-  abbrev loose : Patch
-  loose = mid old new n name path number text now k after steps steps' b X
-
-  boxes_same : IsSameButRoom old.grove loose.grove
-  boxes_same = same_boxes old new n name path number text now k after steps steps' b X
-
-  abbrev there : RetypesBoxAt loose.grove new.grove path b.canvas b.key number X.node x
-  there = box old new n name path number text now k after steps steps' b X
-
-  more : Extends k.names after.names
-  more = goes_on old new n name path number text now k after steps steps' b X
-
-  cell_kept : cell_in x ≡ c
-  cell_kept = cell_is old new n name path number text now k after steps steps' b X
-
-  settled : is_written c.head.form ≡ true → IsKindSettled after.names c.kind
-  settled w =
-      let text_ready : AreReady k.names c.head.text =
-      subst (λ (h : Head). AreReady k.names h.text) (sym (head_is old new n name path number text now k after steps steps' b X can t R A)) X.written.text in
-      kind_stays k.names after.names more (six old new n name path number text now k after steps steps' b X) c.head.form c refl
-      (made old new n name path number text now k after steps steps' b X can t R A) text_ready w
-
+module _ (old loose new : Patch) (S : IsSameButRoom old.grove loose.grove) (path : List ℕ) (canvas key number : ℕ) (n n' : Node)
+    (B : ChangesBoxAt loose.grove new.grove path canvas key number n n') where
   -- a box of the document was one
   was_own : (j : ℕ) → IsOwnBox new.grove j → IsOwnBox old.grove j
   was_own j w = record {
     path = w.path;
     canvas = w.canvas;
     place = w.place;
-    leads = sym (room_subs old.grove loose.grove boxes_same w.path)
-        ∙ sub_from_root loose.grove new.grove path b.canvas b.key number X.node x there w.path ∙ w.leads;
-    at = ap (λ (ks : List ℕ). slice_get ks w.place) (sym (keys_same old.grove loose.grove boxes_same w.canvas))
-        ∙ number_stays loose.grove new.grove path b.canvas b.key number X.node x there w.canvas w.place j w.at;
+    leads = sym (room_subs old.grove loose.grove S w.path) ∙ sub_from_root loose.grove new.grove path canvas key number n n' B w.path ∙ w.leads;
+    at = ap (λ (ks : List ℕ). slice_get ks w.place) (sym (keys_same old.grove loose.grove S w.canvas))
+        ∙ number_stays loose.grove new.grove path canvas key number n n' B w.canvas w.place j w.at;
   }
 
-  same_node : (j : ℕ) → j ≢ b.key → get new.grove.nodes j ≡ get old.grove.nodes j
-  same_node j d = there.others j d ∙ boxes_same.nodes j
+  same_node : (j : ℕ) → j ≢ key → get new.grove.nodes j ≡ get old.grove.nodes j
+  same_node j d = B.others j d ∙ S.nodes j
+
+  pub written_still : (names more : Names) → Extends names more
+      → (IsWritten new.grove key → IfSome (states_of new key) (HasContents (counts_of (kinds_of new) key) more))
+      → HaveContents (IsWritten old.grove) (counts_of (kinds_of old)) names (states_of old) → HaveContents (IsWritten new.grove) (counts_of (kinds_of new)) more (states_of new)
+  written_still names more x here h j w = ⊎_elim
+      (λ (s : j ≡ key).
+      subst (λ (y : ℕ). IfSome (states_of new y) (HasContents (counts_of (kinds_of new) y) more)) (sym s) (here (subst (IsWritten new.grove) s w)))
+      (λ (d : j ≢ key).
+      let same : get new.grove.nodes j ≡ get old.grove.nodes j = same_node j d in
+      let was : IsWritten old.grove j = record { own = was_own j w.own; form = subst (λ (o : Option Node). IfSome o (λ y. is_written (form_of y) ≡ true)) same w.form } in
+      subst (λ (o : Option Node). IfSome (state_in o) (HasContents (option_map_or count_of (kind_in o) 0) more)) (sym same)
+      (more_state names more (counts_of (kinds_of old) j) x (states_of old j) (h j was))) (cases_eq j key)
+
+-- ---- an edit that made a box another one
+
+module _ (old new : Patch) (n : Counts) (name path : List ℕ) (number : ℕ) (text : List Atom) (now : ℕ) (k after : Known) (steps steps' : ℕ) (b : RetypedBox)
+    (X : RetypesBox old new n name path number text now k after steps steps' b) (Y : HasBecome old new now b.key X.node X.added b.gone.items steps steps') (can : CanPut old) (t : Tree) (R : RunsAs old.grove t)
+    (A : StandsAgain (answer_in k.files) name k.names t) where
+  abbrev c : Cell
+  c = Y.can.cell
+
+  abbrev x : Node
+  x = is_now old new n name path number text now k after steps steps' b X Y
+
+  abbrev loose : Patch
+  loose = mid old new n name path number text now k after steps steps' b X Y
+
+  boxes_same : IsSameButRoom old.grove loose.grove
+  boxes_same = same_boxes old new n name path number text now k after steps steps' b X Y
+
+  more : Extends k.names after.names
+  more = goes_on old new n name path number text now k after steps steps' b X
+
+  cell_kept : cell_in x ≡ c
+  cell_kept = cell_is old new n name path number text now k after steps steps' b X Y
+
+  settled : is_written c.head.form ≡ true → IsKindSettled after.names c.kind
+  settled w =
+      let text_ready : AreReady k.names c.head.text =
+      subst (λ (h : Head). AreReady k.names h.text) (sym (head_is old new n name path number text now k after steps steps' b X Y)) X.written.text in
+      kind_stays k.names after.names more (six old new n name path number text now k after steps steps' b X) c.head.form c refl
+      (made old new n name path number text now k after steps steps' b X Y can t R A) text_ready w
 
   new_contents : IsWritten new.grove b.key → IfSome (states_of new b.key) (HasContents (counts_of (kinds_of new) b.key) after.names)
   new_contents w =
-      let is : get new.grove.nodes b.key ≡ Some x = there.becomes in
-      let state : states_of new b.key ≡ Some (started (start_of x.kind old.rate) now) = ap state_in is ∙ ap (λ s. Some s) X.became.fresh in
+      let is : get new.grove.nodes b.key ≡ Some x = (there old new n name path number text now k after steps steps' b X Y).becomes in
+      let state : states_of new b.key ≡ Some (started (start_of x.kind old.rate) now) = ap state_in is ∙ ap (λ s. Some s) Y.fresh in
       let form : is_written (form_of x) ≡ true = subst (λ (o : Option Node). IfSome o (λ y. is_written (form_of y) ≡ true)) is w.form in
       let kind_is : IsKindSettled after.names x.kind =
       subst (IsKindSettled after.names) (sym (ap (λ (y : Cell). y.kind) cell_kept)) (settled (subst (λ (y : Cell). is_written y.head.form ≡ true) cell_kept form)) in
@@ -114,11 +127,5 @@ module _ (old new : Patch) (n : Counts) (name path : List ℕ) (number : ℕ) (t
 
   pub box_contents : HaveContents (IsWritten old.grove) (counts_of (kinds_of old)) k.names (states_of old)
       → HaveContents (IsWritten new.grove) (counts_of (kinds_of new)) after.names (states_of new)
-  box_contents h j w = ⊎_elim
-      (λ (s : j ≡ b.key).
-      subst (λ (y : ℕ). IfSome (states_of new y) (HasContents (counts_of (kinds_of new) y) after.names)) (sym s) (new_contents (subst (IsWritten new.grove) s w)))
-      (λ (d : j ≢ b.key).
-      let same : get new.grove.nodes j ≡ get old.grove.nodes j = same_node j d in
-      let was : IsWritten old.grove j = record { own = was_own j w.own; form = subst (λ (o : Option Node). IfSome o (λ y. is_written (form_of y) ≡ true)) same w.form } in
-      subst (λ (o : Option Node). IfSome (state_in o) (HasContents (option_map_or count_of (kind_in o) 0) after.names)) (sym same)
-      (more_state k.names after.names (counts_of (kinds_of old) j) more (states_of old j) (h j was))) (cases_eq j b.key)
+  box_contents h =
+      written_still old loose new boxes_same path b.canvas b.key number X.node x (there old new n name path number text now k after steps steps' b X Y) k.names after.names more new_contents h

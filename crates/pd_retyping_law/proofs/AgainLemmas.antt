@@ -1,5 +1,5 @@
 -- Another box in one canvas, and what grows again.
-use Rattle.std.proofs.Common.{◌≡◌, ℕ, zero, suc, ◌+◌, ◌≤◌, max, List, [], ◌∷◌, length, slice_get, Option, Some, inl, inr, refl, sym, ap, ◌∙◌, subst, arith}
+use Rattle.std.proofs.Common.{◌≡◌, ℕ, zero, suc, ◌+◌, ◌≤◌, max, List, [], ◌∷◌, length, slice_get, Option, Some, None, inl, inr, refl, sym, ap, ◌∙◌, subst, arith}
 use Rattle.std.specs.Prelude.{◌⊎◌}
 use mathlib.Core.Logic.{⊎_elim}
 use Rattle.std.proofs.lemmas.Option.{none-some, same_Some}
@@ -27,6 +27,7 @@ use Rattle.pd_regrowth_law.proofs.OwnLemmas.{own_parted, texts_before, texts_beh
 use Rattle.pd_regrowth_law.proofs.PartLemmas.{join_done}
 use Rattle.pd_regrowth_law.proofs.StepLemmas.{more_boxes, no_boxes}
 use Rattle.pd_regrowth_law.proofs.TakeLemmas.{several_take}
+use Rattle.pd_web.specs.Canvases.{keys_at}
 use Rattle.pd_reload_law.specs.Reloading.{RunsAs}
 use Rattle.pd_reload_law.specs.Saving.{IsMade}
 use Rattle.pd_putting_law.specs.Again.{StandsAgain}
@@ -179,7 +180,8 @@ module _ (lib : ℕ → Option Answer) (file : List ℕ) (left : ℕ) (path : Li
 
 -- ---- a patch
 
-module _ (g h : Grove) (path : List ℕ) (canvas key number : ℕ) (n n' : Node) (B : RetypesBoxAt g h path canvas key number n n') where
+-- the box of a key holds no canvas
+module _ (g : Grove) (canvas key number : ℕ) (n : Node) (is : slice_get (keys_at g canvas) number ≡ Some key) (was : get g.nodes key ≡ Some n) (bare : n.inner ≡ None) where
   bare_here : (b d : ℕ) (keys : List ℕ) (t : Trees) (m : ℕ) → slice_get keys m ≡ Some key → Stands (get g.nodes) (get g.boards) b d keys t → BareAt m t
   bare_here b d [] Done m at S = tt
   bare_here b d [] (Leaf c rest) m at S = absurd S
@@ -188,12 +190,12 @@ module _ (g h : Grove) (path : List ℕ) (canvas key number : ℕ) (n n' : Node)
   bare_here b d (k ∷ ks) (Leaf c rest) zero at S = tt
   bare_here b d (k ∷ ks) (Leaf c rest) (suc m) at S = bare_here b d ks rest m at S.1
   bare_here b d (k ∷ ks) (Holder c s inner rest) zero at S =
-      none-some S.0 (sym B.bare ∙ sym (ap inner_in (ap (λ j. get g.nodes j) (same_Some k key at) ∙ B.was)) ∙ seen_inner (get g.nodes k) _ S.2)
+      none-some S.0 (sym bare ∙ sym (ap inner_in (ap (λ j. get g.nodes j) (same_Some k key at) ∙ was)) ∙ seen_inner (get g.nodes k) _ S.2)
   bare_here b d (k ∷ ks) (Holder c s inner rest) (suc m) at S = bare_here b d ks rest m at S.5
 
   pub bare_there : (u : Tree) → CanvasStands g canvas u → BareAt number u.boxes
   bare_there u S =
-      bare_here canvas S.depth S.keys u.boxes number (ap (λ (l : List ℕ). slice_get l number) (sym (seen_keys (get g.boards canvas) _ S.board)) ∙ B.is) S.stands
+      bare_here canvas S.depth S.keys u.boxes number (ap (λ (l : List ℕ). slice_get l number) (sym (seen_keys (get g.boards canvas) _ S.board)) ∙ is) S.stands
 
 -- the path leads to a canvas of the document
 pub patch_retyped : (lib : ℕ → Option Answer) (file : List ℕ) (left : ℕ) (g h : Grove) (path : List ℕ) (canvas key number : ℕ) (n n' : Node) (t : Tree) (e : Entry)
@@ -203,4 +205,4 @@ pub patch_retyped : (lib : ℕ → Option Answer) (file : List ℕ) (left : ℕ)
     → StandsAgain lib file v.names (retyped_at path number (cell_in n') t)
 patch_retyped lib file left g h path canvas key number n n' t e w v s r B low o lev none inner grows =
     let p = path_along g path canvas t B.forest r.stands B.leads in
-    retyped_stands lib file left path t p.0 e w v (cell_in n') s p.1 low o lev none inner grows number (bare_there g h path canvas key number n n' B p.0 p.2)
+    retyped_stands lib file left path t p.0 e w v (cell_in n') s p.1 low o lev none inner grows number (bare_there g canvas key number n B.is B.was B.bare p.0 p.2)

@@ -211,3 +211,8 @@ pub zeros_renamed : (g h : Grove) (path₀ : List ℕ) (canvas key number : ℕ)
     → GroveStands g t.sheet t.boxes → zeros_of (retyped_at path₀ number (cell_in n') t) ≡ zeros_of t
 zeros_renamed g h path₀ canvas key number n n' B t G =
     zeros_stay g h path₀ canvas key number n n' (renames_so g h path₀ canvas key number n n' B) t G
+
+pub zeros_retyped : (g h : Grove) (path₀ : List ℕ) (canvas key number : ℕ) (n n' : Node) → RetypesBoxAt g h path₀ canvas key number n n' → (t : Tree)
+    → GroveStands g t.sheet t.boxes → zeros_of (retyped_at path₀ number (cell_in n') t) ≡ zeros_of t
+zeros_retyped g h path₀ canvas key number n n' B t G =
+    zeros_stay g h path₀ canvas key number n n' (retypes_so g h path₀ canvas key number n n' B) t G

@@ -74,7 +74,7 @@ module _ (g h : Grove) (path : List ℕ) (canvas key number : ℕ) (lib : ℕ �
   pub text_again : StandsAgain lib file after.names (retyped_at path number (cell_in n') t)
   text_again =
       retyped_stands lib file P.left path t along.0 new from after (cell_in n') A along.1 P.deep P.names P.room bare.holds (none_held new bare) P.grew number
-      (bare_there g h path canvas key number n n' P.box along.0 along.2)
+      (bare_there g canvas key number n P.box.is P.box.was P.box.bare along.0 along.2)
 
   pub text_runs : RunsAs h (retyped_at path number (cell_in n') t)
   text_runs = runs_retyped g h path canvas key number n n' P.box t P.rate P.now R P.first

@@ -21,7 +21,7 @@ use Rattle.pd_web.specs.Canvases.{keys_at}
 use Rattle.pd_present.specs.Contents.{present_form, present_head}
 use Rattle.pd_present.specs.Presents.{held_in, page_inside, entry_at, page_within, present_page}
 use Rattle.pd_present.proofs.PresentLemmas.{within_none, within_suc}
-use Rattle.pd_putting_law.specs.Putting.{HoldsPage, IsSavedAs}
+use Rattle.pd_putting_law.specs.Putting.{HoldsPage, IsSavedAs, entry_kept}
 use Rattle.pd_putting_law.proofs.ListLemmas.{map_same, map_changed}
 use Rattle.pd_putting_law.proofs.PathLemmas.{subs, sub_leads, deep_as, LeadsNot, not_same, not_inside, not_below, not_around, not_beside}
 use Rattle.pd_putting_law.proofs.PageLemmas.{entry_same, sub_entry, page_same, page_changed}
@@ -82,7 +82,7 @@ sub_retyped text e form pd =
     ∙ ap (λ b. (if b then element Sub e.page e.head.x e.head.y text else object e.head.x e.head.y text).head.form) pd
 
 -- a subpatch that keeps what it holds
-kept_head : (text : List Atom) (e : Entry) → e.head.form ≡ Sub → begins_with_pd text ≡ true → (retyped text e).head ≡ (element Sub e.page e.head.x e.head.y text).head
+pub kept_head : (text : List Atom) (e : Entry) → e.head.form ≡ Sub → begins_with_pd text ≡ true → (retyped text e).head ≡ (element Sub e.page e.head.x e.head.y text).head
 kept_head text e form pd =
     ap (λ (f : Shape). (retyped_as f text e).head) form
     ∙ ap (λ b. (if b then element Sub e.page e.head.x e.head.y text else object e.head.x e.head.y text).head) pd
@@ -220,19 +220,31 @@ module _ (g h : Grove) (path₀ : List ℕ) (canvas key number : ℕ) (n n' : No
 -- ---- a subpatch with another text
 
 module _ (g h : Grove) (path₀ : List ℕ) (canvas key number : ℕ) (n n' : Node) (B : RenamesBoxAt g h path₀ canvas key number n n') (w : Web) (numbers : List ℕ) where
-  -- its element has the other text, and its page is that of the canvas that it held
-  entry_renamed : (text : List Atom) → begins_with_pd text ≡ true → (entry_of n'.element).head ≡ (retyped text (entry_of n.element)).head → (before after : ℕ → Page)
-      → ((j : ℕ) → n.inner ≡ Some j → after j ≡ before j) → entry_at after (get h.nodes key) ≡ retyped text (entry_at before (get g.nodes key))
-  entry_renamed text pd head before after same =
-      let e = entry_of n.element in
+  -- the element of a subpatch with this page and this text
+  abbrev with_page : List Atom → Page → Entry
+  with_page text p = element Sub p (entry_of n.element).head.x (entry_of n.element).head.y text
+
+  entry_now : (text : List Atom) → begins_with_pd text ≡ true → (entry_of n'.element).head ≡ (retyped text (entry_of n.element)).head → (before after : ℕ → Page)
+      → ((j : ℕ) → n.inner ≡ Some j → after j ≡ before j) → entry_at after (get h.nodes key) ≡ with_page text (page_inside before n.inner)
+  entry_now text pd head before after same =
       ap (entry_at after) B.becomes
       ∙ ap (λ (o : Option ℕ). record { head = present_head n'.state (entry_of n'.element).head; page = held_in (entry_of n'.element).head.form (page_inside after o) }) B.inner
-      ∙ ap (λ (x : Head). record { head = present_head n'.state x; page = held_in x.form (page_inside after n.inner) }) (head ∙ kept_head text e B.sub pd)
-      ∙ ap (λ (p : Page). element Sub p e.head.x e.head.y text) (inside_same n.inner same)
-      ∙ sym (ap (λ o. retyped text (entry_at before o)) B.was
-      ∙ kept_entry text e.head n.state (page_inside before n.inner) B.sub pd)
+      ∙ ap (λ (x : Head). record { head = present_head n'.state x; page = held_in x.form (page_inside after n.inner) }) (head ∙ kept_head text (entry_of n.element) B.sub pd)
+      ∙ ap (with_page text) (inside_same n.inner same)
+
+  entry_was : (text : List Atom) → begins_with_pd text ≡ true → (before : ℕ → Page) → retyped text (entry_at before (get g.nodes key)) ≡ with_page text (page_inside before n.inner)
+  entry_was text pd before =
+      ap (λ o. retyped text (entry_at before o)) B.was ∙ kept_entry text (entry_of n.element).head n.state (page_inside before n.inner) B.sub pd
 
   pub document_renamed : (text : List Atom) → begins_with_pd text ≡ true → (entry_of n'.element).head ≡ (retyped text (entry_of n.element)).head
       → present_page h w numbers ≡ edit_at path₀ (edited (edit.Retype number text)) (present_page g w numbers)
   document_renamed text pd head =
-      document_changed g h path₀ canvas key number n n' (renames_so g h path₀ canvas key number n n' B) w numbers (retyped text) (entry_renamed text pd head)
+      document_changed g h path₀ canvas key number n n' (renames_so g h path₀ canvas key number n n' B) w numbers (retyped text) (λ before after same.
+      entry_now text pd head before after same ∙ sym (entry_was text pd before))
+
+  -- whatever it kept, that is no part of its element
+  pub renamed_kept : (text : List Atom) (s : Option State) → begins_with_pd text ≡ true → (entry_of n'.element).head ≡ (retyped text (entry_of n.element)).head
+      → present_page h w numbers ≡ edit_at path₀ (change_box number (λ e. entry_kept s (retyped text e))) (present_page g w numbers)
+  renamed_kept text s pd head =
+      document_changed g h path₀ canvas key number n n' (renames_so g h path₀ canvas key number n n' B) w numbers (λ e. entry_kept s (retyped text e)) (λ before after same.
+      entry_now text pd head before after same ∙ sym (ap (entry_kept s) (entry_was text pd before)))

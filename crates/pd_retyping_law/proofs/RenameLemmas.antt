@@ -1,21 +1,17 @@
 -- A subpatch with another text, and what grows again.
-use Rattle.std.proofs.Common.{◌≡◌, ℕ, zero, suc, ◌+◌, ◌≤◌, max, List, [], ◌∷◌, ◌++◌, length, drop, slice_get, Option, Some, None, refl, sym, ap, ◌∙◌, subst, arith, true≢false}
+use Rattle.std.proofs.Common.{◌≡◌, ℕ, zero, suc, ◌+◌, ◌≤◌, max, List, [], ◌∷◌, ◌++◌, length, slice_get, Option, Some, None, refl, sym, ap, ◌∙◌, subst, arith, true≢false}
 use Rattle.std.specs.Prelude.{false, option_map}
 use Rattle.std.proofs.lemmas.Option.{none-some, same_Some}
 use Rattle.slab.specs.Slab.{get}
 use Rattle.pd_atom.specs.Names.{Names, Extends}
-use Rattle.pd_atom.specs.declared.Atom.{Atom}
-use Rattle.pd_naming.specs.Naming.{arguments_of}
-use Rattle.pd_canvas.specs.Pages.{Shape, Sub, Head, Boxes, End, Box, Page, Entry, page_of, empty_page, boxed, listed}
+use Rattle.pd_canvas.specs.Pages.{Shape, Sub, Head, Boxes, End, Box, Entry, empty_page, boxed}
 use Rattle.pd_canvas.specs.Proper.{HoldsNone, levels, levels_of}
 use Rattle.pd_canvas.specs.Views.{entry_of}
 use Rattle.pd_library.specs.declared.answers.Answer.{Answer}
-use Rattle.pd_tree.specs.declared.rows.Fault.{Fault}
 use Rattle.pd_tree.specs.declared.rows.Sheet.{Sheet}
-use Rattle.pd_tree.specs.Trees.{Cell, Trees, Done, Leaf, Holder, Tree, join, weight, frame_in, box_with, document_boxes, zeros_in}
-use Rattle.pd_growth.specs.Steps.{Stock, gives, numbered}
-use Rattle.pd_growth.specs.Making.{Around, Making, Plain, Subpatch, File}
-use Rattle.pd_growth.specs.Growth.{Inner, around_instance, around_root, box_grown, box_made, canvas_grown, cell_of, receiver_brought, without_ending}
+use Rattle.pd_tree.specs.Trees.{Cell, Trees, Done, Leaf, Holder, Tree, join, weight, box_with, document_boxes, zeros_in}
+use Rattle.pd_growth.specs.Steps.{Stock, gives}
+use Rattle.pd_growth.specs.Growth.{around_root, box_grown, without_ending}
 use Rattle.pd_grove.specs.declared.nodes.Node.{Node}
 use Rattle.pd_grove.specs.declared.grove.Grove.{Grove}
 use Rattle.pd_grove.specs.Forest.{IsForest}
@@ -25,7 +21,7 @@ use Rattle.pd_grove.specs.Standing.{NodeSeen, depth_of, node_seen, Stands}
 use Rattle.pd_grove.specs.TextOrder.{is_sub}
 use Rattle.pd_grove.proofs.PlaceLemmas.{seen_keys}
 use Rattle.pd_web.specs.Canvases.{keys_at}
-use Rattle.pd_regrowth_law.specs.Canvases.{Site, IsSite, BoxRegrows, EachRegrows, ListRegrows, Regrows, CanvasRegrows, own_site, own_along, own_in_box, sub_canvas, canvas_with}
+use Rattle.pd_regrowth_law.specs.Canvases.{Site, IsSite, EachRegrows, Regrows, CanvasRegrows, own_site, own_along, own_in_box, sub_canvas, canvas_with}
 use Rattle.pd_regrowth_law.specs.Regrowth.{inner_of, stock}
 use Rattle.pd_regrowth_law.specs.Suits.{HoldNone, IsEntryOf, TextsOf}
 use Rattle.pd_regrowth_law.proofs.AgainLemmas.{library_more, texts_more}
@@ -33,8 +29,8 @@ use Rattle.pd_regrowth_law.proofs.EditLemmas.{canvas_changed, nest_texts, texts_
 use Rattle.pd_regrowth_law.proofs.NestLemmas.{canvas_inside, canvas_other, own_suits, sub_texts}
 use Rattle.pd_regrowth_law.proofs.OwnLemmas.{own_parted, texts_before, texts_behind}
 use Rattle.pd_regrowth_law.proofs.PartLemmas.{one_alone}
-use Rattle.pd_regrowth_law.proofs.StepLemmas.{box_went, chain, extends_same, gives_same}
-use Rattle.pd_regrowth_law.proofs.TakeLemmas.{canvas_went, several_take}
+use Rattle.pd_regrowth_law.proofs.StepLemmas.{extends_same}
+use Rattle.pd_regrowth_law.proofs.TakeLemmas.{several_take}
 use Rattle.pd_reload_law.specs.Reloading.{RunsAs}
 use Rattle.pd_putting_law.specs.Again.{StandsAgain}
 use Rattle.pd_putting_law.specs.Putting.{IsBare}
@@ -46,32 +42,7 @@ use Rattle.pd_retyping_law.specs.Retypes.{boxes_with, retyped_box, retyped_at}
 use Rattle.pd_retyping_law.specs.Retyping.{cell_in}
 use Rattle.pd_retyping_law.proofs.AgainLemmas.{one_again, one_grown}
 
--- ---- a box that holds a canvas has no fault
-
-fault_in : Trees → Option Fault
-fault_in Done = None
-fault_in (Leaf c rest) = None
-fault_in (Holder c s inner rest) = c.fault
-
-makes_plain : (inner : Inner) (a : Around) (e : Entry) (text : List Atom) (m : Making) (w : Stock) (t : Trees) (v : Stock) → box_made inner a e text m w ≡ gives t v
-    → fault_in t ≡ None
-unfolding fault_in
-makes_plain inner a e text (Plain k fault) w t v h = sym (ap fault_in (gives_same (Leaf (cell_of e.head text k fault) Done) t w v h))
-makes_plain inner a e text Subpatch w t v h =
-    let c = chain (receiver_brought a.is_top text w) (λ _ u. canvas_grown inner a e.page e.head text u) t v h in
-    sym (ap fault_in (canvas_went inner a e.page e.head text c.stock t v c.next).tree_is)
-makes_plain inner a e text (File s p) w t v h =
-    let args = arguments_of (drop 1 text) in
-    let c = chain (numbered w) (λ z u. canvas_grown inner (around_instance a z s args) p e.head text u) t v h in
-    sym (ap fault_in (canvas_went inner (around_instance a c.value s args) p e.head text c.stock t v c.next).tree_is)
-
-abbrev page_held : Shape → Sheet → Boxes → Page
-page_held Sub s b = page_of (frame_in s) b
-page_held f s b = empty_page
-
-holder_listed : (f : Shape) (h : Head) (s : Sheet) (b : Boxes) → listed (box_with f h s b End) ≡ record { head = h; page = page_held f s b } ∷ []
-holder_listed Sub h s b = refl
-holder_listed f h s b = refl
+-- ---- a subpatch that grows again holds a canvas
 
 -- boxes of which each grows again by itself
 each_regrows : (s : Site) (left : ℕ) (t : Trees) → IsSite s → TextsOf s.names (document_boxes t) → Regrows s left t → EachRegrows s left t
@@ -82,12 +53,6 @@ each_regrows s left (Leaf c rest) i o h =
 each_regrows s left (Holder c sheet inner rest) i o h =
     let p = own_parted s left (Holder c sheet inner Done) rest i o h in
     (p.0, each_regrows s left rest i (texts_behind s.names (Holder c sheet inner Done) rest o) p.1)
-
--- the box of a number, a subpatch, holds a canvas and has no fault
-record SubStands (n : ℕ) (c : Cell) (t : Trees) : Type 0 where
-  canvas : Tree
-  is : own_in_box n t ≡ Some canvas
-  plain : c.fault ≡ None
 
 bare_sub : (h : Head) → h.form ≡ Sub → IsBare (record { head = h; page = empty_page })
 bare_sub h f = record { boxes = refl; wires = refl; holds = subst (λ (y : Shape). HoldsNone y empty_page) (sym f) tt }
@@ -101,33 +66,15 @@ no_leaf s left c h f =
     (one_alone s left e t h s.names [] 0 (extends_same s.names)) in
     true≢false (sym (ap is_sub f) ∙ not)
 
-holder_plain : (s : Site) (left : ℕ) (c : Cell) (sheet : Sheet) (inner : Trees) → Regrows s left (Holder c sheet inner Done) → c.fault ≡ None
-unfolding fault_in
-holder_plain s left c sheet inner h =
-    let b = document_boxes inner in
-    let e : Entry = record { head = c.head; page = page_held c.head.form sheet b } in
-    let t = Holder c sheet inner Done in
-    let w = stock s.names (zeros_in t ++ []) (weight t + 0) in
-    let v = stock s.names [] 0 in
-    let g = box_went s.lib s.root left (inner_of s.lib s.root left) s.around e w t v
-    (one_alone s left e t (subst (λ l. ListRegrows s left l t) (holder_listed c.head.form c.head sheet b) h) s.names [] 0 (extends_same s.names)) in
-    makes_plain (inner_of s.lib s.root left) s.around e g.text g.making g.named t v g.box_is
-
-sub_stands : (s : Site) (left n : ℕ) (c : Cell) (t : Trees) → EachRegrows s left t → cell_at n t ≡ Some c → c.head.form ≡ Sub → SubStands n c t
+-- the box of a number, a subpatch, holds a canvas
+sub_stands : (s : Site) (left n : ℕ) (c : Cell) (t : Trees) → EachRegrows s left t → cell_at n t ≡ Some c → c.head.form ≡ Sub → (y : Tree) × (own_in_box n t ≡ Some y)
 sub_stands s left n c Done h at f = absurd (none-some c at)
 sub_stands s left zero c (Leaf old rest) h at f =
     absurd (no_leaf s left old h.0 (ap (λ (y : Cell). y.head.form) (same_Some old c at) ∙ f))
 sub_stands s left zero c (Holder old sheet inner rest) h at f =
-    let same : old ≡ c = same_Some old c at in
-    record {
-      canvas = canvas_with sheet inner;
-      is = ap (λ (y : Shape). sub_canvas y sheet inner) (ap (λ (y : Cell). y.head.form) same ∙ f);
-      plain = ap (λ (y : Cell). y.fault) (sym same) ∙ holder_plain s left old sheet inner h.0;
-    }
-sub_stands s left (suc n) c (Leaf old rest) h at f = let r = sub_stands s left n c rest h.1 at f in record { canvas = r.canvas; is = r.is; plain = r.plain }
-sub_stands s left (suc n) c (Holder old sheet inner rest) h at f =
-    let r = sub_stands s left n c rest h.1 at f in
-    record { canvas = r.canvas; is = r.is; plain = r.plain }
+    (canvas_with sheet inner, ap (λ (y : Shape). sub_canvas y sheet inner) (ap (λ (y : Cell). y.head.form) (same_Some old c at) ∙ f))
+sub_stands s left (suc n) c (Leaf old rest) h at f = sub_stands s left n c rest h.1 at f
+sub_stands s left (suc n) c (Holder old sheet inner rest) h at f = sub_stands s left n c rest h.1 at f
 
 -- ---- the subpatch of a number
 
@@ -181,7 +128,7 @@ head_or : Head → Boxes → Head
 head_or d End = d
 head_or d (Box h f inner rest) = h
 
-holder_head : (f : Shape) (c : Cell) (sheet : Sheet) (e : Entry) → box_with f c.head sheet End End ≡ boxed (e ∷ []) → c.head ≡ e.head
+pub holder_head : (f : Shape) (c : Cell) (sheet : Sheet) (e : Entry) → box_with f c.head sheet End End ≡ boxed (e ∷ []) → c.head ≡ e.head
 unfolding head_or
 holder_head Sub c sheet e h = ap (head_or c.head) h
 holder_head f c sheet e h = ap (head_or c.head) h
@@ -321,10 +268,11 @@ cell_there g key n b d (k ∷ ks) (Holder c s inner rest) (suc m) is at S = cell
 module _ (lib : ℕ → Option Answer) (file : List ℕ) (left : ℕ) (names : Names) (g : Grove) (path : List ℕ) (canvas key number : ℕ) (n : Node) (t : Tree)
     (s : StandsAgain lib file names t) (R : RunsAs g t) (forest : IsForest (get g.nodes) (get g.boards) g.root) (leads : sub_reached g (Some g.root) path ≡ Some canvas)
     (is : slice_get (keys_at g canvas) number ≡ Some key) (was : get g.nodes key ≡ Some n) (form : (entry_of n.element).head.form ≡ Sub) (low : length path + left ≡ 255) where
-  along : (u : Tree) × (own_along path t ≡ Some u) × CanvasStands g canvas u × (depth_of (get g.boards canvas) ≡ length path)
+  abbrev pub along : (u : Tree) × (own_along path t ≡ Some u) × CanvasStands g canvas u × (depth_of (get g.boards canvas) ≡ length path)
   along = path_along g path canvas t forest R.stands leads
 
-  sub_there : SubStands number (cell_in n) along.0.boxes
+  -- the box holds a canvas, in that to which the path leads
+  pub sub_there : (y : Tree) × (own_in_box number along.0.boxes ≡ Some y)
   sub_there =
       let u = along.0 in
       let S = along.2 in
@@ -337,16 +285,12 @@ module _ (lib : ℕ → Option Answer) (file : List ℕ) (left : ℕ) (names : N
       (cell_there g key n canvas S.depth S.keys u.boxes number was (ap (λ (l : List ℕ). slice_get l number) (sym (seen_keys (get g.boards canvas) _ S.board)) ∙ is) S.stands)
       form
 
-  -- a subpatch has no fault
-  pub sub_plain : n.fault ≡ None
-  sub_plain = sub_there.plain
-
   pub patch_renamed : (e : Entry) (w v : Stock) (c : Cell) (sheet : Sheet) → w.names ≡ names → IsEntryOf w.names e
       → levels_of e.head.form (levels e.page.boxes) ≤ left → HoldsNone e.head.form e.page → HoldNone e.page.boxes → e.head.form ≡ Sub
       → box_grown lib (without_ending file) left (inner_of lib (without_ending file) left) (around_root t.sheet.zero) e w ≡ gives (Holder c sheet Done Done) v
       → StandsAgain lib file v.names (retyped_at path number c t)
   patch_renamed e w v c sheet same o lev none inner sub grows =
-      renamed_stands lib file left path t along.0 sub_there.canvas e w v c sheet number (subst (λ (ns : Names). StandsAgain lib file ns t) (sym same) s) along.1 sub_there.is low o lev none inner
+      renamed_stands lib file left path t along.0 sub_there.0 e w v c sheet number (subst (λ (ns : Names). StandsAgain lib file ns t) (sym same) s) along.1 sub_there.1 low o lev none inner
       sub grows
 
   pub bare_renamed : (e : Entry) (w v : Stock) (c : Cell) (sheet : Sheet) → w.names ≡ names → IsEntryOf w.names e → IsBare e

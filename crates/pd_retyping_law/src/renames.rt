@@ -1,8 +1,7 @@
 //! Laws over a patch in which a subpatch got another text.
 
-ghost use Rattle.std.specs.Prelude.{◌≡◌, ◌≤◌, ◌+◌, ℕ, true, List, length, Option, Some, None};
+ghost use Rattle.std.specs.Prelude.{◌≡◌, ◌≤◌, ◌+◌, ℕ, true, List, length, Option};
 ghost use Rattle.pd_atom.specs.declared.Atom.{Atom};
-ghost use Rattle.pd_atom.specs.Names.{Names};
 ghost use Rattle.pd_clock.specs.declared.times.Rate.{Rate};
 ghost use Rattle.pd_canvas.specs.Edits.{begins_with_pd, edited, retyped};
 ghost use Rattle.pd_canvas.specs.Pages.{Sub, Entry};
@@ -54,13 +53,11 @@ pub fn trees_follow_renames()
 {}
 
 /// A tree that stands and grows again from its own document does so with another text of a subpatch, where a subpatch without boxes grew by itself in
-/// that canvas from an element with this text: what a subpatch holds grows as it did. A subpatch that stands in such a tree has no fault.
+/// that canvas from an element with this text: what a subpatch holds grows as it did.
 pub fn renamed_trees_grow_again()
-    ensures renamed { (lib : ℕ → Option Answer) (file : List ℕ) (left : ℕ) (g h : Grove) (path : List ℕ) (canvas key number : ℕ) (n n' : Node) (t : Tree)
+    ensures { (lib : ℕ → Option Answer) (file : List ℕ) (left : ℕ) (g h : Grove) (path : List ℕ) (canvas key number : ℕ) (n n' : Node) (t : Tree)
         (e : Entry) (sheet : Sheet) (w v : Stock) → StandsAgain lib file w.names t → RunsAs g t → RenamesBoxAt g h path canvas key number n n' →
         length path + left ≡ 255 → IsEntryOf w.names e → IsBare e → e.head.form ≡ Sub → levels_of e.head.form (levels e.page.boxes) ≤ left →
         box_grown lib (without_ending file) left (inner_of lib (without_ending file) left) (around_root t.sheet.zero) e w ≡
         gives (Holder (cell_in n') sheet Done Done) v → StandsAgain lib file v.names (retyped_at path number (cell_in n') t) }
-    ensures plain { (lib : ℕ → Option Answer) (file : List ℕ) (names : Names) (left : ℕ) (g h : Grove) (path : List ℕ) (canvas key number : ℕ) (n n' : Node) (t : Tree) →
-        StandsAgain lib file names t → RunsAs g t → RenamesBoxAt g h path canvas key number n n' → length path + left ≡ 255 → n.fault ≡ None }
 {}
