@@ -21,6 +21,7 @@ use Rattle.pd_putting_law.specs.Again.{StandsAgain}
 use Rattle.pd_putting_law.proofs.StandLemmas.{path_along}
 use Rattle.pd_putting_law.proofs.WithinLemmas.{path_within, inside_levels, around_levels}
 use Rattle.pd_putting_law.proofs.AgainLemmas.{canvas_regrows, change_stands}
+use Rattle.pd_shifting.specs.declared.shifting.MovedBox.{MovedBox}
 use Rattle.pd_shifting.specs.Moves.{MovesBox}
 use Rattle.pd_shifting.proofs.MoveLemmas.{is_moving}
 use Rattle.pd_shifted_law.specs.Shifts.{cell_at, boxes_shifted, shifted_box, shifted_at}
@@ -132,18 +133,18 @@ record MovedThere (path : List ℕ) (n : ℕ) (x y : ℤ) (t : Tree) : Type 0 wh
   own : own_along path t ≡ Some canvas
   moved : AreMoved (document_boxes canvas.boxes) (document_boxes (boxes_shifted n x y canvas.boxes))
 
-module _ (p q : Patch) (path : List ℕ) (number : ℕ) (x y : ℤ) (key : ℕ) (t : Tree) (M : MovesBox p q path number x y key) (C : CanPut p) (R : RunsAs p.grove t) where
+module _ (p q : Patch) (path : List ℕ) (number : ℕ) (x y : ℤ) (b : MovedBox) (t : Tree) (M : MovesBox p q path number x y b) (C : CanPut p) (R : RunsAs p.grove t) where
   there : MovedThere path number x y t
   there =
       let g = p.grove in
-      let at = is_moving g number (sub_reached g (Some g.root) path) M.canvas key M.is in
-      let along = path_along g path M.canvas t C.forest R.stands at.leads in
+      let at = is_moving g number (sub_reached g (Some g.root) path) b.canvas b.key M.is in
+      let along = path_along g path b.canvas t C.forest R.stands at.leads in
       let S = along.2 in
       record {
         canvas = along.0;
         own = along.1;
-        moved = boxes_moved (get g.nodes) (get g.boards) key x y M.x_told M.y_told at.no_array M.canvas S.depth S.keys along.0.boxes number S.stands
-            (ap (λ (ks : List ℕ). slice_get ks number) (sym (seen_keys (get g.boards M.canvas) _ S.board)) ∙ at.is);
+        moved = boxes_moved (get g.nodes) (get g.boards) b.key x y M.x_told M.y_told at.no_array b.canvas S.depth S.keys along.0.boxes number S.stands
+            (ap (λ (ks : List ℕ). slice_get ks number) (sym (seen_keys (get g.boards b.canvas) _ S.board)) ∙ at.is);
       }
 
   pub still_again : (lib : ℕ → Option Answer) (file : List ℕ) (names : Names) → StandsAgain lib file names t → StandsAgain lib file names (shifted_at path number x y t)

@@ -1,5 +1,5 @@
 -- A box at another place, the wires inside abstractions, and what a save writes of boxes.
-use Rattle.std.proofs.Common.{◌≡◌, ◌≢◌, ℕ, zero, suc, ℤ, Bool, true, false, cond, List, [], ◌∷◌, slice_get, Option, Some, None, IfSome, refl, sym, ap, ◌∙◌, subst}
+use Rattle.std.proofs.Common.{◌≡◌, ◌≢◌, ℕ, zero, suc, ℤ, Bool, true, false, cond, List, [], ◌∷◌, Option, Some, None, IfSome, inl, inr, refl, sym, ap, ◌∙◌, subst}
 use Rattle.std.specs.Prelude.{option_map, option_and_then}
 use Rattle.std.specs.Option.{option_map_or}
 use Rattle.std.proofs.lemmas.Option.{none-some, same_Some}
@@ -13,27 +13,40 @@ use Rattle.pd_tree.specs.Trees.{Trees, Done, Leaf, Holder, Tree}
 use Rattle.pd_grove.specs.declared.nodes.Node.{Node}
 use Rattle.pd_grove.specs.declared.boards.Board.{Board}
 use Rattle.pd_grove.specs.declared.grove.Grove.{Grove}
-use Rattle.pd_grove.specs.OwnPaths.{sub_in, sub_step_in, sub_reached, sub_in_box, sub_along}
+use Rattle.pd_grove.specs.OwnPaths.{sub_reached, sub_in_box, sub_along}
 use Rattle.pd_grove.specs.Places.{CanvasStands, LeadsTo, canvas_in_box, canvas_along}
 use Rattle.pd_grove.specs.Refits.{at_place, Alters}
+use Rattle.pd_grove.specs.Standing.{GroveStands}
 use Rattle.pd_grove.specs.TextOrder.{is_sub}
-use Rattle.pd_grove.specs.Telling.{inner_in, keys_in, kind_in, state_in, step_in, reached}
+use Rattle.pd_grove.specs.Telling.{kind_in, state_in}
 use Rattle.pd_grove.proofs.SubLemmas.{sub_path_leads}
 use Rattle.pd_web.specs.declared.web.Web.{Web}
 use Rattle.pd_web.specs.Canvases.{keys_at}
-use Rattle.pd_web.specs.Changes.{Meet}
+use Rattle.pd_web.specs.Changes.{wires_told, Meet}
+use Rattle.pd_web.proofs.CountLemmas.{same_are_as_many}
 use Rattle.pd_hearing.specs.Worlds.{states_of}
 use Rattle.pd_patch.specs.declared.patch.Patch.{Patch}
+use Rattle.pd_boxes.specs.Put.{CanPut}
+use Rattle.pd_saved_law.specs.Fitting.{WiresFit}
+use Rattle.pd_saved_law.proofs.FitLemmas.{room_fits}
 use Rattle.pd_alike_law.specs.Feeds.{FedOnce}
-use Rattle.pd_inside_law.specs.Inside.{HasWiresOf, HoldsWires}
+use Rattle.pd_inside_law.specs.Inside.{HasWiresOf, HoldsWires, LeadsInside}
+use Rattle.pd_inside_law.proofs.HoldLemmas.{room_holds}
 use Rattle.pd_reload_law.specs.Reloading.{RunsAs}
 use Rattle.pd_contents_law.specs.Contents.{HasContents, HaveContents, count_of, counts_of}
 use Rattle.pd_proper_law.specs.Saves.{kinds_of, is_written, form_of, IsWritten}
 use Rattle.pd_putting_law.specs.Puts.{change_inside}
-use Rattle.pd_shifting.specs.Moves.{MovesBox}
+use Rattle.pd_putting_law.proofs.PathLemmas.{Forest}
+use Rattle.pd_adding.specs.Coming.{own_zero, zero_in}
+use Rattle.pd_shifting.specs.declared.shifting.MovedBox.{MovedBox}
+use Rattle.pd_shifting.specs.Moves.{Shifts, ShiftsBox, ShiftsPort, MovesBox}
 use Rattle.pd_shifting.proofs.MoveLemmas.{is_moving}
 use Rattle.pd_shifted_law.specs.Shifts.{boxes_shifted, shifted_at}
+use Rattle.pd_shifted_law.proofs.EitherLemmas.{box_alters}
 use Rattle.pd_shifted_law.proofs.OwnerLemmas.{told_as}
+use Rattle.pd_shifted_law.proofs.PathLemmas.{from_root, keys_same, number_same, sub_from_root}
+use Rattle.pd_shifted_law.proofs.AroundLemmas.{port_around, port_stands}
+use Rattle.pd_shift_law.proofs.SlideLemmas.{slid_fed, slid_fit, slid_inside, slid_order}
 
 -- ---- canvases of a tree to which paths lead through abstractions
 
@@ -110,7 +123,7 @@ inside_same (m ∷ path) (i ∷ way) n x y t v own off = ⊎_elim
     (λ (d : i ≢ m). ap (option_and_then (canvas_along way)) (changed_beside i m (shifted_at path n x y) t.boxes d))
     (cases_eq i m)
 
--- ---- paths
+-- ---- what a save writes of boxes
 
 kind_placed : (x y : ℤ) (o : Option Node) → kind_in (option_map (at_place x y) o) ≡ kind_in o
 kind_placed x y None = refl
@@ -128,15 +141,14 @@ written_placed x y None = refl
 written_placed x y (Some n) = refl
 
 module _ (g h : Grove) (key : ℕ) (x y : ℤ) (A : Alters g h key (at_place x y)) where
-  -- what a save writes of boxes
   was_written : (k : ℕ) → IsWritten h k → IsWritten g k
   was_written k w = record {
     own = record {
       path = w.own.path;
       canvas = w.own.canvas;
       place = w.own.place;
-      leads = sub_from_root w.own.path ∙ w.own.leads;
-      at = number_same w.own.canvas w.own.place k w.own.at;
+      leads = sub_from_root g h key x y A w.own.path ∙ w.own.leads;
+      at = number_same g h key x y A w.own.canvas w.own.place k w.own.at;
     };
     form = by (get g.nodes k) (get h.nodes k) (told_as g h key x y A written_in (written_placed x y) k) w.form;
   }
@@ -156,40 +168,109 @@ some_along : (g : Grove) (key : Option ℕ) (o : Option Tree) (c : ℕ) → Lead
 some_along g key None c L e = absurd (none-some c (sym L ∙ e))
 some_along g key (Some u) c L e = (u, refl)
 
-module _ (p q : Patch) (path : List ℕ) (number : ℕ) (x y : ℤ) (key : ℕ) (M : MovesBox p q path number x y key) where
-  pub still_holds : (t : Tree) → RunsAs p.grove t → HoldsWires p t → HoldsWires q (shifted_at path number x y t)
-  still_holds t R H =
+module _ (g h : Grove) (canvas key number : ℕ) (x y : ℤ) (path : List ℕ) (A : Alters g h key (at_place x y)) (leads : sub_reached g (Some g.root) path ≡ Some canvas) (t : Tree)
+    (G : GroveStands g t.sheet t.boxes) where
+  stands : CanvasStands g g.root t
+  stands = record { holder = None; depth = 0; keys = G.keys; board = G.root; stands = G.stands }
+
+  was_off : (way : List ℕ) → sub_reached h (Some h.root) way ≡ None → sub_reached g (Some g.root) way ≡ None
+  was_off way off = sub_from_root g h key x y A way ∙ off
+
+  -- a canvas inside an abstraction was there, and is as it was
+  was_inside : (way : List ℕ) (c : ℕ) (u : Tree) → LeadsInside h (shifted_at path number x y t) way c u → LeadsInside g t way c u
+  was_inside way c u l =
+      let own = some_along g (sub_reached g (Some g.root) path) (sub_along path t) canvas (sub_path_leads g path g.root t stands) leads in
+      let same = inside_same path way number x y t own.0 own.1
+      (none_along g (sub_reached g (Some g.root) way) (sub_along way t) (sub_path_leads g way g.root t stands) (was_off way l.inside)) in
+      record { here = record { key = from_root g h key x y A way ∙ l.here.key; canvas = sym same ∙ l.here.canvas }; inside = was_off way l.inside }
+
+module _ (p q : Patch) (path : List ℕ) (number : ℕ) (x y : ℤ) (b : MovedBox) (M : MovesBox p q path number x y b) where
+  abbrev alters : Alters p.grove q.grove b.key (at_place x y)
+  alters = box_alters p q b.canvas b.key x y M.shifts
+
+  plain_holds : Shifts p q b.canvas b.key x y → (t : Tree) → RunsAs p.grove t → HoldsWires p t → HoldsWires q (shifted_at path number x y t)
+  plain_holds s t R H =
       let g = p.grove in
       let h = q.grove in
-      let G = R.stands in
-      let at = is_moving g number (sub_reached g (Some g.root) path) M.canvas key M.is in
-      let stands : CanvasStands g g.root t = record { holder = None; depth = 0; keys = G.keys; board = G.root; stands = G.stands } in
-      let own = some_along g (sub_reached g (Some g.root) path) (sub_along path t) M.canvas (sub_path_leads g path g.root t stands) at.leads in
+      let at = is_moving g number (sub_reached g (Some g.root) path) b.canvas b.key M.is in
       record {
-        fed = subst FedOnce (sym M.rest.web) H.fed;
-        meet = subst Meet (sym M.rest.web) H.meet;
+        fed = subst FedOnce (sym s.rest.web) H.fed;
+        meet = subst Meet (sym s.rest.web) H.meet;
         inside = record {
           all = λ way c u l.
-              let off : sub_reached g (Some g.root) way ≡ None = sub_from_root g h key x y M.box way ∙ l.inside in
-              let same = inside_same path way number x y t own.0 own.1
-              (none_along g (sub_reached g (Some g.root) way) (sub_along way t) (sub_path_leads g way g.root t stands) off) in
-              subst (λ (w : Web). HasWiresOf w (keys_at h c) u) (sym M.rest.web)
-              (subst (λ (ks : List ℕ). HasWiresOf p.web ks u) (sym (keys_same g h key x y M.box c))
-              (H.inside.all way c u
-              (record { here = record { key = from_root g h key x y M.box way ∙ l.here.key; canvas = sym same ∙ l.here.canvas }; inside = off })));
+              subst (λ (w : Web). HasWiresOf w (keys_at h c) u) (sym s.rest.web)
+              (subst (λ (ks : List ℕ). HasWiresOf p.web ks u) (sym (keys_same g h b.key x y alters c))
+              (H.inside.all way c u (was_inside g h b.canvas b.key number x y path alters at.leads t R.stands way c u l)));
         };
         order = λ way c l.
-            let O = H.order way c (sub_from_root g h key x y M.box way ∙ l) in
-            record { all = λ i k inlet is. rw (M.rest.web, M.rest.numbers) (O.all i k inlet (number_same g h key x y M.box c i k is)) };
+            let O = H.order way c (sub_from_root g h b.key x y alters way ∙ l) in
+            record { all = λ i k inlet is. rw (s.rest.web, s.rest.numbers) (O.all i k inlet (number_same g h b.key x y alters c i k is)) };
       }
+
+  port_holds : ShiftsPort p q b.canvas b.key x y → CanPut p → (t : Tree) → RunsAs p.grove t → HoldsWires p t → HoldsWires q (shifted_at path number x y t)
+  port_holds s C t R H =
+      let g = p.grove in
+      let h = q.grove in
+      let at = is_moving g number (sub_reached g (Some g.root) path) b.canvas b.key M.is in
+      let r = port_around p q path b.canvas b.key number x y C.forest at.leads at.is s in
+      let stood = port_stands p q path b.canvas b.key number x y C.forest at.leads at.is s in
+      let K = room_holds p s.ready t s.room H in
+      record {
+        fed = slid_fed s.ready q b.key s.holder s.side x y s.from s.to s.could s.slid r.way r.number stood;
+        meet = s.slid.meet;
+        inside = record {
+          all = λ way c u l.
+              slid_inside s.ready q b.key s.holder s.side x y s.from s.to s.could s.slid r.way r.number stood way c u l.here.key l.inside
+              (K.inside.all way c u (subst (λ (z : Grove). LeadsInside z t way c u) (sym s.room.grove) (was_inside g h b.canvas b.key number x y path alters at.leads t R.stands way c u l)));
+        };
+        order = λ way c l.
+            slid_order s.ready q b.key s.holder s.side x y s.from s.to s.could s.slid r.way r.number stood c
+            (K.order way c (ap (λ (z : Grove). sub_reached z (Some z.root) way) s.room.grove ∙ sub_from_root g h b.key x y alters way ∙ l));
+      }
+
+  holds_by : ShiftsBox p q b.canvas b.key x y → CanPut p → (t : Tree) → RunsAs p.grove t → HoldsWires p t → HoldsWires q (shifted_at path number x y t)
+  holds_by (inl s) C t R H = plain_holds s t R H
+  holds_by (inr s) C t R H = port_holds s C t R H
+
+  pub still_holds : CanPut p → (t : Tree) → RunsAs p.grove t → HoldsWires p t → HoldsWires q (shifted_at path number x y t)
+  still_holds C t R H = holds_by M.shifts C t R H
+
+  fits_by : ShiftsBox p q b.canvas b.key x y → WiresFit p → WiresFit q
+  fits_by (inl s) F = record { all = λ canvas. rw (s.rest.web, s.rest.numbers, s.box.boards) (F.all canvas) }
+  fits_by (inr s) F =
+      let g = p.grove in
+      let at = is_moving g number (sub_reached g (Some g.root) path) b.canvas b.key M.is in
+      let forest = subst (λ (z : Grove). Forest z) s.room.grove s.could.can.forest in
+      let r = port_around p q path b.canvas b.key number x y forest at.leads at.is s in
+      slid_fit s.ready q b.key s.holder s.side x y s.from s.to s.could s.slid r.way r.number (port_stands p q path b.canvas b.key number x y forest at.leads at.is s) (room_fits p s.ready s.room F)
+
+  pub still_fit : WiresFit p → WiresFit q
+  still_fit F = fits_by M.shifts F
+
+  meets_by : ShiftsBox p q b.canvas b.key x y → Meet p.web → Meet q.web
+  meets_by (inl s) m = subst Meet (sym s.rest.web) m
+  meets_by (inr s) m = s.slid.meet
+
+  pub still_meet : Meet p.web → Meet q.web
+  still_meet m = meets_by M.shifts m
+
+  wires_by : ShiftsBox p q b.canvas b.key x y → wires_told q.web ≡ wires_told p.web
+  wires_by (inl s) = ap wires_told s.rest.web
+  wires_by (inr s) = s.slid.wires ∙ same_are_as_many p.web s.ready.web s.room.web
+
+  pub as_many_wires : wires_told q.web ≡ wires_told p.web
+  as_many_wires = wires_by M.shifts
+
+  pub same_zero : own_zero q ≡ own_zero p
+  same_zero = ap (λ (z : Slab Board). zero_in (get z q.grove.root)) alters.boards ∙ ap (λ (r : ℕ). zero_in (get p.grove.boards r)) alters.root
 
   pub still_written : (names : Names) → HaveContents (IsWritten p.grove) (counts_of (kinds_of p)) names (states_of p)
       → HaveContents (IsWritten q.grove) (counts_of (kinds_of q)) names (states_of q)
   still_written names H k w =
       let g = p.grove in
       let h = q.grove in
-      let kinds : kind_in (get g.nodes k) ≡ kind_in (get h.nodes k) = sym (told_as g h key x y M.box kind_in (kind_placed x y) k) in
-      let states : state_in (get g.nodes k) ≡ state_in (get h.nodes k) = sym (told_as g h key x y M.box state_in (state_placed x y) k) in
+      let kinds : kind_in (get g.nodes k) ≡ kind_in (get h.nodes k) = sym (told_as g h b.key x y alters kind_in (kind_placed x y) k) in
+      let states : state_in (get g.nodes k) ≡ state_in (get h.nodes k) = sym (told_as g h b.key x y alters state_in (state_placed x y) k) in
       subst (λ (o : Option State). IfSome o (HasContents (option_map_or count_of (kind_in (get h.nodes k)) 0) names)) states
       (subst (λ (o : Option Kind). IfSome (state_in (get g.nodes k)) (HasContents (option_map_or count_of o 0) names)) kinds
-      (H k (was_written g h key x y M.box k w)))
+      (H k (was_written g h b.key x y alters k w)))

@@ -1,5 +1,5 @@
 -- The box around a canvas to which a path leads is that of the path's last number.
-use Rattle.std.proofs.Common.{◌≡◌, ℕ, List, [], ◌∷◌, ◌++◌, slice_get, Some, refl, sym, ap, ◌∙◌}
+use Rattle.std.proofs.Common.{◌≡◌, ℕ, ℤ, List, [], ◌∷◌, ◌++◌, slice_get, Some, inr, refl, sym, ap, ◌∙◌}
 use Rattle.std.specs.Prelude.{option_and_then}
 use Rattle.std.proofs.lemmas.Option.{none-some, same_Some}
 use Rattle.slab.specs.Slab.{get}
@@ -8,11 +8,16 @@ use Rattle.pd_canvas.specs.Paths.{change_box, edit_at, inside}
 use Rattle.pd_grove.specs.declared.grove.Grove.{Grove}
 use Rattle.pd_grove.specs.Forest.{holder_in}
 use Rattle.pd_grove.specs.OwnPaths.{sub_in, sub_reached}
+use Rattle.pd_grove.specs.Owning.{board_in}
+use Rattle.pd_web.specs.Canvases.{keys_at}
+use Rattle.pd_patch.specs.declared.patch.Patch.{Patch}
 use Rattle.pd_reload_law.proofs.EditLemmas.{sub_inner}
 use Rattle.pd_putting_law.proofs.PathLemmas.{Forest, subs}
 use Rattle.pd_following_law.specs.Raised.{StandsAt}
-use Rattle.pd_web.specs.Canvases.{keys_at}
+use Rattle.pd_shifting.specs.Moves.{ShiftsPort}
 use Rattle.pd_shifted_law.specs.Ports.{edit_around}
+use Rattle.pd_shifted_law.proofs.EitherLemmas.{box_alters}
+use Rattle.pd_shifted_law.proofs.PathLemmas.{keys_same, sub_from_root}
 
 -- a path from a canvas, and where the box of its last number stands
 record LiesIn (g : Grove) (c : ℕ) (path : List ℕ) (holder : ℕ) : Type 0 where
@@ -56,6 +61,32 @@ around_is g F [] canvas holder leads held =
 around_is g F (n ∷ path) canvas holder leads held =
     let r = lies_in g F n path g.root canvas holder leads held in
     record { way = r.way; number = r.number; whole = r.whole; stands = record { canvas = r.canvas; leads = r.leads; at = r.at } }
+
+-- ---- a port box that moved
+
+module _ (p q : Patch) (path : List ℕ) (canvas key number : ℕ) (x y : ℤ) (F : Forest p.grove) (leads : sub_reached p.grove (Some p.grove.root) path ≡ Some canvas)
+    (is : slice_get (keys_at p.grove canvas) number ≡ Some key) (s : ShiftsPort p q canvas key x y) where
+  -- its canvas is the one in the box around
+  lies : s.could.place.canvas ≡ canvas
+  lies =
+      s.could.canvas
+      ∙ same_Some s.could.node.board canvas (sym (ap board_in s.could.stands) ∙ ap (λ (g : Grove). board_in (get g.nodes key)) s.room.grove ∙ F.own.home canvas number key is)
+
+  held : holder_in (get p.grove.boards canvas) ≡ Some s.holder
+  held = ap (λ (g : Grove). holder_in (get g.boards canvas)) (sym s.room.grove) ∙ ap (λ c. holder_in (get s.ready.grove.boards c)) (sym lies) ∙ s.could.at.held
+
+  pub port_around : IsAround p.grove path s.holder
+  port_around = around_is p.grove F path canvas s.holder leads held
+
+  pub port_stands : StandsAt q.grove port_around.way port_around.number s.holder
+  port_stands =
+      let A = box_alters p q canvas key x y (inr s) in
+      let r = port_around in
+      record {
+        canvas = r.stands.canvas;
+        leads = sym (sub_from_root p.grove q.grove key x y A r.way) ∙ r.stands.leads;
+        at = ap (λ (ks : List ℕ). slice_get ks r.number) (keys_same p.grove q.grove key x y A r.stands.canvas) ∙ r.stands.at;
+      }
 
 -- ---- pages
 

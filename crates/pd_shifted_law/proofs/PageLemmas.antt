@@ -1,14 +1,10 @@
 -- A box at another place, and the document of the patch.
 use Rattle.std.proofs.Common.{◌≡◌, ℕ, ℤ, ◌==◌, Bool, true, false, cond, List, slice_get, Some, inl, inr, eqb-true, refl, sym, ap, ◌∙◌}
-use Rattle.std.proofs.lemmas.Option.{same_Some}
-use Rattle.slab.specs.Slab.{get}
 use Rattle.pd_canvas.specs.Pages.{Page}
 use Rattle.pd_canvas.specs.Paths.{change_box, edit_at}
 use Rattle.pd_canvas.specs.Edits.{moved}
 use Rattle.pd_grove.specs.declared.grove.Grove.{Grove}
-use Rattle.pd_grove.specs.Forest.{holder_in}
 use Rattle.pd_grove.specs.OwnPaths.{sub_reached}
-use Rattle.pd_grove.specs.Owning.{board_in}
 use Rattle.pd_web.specs.declared.web.Web.{Web}
 use Rattle.pd_web.specs.Canvases.{keys_at}
 use Rattle.pd_web.specs.Hops.{places_of}
@@ -17,7 +13,6 @@ use Rattle.pd_patch.specs.declared.patch.Patch.{Patch}
 use Rattle.pd_patch.specs.Document.{present_document}
 use Rattle.pd_boxes.specs.Put.{CanPut}
 use Rattle.pd_wiring.specs.Changes.{SameButRoom}
-use Rattle.pd_following_law.specs.Raised.{StandsAt}
 use Rattle.pd_sliding_law.specs.Slid.{with_slid}
 use Rattle.pd_sliding_law.proofs.PageLemmas.{page_after}
 use Rattle.pd_sliding_law.proofs.WireLemmas.{places_stay}
@@ -26,9 +21,7 @@ use Rattle.pd_shifting.specs.declared.shifting.MovedBox.{MovedBox}
 use Rattle.pd_shifting.specs.Moves.{Shifts, ShiftsBox, ShiftsPort, MovesBox}
 use Rattle.pd_shifting.proofs.MoveLemmas.{is_moving}
 use Rattle.pd_shifted_law.specs.Ports.{edit_around, with_ports_moved}
-use Rattle.pd_shifted_law.proofs.EitherLemmas.{box_alters}
-use Rattle.pd_shifted_law.proofs.PathLemmas.{keys_same, sub_from_root}
-use Rattle.pd_shifted_law.proofs.AroundLemmas.{around_is, edit_around_is, IsAround}
+use Rattle.pd_shifted_law.proofs.AroundLemmas.{edit_around_is, port_around, port_stands}
 
 -- where there is more room the document is the same
 room_document : (p q : Patch) → SameButRoom p q → CanPut p → present_page q.grove q.web q.numbers.items ≡ present_document p
@@ -48,28 +41,6 @@ module _ (p q : Patch) (path : List ℕ) (canvas key number : ℕ) (x y : ℤ) (
     abbrev ready : Patch
     ready = s.ready
 
-    -- the canvas of the port box is that in the box around
-    lies : s.could.place.canvas ≡ canvas
-    lies =
-        s.could.canvas
-        ∙ same_Some s.could.node.board canvas (sym (ap board_in s.could.stands) ∙ ap (λ (g : Grove). board_in (get g.nodes key)) s.room.grove ∙ C.forest.own.home canvas number key is)
-
-    held : holder_in (get p.grove.boards canvas) ≡ Some s.holder
-    held = ap (λ (g : Grove). holder_in (get g.boards canvas)) (sym s.room.grove) ∙ ap (λ c. holder_in (get ready.grove.boards c)) (sym lies) ∙ s.could.at.held
-
-    pub port_around : IsAround p.grove path s.holder
-    port_around = around_is p.grove C.forest path canvas s.holder leads held
-
-    pub port_stands : StandsAt q.grove port_around.way port_around.number s.holder
-    port_stands =
-        let A = box_alters p q canvas key x y (inr s) in
-        let r = port_around in
-        record {
-          canvas = r.stands.canvas;
-          leads = sym (sub_from_root p.grove q.grove key x y A r.way) ∙ r.stands.leads;
-          at = ap (λ (ks : List ℕ). slice_get ks r.number) (keys_same p.grove q.grove key x y A r.stands.canvas) ∙ r.stands.at;
-        }
-
     moved_there : present_page q.grove ready.web ready.numbers.items ≡ edit_at path (change_box number (moved x y)) (present_document p)
     moved_there =
         moved_document ready q key s.holder s.side x y s.from s.to s.could s.slid path canvas number
@@ -88,8 +59,8 @@ module _ (p q : Patch) (path : List ℕ) (canvas key number : ℕ) (x y : ℤ) (
         ∙ sym (ap (λ (t : Bool). cond t page (edit_around path follow page)) e)
     port_document false e =
         let page = edit_at path (change_box number (moved x y)) (present_document p) in
-        let r = port_around in
-        wires_document ready q key s.holder s.side x y s.from s.to s.could s.slid r.way r.number port_stands
+        let r = port_around p q path canvas key number x y C.forest leads is s in
+        wires_document ready q key s.holder s.side x y s.from s.to s.could s.slid r.way r.number (port_stands p q path canvas key number x y C.forest leads is s)
         ∙ ap (λ (z : Page). edit_at r.way (follow r.number) z) moved_there
         ∙ sym (ap (λ (t : Bool). cond t page (edit_around path follow page)) e ∙ ap (λ (l : List ℕ). edit_around l follow page) r.whole ∙ edit_around_is r.way r.number follow page)
 
