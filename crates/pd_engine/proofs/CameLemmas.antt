@@ -1,65 +1,39 @@
 -- A box that an edit put: with all that lies in it, or as a port of the box around.
-use Rattle.std.proofs.Common.{◌≡◌, ◌≤◌, ◌<◌, ◌+◌, ℕ, Bool, true, List, [], ◌∷◌, drop, take, length, Option, Some, None, inl, inr, refl, sym, ap, ◌∙◌, subst, arith}
+use Rattle.std.proofs.Common.{◌≡◌, ◌<◌, ◌+◌, ℕ, List, [], ◌∷◌, drop, take, length, Option, Some, None, inl, inr, refl, sym, ap, ◌∙◌, subst, arith}
 use Rattle.std.proofs.Math.Seq.{take-length, drop-length}
 use Rattle.std.proofs.lemmas.Option.{none-some, same_Some}
-use Rattle.std.specs.Prelude.{◌-◌, is_some, option_map, IfSome, filter}
-use Rattle.std.specs.List.{AllByRecursion}
+use Rattle.std.specs.Prelude.{◌-◌, is_some, option_map, filter}
 use Rattle.slab.specs.Slab.{get}
-use Rattle.pd_atom.specs.declared.Atom.{Atom}
-use Rattle.pd_atom.specs.Names.{Names, Extends}
-use Rattle.pd_canvas.specs.declared.edits.Edit.{Edit}
+use Rattle.pd_atom.specs.Names.{Names}
 use Rattle.pd_canvas.specs.declared.wires.Wire.{Wire}
-use Rattle.pd_canvas.specs.Pages.{Boxes, End, Entry}
-use Rattle.pd_canvas.specs.Proper.{AreReady}
-use Rattle.pd_library.specs.Files.{answer_in}
 use Rattle.pd_fit.specs.Fitting.{wires_inside}
 use Rattle.pd_tree.specs.declared.rows.Sheet.{Sheet}
 use Rattle.pd_tree.specs.Ports.{fits}
 use Rattle.pd_tree.specs.Trees.{Cell, Trees, Done, Leaf, Holder, Stand, stand_of, width}
-use Rattle.pd_growth.specs.Growth.{Inner, around_root, box_grown, without_ending}
-use Rattle.pd_growth.specs.Growing.{inside_grown}
-use Rattle.pd_growth.specs.Steps.{gives}
 use Rattle.pd_grove.specs.declared.boards.Board.{Board}
 use Rattle.pd_grove.specs.declared.grove.Grove.{Grove}
 use Rattle.pd_grove.specs.declared.seeds.Seed.{Seed}
 use Rattle.pd_grove.specs.Forest.{IsForest}
 use Rattle.pd_grove.specs.Grafts.{HasBoxMore, HasPartMore}
-use Rattle.pd_grove.specs.OwnPaths.{sub_reached}
 use Rattle.pd_grove.specs.Standing.{BoardSeen, board_seen, node_seen, Stands, depth_of}
-use Rattle.pd_grove.specs.TextOrder.{deep, Placed, placed_in_order}
+use Rattle.pd_grove.specs.TextOrder.{deep}
 use Rattle.pd_grove.proofs.ComeLemmas.{part_more}
 use Rattle.pd_grove.proofs.GraftLemmas.{forest_more}
-use Rattle.pd_bind.specs.Naming.{owned_by}
 use Rattle.pd_web.specs.declared.web.Web.{Web}
 use Rattle.pd_web.specs.Canvases.{HoldersAreNoPorts, keys_at}
 use Rattle.pd_web.specs.Changes.{line_told, wires_told}
 use Rattle.pd_web.proofs.CountLemmas.{held_alike}
 use Rattle.pd_patch.specs.declared.patch.Patch.{Patch}
-use Rattle.pd_patch.proofs.GrowthLemmas.{box_shallow, grown_box_fits}
-use Rattle.pd_regrowth_law.specs.Suits.{AreOf, IsEntryOf, TextsOf}
-use Rattle.pd_regrowth_law.proofs.ExpandLemmas.{are_of_more}
 use Rattle.pd_boxes.specs.declared.room.Place.{Place}
 use Rattle.pd_boxes.specs.Put.{CanPut, HasOwners, ComesIn, node_of, keys_before, keys_behind}
 use Rattle.pd_boxes.specs.Room.{SameButRoom}
 use Rattle.pd_boxes.proofs.RoomLemmas.{keys_same, room_put}
 use Rattle.pd_subpatches.specs.Shell.{ShellComesIn}
 use Rattle.pd_subpatches.proofs.PartLemmas.{comes_as_part, stands_as_box}
-use Rattle.pd_gather.specs.Gather.{Known}
-use Rattle.pd_gather.proofs.KnownLemmas.{library_of}
-use Rattle.pd_adding.specs.declared.counts.Counts.{Counts}
-use Rattle.pd_adding.specs.Boxes.{CanBeWritten, settled_edit}
-use Rattle.pd_adding.specs.Coming.{own_zero}
-use Rattle.pd_adding.specs.Counts.{stock_by}
 use Rattle.pd_adding.specs.Growing.{Added}
-use Rattle.pd_adding.proofs.GrowLemmas.{growth_is}
-use Rattle.pd_adding.proofs.SingleLemmas.{same_inner}
-use Rattle.pd_alike_law.proofs.NameLemmas.{box_alike}
-use Rattle.pd_putting.specs.Adds.{last_place, IsBoxPut, IsSubPut, IsPortBoxPut, IsPartBoxPut, HasCome, AddsBox}
-use Rattle.pd_putting.specs.declared.adding.NewBox.{NewBox}
+use Rattle.pd_putting.specs.Adds.{last_place, IsBoxPut, IsSubPut, IsPortBoxPut, IsPartBoxPut, HasCome}
 use Rattle.pd_putting.proofs.WireLemmas.{part_wires}
 use Rattle.pd_stage.proofs.FedLemmas.{told_some}
-use Rattle.pd_engine.proofs.ComingLemmas.{ComesFrom, comes_from, low_levels, put_empty}
-use Rattle.pd_engine.proofs.PutLemmas.{all_anywhere}
 
 -- What came into a patch in which room was set aside: the last box of a canvas, with what lies in it, and the wires that fit in it.
 pub record CameIn (old new : Patch) (a : Added) (key : ℕ) : Type 0 where
@@ -227,72 +201,3 @@ module _ (old new : Patch) (now : ℕ) (a : Added) (key : ℕ) where
   came_clocks (inr (inl b)) = ap (λ x. x.clocks.clocks) b.put.comes.clocks ∙ b.room.clocks
   came_clocks (inr (inr (inl b))) = ap (λ x. x.clocks.clocks) (b.put.rest.clocks ∙ b.put.comes.clocks) ∙ b.room.clocks
   came_clocks (inr (inr (inr b))) = ap (λ x. x.clocks.clocks) b.put.clocks ∙ b.room.clocks
-
--- ---- the box that grew
-
-ready_of : (names : Names) (text : List Atom) → AreReady names text → AreOf names text
-ready_of names [] h = tt
-ready_of names (x ∷ text) h = (h.0.0, ready_of names text h.1)
-
-module _ (old new : Patch) (n : Counts) (name path : List ℕ) (now : ℕ) (e : Edit) (k after : Known) (b : NewBox) (X : AddsBox old new n name path now e k after b) where
-  abbrev a : Added
-  a = X.added
-
-  abbrev entry : Entry
-  entry = X.grew.entry
-
-  abbrev left : ℕ
-  left = 255 - length path
-
-  comes : ComesFrom k.names old path e a.canvas entry
-  comes = comes_from k.names old path e a.canvas entry X.grew.comes
-
-  pub leads : sub_reached old.grove (Some old.grove.root) path ≡ Some a.canvas
-  leads = comes.leads
-
-  grew : box_grown (answer_in X.files.files) (without_ending name) left (inside_grown (answer_in X.files.files) (without_ending name) left) (around_root (own_zero old)) entry
-      (stock_by X.files.names n) ≡ gives a.boxes X.grew.after
-  grew = sym (growth_is (own_zero old) n name left entry X.files) ∙ X.grew.grew
-
-  names_are : X.grew.after.names ≡ a.known.names
-  names_are = sym (ap (λ (x : Known). x.names) X.grew.known_is)
-
-  none_in : entry.page.boxes ≡ End
-  none_in = put_empty (settled_edit k.names e) entry comes.put
-
-  -- no box in it that holds a canvas is a port
-  pub bare : HoldersAreNoPorts a.boxes
-  bare = (grown_box_fits (answer_in X.files.files) (without_ending name) left (around_root (own_zero old)) entry (stock_by X.files.names n) X.grew.after a.boxes grew).1
-
-  -- no canvas lies too deep
-  pub low : length path ≤ 255 → length path + deep a.boxes ≤ 255
-  low short =
-      let most : deep a.boxes ≤ left =
-      box_shallow (answer_in X.files.files) (without_ending name) left (around_root (own_zero old)) entry (stock_by X.files.names n) X.grew.after a.boxes
-      (low_levels entry.head.form entry.page.boxes (length path) none_in comes.low) grew in
-      omega (arith, short, most)
-
-  -- it owns the same in each table that goes on
-  abbrev Same : Names → Placed → Type 0
-  Same more p = owned_by more p.is_top p.cell ≡ owned_by a.known.names p.is_top p.cell
-
-  written : AreReady k.names entry.head.text
-  written = (subst (λ (o : Option Entry). IfSome o (CanBeWritten k.names)) comes.put X.written).text
-
-  entry_of : IsEntryOf X.files.names entry
-  entry_of = record {
-    text = are_of_more k.names X.files.names X.grew.extends entry.head.text (ready_of k.names entry.head.text written);
-    inner = subst (λ (x : Boxes). TextsOf X.files.names x) (sym none_in) tt;
-  }
-
-  own_here : (more : Names) → Extends X.grew.after.names more → AllByRecursion (λ (p : Placed). owned_by more p.is_top p.cell ≡ owned_by X.grew.after.names p.is_top p.cell) (placed_in_order true a.boxes)
-  own_here more x =
-      box_alike (answer_in X.files.files) (without_ending name) left (around_root (own_zero old)) entry (stock_by X.files.names n) X.grew.after a.boxes more
-      (library_of X.files.names X.files.files X.grew.found) (record { arguments = tt; inside = tt }) entry_of
-      (subst (λ (i : Inner). box_grown (answer_in X.files.files) (without_ending name) left i (around_root (own_zero old)) entry (stock_by X.files.names n) ≡ gives a.boxes X.grew.after)
-      (same_inner (answer_in X.files.files) (without_ending name) left) grew) x
-
-  pub own_steady : (more : Names) → Extends a.known.names more → (top : Bool) → AllByRecursion (Same more) (placed_in_order top a.boxes)
-  own_steady more x top =
-      all_anywhere a.known.names more a.boxes top
-      (subst (λ (m : Names). (more : Names) → Extends m more → AllByRecursion (λ (p : Placed). owned_by more p.is_top p.cell ≡ owned_by m p.is_top p.cell) (placed_in_order true a.boxes)) names_are own_here more x)

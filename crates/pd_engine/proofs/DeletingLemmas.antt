@@ -14,8 +14,7 @@ use Rattle.pd_grove.specs.OwnPaths.{sub_reached}
 use Rattle.pd_web.specs.Canvases.{keys_at}
 use Rattle.pd_patch.specs.declared.patch.Patch.{Patch}
 use Rattle.pd_wiring.specs.declared.refusals.EditRefusal.{EditRefusal}
-use Rattle.pd_wiring.specs.declared.refusals.EditRefusal.TheVariants as refusal
-use Rattle.pd_wiring.specs.Changes.{CanRewire, SameButRoom}
+use Rattle.pd_wiring.specs.Changes.{CanRewire}
 use Rattle.pd_adding.specs.declared.counts.Counts.{Counts}
 use Rattle.pd_adding.specs.Counts.{AreWithin}
 use Rattle.pd_deleting.specs.declared.deleting.OldBox.{OldBox}
@@ -27,14 +26,14 @@ use Rattle.pd_stage.specs.Stages.{Stage}
 use Rattle.pd_stage.specs.Lawful.{why_of, StandsAt, IsTakenOut}
 use Rattle.pd_stage.specs.Lines.{deleted_text}
 use Rattle.pd_stage.specs.Leads.{sinks, SaysPart}
-use Rattle.pd_stage.specs.Events.{edit_taken, with_net}
+use Rattle.pd_stage.specs.Events.{edit_taken}
 use Rattle.pd_engine.specs.declared.refusals.Outcome.{Outcome}
 use Rattle.pd_engine.specs.declared.refusals.Outcome.TheVariants.{Done}
 use Rattle.pd_engine.specs.Edits.{edit_text, edit_outcome, IsEdited}
 use Rattle.pd_engine.proofs.ClockLemmas.{stage_with}
 use Rattle.pd_engine.proofs.LostLemmas.{clocks_left, few_looks}
 use Rattle.pd_engine.proofs.RewireLemmas.{IsReady}
-use Rattle.pd_engine.proofs.MakingLemmas.{Told, told_so, told_part, outcome_by, both_ok}
+use Rattle.pd_engine.proofs.MakingLemmas.{Told, told_so, told_part, outcome_by, both_ok, room_wires}
 
 -- ---- the edit that deletes a box
 
@@ -130,9 +129,6 @@ module _ (path : List ℕ) (number : ℕ) (file : List ℕ) (names : Names) (fil
   abbrev left : List Choice → Stage
   left = stage_with file new names (base_of files counts) time block_end fired tally
 
-  room_left : SameButRoom old new → (m : List Choice) → with_net (from m) (net_of new) ≡ left m
-  room_left same m = rw (same.grove, same.timers) refl
-
   pub left_told : (cause : EditRefusal) (steps steps' : ℕ) → steps' ≡ steps → CanRewire new → IsNotDeleted old new path number cause
       → Told wanted (from []) left (edit_text new (Err cause)) (edit_outcome (Err cause)) steps steps'
   left_told cause steps steps' looks rewires (inl d) = record {
@@ -151,7 +147,7 @@ module _ (path : List ℕ) (number : ℕ) (file : List ℕ) (names : Names) (fil
       choice = stage.Lacks (net_of new);
       may = record { old = old; new = new; stands = stands; short = d.1; rewires = rewires; net_is = refl };
       text_is = ap (λ (c : EditRefusal). edit_text new (Err c)) (sym d.0);
-      stage = λ m. room_left d.1.room m;
+      stage = λ m. room_wires file names (base_of files counts) time block_end fired tally old new d.1.room m;
       answer = ap (λ (c : EditRefusal). edit_outcome (Err c)) (sym d.0);
       loads_are = refl;
     };

@@ -78,6 +78,16 @@ module _ (nodes : ℕ → Option Node) (boards : ℕ → Option Board) where
   weight_alone b d (k ∷ ks) (Leaf c rest) (suc n) key S at leaf = weight_alone b d ks rest n key S.1 at leaf
   weight_alone b d (k ∷ ks) (Holder c s inner rest) (suc n) key S at leaf = weight_alone b d ks rest n key S.5 at leaf
 
+module _ (nodes : ℕ → Option Node) (boards : ℕ → Option Board) where
+  -- one that stands is one at least
+  pub weight_some : (b d : ℕ) (keys : List ℕ) (t : Trees) (n key : ℕ) → Stands nodes boards b d keys t → slice_get keys n ≡ Some key → 1 ≤ box_weight n t
+  weight_some b d [] t n key S at = absurd (none-some key at)
+  weight_some b d (k ∷ ks) Done n key S at = absurd S
+  weight_some b d (k ∷ ks) (Leaf c rest) zero key S at = omega arith
+  weight_some b d (k ∷ ks) (Holder c s inner rest) zero key S at = omega arith
+  weight_some b d (k ∷ ks) (Leaf c rest) (suc n) key S at = weight_some b d ks rest n key S.1 at
+  weight_some b d (k ∷ ks) (Holder c s inner rest) (suc n) key S at = weight_some b d ks rest n key S.5 at
+
 weight_inside : (n w : ℕ) (path : List ℕ) (f : Tree → Tree) (u : Tree) → ((v : Tree) → own_along path v ≡ Some u → weight (f v).boxes + w ≡ weight v.boxes) → (t : Trees)
     → option_and_then (own_along path) (own_in_box n t) ≡ Some u → weight (change_inside n f t) + w ≡ weight t
 weight_inside n w path f u h Done on = absurd (none-some u on)

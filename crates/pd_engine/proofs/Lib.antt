@@ -27,3 +27,6 @@ pub mod RetypingLemmas
 pub mod RetypedLemmas
 pub mod PutsLemmas
 pub mod LostLemmas
+pub mod GrewLemmas
+pub mod RoomLemmas
+pub mod RenewLemmas

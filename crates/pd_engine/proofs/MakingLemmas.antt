@@ -499,6 +499,11 @@ room_clocks file names base time block_end fired tally old new room m =
     ap (λ (f : ℕ → Option State). record (with_net (stage_with file old names base time block_end fired tally m) (net_of new)) { states = f }) (λ i k. state_in (sym (room.grove.nodes k) i))
     ∙ ap (λ (c : List Clock). record (stage_with file new names base time block_end fired tally m) { clocks = c }) (sym room.clocks)
 
+-- there may be more room for wires
+pub room_wires : (file : List ℕ) (names : Names) (base : Base) (time block_end fired : ℕ) (tally : Tally) (old new : Patch) → SameButRoom old new → (m : List Choice)
+    → with_net (stage_with file old names base time block_end fired tally m) (net_of new) ≡ stage_with file new names base time block_end fired tally m
+room_wires file names base time block_end fired tally old new same m = rw (same.grove, same.timers) refl
+
 module _ (wanted : Wanted) (path : List ℕ) (e : Edit) (is : IsBoxEdit wanted path e) (file : List ℕ) (names : Names) (files : List (ℕ × Answer)) (counts : Counts) (time block_end fired : ℕ) (tally : Tally) (old new : Patch) where
   abbrev before : List Choice → Stage
   before = stage_with file old names (base_of files counts) time block_end fired tally
@@ -583,7 +588,7 @@ module _ (wanted : Wanted) (path : List ℕ) (e : Edit) (is : IsBoxEdit wanted p
 -- ---- one line and then others
 
 -- a line was said, and a part of another
-took_behind : (t u v : Option (List ℕ)) (a b : List ℕ) → u ≡ grown t a → TookPart u v b → TookPart t v (a ++ b)
+pub took_behind : (t u v : Option (List ℕ)) (a b : List ℕ) → u ≡ grown t a → TookPart u v b → TookPart t v (a ++ b)
 took_behind t u v a b said part = record {
   part = a ++ part.part;
   begins = record { rest = part.begins.rest; is = ap (λ (x : List ℕ). a ++ x) part.begins.is ∙ sym (append_assoc a part.part part.begins.rest) };
@@ -591,7 +596,7 @@ took_behind t u v a b said part = record {
 }
 
 -- both were said
-said_behind : (t u v : Option (List ℕ)) (a b : List ℕ) → u ≡ grown t a → v ≡ grown u b → v ≡ grown t (a ++ b)
+pub said_behind : (t u v : Option (List ℕ)) (a b : List ℕ) → u ≡ grown t a → v ≡ grown u b → v ≡ grown t (a ++ b)
 said_behind t u v a b first second = second ∙ ap (λ (x : Option (List ℕ)). grown x b) first ∙ grown-grown t a b
 
 -- a line was said, and then no more than a part of two others

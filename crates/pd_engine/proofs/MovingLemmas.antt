@@ -1,5 +1,5 @@
 -- What is told of a box that an edit moves, or of why none moves.
-use Rattle.std.proofs.Common.{◌≡◌, arith, Bool, true, false, cond, ℕ, ℤ, List, [], refl, sym, ap, subst, slice_get, Option, Some, None, Result, Ok, Err, OnErr, OnOk, IfOk, IfErr, ◌∙◌}
+use Rattle.std.proofs.Common.{◌≡◌, arith, Bool, true, false, cond, ℕ, ℤ, List, [], refl, sym, ap, subst, inl, inr, slice_get, Option, Some, None, Result, Ok, Err, OnErr, OnOk, IfOk, ◌∙◌}
 use Rattle.std.proofs.lemmas.Result.{on_err_weaker}
 use Rattle.std.proofs.lemmas.Option.{same_Some}
 use Rattle.slab.specs.Slab.{get}
@@ -14,26 +14,25 @@ use Rattle.pd_script.specs.Edits.{moved}
 use Rattle.pd_grove.specs.declared.grove.Grove.{Grove}
 use Rattle.pd_grove.specs.OwnPaths.{sub_reached}
 use Rattle.pd_web.specs.Canvases.{keys_at}
-use Rattle.pd_web.specs.Changes.{wires_told}
-use Rattle.pd_web.specs.declared.web.Web.{Web}
 use Rattle.pd_patch.specs.declared.patch.Patch.{Patch}
 use Rattle.pd_wiring.specs.declared.refusals.EditRefusal.{EditRefusal}
 use Rattle.pd_wiring.specs.declared.refusals.EditRefusal.TheVariants as refusal
 use Rattle.pd_shifting.specs.declared.shifting.MovedBox.{MovedBox}
-use Rattle.pd_shifting.specs.Moves.{is_array_in, is_port_around, moving, moving_in, moving_box, MovesBox, IsNotMoved}
+use Rattle.pd_shifting.specs.Moves.{is_array_in, moving, moving_in, moving_box, ShiftsBox, MovesBox, IsNotMoved}
 use Rattle.pd_hearing.specs.Worlds.{net_of, states_of}
 use Rattle.pd_stage.specs.Choices.{Base, Wanted, Edits, Made, Choice, faults_of_why}
 use Rattle.pd_stage.specs.Choices as stage
 use Rattle.pd_stage.specs.Stages.{Stage}
 use Rattle.pd_stage.specs.Lawful.{why_of, StandsAt, IsMovedTo}
-use Rattle.pd_stage.specs.Lines.{loops_text}
+use Rattle.pd_stage.specs.Lines.{moved_text}
 use Rattle.pd_stage.specs.Leads.{sinks, SaysPart}
 use Rattle.pd_stage.specs.Events.{edit_taken}
 use Rattle.pd_engine.specs.declared.refusals.Outcome.{Outcome}
+use Rattle.pd_engine.specs.declared.refusals.Outcome.TheVariants.{Done}
 use Rattle.pd_engine.specs.Edits.{edit_text, edit_outcome, IsEdited}
 use Rattle.pd_engine.proofs.ClockLemmas.{stage_with}
 use Rattle.pd_engine.proofs.RewireLemmas.{IsReady}
-use Rattle.pd_engine.proofs.MakingLemmas.{Told, told_so, told_part, outcome_by, both_ok}
+use Rattle.pd_engine.proofs.MakingLemmas.{Told, told_so, told_part, outcome_by, both_ok, room_wires}
 
 -- ---- the edit that moves a box
 
@@ -56,14 +55,13 @@ abbrev Faultless : Result (ℕ × ℕ) EditRefusal → Type 0
 Faultless (Ok box) = Unit {0}
 Faultless (Err cause) = faults_of_why (why_of cause) ≡ 0
 
-may_move : (array port : Bool) (number : ℕ) (box : ℕ × ℕ) → Faultless (cond array (Err (refusal.NoBox number)) (cond port (Err refusal.NoDocument) (Ok box)))
-may_move true port number box = refl
-may_move false true number box = refl
-may_move false false number box = tt
+may_move : (array : Bool) (number : ℕ) (box : ℕ × ℕ) → Faultless (cond array (Err (refusal.NoBox number)) (Ok box))
+may_move true number box = refl
+may_move false number box = tt
 
 box_moves : (g : Grove) (canvas number : ℕ) (o : Option ℕ) → Faultless (moving_box g canvas number o)
 box_moves g canvas number None = refl
-box_moves g canvas number (Some key) = may_move (is_array_in (get g.nodes key)) (is_port_around g canvas key) number (canvas, key)
+box_moves g canvas number (Some key) = may_move (is_array_in (get g.nodes key)) number (canvas, key)
 
 moves_from : (g : Grove) (number : ℕ) (o : Option ℕ) → Faultless (moving_in g number o)
 moves_from g number None = refl
@@ -72,20 +70,11 @@ moves_from g number (Some canvas) = box_moves g canvas number (slice_get (keys_a
 faultless : (p : Patch) (path : List ℕ) (number : ℕ) (cause : EditRefusal) → moving p path number ≡ Err cause → faults_of_why (why_of cause) ≡ 0
 faultless p path number cause is = subst Faultless is (moves_from p.grove number (sub_reached p.grove (Some p.grove.root) path))
 
--- the canvas of the box that moves is one
-abbrev canvas_of : Result (ℕ × ℕ) EditRefusal → ℕ
-canvas_of (Ok box) = box.0
-canvas_of (Err cause) = 0
+-- ---- clocks stay
 
-pub canvas_same : (p : Patch) (path : List ℕ) (number a b key key' : ℕ) → moving p path number ≡ Ok (a, key) → moving p path number ≡ Ok (b, key') → a ≡ b
-canvas_same p path number a b key key' is same = ap canvas_of (sym is ∙ same)
-
--- ---- wires are as many
-
-pub as_many_wires : (old new : Patch) (path : List ℕ) (number : ℕ) (x y : ℤ) (r : Result MovedBox EditRefusal) → IfOk r (λ b. MovesBox old new path number x y b.key)
-    → IfErr r (λ why. IsNotMoved old new path number why) → wires_told new.web ≡ wires_told old.web
-as_many_wires old new path number x y (Ok b) d e = ap (λ (w : Web). wires_told w) d.rest.web
-as_many_wires old new path number x y (Err why) d e = ap (λ (p : Patch). wires_told p.web) e.0
+clocks_still : (old new : Patch) (canvas key : ℕ) (x y : ℤ) → ShiftsBox old new canvas key x y → new.timers.clocks.clocks ≡ old.timers.clocks.clocks
+clocks_still old new canvas key x y (inl s) = ap (λ t. t.clocks.clocks) s.rest.timers
+clocks_still old new canvas key x y (inr s) = ap (λ t. t.clocks.clocks) (s.slid.rest.timers ∙ s.room.timers)
 
 -- ---- what it comes to
 
@@ -103,7 +92,10 @@ module _ (path : List ℕ) (number : ℕ) (x y : ℤ) (file : List ℕ) (names :
   stands = record { net = refl; states = refl; puts = ready.puts; meet = ready.meet }
 
   -- it moved
-  module _ (key : ℕ) (d : MovesBox old new path number x y key) where
+  module _ (b : MovedBox) (d : MovesBox old new path number x y b) where
+    abbrev told : List ℕ
+    told = moved_text new b.canvas b.around
+
     abbrev elsewhere : Made
     elsewhere = record {
       net = net_of new;
@@ -111,7 +103,7 @@ module _ (path : List ℕ) (number : ℕ) (x y : ℤ) (file : List ℕ) (names :
       clocks = old.timers.clocks.clocks;
       names = names;
       base = base;
-      lines = loops_text new d.canvas;
+      lines = told;
       files = [];
       loads = [];
       looks = 0;
@@ -121,7 +113,7 @@ module _ (path : List ℕ) (number : ℕ) (x y : ℤ) (file : List ℕ) (names :
     moved_is = record {
       old = old;
       new = new;
-      key = key;
+      box = b;
       stands = stands;
       moves = d;
       net = refl;
@@ -135,13 +127,13 @@ module _ (path : List ℕ) (number : ℕ) (x y : ℤ) (file : List ℕ) (names :
       looks = refl;
     }
 
-    pub moved_told : (canvas : ℕ) → canvas ≡ d.canvas → (steps : ℕ) → Told wanted (from []) to (edit_text new (Ok canvas)) (edit_outcome (Ok canvas)) steps steps
-    moved_told canvas same steps = record {
+    pub moved_told : (steps : ℕ) → Told wanted (from []) to told Done steps steps
+    moved_told steps = record {
       came = record {
         choice = stage.Makes elsewhere;
         may = moved_is;
-        text_is = ap (λ (c : ℕ). loops_text new c) (sym same);
-        stage = λ m. ap (λ (c : List Clock). record (to m) { clocks = c }) (sym (ap (λ t. t.clocks.clocks) d.rest.timers));
+        text_is = refl;
+        stage = λ m. ap (λ (c : List Clock). record (to m) { clocks = c }) (sym (clocks_still old new b.canvas b.key x y d.shifts));
         answer = refl;
         loads_are = refl;
       };
@@ -150,7 +142,7 @@ module _ (path : List ℕ) (number : ℕ) (x y : ℤ) (file : List ℕ) (names :
 
   -- it was refused
   pub stays_told : (cause : EditRefusal) (steps : ℕ) → IsNotMoved old new path number cause → Told wanted (from []) to (edit_text new (Err cause)) (edit_outcome (Err cause)) steps steps
-  stays_told cause steps d = record {
+  stays_told cause steps (inl d) = record {
     came = record {
       choice = stage.Refuses (why_of cause);
       may = record { patch = old; cause = cause; stands = stands; refused = d.1; reason_is = refl };
@@ -161,23 +153,34 @@ module _ (path : List ℕ) (number : ℕ) (x y : ℤ) (file : List ℕ) (names :
     };
     few = (refl, faultless old path number cause d.1, omega arith);
   }
+  stays_told cause steps (inr d) = record {
+    came = record {
+      choice = stage.Lacks (net_of new);
+      may = record { old = old; new = new; stands = stands; short = d.1; rewires = d.1.goes_on.runs; net_is = refl };
+      text_is = ap (λ (c : EditRefusal). edit_text new (Err c)) (sym d.0);
+      stage = λ m. room_wires file names base time block_end fired tally old new d.1.room m;
+      answer = ap (λ (c : EditRefusal). edit_outcome (Err c)) (sym d.0);
+      loads_are = refl;
+    };
+    few = (refl, refl, omega arith);
+  }
 
   -- it was told, and this is answered
-  module _ {E : Type 0} (r : Result Outcome E) (t t' : Option (List ℕ)) (there : List Choice → Stage) (done : Result ℕ EditRefusal)
-      (told : (k : ℕ) → Told wanted (from []) to (edit_text new done) (edit_outcome done) k k) (leads : there ≡ to) where
+  module _ {E : Type 0} (r : Result Outcome E) (t t' : Option (List ℕ)) (there : List Choice → Stage) (text : List ℕ) (outcome : Outcome)
+      (told : (k : ℕ) → Told wanted (from []) to text outcome k k) (leads : there ≡ to) where
     abbrev pub Answered : Outcome → Type 0
     Answered o = (samples : Option (List ℕ)) (looks : ℕ) (held : Option (List FileRow)) (faults : ℕ)
         → IsEdited path (edit.Move number x y) o [] from there (sinks t samples looks held faults) (sinks t' samples looks held faults)
 
-    so : (o : Outcome) → t' ≡ grown t (edit_text new done) → o ≡ edit_outcome done → Answered o
+    so : (o : Outcome) → t' ≡ grown t text → o ≡ outcome → Answered o
     so o said answer samples looks held faults =
         subst (λ (z : List Choice → Stage). IsEdited path (edit.Move number x y) o [] from z (sinks t samples looks held faults) (sinks t' samples looks held faults)) (sym leads)
         (subst (λ (z : Outcome). IsEdited path (edit.Move number x y) z [] from to (sinks t samples looks held faults) (sinks t' samples looks held faults)) (sym answer)
-        (told_so wanted (from []) to (edit_text new done) (edit_outcome done) t t' samples looks looks held faults (told looks) said))
+        (told_so wanted (from []) to text outcome t t' samples looks looks held faults (told looks) said))
 
-    pub moved_so : OnOk r (t' ≡ grown t (edit_text new done)) → IfOk r (λ o. o ≡ edit_outcome done) → IfOk r Answered
+    pub moved_so : OnOk r (t' ≡ grown t text) → IfOk r (λ o. o ≡ outcome) → IfOk r Answered
     moved_so said is = both_ok r so said is
 
-    pub moved_part : OnErr r (TookPart t t' (edit_text new done)) → OnErr r ((looks : ℕ) → SaysPart (edit_taken wanted) from t t' looks looks)
+    pub moved_part : OnErr r (TookPart t t' text) → OnErr r ((looks : ℕ) → SaysPart (edit_taken wanted) from t t' looks looks)
     moved_part part =
-        on_err_weaker r (λ a looks samples held faults. told_part wanted (from []) to (edit_text new done) (edit_outcome done) t t' samples looks looks held faults (told looks) a) part
+        on_err_weaker r (λ a looks samples held faults. told_part wanted (from []) to text outcome t t' samples looks looks held faults (told looks) a) part

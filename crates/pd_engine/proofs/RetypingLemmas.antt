@@ -1,5 +1,5 @@
 -- What is told of a box that an edit gives another text, or of why none becomes another one.
-use Rattle.std.proofs.Common.{◌≡◌, ◌≤◌, ◌+◌, arith, false, ℕ, List, [], ◌∷◌, refl, sym, ap, subst, inl, inr, Option, Some, None, Result, Err, OnErr, OnOk, IfOk, ◌∙◌}
+use Rattle.std.proofs.Common.{◌≡◌, ◌≤◌, ◌+◌, arith, false, ℕ, List, [], ◌∷◌, refl, sym, ap, subst, inl, inr, slice_get, Option, Some, None, Result, Err, OnErr, OnOk, IfOk, ◌∙◌}
 use Rattle.std.proofs.lemmas.Result.{on_err_weaker}
 use Rattle.pd_io.specs.Faults.{Rose}
 use Rattle.pd_io.specs.Stream.{grown, TookPart}
@@ -16,16 +16,19 @@ use Rattle.pd_script.specs.Edits.{puts_box, deleted, moved}
 use Rattle.pd_say.specs.Lines.{refusal_text}
 use Rattle.pd_say.specs.declared.refusals.Request.TheVariants as request
 use Rattle.slab.specs.Slab.{get}
+use Rattle.pd_grove.specs.declared.nodes.Node.{Node}
 use Rattle.pd_grove.specs.Owning.{board_in}
+use Rattle.pd_web.specs.Canvases.{keys_at}
 use Rattle.pd_patch.specs.declared.patch.Patch.{Patch}
 use Rattle.pd_wiring.specs.declared.refusals.EditRefusal.{EditRefusal}
 use Rattle.pd_wiring.specs.declared.refusals.EditRefusal.TheVariants as refusal
 use Rattle.pd_boxes.specs.Put.{CanPut}
 use Rattle.pd_adding.specs.declared.counts.Counts.{Counts}
 use Rattle.pd_adding.specs.Counts.{AreWithin}
-use Rattle.pd_gather.specs.Gather.{Known, known}
+use Rattle.pd_adding.specs.Growing.{Added}
+use Rattle.pd_gather.specs.Gather.{known}
 use Rattle.pd_retyping.specs.declared.retyping.RetypedBox.{RetypedBox}
-use Rattle.pd_retyping.specs.Retypes.{looks_for, refit_looks, RetypesBox, IsNotRetyped}
+use Rattle.pd_retyping.specs.Retypes.{BoxWire, Becomes, clocks_become, looks_become, RetypesBox, IsNotRetyped}
 use Rattle.pd_hearing.specs.Worlds.{net_of, states_of}
 use Rattle.pd_stage.specs.Choices.{base_of, Wanted, Edits, Made, Choice}
 use Rattle.pd_stage.specs.Choices as stage
@@ -57,16 +60,24 @@ rest_retypes (edit.FloatBox x y text) none stays rests other = cc
 rest_retypes (edit.SymbolBox x y text) none stays rests other = cc
 rest_retypes (edit.Sub x y name) none stays rests other = cc
 
--- there are no more looks than it may take
-few_looks : (old new : Patch) (n : Counts) (name path : List ℕ) (number : ℕ) (text : List Atom) (now : ℕ) (before after : Known) (k k' : ℕ) (b : RetypedBox) → CanPut old
-    → (r : RetypesBox old new n name path number text now before after k k' b)
-    → k' ≤ k + (looks_for b.canvas r.became.loosens.gone r.became.loose + refit_looks r.node.kind r.became.can.cell.kind)
-few_looks old new n name path number text now before after k k' b can r =
-    let there : board_in (get r.became.ready.grove.nodes b.key) ≡ Some b.canvas =
-    ap board_in (r.became.room.grove.nodes b.key) ∙ can.forest.own.home b.canvas number b.key r.chosen.at in
-    let loosened = r.became.loosens.looks b.canvas there in
-    let placed = r.became.looks in
-    omega (arith, loosened, placed)
+-- ---- a box that became another one, or took its text
+
+module _ (old new : Patch) (names : Names) (text : List Atom) (now canvas key number : ℕ) (n : Node) (a : Added) (gone : List BoxWire) (k k' : ℕ) where
+  -- there are no more looks than it may take
+  few_looks : CanPut old → slice_get (keys_at old.grove canvas) number ≡ Some key → (x : Becomes old new names text now key n a gone k k') → k' ≤ k + looks_become canvas x
+  few_looks can at (inl x) =
+      let there : board_in (get x.ready.grove.nodes key) ≡ Some canvas = ap board_in (x.room.grove.nodes key) ∙ can.forest.own.home canvas number key at in
+      let loosened = x.loosens.looks canvas there in
+      let placed = x.looks in
+      omega (arith, loosened, placed)
+  few_looks can at (inr x) = (let same = x.looks in omega (arith, same))
+
+  -- no box has other clocks but the one that became another
+  clocks_then : (x : Becomes old new names text now key n a gone k k') → new.timers.clocks.clocks ≡ clocks_become x old.timers.clocks.clocks
+  clocks_then (inl x) =
+      let same : x.loose.timers.clocks.clocks ≡ old.timers.clocks.clocks = ap (λ y. y.clocks.clocks) x.loosens.rest.timers ∙ x.room.clocks in
+      x.refit.clocks ∙ ap (λ (c : List Clock). without key c) same
+  clocks_then (inr x) = ap (λ y. y.clocks.clocks) x.renamed.rest.timers ∙ x.room.clocks
 
 module _ (path : List ℕ) (number : ℕ) (text : List Atom) (file : List ℕ) (names : Names) (files : List (ℕ × Answer)) (counts : Counts) (time block_end fired : ℕ) (tally : Tally) (old new : Patch)
     (ready : IsReady old) where
@@ -95,13 +106,8 @@ module _ (path : List ℕ) (number : ℕ) (text : List Atom) (file : List ℕ) (
       lines = told;
       files = [];
       loads = [];
-      looks = looks_for b.canvas d.became.loosens.gone d.became.loose + refit_looks d.node.kind d.became.can.cell.kind;
+      looks = looks_become b.canvas d.became;
     }
-
-    clocks_are : new.timers.clocks.clocks ≡ without b.key old.timers.clocks.clocks
-    clocks_are =
-        let same : d.became.loose.timers.clocks.clocks ≡ old.timers.clocks.clocks = ap (λ x. x.clocks.clocks) d.became.loosens.rest.timers ∙ d.became.room.clocks in
-        d.became.refit.clocks ∙ ap (λ (c : List Clock). without b.key c) same
 
     pub other_is : IsRetypedTo (from []) path number text other
     other_is = record {
@@ -115,7 +121,7 @@ module _ (path : List ℕ) (number : ℕ) (text : List Atom) (file : List ℕ) (
       retypes = d;
       net = refl;
       states = refl;
-      clocks = clocks_are;
+      clocks = clocks_then old new names text time b.canvas b.key number d.node d.added b.gone.items k k' d.became;
       names = refl;
       more = onward;
       base = refl;
@@ -202,7 +208,7 @@ module _ (path : List ℕ) (number : ℕ) (text : List Atom) (file : List ℕ) (
       other_by u = (
         other_came more learned b k k' d onward within,
         looking_took wanted (from []) (stage.Makes (other more learned b k k' d onward within)) t u k k' h h' f f' refl
-            (few_looks old new counts file path number text time (known files names) (known learned more) k k' b ready.puts d) same (inl (omega (arith, low))),
+            (few_looks old new names text time b.canvas b.key number d.node d.added b.gone.items k k' ready.puts d.chosen.at d.became) same (inl (omega (arith, low))),
       )
 
       pub retyped_answered : there ≡ to → OnOk r (t' ≡ grown t said) → IfOk r (λ o. o ≡ Done) → IfOk r Answered

@@ -1,5 +1,5 @@
--- A tree with a box at another place.
-use Rattle.std.proofs.Common.{◌≡◌, ℕ, zero, suc, ℤ, ◌+◌, max, Bool, ◌&&◌, List, [], ◌∷◌, refl, ap}
+-- A patch with a box at another place, and its tree.
+use Rattle.std.proofs.Common.{◌≡◌, ℕ, zero, suc, ℤ, ◌+◌, max, Bool, ◌&&◌, List, [], ◌∷◌, refl, sym, ap, ◌∙◌, subst, inl, inr}
 use Rattle.std.specs.List.{AllByRecursion}
 use Rattle.pd_tree.specs.Trees.{Cell, Trees, Done, Leaf, Holder, Tree}
 use Rattle.pd_grove.specs.TextOrder.{deep, is_sub, Placed, placed, placed_in_order}
@@ -7,6 +7,16 @@ use Rattle.pd_regrowth_law.specs.Canvases.{canvas_with}
 use Rattle.pd_putting_law.specs.Puts.{change_inside, change_at}
 use Rattle.pd_shifted_law.specs.Shifts.{cell_at, boxes_shifted, shifted_box, shifted_at}
 use Rattle.pd_engine.proofs.PutLemmas.{all_append, all_split}
+use Rattle.pd_atom.specs.Names.{Names}
+use Rattle.pd_name.specs.Rows.{owners_of}
+use Rattle.pd_grove.specs.declared.grove.Grove.{Grove}
+use Rattle.pd_grove.specs.Refits.{at_place, Alters}
+use Rattle.pd_web.specs.Changes.{wires_told}
+use Rattle.pd_web.proofs.CountLemmas.{same_are_as_many}
+use Rattle.pd_patch.specs.declared.patch.Patch.{Patch}
+use Rattle.pd_boxes.specs.Put.{HasOwners}
+use Rattle.pd_shifting.specs.Moves.{ShiftsBox}
+use Rattle.pd_shifted_law.proofs.OwnerLemmas.{owners_same}
 
 -- ---- canvases lie as deep
 
@@ -60,3 +70,28 @@ module _ (P : Placed → Type 0) (x y : ℤ) (place : (top : Bool) (c : Cell) �
   pub all_shifted : (path : List ℕ) (number : ℕ) (top : Bool) (t : Tree) → AllOf top t.boxes → AllOf top (shifted_at path number x y t).boxes
   all_shifted [] number top t h = all_moved number top t.boxes h
   all_shifted (n ∷ path) number top t h = all_inside n (change_at path (shifted_box number x y)) (λ b u k. all_shifted path number b u k) top t.boxes h
+
+-- ---- a patch in which a box moved, whether it is a port of the box around or not
+
+placed_room : (old ready new : Grove) (key : ℕ) (x y : ℤ) → ready ≡ old → Alters ready new key (at_place x y) → Alters old new key (at_place x y)
+placed_room old ready new key x y same A = subst (λ (g : Grove). Alters g new key (at_place x y)) same A
+
+module _ (old new : Patch) (canvas key : ℕ) (x y : ℤ) where
+  -- the box alone has another place
+  pub placed_by : ShiftsBox old new canvas key x y → Alters old.grove new.grove key (at_place x y)
+  placed_by (inl s) = s.box
+  placed_by (inr s) = placed_room old.grove s.ready.grove new.grove key x y s.room.grove s.slid.box
+
+  -- wires are as many
+  pub as_many : ShiftsBox old new canvas key x y → wires_told new.web ≡ wires_told old.web
+  as_many (inl s) = ap wires_told s.rest.web
+  as_many (inr s) = s.slid.wires ∙ same_are_as_many old.web s.ready.web s.room.web
+
+  names_still : ShiftsBox old new canvas key x y → new.names ≡ old.names
+  names_still (inl s) = s.rest.names
+  names_still (inr s) = s.slid.rest.names ∙ s.room.names
+
+  -- each name has its owners
+  pub owners_still : (table : Names) (file : List ℕ) → ShiftsBox old new canvas key x y → HasOwners old table file → HasOwners new table file
+  owners_still table file s H = λ class name.
+      ap (λ r. owners_of r class name) (names_still s) ∙ H class name ∙ sym (owners_same old.grove new.grove key x y (placed_by s) table file class name)

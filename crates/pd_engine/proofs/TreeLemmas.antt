@@ -1,6 +1,6 @@
 -- The tree that stands at a stage goes on to stand, and each name keeps its owners in text order.
-use Rattle.std.proofs.Common.{◌≡◌, ◌≤◌, ◌+◌, ℕ, ℤ, max, Bool, true, List, [], ◌∷◌, length, slice_get, Option, Some, None, inl, inr, refl, sym, ap, ◌∙◌, subst, arith}
-use Rattle.std.specs.Prelude.{◌-◌, option_map, option_and_then}
+use Rattle.std.proofs.Common.{◌≡◌, ◌≤◌, ◌+◌, ℕ, ℤ, max, Bool, true, List, [], length, slice_get, Some, inl, inr, refl, sym, ap, ◌∙◌, subst, arith}
+use Rattle.std.specs.Prelude.{◌-◌}
 use Rattle.std.specs.List.{AllByRecursion}
 use Rattle.slab.specs.Slab.{get}
 use Rattle.pd_atom.specs.Names.{Names, Extends}
@@ -10,20 +10,17 @@ use Rattle.pd_clock.specs.Queue.{Clock}
 use Rattle.pd_name.specs.declared.Class.{Class}
 use Rattle.pd_name.specs.Rows.{Row, owners_of}
 use Rattle.pd_fit.specs.Fitting.{wires_inside}
-use Rattle.pd_tree.specs.declared.rows.Sheet.{Sheet}
-use Rattle.pd_tree.specs.Trees.{Cell, Trees, Done, Leaf, Holder, Tree, Stand, weight}
+use Rattle.pd_tree.specs.Trees.{Cell, Tree, weight}
 use Rattle.pd_grove.specs.declared.grove.Grove.{Grove}
-use Rattle.pd_grove.specs.OwnPaths.{sub_in, sub_step_in, sub_reached}
+use Rattle.pd_grove.specs.OwnPaths.{sub_reached}
 use Rattle.pd_grove.specs.Places.{CanvasStands}
-use Rattle.pd_grove.specs.Room.{IsSameButRoom}
-use Rattle.pd_grove.specs.Standing.{node_seen, board_seen, Stands, GroveStands}
-use Rattle.pd_grove.specs.Telling.{inner_in}
-use Rattle.pd_grove.specs.TextOrder.{deep, Placed, placed, placed_in_order}
+use Rattle.pd_grove.specs.Refits.{at_place, Alters as AltersBox}
+use Rattle.pd_grove.specs.Standing.{depth_of, GroveStands}
+use Rattle.pd_grove.specs.TextOrder.{deep, Placed, placed_in_order}
 use Rattle.pd_grove.proofs.PlaceLemmas.{seen_keys}
 use Rattle.pd_grove.proofs.Standings.{seen_depth}
 use Rattle.pd_bind.specs.Naming.{owned_by}
 use Rattle.pd_bind.specs.Owning.{owners_in}
-use Rattle.pd_web.specs.declared.web.Web.{Web}
 use Rattle.pd_web.specs.Canvases.{keys_at}
 use Rattle.pd_web.specs.Changes.{wires_told}
 use Rattle.pd_web.proofs.CountLemmas.{same_are_as_many}
@@ -31,15 +28,16 @@ use Rattle.pd_patch.specs.declared.patch.Patch.{Patch}
 use Rattle.pd_patch.proofs.WayLemmas.{path_short}
 use Rattle.pd_reload_law.proofs.StayLemmas.{grove_stays}
 use Rattle.pd_regrowth_law.proofs.StepLemmas.{extends_on, extends_same}
+use Rattle.pd_regrowth_law.specs.Canvases.{own_along}
 use Rattle.pd_putting_law.specs.Puts.{put_at}
 use Rattle.pd_putting_law.specs.Putting.{HasBoxLast}
 use Rattle.pd_putting_law.proofs.PathLemmas.{sub_leads}
 use Rattle.pd_putting_law.proofs.StandLemmas.{grove_put, path_along}
 use Rattle.pd_wiring.specs.Changes.{CanRewire}
 use Rattle.pd_wiring.proofs.AlikeLemmas.{rewires_alike}
-use Rattle.pd_boxes.specs.Put.{node_of, CanPut, HasOwners as OwnersStand}
+use Rattle.pd_boxes.specs.Put.{CanPut, HasOwners as OwnersStand}
 use Rattle.pd_boxes.specs.Room.{SameButRoom}
-use Rattle.pd_boxes.proofs.RoomLemmas.{keys_same, owners_same, room_put}
+use Rattle.pd_boxes.proofs.RoomLemmas.{owners_same, room_put}
 use Rattle.pd_gather.specs.Gather.{Known}
 use Rattle.pd_adding.specs.declared.counts.Counts.{Counts}
 use Rattle.pd_adding.specs.Counts.{AreWithin, with_boxes}
@@ -61,52 +59,24 @@ use Rattle.pd_taking_law.specs.Taking.{TakesBoxAt}
 use Rattle.pd_taking_law.proofs.StandLemmas.{grove_less}
 use Rattle.pd_deleting.specs.Deletes.{part_gone}
 use Rattle.pd_shifting.proofs.MoveLemmas.{is_moving, still_put}
-use Rattle.pd_retyping.specs.Retypes.{counts_but, with_wires, HasBecome}
-use Rattle.pd_retyping_law.specs.Retypes.{retyped_at}
-use Rattle.pd_retyping_law.specs.Retyping.{RetypesBoxAt, cell_in}
-use Rattle.pd_retyping_law.proofs.CountLemmas.{weight_same as weight_retyped}
-use Rattle.pd_retyping_law.proofs.StandLemmas.{grove_retyped}
+use Rattle.pd_retyping.specs.Retypes.{counts_but, with_wires}
+use Rattle.pd_retyping_law.specs.Retypes.{retyped_at, SuitsAt}
+use Rattle.pd_retyping_law.specs.Retyping.{cell_in}
+use Rattle.pd_retyping_law.proofs.CountLemmas.{suits_there, weight_same as weight_retyped}
+use Rattle.pd_retyping_law.proofs.StandLemmas.{grove_changed}
 use Rattle.pd_shifted_law.specs.Shifts.{cell_at, shifted_at}
 use Rattle.pd_shifted_law.proofs.CountLemmas.{weight_same}
-use Rattle.pd_shifted_law.proofs.OwnerLemmas.{owned_placed, owners_stay}
+use Rattle.pd_shifted_law.proofs.OwnerLemmas.{owned_placed}
 use Rattle.pd_shifted_law.proofs.StandLemmas.{grove_shifted}
-use Rattle.pd_engine.proofs.CameLemmas.{CameIn, bare as bare_boxes, came_in, leads, low as low_here, own_steady, owners_kept}
-use Rattle.pd_engine.proofs.LessLemmas.{all_taken, box_weight, deep_taken, weight_alone, weight_out, weight_taken}
+use Rattle.pd_engine.proofs.CameLemmas.{CameIn, came_in, owners_kept}
+use Rattle.pd_engine.proofs.GrewLemmas.{bare as bare_boxes, leads, low as low_here, own_steady}
+use Rattle.pd_engine.proofs.LessLemmas.{all_taken, box_weight, deep_taken, weight_out, weight_some, weight_taken}
 use Rattle.pd_engine.proofs.LostLemmas.{boxes_left, many_gone, owners_left, still_puts, takes_box, wires_left}
 use Rattle.pd_engine.proofs.PutLemmas.{deep_put, weight_put, all_both, all_put}
-use Rattle.pd_engine.proofs.RetypedLemmas.{all_retyped, deep_retyped, retyped_own}
-use Rattle.pd_engine.proofs.ShiftLemmas.{all_shifted, deep_shifted}
-
--- ---- where room was set aside, each box and each canvas is seen as it was
-
-module _ (g h : Grove) (S : IsSameButRoom g h) where
-  stands_room : (b d : ℕ) (keys : List ℕ) (t : Trees) → Stands (get g.nodes) (get g.boards) b d keys t → Stands (get h.nodes) (get h.boards) b d keys t
-  stands_room b d [] Done x = tt
-  stands_room b d (k ∷ ks) Done x = absurd x
-  stands_room b d [] (Leaf c rest) x = absurd x
-  stands_room b d (k ∷ ks) (Leaf c rest) x = (ap (option_map node_seen) (S.nodes k) ∙ x.0, stands_room b d ks rest x.1)
-  stands_room b d [] (Holder c s inner rest) x = absurd x
-  stands_room b d (k ∷ ks) (Holder c s inner rest) x =
-      (x.0, x.1, ap (option_map node_seen) (S.nodes k) ∙ x.2, S.boards x.0 ∙ x.3, stands_room x.0 (d + 1) x.1 inner x.4, stands_room b d ks rest x.5)
-
-  grove_room : (s : Sheet) (t : Trees) → GroveStands g s t → GroveStands h s t
-  grove_room s t G = record {
-    keys = G.keys;
-    root = S.boards h.root ∙ ap (λ (x : ℕ). option_map board_seen (get g.boards x)) S.root ∙ G.root;
-    stands = subst (λ (x : ℕ). Stands (get h.nodes) (get h.boards) x 0 G.keys t) (sym S.root) (stands_room g.root 0 G.keys t G.stands);
-  }
-
-  sub_box : (o : Option ℕ) → option_and_then (λ k. sub_in (get h.nodes k)) o ≡ option_and_then (λ k. sub_in (get g.nodes k)) o
-  sub_box None = refl
-  sub_box (Some k) = ap sub_in (S.nodes k)
-
-  sub_step : (n : ℕ) (o : Option ℕ) → option_and_then (λ c. sub_step_in h c n) o ≡ option_and_then (λ c. sub_step_in g c n) o
-  sub_step n None = refl
-  sub_step n (Some c) = ap (λ (ks : List ℕ). option_and_then (λ k. sub_in (get h.nodes k)) (slice_get ks n)) (keys_same g h S c) ∙ sub_box (slice_get (keys_at g c) n)
-
-  sub_stays : (path : List ℕ) (o : Option ℕ) → sub_reached h o path ≡ sub_reached g o path
-  sub_stays [] o = refl
-  sub_stays (n ∷ path) o = ap (λ (x : Option ℕ). sub_reached h x path) (sub_step n o) ∙ sub_stays path (option_and_then (λ c. sub_step_in g c n) o)
+use Rattle.pd_engine.proofs.RenewLemmas.{Renews, renews}
+use Rattle.pd_engine.proofs.RetypedLemmas.{all_retyped, deep_retyped}
+use Rattle.pd_engine.proofs.RoomLemmas.{grove_room, sub_stays}
+use Rattle.pd_engine.proofs.ShiftLemmas.{all_shifted, as_many, deep_shifted, owners_still, placed_by}
 
 -- ---- what a block finds
 
@@ -253,7 +223,7 @@ module _ (s : Stage) (t : HasTree s) (path : List ℕ) (e : Edit) (m : Made) (ah
   -- what came in
   came : CameIn h.old h.new a h.box.key
   came =
-      came_in h.old h.new s.time a h.box.key h.stands.puts (bare_boxes h.old h.new s.base.counts s.file path s.time e (known_at s) h.after h.box h.adds) h.adds.put
+      came_in h.old h.new s.time a h.box.key h.stands.puts (bare_boxes h.old s.base.counts s.file path e (known_at s) h.adds.files a h.adds.grew) h.adds.put
 
   abbrev ready : Patch
   ready = came.ready
@@ -268,7 +238,7 @@ module _ (s : Stage) (t : HasTree s) (path : List ℕ) (e : Edit) (m : Made) (ah
   ready_can = room_put h.old ready came.room h.stands.puts
 
   led : sub_reached h.old.grove (Some h.old.grove.root) path ≡ Some a.canvas
-  led = leads h.old h.new s.base.counts s.file path s.time e (known_at s) h.after h.box h.adds
+  led = leads h.old s.base.counts s.file path e (known_at s) h.adds.files a h.adds.grew
 
   last : HasBoxLast ready.grove h.new.grove path a.canvas h.box.key
   last = record {
@@ -311,7 +281,7 @@ module _ (s : Stage) (t : HasTree s) (path : List ℕ) (e : Edit) (m : Made) (ah
       let short : length path ≤ deep t.tree.boxes =
       path_short h.old.grove t.tree.sheet t.tree.boxes path a.canvas (at_stands s t h.old stands_at) (sub_leads h.old.grove h.old.grove.root a.canvas path led) in
       let here : length path + deep a.boxes ≤ 255 =
-      low_here h.old h.new s.base.counts s.file path s.time e (known_at s) h.after h.box h.adds (omega (arith, low, short)) in
+      low_here h.old s.base.counts s.file path e (known_at s) h.adds.files a h.adds.grew (omega (arith, low, short)) in
       let most : deep more_tree.boxes ≤ max (deep t.tree.boxes) (length path + deep a.boxes) = deep_put a.boxes path t.tree in
       omega (arith, low, here, most)
 
@@ -337,7 +307,7 @@ module _ (s : Stage) (t : HasTree s) (path : List ℕ) (e : Edit) (m : Made) (ah
   Same names more p = owned_by more p.is_top p.cell ≡ owned_by names p.is_top p.cell
 
   own_more : (more : Names) → Extends a.known.names more → (top : Bool) → AllByRecursion (Same a.known.names more) (placed_in_order top a.boxes)
-  own_more more x top = own_steady h.old h.new s.base.counts s.file path s.time e (known_at s) h.after h.box h.adds more x top
+  own_more more x top = own_steady h.old s.base.counts s.file path e (known_at s) h.adds.files a h.adds.grew h.adds.written more x top
 
   pub new_owners : HasOwners s t.patch t.tree → HasOwners (stage_by (with_ahead s ahead) (Makes m)) h.new more_tree
   new_owners o =
@@ -467,22 +437,25 @@ module _ (s : Stage) (t : HasTree s) (path : List ℕ) (number : ℕ) (x y : ℤ
   stands_where = record { net = h.stands.net; states = h.stands.states; puts = h.stands.puts; meet = h.stands.meet }
 
   runs_still : CanPut h.new
-  runs_still = still_put h.old h.new path number x y h.key h.moves h.stands.puts
+  runs_still = still_put h.old h.new path number x y h.box h.moves h.stands.puts
 
   -- the tree with it at its place
   abbrev pub other_tree : Tree
   other_tree = shifted_at path number x y t.tree
 
+  placed_there : AltersBox h.old.grove h.new.grove h.box.key (at_place x y)
+  placed_there = placed_by h.old h.new h.box.canvas h.box.key x y h.moves.shifts
+
   stands_other : GroveStands h.new.grove other_tree.sheet other_tree.boxes
   stands_other =
       let g : Grove = h.old.grove in
-      let at = is_moving g number (sub_reached g (Some g.root) path) h.moves.canvas h.key h.moves.is in
-      grove_shifted g h.new.grove h.moves.canvas h.key number x y h.stands.puts.forest at.is h.moves.box path t.tree at.leads (at_stands s t h.old stands_where)
+      let at = is_moving g number (sub_reached g (Some g.root) path) h.box.canvas h.box.key h.moves.is in
+      grove_shifted g h.new.grove h.box.canvas h.box.key number x y h.stands.puts.forest at.is placed_there path t.tree at.leads (at_stands s t h.old stands_where)
 
   wires_still : m.base.counts.wires ≡ wires_told m.net.web
   wires_still =
       ap (λ (b : Base). b.counts.wires) h.base ∙ at_wires s t h.old stands_where
-      ∙ sym (ap (λ (n : Net). wires_told n.web) h.net ∙ ap (λ (w : Web). wires_told w) h.moves.rest.web)
+      ∙ sym (ap (λ (n : Net). wires_told n.web) h.net ∙ as_many h.old h.new h.box.canvas h.box.key x y h.moves.shifts)
 
   pub moved_tree : HasTree (stage_by (with_ahead s ahead) (Makes m))
   moved_tree = record {
@@ -507,91 +480,56 @@ module _ (s : Stage) (t : HasTree s) (path : List ℕ) (number : ℕ) (x y : ℤ
       record {
         table = q.table;
         goes_on = subst (λ (n : Names). Extends q.table n) (sym h.names) q.goes_on;
-        owners = owners_stay h.old h.new path number x y h.key q.table s.file h.moves q.owners;
+        owners = owners_still h.old h.new h.box.canvas h.box.key x y q.table s.file h.moves.shifts q.owners;
         alike = λ more on.
             let was : OwnAlike q.table more s.file t.tree.boxes = q.alike more on in
             record { root = was.root; boxes = all_shifted (Owns q.table more) x y (same_placed q.table more x y) path number true t.tree was.boxes };
       }
 
--- ---- a box became another one
+-- ---- a box became another one, or took another text
 
 module _ (s : Stage) (t : HasTree s) (path : List ℕ) (number : ℕ) (text : List Atom) (m : Made) (ahead : List Choice) (h : IsRetypedTo (with_ahead s []) path number text m) where
-  abbrev became : HasBecome h.old h.new s.time h.box.key h.retypes.node h.retypes.added h.box.gone.items h.steps h.steps'
-  became = h.retypes.became
-
-  abbrev room_made : Patch
-  room_made = became.ready
-
-  -- it has the boxes of the one in which room was made
-  abbrev loosened : Patch
-  loosened = became.loose
-
-  abbrev new_cell : Cell
-  new_cell = became.can.cell
+  R : Renews h.old h.new s.file path h.box.canvas h.box.key number h.retypes.node h.retypes.added
+  R = renews h.old h.new s.base.counts s.file path number text s.time (known_at s) h.after h.steps h.steps' h.box h.retypes
 
   stands_before : StandsAt h.old s
   stands_before = record { net = h.stands.net; states = h.stands.states; puts = h.stands.puts; meet = h.stands.meet }
 
-  same_boxes : loosened.grove ≡ room_made.grove
-  same_boxes = became.loosens.rest.grove
-
-  stood : GroveStands loosened.grove t.tree.sheet t.tree.boxes
-  stood = subst (λ (g : Grove). GroveStands g t.tree.sheet t.tree.boxes) (sym same_boxes) (room_stands s t h.old stands_before room_made became.room)
-
-  led_there : sub_reached room_made.grove (Some room_made.grove.root) path ≡ Some h.box.canvas
-  led_there =
-      sub_stays h.old.grove room_made.grove became.room.grove path (Some room_made.grove.root)
-      ∙ ap (λ (r : ℕ). sub_reached h.old.grove (Some r) path) became.room.grove.root ∙ h.retypes.chosen.leads
-
-  is_there : slice_get (keys_at room_made.grove h.box.canvas) number ≡ Some h.box.key
-  is_there = ap (λ (ks : List ℕ). slice_get ks number) (keys_same h.old.grove room_made.grove became.room.grove h.box.canvas) ∙ h.retypes.chosen.at
-
-  becomes : RetypesBoxAt loosened.grove h.new.grove path h.box.canvas h.box.key number h.retypes.node (node_of h.retypes.node.board became.seed)
-  becomes = record {
-    forest = became.could.can.forest;
-    leads = subst (λ (g : Grove). sub_reached g (Some g.root) path ≡ Some h.box.canvas) (sym same_boxes) led_there;
-    is = subst (λ (g : Grove). slice_get (keys_at g h.box.canvas) number ≡ Some h.box.key) (sym same_boxes) is_there;
-    was = became.could.is;
-    bare = became.can.bare;
-    becomes = became.refit.grove.is;
-    leaf = refl;
-    board = refl;
-    others = became.refit.grove.others;
-    boards = became.refit.grove.boards;
-    root = became.refit.grove.root;
-  }
+  -- the boxes are those of the patch in which room was set aside
+  stood : GroveStands R.from.grove t.tree.sheet t.tree.boxes
+  stood = subst (λ (g : Grove). GroveStands g t.tree.sheet t.tree.boxes) (sym R.grove) (room_stands s t h.old stands_before R.ready R.room)
 
   -- the tree with the new box
+  abbrev pub new_cell : Cell
+  new_cell = cell_in R.node
+
   abbrev pub renewed_tree : Tree
   renewed_tree = retyped_at path number new_cell t.tree
 
-  cell_is : cell_in (node_of h.retypes.node.board became.seed) ≡ new_cell
-  cell_is = ap (λ (x : Stand). x.cell) became.is_row
-
   stands_renewed : GroveStands h.new.grove renewed_tree.sheet renewed_tree.boxes
-  stands_renewed =
-      subst (λ (c : Cell). GroveStands h.new.grove (retyped_at path number c t.tree).sheet (retyped_at path number c t.tree).boxes) cell_is
-      (grove_retyped loosened.grove h.new.grove path h.box.canvas h.box.key number h.retypes.node (node_of h.retypes.node.board became.seed) becomes t.tree stood)
+  stands_renewed = grove_changed R.from.grove h.new.grove path h.box.canvas h.box.key number h.retypes.node R.node R.changes t.tree stood
+
+  -- the canvas of the box
+  along : (u : Tree) × (own_along path t.tree ≡ Some u) × CanvasStands R.from.grove h.box.canvas u × (depth_of (get R.from.grove.boards h.box.canvas) ≡ length path)
+  along = path_along R.from.grove path h.box.canvas t.tree R.changes.forest stood R.changes.leads
 
   counted_renewed : m.base.counts ≡ with_wires (with_boxes h.old.rate h.retypes.added.boxes (counts_but h.old.rate h.retypes.node s.base.counts)) (wires_told h.new.web)
   counted_renewed = ap (λ (x : Base). x.counts) h.base ∙ h.retypes.counts ∙ ap (λ (n : Counts). with_wires n (wires_told h.new.web)) h.retypes.grew.counts
 
   boxes_renewed : m.base.counts.boxes ≡ weight renewed_tree.boxes
   boxes_renewed =
-      let g : Grove = loosened.grove in
-      let along = path_along g path h.box.canvas t.tree becomes.forest stood becomes.leads in
+      let g : Grove = R.from.grove in
       let u : Tree = along.0 in
       let C : CanvasStands g h.box.canvas u = along.2 in
-      let at : slice_get C.keys number ≡ Some h.box.key = ap (λ (ks : List ℕ). slice_get ks number) (sym (seen_keys (get g.boards h.box.canvas) _ C.board)) ∙ becomes.is in
-      let leaf : inner_in (get g.nodes h.box.key) ≡ None = ap inner_in becomes.was ∙ becomes.bare in
-      let alone : box_weight number u.boxes ≡ 1 = weight_alone (get g.nodes) (get g.boards) h.box.canvas C.depth C.keys u.boxes number h.box.key C.stands at leaf in
-      let some : weight (taken_at path number t.tree).boxes + box_weight number u.boxes ≡ weight t.tree.boxes =
+      let at : slice_get C.keys number ≡ Some h.box.key = ap (λ (ks : List ℕ). slice_get ks number) (sym (seen_keys (get g.boards h.box.canvas) _ C.board)) ∙ R.changes.is in
+      let some : 1 ≤ box_weight number u.boxes = weight_some (get g.nodes) (get g.boards) h.box.canvas C.depth C.keys u.boxes number h.box.key C.stands at in
+      let less : weight (taken_at path number t.tree).boxes + box_weight number u.boxes ≡ weight t.tree.boxes =
       weight_taken path number (box_weight number u.boxes) t.tree u along.1 (weight_out number u.boxes) in
       let one : m.base.counts.boxes ≡ s.base.counts.boxes - 1 + weight h.retypes.added.boxes = ap (λ (n : Counts). n.boxes) counted_renewed in
-      let single : weight h.retypes.added.boxes ≡ 1 = ap weight became.can.single in
+      let single : weight h.retypes.added.boxes ≡ 1 = R.single in
       let same : weight renewed_tree.boxes ≡ weight t.tree.boxes = weight_retyped path number new_cell t.tree in
       let was : s.base.counts.boxes ≡ weight t.tree.boxes = t.boxes in
-      omega (arith, some, alone, one, single, same, was)
+      omega (arith, some, less, one, single, same, was)
 
   wires_renewed : m.base.counts.wires ≡ wires_told m.net.web
   wires_renewed = ap (λ (n : Counts). n.wires) counted_renewed ∙ sym (ap (λ (n : Net). wires_told n.web) h.net)
@@ -601,13 +539,13 @@ module _ (s : Stage) (t : HasTree s) (path : List ℕ) (number : ℕ) (text : Li
     patch = h.new;
     tree = renewed_tree;
     stands = stands_renewed;
-    of = stage_of h.new (stage_by (with_ahead s ahead) (Makes m)) h.net became.goes_on.runs;
+    of = stage_of h.new (stage_by (with_ahead s ahead) (Makes m)) h.net R.goes_on.runs;
     shallow = subst (λ (n : ℕ). n ≤ 255) (sym (deep_retyped path number new_cell t.tree)) t.shallow;
     boxes = boxes_renewed;
     wires = wires_renewed;
     within = h.within;
-    own = became.goes_on.forest.own;
-    apart = became.goes_on.apart;
+    own = R.goes_on.forest.own;
+    apart = R.goes_on.apart;
   }
 
   -- the names of the table after it
@@ -620,19 +558,19 @@ module _ (s : Stage) (t : HasTree s) (path : List ℕ) (number : ℕ) (text : Li
   abbrev Steady : Names → Names → Placed → Type 0
   Steady names more p = owned_by more p.is_top p.cell ≡ owned_by names p.is_top p.cell
 
-  own_on : (more : Names) → Extends later_names more → (top : Bool) → Steady later_names more (placed top new_cell)
-  own_on more x top = retyped_own h.old h.new s.base.counts s.file path number text s.time (known_at s) h.after h.steps h.steps' h.box h.retypes more x top
+  suits : SuitsAt number new_cell along.0.boxes
+  suits = suits_there R.from.grove h.new.grove path h.box.canvas h.box.key number h.retypes.node R.node R.changes along.0 along.2
 
   pub retyped_owners : HasOwners s t.patch t.tree → HasOwners (stage_by (with_ahead s ahead) (Makes m)) h.new renewed_tree
   retyped_owners o =
-      let q : HasOwners s room_made t.tree = room_owners s t h.old stands_before room_made became.room o in
+      let q : HasOwners s R.ready t.tree = room_owners s t h.old stands_before R.ready R.room o in
       let on : Extends q.table m.names = extends_on q.table s.names m.names q.goes_on h.more in
       let onward : Extends q.table later_names = subst (λ (n : Names). Extends q.table n) later_are on in
       let low : deep t.tree.boxes ≤ 256 = (let l = t.shallow in omega (arith, l)) in
-      let first : OwnersStand loosened q.table s.file = owners_kept room_made loosened q.table s.file became.loosens.rest.names same_boxes q.owners in
-      let before : OwnersStand loosened later_names s.file = λ class name.
-      first class name ∙ sym (owners_alike q.table later_names s.file loosened.grove t.tree.sheet t.tree.boxes class name stood low (q.alike later_names onward)) in
-      let after : OwnersStand h.new later_names s.file = became.refit.owners s.file before in
+      let first : OwnersStand R.from q.table s.file = owners_kept R.ready R.from q.table s.file R.names R.grove q.owners in
+      let before : OwnersStand R.from later_names s.file = λ class name.
+      first class name ∙ sym (owners_alike q.table later_names s.file R.from.grove t.tree.sheet t.tree.boxes class name stood low (q.alike later_names onward)) in
+      let after : OwnersStand h.new later_names s.file = R.owners before in
       record {
         table = m.names;
         goes_on = extends_same m.names;
@@ -642,7 +580,7 @@ module _ (s : Stage) (t : HasTree s) (path : List ℕ) (number : ℕ) (text : Li
             let further : OwnAlike q.table more s.file t.tree.boxes = q.alike more (extends_on q.table later_names more onward x) in
             record {
               root = further.root ∙ sym first.root;
-              boxes = all_retyped (Steady later_names more) new_cell (own_on more x) path number true t.tree
+              boxes = all_retyped (Steady later_names more) new_cell (R.steady more x) path number along.0 suits true t.tree along.1
                   (all_both (Steady q.table later_names) (Steady q.table more) (Steady later_names more) (λ p f g. g ∙ sym f) (placed_in_order true t.tree.boxes) first.boxes further.boxes);
             });
       }

@@ -15,7 +15,7 @@ ghost use Rattle.pd_stage.specs.Events.{edit_taken, edit_event};
 ghost use Rattle.pd_stage.specs.Lawful.{why_of as why_so};
 ghost use Rattle.pd_stage.specs.Leads.{sinks, Stops, SaysPart};
 ghost use Rattle.pd_putting.specs.Adds.{keys_within};
-ghost use Rattle.pd_stage.specs.Lines.{deleted_text, loads_inside, put_text, retyped_text};
+ghost use Rattle.pd_stage.specs.Lines.{deleted_text, loads_inside, moved_text, put_text, retyped_text};
 ghost use Rattle.pd_engine.specs.Stages.{stage_at};
 ghost use Rattle.pd_engine.specs.Edits as edits;
 
@@ -36,7 +36,7 @@ use pd_retyping::{RetypedBox, retype_box};
 use pd_save::put_document;
 use pd_say::{Request, Why};
 use pd_script::CommandEdit;
-use pd_shifting::move_box;
+use pd_shifting::{MovedBox, move_box};
 use pd_walk::Budget;
 use std::alloc::{AllocError, Global};
 use std::sync::ledger::Ledger;
@@ -221,7 +221,8 @@ impl Engine {
         }
     }
 
-    /// Moves the box of a number in the canvas at a path of the patch's own document to another place, or refuses it.
+    /// Moves the box of a number in the canvas at a path of the patch's own document to another place, with the port that it is of the box around, or
+    /// refuses it.
     fn move_own<L: Sink>(
         &mut self,
         path: &[u32],
@@ -235,9 +236,9 @@ impl Engine {
         ensures cause { HasCause (L.faults lines.old) (L.faults lines.new) result }
         ensures stays { self.new.stopped ≡ self.old.stopped }
     {
-        let done = move_box(&mut self.patch, path, number, x, y);
+        let done = move_box(self.alloc, &mut self.patch, path, number, x, y);
         match done {
-            Ok(moved) => self.tell(Ok(moved.canvas), lines),
+            Ok(moved) => self.tell_moved(moved, lines),
             Err(why) => self.tell(Err(why), lines),
         }
     }
@@ -473,6 +474,39 @@ impl Engine {
         print_loop(
             &self.patch,
             deleted.canvas,
+            &mut self.numbers,
+            &self.symbols,
+            &mut self.held,
+            lines,
+        )?;
+        Ok(Outcome::Done)
+    }
+
+    /// Tells of a box that an edit moved: where ports of the box around changed places, a loop of the canvas in which that lies; and a loop of its
+    /// own canvas.
+    fn tell_moved<L: Sink>(
+        &mut self,
+        moved: MovedBox,
+        lines: &mut L,
+    ) -> Result<Outcome, SinkFailed>
+        ensures stage { stage_at self.new ≡ stage_at self.old }
+        ensures ok { OnOk result (L.taken lines.new ≡ grown (L.taken lines.old) (moved_text self.old.patch moved.canvas moved.around)) }
+        ensures answer { IfOk result (λ outcome. outcome ≡ Outcome.Done) }
+        ensures err { OnErr result (TookPart (L.taken lines.old) (L.taken lines.new) (moved_text self.old.patch moved.canvas moved.around)) }
+        ensures cause { HasCause (L.faults lines.old) (L.faults lines.new) result }
+        ensures stays { self.new.stopped ≡ self.old.stopped }
+    {
+        print_loop_around(
+            &self.patch,
+            moved.around,
+            &mut self.numbers,
+            &self.symbols,
+            &mut self.held,
+            lines,
+        )?;
+        print_loop(
+            &self.patch,
+            moved.canvas,
             &mut self.numbers,
             &self.symbols,
             &mut self.held,
