@@ -1,6 +1,5 @@
 -- A tree with another box in the place of one, or with another text at one.
 use Rattle.std.proofs.Common.{◌≡◌, ℕ, zero, suc, ◌+◌, max, Bool, ◌&&◌, List, [], ◌∷◌, ◌++◌, Some, refl, sym, ap, ◌∙◌, subst}
-use Rattle.std.specs.Prelude.{◌-◌}
 use Rattle.std.specs.List.{AllByRecursion}
 use Rattle.pd_tree.specs.Trees.{Cell, Trees, Done, Leaf, Holder, Tree}
 use Rattle.pd_grove.specs.TextOrder.{deep, is_sub, Placed, placed, placed_in_order}

@@ -1,6 +1,6 @@
 -- Where room was set aside, each box and each canvas is seen as it was.
 use Rattle.std.proofs.Common.{◌≡◌, ◌+◌, ℕ, List, [], ◌∷◌, slice_get, Option, Some, None, refl, sym, ap, ◌∙◌, subst}
-use Rattle.std.specs.Prelude.{◌-◌, option_map, option_and_then}
+use Rattle.std.specs.Prelude.{option_map, option_and_then}
 use Rattle.slab.specs.Slab.{get}
 use Rattle.pd_tree.specs.declared.rows.Sheet.{Sheet}
 use Rattle.pd_tree.specs.Trees.{Trees, Done, Leaf, Holder}

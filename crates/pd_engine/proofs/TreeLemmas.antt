@@ -489,7 +489,7 @@ module _ (s : Stage) (t : HasTree s) (path : List ℕ) (number : ℕ) (x y : ℤ
 -- ---- a box became another one, or took another text
 
 module _ (s : Stage) (t : HasTree s) (path : List ℕ) (number : ℕ) (text : List Atom) (m : Made) (ahead : List Choice) (h : IsRetypedTo (with_ahead s []) path number text m) where
-  R : Renews h.old h.new s.file path h.box.canvas h.box.key number h.retypes.node h.retypes.added
+  pub R : Renews h.old h.new s.file path h.box.canvas h.box.key number h.retypes.node h.retypes.added
   R = renews h.old h.new s.base.counts s.file path number text s.time (known_at s) h.after h.steps h.steps' h.box h.retypes
 
   stands_before : StandsAt h.old s
