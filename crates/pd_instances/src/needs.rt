@@ -37,8 +37,8 @@ pub(crate) fn needs_of(alloc: Global, rows: &[Row]) -> Result<VecDeque<Need>, Al
     requires { AreSmall rows.now }
     ensures { IfOk result (λ needs. needs.items ≡ needs_of_stands (stands_in rows.now)) }
 {
-    let mut stack = VecDeque::new(alloc);
-    let mut needs = VecDeque::new(alloc);
+    let mut stack = VecDeque::with_capacity(alloc, rows.len())?;
+    let mut needs = VecDeque::with_capacity(alloc, rows.len())?;
     let mut i = rows.len();
     while i > 0 {
         i -= 1;

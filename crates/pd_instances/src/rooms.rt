@@ -36,7 +36,7 @@ pub(crate) fn box_rooms(
     ensures kept { KeepsRoom web.old web.new }
     ensures rooms { IfOk result (λ rooms. AreRoomsFor needs.now.items rooms.items) }
 {
-    let mut rooms = VecDeque::new(alloc);
+    let mut rooms = VecDeque::with_capacity(alloc, needs.len())?;
     for i in 0..needs.len() {
         let room = box_room(alloc, web, needs[i])?;
         rooms.push_back(room)?;
