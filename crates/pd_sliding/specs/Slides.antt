@@ -1,11 +1,14 @@
 -- One port of a side of a box at another number, and the wires at the ports.
-use Rattle.std.specs.Prelude.{◌≡◌, ◌≢◌, ◌<◌, ℕ, ◌==◌, cond, map, length, slice_get}
+use Rattle.std.specs.Prelude.{◌≡◌, ◌≢◌, ◌<◌, ◌≤◌, ℕ, ◌==◌, cond, List, map, length, slice_get, Some, IsSome}
+use Rattle.std.specs.List.{insert}
 use Rattle.pd_canvas.specs.Wiring.{lowered, raised}
 use Rattle.pd_grove.specs.declared.ports.Side.{Side}
 use Rattle.pd_grove.specs.declared.ports.Side.TheVariants.{Inlets, Outlets}
+use Rattle.pd_web.specs.declared.jacks.Jack.{Jack}
 use Rattle.pd_web.specs.declared.web.Hop.{Hop}
 use Rattle.pd_web.specs.declared.web.Web.{Web}
-use Rattle.pd_web.specs.Hops.{ports_told, fan_keys, fan_hops, feed_hops, places_of}
+use Rattle.pd_web.specs.Homes.{inner_in}
+use Rattle.pd_web.specs.Hops.{ports_told, jack_told, fan_keys, fan_hops, feed_hops, places_of}
 use Rattle.pd_web.specs.Sockets.{made_at}
 use Rattle.pd_moving.specs.Outlets.{from_others}
 
@@ -35,6 +38,17 @@ hop_slid key from to h = record { key = h.key; node = h.node; port = cond (h.nod
 abbrev pub FeedsFollow : Side → (w w' : Web) → (key from to : ℕ) → Type 0
 FeedsFollow Inlets w w' key from to = (n i : ℕ) → feed_hops w' n (inlet_slid Inlets key from to n i) ≡ feed_hops w n i
 FeedsFollow Outlets w w' key from to = (n i : ℕ) → from_others key to (feed_hops w' n i) ≡ map (hop_slid key from to) (from_others key from (feed_hops w n i))
+
+-- The ports on a side of a box are boxes, and it shall have these, where the one that is the box `port` stands at the second number and not at the first among the others.
+pub record IsOneElsewhere (w : Web) (jacks : List Jack) (key : ℕ) (side : Side) (port from to : ℕ) : Type 0 where
+  pub rest : List Jack
+  pub jack : Jack
+  pub is_it : jack.inner ≡ Some port
+  pub goes : from ≤ length rest
+  pub comes : to ≤ length rest
+  pub was : ports_told w side key ≡ insert rest from jack
+  pub is : jacks ≡ insert rest to jack
+  pub boxes : (i : ℕ) → i < length (ports_told w side key) → IsSome (inner_in (jack_told w side key i))
 
 -- On a side of the box the port of the first number has the second now, and those between have made way. The wires of each port went with it, in
 -- their order; each wire leads from the box and to the box that it did. But for the wires of an outlet that went, which were put in anew, each has

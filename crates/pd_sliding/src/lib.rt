@@ -16,4 +16,4 @@ mod sliding;
 
 pub use reserving::reserve_route;
 pub use room::PortRoute;
-pub use sliding::{SlidPort, slide_port};
+pub use sliding::slide_port;

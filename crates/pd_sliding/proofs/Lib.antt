@@ -1,0 +1,6 @@
+pub mod ListLemmas
+pub mod FollowLemmas
+pub mod SlideLemmas
+pub mod GroveLemmas
+pub mod WireLemmas
+pub mod RunLemmas
