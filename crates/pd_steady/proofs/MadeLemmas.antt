@@ -434,17 +434,11 @@ pub retype_short : (s : Stage) (path : List ℕ) (number : ℕ) (text : List Ato
     → order_in h.new.orders.items h.box.canvas ≡ Some o → length o.chain + length o.stuck ≤ most_boxes
 retype_short s path number text m t h o order = by h.retypes.became
   where
-    abbrev p : Patch
-    p = h.old
-
-    abbrev c : ℕ
-    c = h.box.canvas
-
     by : Becomes h.old h.new s.names text s.time h.box.key h.retypes.node h.retypes.added h.box.gone.items h.steps h.steps' → length o.chain + length o.stuck ≤ most_boxes
     by (inl b) =
-        few_still s t p h.new path c h.stands.net h.retypes.chosen.leads
-        (ap (λ (boards : Slab Board). keys_in (get boards c)) b.refit.grove.boards ∙ ap (λ (g : Grove). keys_at g c) b.loosens.rest.grove
-        ∙ seen_keys (get p.grove.boards c) (get b.ready.grove.boards c) (b.room.grove.boards c)) b.goes_on o order
+        few_still s t h.old h.new path h.box.canvas h.stands.net h.retypes.chosen.leads
+        (ap (λ (boards : Slab Board). keys_in (get boards h.box.canvas)) b.refit.grove.boards ∙ ap (λ (g : Grove). keys_at g h.box.canvas) b.loosens.rest.grove
+        ∙ seen_keys (get h.old.grove.boards h.box.canvas) (get b.ready.grove.boards h.box.canvas) (b.room.grove.boards h.box.canvas)) b.goes_on o order
     by (inr b) =
-        few_still s t p h.new path c h.stands.net h.retypes.chosen.leads
-        (ap (λ (boards : Slab Board). keys_in (get boards c)) b.renamed.box.boards ∙ seen_keys (get p.grove.boards c) (get b.ready.grove.boards c) (b.room.grove.boards c)) b.goes_on o order
+        few_still s t h.old h.new path h.box.canvas h.stands.net h.retypes.chosen.leads
+        (ap (λ (boards : Slab Board). keys_in (get boards h.box.canvas)) b.renamed.box.boards ∙ seen_keys (get h.old.grove.boards h.box.canvas) (get b.ready.grove.boards h.box.canvas) (b.room.grove.boards h.box.canvas)) b.goes_on o order
