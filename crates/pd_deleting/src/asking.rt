@@ -89,8 +89,9 @@ fn has_places(patch: &Patch) -> bool
     let Ok(end) = u32::try_from(patch.grove.nodes_end()) else {
         return false;
     };
-    for key in 0..end {
-        if key as usize >= patch.values.len() && patch.grove.node(key).is_some() {
+    let from = patch.values.len().min(end as usize) as u32;
+    for key in from..end {
+        if patch.grove.node(key).is_some() {
             return false;
         }
     }
