@@ -141,7 +141,7 @@ module _ (old new : Patch) (n : Counts) (name path : List ℕ) (number : ℕ) (t
       not_kept (entry_of X.node.element).head.form written (entry_of X.node.element) (begins_with_pd written) refl
       (sym (ap (λ (h : Head). is_sub h.form) (head_is ∙ X.same_head)) ∙ no_sub)
 
-  -- it grew from the grown_from with the new text
+  -- it grew from the element with the new text
   pub same_drawn : grown_from ≡ element_with (settled_text k.names text) X.node
   same_drawn = X.same_entry is_new
 
