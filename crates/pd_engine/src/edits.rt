@@ -484,11 +484,7 @@ impl Engine {
 
     /// Tells of a box that an edit moved: where ports of the box around changed places, a loop of the canvas in which that lies; and a loop of its
     /// own canvas.
-    fn tell_moved<L: Sink>(
-        &mut self,
-        moved: MovedBox,
-        lines: &mut L,
-    ) -> Result<Outcome, SinkFailed>
+    fn tell_moved<L: Sink>(&mut self, moved: MovedBox, lines: &mut L) -> Result<Outcome, SinkFailed>
         ensures stage { stage_at self.new ≡ stage_at self.old }
         ensures ok { OnOk result (L.taken lines.new ≡ grown (L.taken lines.old) (moved_text self.old.patch moved.canvas moved.around)) }
         ensures answer { IfOk result (λ outcome. outcome ≡ Outcome.Done) }

@@ -1,21 +1,23 @@
 //! Events in time: opening, commands, clocks and blocks.
 //!
 //! Between events a patch stands at a stage (`pd_stage`). Each call is a function of the stage: it gives the stage
-//! after it, what happens on the way, lines and samples in one list in their order, and the edits that were taken,
-//! and the code does exactly that: for what these edits came to, whatever the edits after them lead to. Each is
-//! lawful (pd_stage's `IsLawful`): an edit of wires of the patch's own document is made, or refused as it is
-//! planned to be or for want of memory; one that puts a box grows it, with the files for which it asks, and puts it
-//! last into its canvas with all that lies in it, gives the box around the port that it is, if it is one, and tells why
-//! boxes of these could not be made and which wires in it don't fit; one that deletes a box takes it out with all that
-//! lies in it, and with the wires and the clocks of these boxes, takes from the box around the port that it was, if it
-//! was one, with the wires at that, and tells which these were; one that moves a box gives it another place in its
-//! window; one that gives a box another text grows what it becomes, takes out the wires at it that don't fit that, and
-//! puts that in its place where both are boxes without a canvas, no ports of a box around, and the wires that fit carry
-//! what they carried, and tells why it could not be made and which wires went; after each of these a loop of its canvas
-//! is told, after a port that came or went first one of the canvas around, and those of the canvases that came; a save
-//! puts the document's text under the name of its file; every other edit or save is refused, and there is nothing to
-//! undo or redo. Behind an edit the load boxes that came with its box are loaded, in text order. It makes no
-//! difference whether a command or a message asks for an edit. Looks at signal wires are at most those of the edits.
+//! after it, what happens on the way, lines and samples in one list in their order, and the edits that were taken, and
+//! the code does exactly that: for what these edits came to, whatever the edits after them lead to. Each is lawful
+//! (pd_stage's `IsLawful`): an edit of wires of the patch's own document is made, or refused as it is planned to be or
+//! for want of memory; one that puts a box grows it, with the files for which it asks, and puts it last into its
+//! canvas with all that lies in it, gives the box around the port that it is, if it is one, and tells why boxes of
+//! these could not be made and which wires in it don't fit; one that deletes a box takes it out with all that lies in
+//! it, and with the wires and the clocks of these boxes, takes from the box around the port that it was, if it was
+//! one, with the wires at that, and tells which these were; one that moves a box gives it another place in its window,
+//! and the box around its ports in the order of these places, each with its wires; one that gives a box another text
+//! grows what it becomes, takes out the wires at it that don't fit that, and puts that in its place where both are
+//! boxes without a canvas, no ports of a box around, and the wires that fit carry what they carried, and tells why it
+//! could not be made and which wires went; or it gives a subpatch that stays one that text, and what it holds stays;
+//! after each of these a loop of its canvas is told, after a port that came, went or changed its place first one of
+//! the canvas around, and those of the canvases that came; a save puts the document's text under the name of its file;
+//! every other edit or save is refused, and there is nothing to undo or redo. Behind an edit the load boxes that came
+//! with its box are loaded, in text order. It makes no difference whether a command or a message asks for an edit.
+//! Looks at signal wires are at most those of the edits.
 //!
 //! `command` does what its command says: a `send` is its event, that is pd_walk's deliveries under 1,000,000, and
 //! then each edit that was asked for is taken, 256 at most; `show` prints the order of the canvas that its path leads

@@ -18,26 +18,26 @@
 //! wanting for changes nothing but how much room there is.
 //!
 //! What an edit may come to is one definition (`IsLawful`). An edit of wires of the patch's own document is planned by
-//! what the patch is (`pd_wiring`'s `planned`), and comes to no other end than that: it is made, and then all stays but
-//! the wires with their links and orders, and a loop of its canvas is told; or it is refused for the reason of the
+//! what the patch is (`pd_wiring`'s `planned`), and comes to no other end than that: it is made, and then all stays
+//! but the wires with their links and orders, and a loop of its canvas is told; or it is refused for the reason of the
 //! plan; or memory was wanting. An edit that puts a box comes to what `pd_putting` tells (`AddsBox`, `IsNotPut`): the
-//! box comes last into its canvas, with all that lies in it, and the box around gets the port that it is, if it is one;
-//! all other boxes keep what they kept, and it is told why boxes could not be made, which wires in it don't fit, a loop
-//! of the canvas around where a port came, and loops of its canvas and of those in it; the load boxes in it are loaded;
-//! or it is refused for one of those reasons; or memory was wanting. An edit that deletes a box comes to
-//! what `pd_deleting` tells (`DeletesBox`, `going`): the box goes with all that lies in it, with the wires and the
-//! clocks of these boxes, and the box around loses the port that it was, if it was one, with the wires at that; all
-//! other boxes keep what they kept, and it is told which wires went with the port, a loop of the canvas around where a
-//! port went, and a loop of its canvas; or it is refused; or memory was wanting. An edit that moves a box comes to what
-//! `pd_shifting` tells (`MovesBox`, `moving`): the box stands at another place of its canvas, and where it is a port of
-//! the box around, the ports of that are in the order of these places, with their wires; all else stays, and it is told
-//! a loop of the canvas around where ports changed places there, and a loop of its canvas; or it is refused; or memory
-//! was wanting. An edit that gives a box another text comes to what `pd_retyping` tells (`RetypesBox`, `IsRefused`): the
-//! wires at it that don't fit any more go, and it becomes another one in its place, with the ports of its kind, with the
-//! other wires and without a clock; or, a subpatch that stays one, it takes the text and keeps what it holds; all other
-//! boxes keep what they kept, and it is told why the new one could not be made, which wires went, and a loop of its
-//! canvas; or it is refused; or memory was wanting. It makes no difference whether a command or a message asks for an
-//! edit. A save of that document puts its text under the name of its file, and nothing else
+//! box comes last into its canvas, with all that lies in it, and the box around gets the port that it is, if it is
+//! one; all other boxes keep what they kept, and it is told why boxes could not be made, which wires in it don't fit,
+//! a loop of the canvas around where a port came, and loops of its canvas and of those in it; the load boxes in it are
+//! loaded; or it is refused for one of those reasons; or memory was wanting. An edit that deletes a box comes to what
+//! `pd_deleting` tells (`DeletesBox`, `going`): the box goes with all that lies in it, with the wires and the clocks
+//! of these boxes, and the box around loses the port that it was, if it was one, with the wires at that; all other
+//! boxes keep what they kept, and it is told which wires went with the port, a loop of the canvas around where a port
+//! went, and a loop of its canvas; or it is refused; or memory was wanting. An edit that moves a box comes to what
+//! `pd_shifting` tells (`MovesBox`, `moving`): the box stands at another place of its canvas, and where it is a port
+//! of the box around, the ports of that are in the order of these places, with their wires; all else stays, and it is
+//! told a loop of the canvas around where ports changed places there, and a loop of its canvas; or it is refused; or
+//! memory was wanting. An edit that gives a box another text comes to what `pd_retyping` tells (`RetypesBox`,
+//! `IsRefused`): the wires at it that don't fit any more go, and it becomes another one in its place, with the ports
+//! of its kind, with the other wires and without a clock; or, a subpatch that stays one, it takes the text and keeps
+//! what it holds; all other boxes keep what they kept, and it is told why the new one could not be made, which wires
+//! went, and a loop of its canvas; or it is refused; or memory was wanting. It makes no difference whether a command
+//! or a message asks for an edit. A save of that document puts its text under the name of its file, and nothing else
 //! changes; or it is refused for a fault of the folder or for want of memory. Edits and saves of drafts are refused,
 //! and there is nothing to undo or redo.
 //!
