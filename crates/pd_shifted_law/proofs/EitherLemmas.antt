@@ -10,15 +10,12 @@ use Rattle.pd_putting_law.proofs.PathLemmas.{Forest}
 use Rattle.pd_shifting.specs.Moves.{ShiftsBox}
 use Rattle.pd_shifting.proofs.MoveLemmas.{forest_as, no_spot}
 
--- all but the tree, the wires and the links
+-- what a patch that runs asks of them
 pub record StaysAround (p q : Patch) : Type 0 where
   pub names : q.names ≡ p.names
   pub timers : q.timers ≡ p.timers
-  pub orders : q.orders ≡ p.orders
-  pub numbers : q.numbers ≡ p.numbers
   pub values : q.values ≡ p.values
   pub rate : q.rate ≡ p.rate
-  pub present : q.present ≡ p.present
 
 module _ (p q : Patch) (canvas key : ℕ) (x y : ℤ) where
   -- the box stands at its place
@@ -30,20 +27,14 @@ module _ (p q : Patch) (canvas key : ℕ) (x y : ℤ) where
   rest_stays (inl s) = record {
     names = s.rest.names;
     timers = s.rest.timers;
-    orders = s.rest.orders;
-    numbers = s.rest.numbers;
     values = s.rest.values;
     rate = s.rest.rate;
-    present = s.rest.present;
   }
   rest_stays (inr s) = record {
     names = s.slid.rest.names ∙ s.room.names;
     timers = s.slid.rest.timers ∙ s.room.timers;
-    orders = s.slid.rest.orders ∙ s.room.orders;
-    numbers = s.slid.rest.numbers ∙ s.room.numbers;
     values = s.slid.rest.values ∙ s.room.values;
     rate = s.slid.rest.rate ∙ s.room.rate;
-    present = s.slid.rest.present ∙ s.room.present;
   }
 
   pub forest_then : Forest p.grove → (number : ℕ) → slice_get (keys_at p.grove canvas) number ≡ Some key → ShiftsBox p q canvas key x y → Forest q.grove
