@@ -40,11 +40,12 @@ use Rattle.pd_patch.specs.Linked.{StayInside, ShareCanvas}
 use Rattle.pd_patch.specs.Orders.{is_signal_node, signal_among, signal_wires_among, HasOrder, AreOrdered}
 use Rattle.pd_patch.specs.Telling.{order_in}
 use Rattle.pd_wiring.specs.declared.refusals.EditRefusal.{EditRefusal}
-use Rattle.pd_wiring.specs.declared.refusals.EditRefusal.TheVariants.{NoBox, NoDocument}
+use Rattle.pd_wiring.specs.declared.refusals.EditRefusal.TheVariants.{NoBox}
 use Rattle.pd_wiring.specs.Changes.{CanRewire}
 use Rattle.pd_boxes.specs.Put.{CanPut}
 use Rattle.pd_adding.specs.Standing.{is_port_in}
-use Rattle.pd_shifting.specs.Moves.{is_array_in, is_port_around, moving, moving_box, moving_in, MovesBox, StaysButTree}
+use Rattle.pd_shifting.specs.declared.shifting.MovedBox.{MovedBox}
+use Rattle.pd_shifting.specs.Moves.{is_array_in, moving, moving_box, moving_in, MovesBox, ShiftsBox, StaysButTree}
 
 -- Which box moves.
 
@@ -52,25 +53,23 @@ ok_part : Result (ℕ × ℕ) EditRefusal → Option (ℕ × ℕ)
 ok_part (Ok x) = Some x
 ok_part (Err why) = None
 
--- the path leads to this canvas, where the box of the number has this key; it is no array, and no port of a box around
+-- the path leads to this canvas, where the box of the number has this key; it is no array
 pub record IsMoving (g : Grove) (number : ℕ) (o : Option ℕ) (canvas key : ℕ) : Type 0 where
   pub leads : o ≡ Some canvas
   pub is : slice_get (keys_at g canvas) number ≡ Some key
   pub no_array : is_array_in (get g.nodes key) ≡ false
-  pub no_port : is_port_around g canvas key ≡ false
 
-by_both : (g : Grove) (number d j : ℕ) (a b : Bool) (canvas key : ℕ) → slice_get (keys_at g d) number ≡ Some j → is_array_in (get g.nodes j) ≡ a → is_port_around g d j ≡ b
-    → cond {A = Result (ℕ × ℕ) EditRefusal} a (Err (NoBox number)) (cond b (Err NoDocument) (Ok (d, j))) ≡ Ok (canvas, key) → IsMoving g number (Some d) canvas key
+by_form : (g : Grove) (number d j : ℕ) (a : Bool) (canvas key : ℕ) → slice_get (keys_at g d) number ≡ Some j → is_array_in (get g.nodes j) ≡ a
+    → cond {A = Result (ℕ × ℕ) EditRefusal} a (Err (NoBox number)) (Ok (d, j)) ≡ Ok (canvas, key) → IsMoving g number (Some d) canvas key
 unfolding ok_part
-by_both g number d j true b canvas key at x y e = cc
-by_both g number d j false true canvas key at x y e = cc
-by_both g number d j false false canvas key at x y e =
+by_form g number d j true canvas key at x e = cc
+by_form g number d j false canvas key at x e =
     let same : (d, j) ≡ (canvas, key) = same_Some (d, j) (canvas, key) (ap ok_part e) in
-    subst (λ (z : ℕ × ℕ). IsMoving g number (Some d) z.0 z.1) same (record { leads = refl; is = at; no_array = x; no_port = y })
+    subst (λ (z : ℕ × ℕ). IsMoving g number (Some d) z.0 z.1) same (record { leads = refl; is = at; no_array = x })
 
 by_box : (g : Grove) (number d : ℕ) (o : Option ℕ) (canvas key : ℕ) → slice_get (keys_at g d) number ≡ o → moving_box g d number o ≡ Ok (canvas, key) → IsMoving g number (Some d) canvas key
 by_box g number d None canvas key at e = cc
-by_box g number d (Some j) canvas key at e = by_both g number d j (is_array_in (get g.nodes j)) (is_port_around g d j) canvas key at refl refl e
+by_box g number d (Some j) canvas key at e = by_form g number d j (is_array_in (get g.nodes j)) canvas key at refl e
 
 pub is_moving : (g : Grove) (number : ℕ) (o : Option ℕ) (canvas key : ℕ) → moving_in g number o ≡ Ok (canvas, key) → IsMoving g number o canvas key
 is_moving g number None canvas key e = cc
@@ -295,16 +294,21 @@ still_rewires p q canvas key number x y F is plain A S can = record {
   numbers = λ c. rw (S.numbers, A.boards) (can.numbers c);
 }
 
-pub still_put : (p q : Patch) (path : List ℕ) (number : ℕ) (x y : ℤ) (key : ℕ) → MovesBox p q path number x y key → CanPut p → CanPut q
-still_put p q path number x y key M C =
+put_by : (p q : Patch) (canvas key number : ℕ) (x y : ℤ) → slice_get (keys_at p.grove canvas) number ≡ Some key → ShiftsBox p q canvas key x y → CanPut p → CanPut q
+put_by p q c key number x y is (inl s) C =
     let g = p.grove in
     let h = q.grove in
-    let c = M.canvas in
-    let at = is_moving g number (sub_reached g (Some g.root) path) c key M.is in
-    let plain = no_spot (holder_in (get g.boards c)) (get g.nodes key) at.no_port in
+    let plain = no_spot (holder_in (get g.boards c)) (get g.nodes key) s.plain in
     record {
-      forest = forest_as g h c key number x y C.forest at.is plain M.box;
-      small = small_as g h c key number x y C.forest at.is plain M.box C.small;
-      apart = none_as g h c key number x y C.forest at.is plain M.box root_owner C.apart;
-      runs = still_rewires p q c key number x y C.forest at.is plain M.box M.rest C.runs;
+      forest = forest_as g h c key number x y C.forest is plain s.box;
+      small = small_as g h c key number x y C.forest is plain s.box C.small;
+      apart = none_as g h c key number x y C.forest is plain s.box root_owner C.apart;
+      runs = still_rewires p q c key number x y C.forest is plain s.box s.rest C.runs;
     }
+put_by p q c key number x y is (inr s) C = s.slid.can
+
+-- a patch into which boxes can come goes on to be one
+pub still_put : (p q : Patch) (path : List ℕ) (number : ℕ) (x y : ℤ) (b : MovedBox) → MovesBox p q path number x y b → CanPut p → CanPut q
+still_put p q path number x y b M C =
+    let at = is_moving p.grove number (sub_reached p.grove (Some p.grove.root) path) b.canvas b.key M.is in
+    put_by p q b.canvas b.key number x y at.is M.shifts C
