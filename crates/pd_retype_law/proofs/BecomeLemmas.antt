@@ -1,58 +1,34 @@
 -- The box that an edit made another one, and the tree with it, which runs and grows again.
-use Rattle.std.proofs.Common.{◌≡◌, ◌≤◌, ◌+◌, ◌-◌, ℕ, zero, suc, Bool, true, false, max, ◌&&◌, nat_lt, if◌then◌else◌, List, [], ◌∷◌, length, slice_get, Option, Some, None, refl, sym, ap, ◌∙◌, subst, arith, true≢false}
-use Rattle.std.specs.Prelude.{option_map}
-use Rattle.std.proofs.lemmas.Bool.Decides.{nat_tests}
-use Rattle.std.proofs.lemmas.Option.{none-some, same_Some}
-use Rattle.slab.specs.Slab.{get}
+use Rattle.std.proofs.Common.{◌≡◌, ◌≤◌, ◌-◌, ℕ, zero, Bool, true, false, ◌&&◌, if◌then◌else◌, List, [], ◌∷◌, length, slice_get, Option, Some, refl, sym, ap, ◌∙◌, subst, true≢false}
 use Rattle.pd_atom.specs.declared.Atom.{Atom}
-use Rattle.pd_atom.specs.Names.{Names, Extends}
-use Rattle.pd_atom.proofs.NameLemmas.{six_names}
-use Rattle.pd_canvas.specs.declared.edits.Edit.{Edit}
-use Rattle.pd_canvas.specs.declared.edits.Edit.TheVariants as edit
 use Rattle.pd_canvas.specs.Edits.{begins_with_pd, element, object, retyped_as}
-use Rattle.pd_canvas.specs.Pages.{Shape, Obj, Msg, Comment, FloatBox, SymbolBox, Sub, Array, Other, Head, Boxes, End, Box, Entry, boxed}
-use Rattle.pd_canvas.specs.Proper.{levels, levels_of, AreReady}
+use Rattle.pd_canvas.specs.Pages.{Shape, Sub, Head, Entry, boxed}
+use Rattle.pd_canvas.specs.Proper.{levels, levels_of}
 use Rattle.pd_canvas.specs.Views.{entry_of}
 use Rattle.pd_library.specs.Files.{answer_in}
 use Rattle.pd_library.specs.declared.answers.Answer.{Answer}
-use Rattle.pd_tree.specs.Trees.{Cell, Stand, Trees, Done, Leaf, Tree, document_boxes}
+use Rattle.pd_tree.specs.Trees.{Cell, Stand, Done, Leaf, Tree, document_boxes}
 use Rattle.pd_growth.specs.Steps.{Stock, gives}
-use Rattle.pd_growth.specs.Growing.{inside_grown}
-use Rattle.pd_growth.specs.Growth.{Inner, around_root, box_grown, without_ending}
-use Rattle.pd_grove.specs.declared.boards.Board.{Board}
+use Rattle.pd_growth.specs.Growth.{around_root, box_grown, without_ending}
 use Rattle.pd_grove.specs.declared.nodes.Node.{Node}
 use Rattle.pd_grove.specs.Room.{IsSameButRoom}
-use Rattle.pd_grove.specs.Standing.{BoardSeen, board_seen}
 use Rattle.pd_grove.specs.TextOrder.{is_sub}
 use Rattle.pd_patch.specs.declared.patch.Patch.{Patch}
 use Rattle.pd_gather.specs.Gather.{Known}
-use Rattle.pd_gather.proofs.KnownLemmas.{library_of}
 use Rattle.pd_boxes.specs.Put.{node_of, CanPut}
 use Rattle.pd_boxes.proofs.RoomLemmas.{keys_same}
-use Rattle.pd_regrowth_law.specs.Canvases.{Nest, Alone, Inside, nested, AreSubpatches, left_outside}
 use Rattle.pd_regrowth_law.specs.Regrowth.{inner_of}
-use Rattle.pd_regrowth_law.specs.Suits.{AreOf, HoldNone, IsEntryOf, TextsOf}
-use Rattle.pd_regrowth_law.proofs.ExpandLemmas.{are_of_more}
-use Rattle.pd_regrowth_law.proofs.StepLemmas.{extends_on}
+use Rattle.pd_regrowth_law.specs.Suits.{IsEntryOf}
 use Rattle.pd_reload_law.specs.Reloading.{RunsAs}
 use Rattle.pd_reload_law.specs.Saving.{IsMade}
 use Rattle.pd_putting_law.specs.Again.{StandsAgain}
-use Rattle.pd_putting_law.specs.Putting.{IsBare, element_put}
-use Rattle.pd_putting_law.proofs.AgainLemmas.{box_is, stands_on}
-use Rattle.pd_putting_law.proofs.GrownLemmas.{new_grown, put_bare}
+use Rattle.pd_putting_law.proofs.GrownLemmas.{new_grown}
 use Rattle.pd_putting_law.proofs.StandLemmas.{path_along}
-use Rattle.pd_putting_law.proofs.WithinLemmas.{ChangesWithin, path_within, around_levels}
 use Rattle.pd_adding.specs.declared.counts.Counts.{Counts}
-use Rattle.pd_adding.specs.Boxes.{settled_edit, box_put}
-use Rattle.pd_adding.specs.Coming.{zero_in, own_zero}
-use Rattle.pd_adding.specs.Counts.{stock_by}
-use Rattle.pd_adding.specs.Adding.{GrewWith}
-use Rattle.pd_adding.proofs.GrowLemmas.{growth_is}
-use Rattle.pd_adding.proofs.SingleLemmas.{same_inner}
-use Rattle.pd_put_law.proofs.ComeLemmas.{MayCome, may_come, goes_alike}
+use Rattle.pd_adding.specs.Coming.{own_zero}
 use Rattle.pd_put_law.proofs.RoomLemmas.{room_runs, room_subs}
 use Rattle.pd_retyping.specs.declared.retyping.RetypedBox.{RetypedBox}
-use Rattle.pd_retyping.specs.Asking.{settled_text, put_instead}
+use Rattle.pd_retyping.specs.Asking.{settled_text}
 use Rattle.pd_retyping.specs.Retypes.{HasBecome, RetypesBox}
 use Rattle.pd_retyping_law.specs.Edits.{GivesText, element_with}
 use Rattle.pd_retyping_law.specs.Retypes.{retyped_at}

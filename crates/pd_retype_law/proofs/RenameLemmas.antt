@@ -1,5 +1,5 @@
 -- A subpatch that took another text: the tree with it runs and grows again, and all that the patch tells stays.
-use Rattle.std.proofs.Common.{◌≡◌, ◌≤◌, ◌+◌, ◌-◌, ℕ, Bool, true, false, ◌&&◌, List, [], ◌∷◌, ◌++◌, length, slice_get, Option, Some, None, IfSome, refl, sym, ap, ◌∙◌, subst, arith, true≢false}
+use Rattle.std.proofs.Common.{◌≡◌, ◌+◌, ℕ, Bool, true, false, ◌&&◌, List, [], ◌++◌, length, slice_get, Option, Some, None, IfSome, refl, sym, ap, ◌∙◌, subst, arith, true≢false}
 use Rattle.std.specs.Prelude.{option_map}
 use Rattle.slab.specs.Slab.{get}
 use Rattle.pd_atom.specs.declared.Atom.{Atom}
@@ -9,13 +9,13 @@ use Rattle.pd_kind.specs.declared.states.State.{State}
 use Rattle.pd_kind.specs.States.{size_of}
 use Rattle.pd_canvas.specs.declared.edits.Edit.TheVariants as edit
 use Rattle.pd_canvas.specs.Edits.{begins_with_pd, edited, element, retyped}
-use Rattle.pd_canvas.specs.Pages.{Shape, Sub, Head, Page, Entry, boxed}
+use Rattle.pd_canvas.specs.Pages.{Shape, Sub, Head, Page, Entry}
 use Rattle.pd_canvas.specs.Paths.{change_box, edit_at}
 use Rattle.pd_canvas.specs.Proper.{IsHead, IsProper}
 use Rattle.pd_canvas.specs.Views.{entry_of}
 use Rattle.pd_library.specs.Files.{answer_in}
 use Rattle.pd_tree.specs.declared.rows.Fault.{Fault}
-use Rattle.pd_tree.specs.Trees.{Cell, Trees, Done, Holder, Tree, own_zeros, zeros_in, zeros_of, document_boxes, document_in}
+use Rattle.pd_tree.specs.Trees.{Cell, Trees, Done, Holder, Tree, own_zeros, zeros_in, zeros_of, document_in}
 use Rattle.pd_grove.specs.declared.nodes.Node.{Node}
 use Rattle.pd_grove.specs.Refits.{with_text}
 use Rattle.pd_grove.specs.TextOrder.{is_sub}
@@ -29,7 +29,7 @@ use Rattle.pd_patch.specs.Sounds.{sound_of}
 use Rattle.pd_gather.specs.Gather.{Known}
 use Rattle.pd_boxes.specs.Put.{CanPut, HasOwners}
 use Rattle.pd_boxes.proofs.RoomLemmas.{keys_same}
-use Rattle.pd_contents_law.specs.Contents.{HasContents, HaveContents, counts_of}
+use Rattle.pd_contents_law.specs.Contents.{HaveContents, counts_of}
 use Rattle.pd_contents_law.proofs.SettledLemmas.{onward}
 use Rattle.pd_inside_law.specs.Inside.{HoldsWires}
 use Rattle.pd_proper_law.specs.Saves.{kinds_of, is_written, form_of, IsWritten}

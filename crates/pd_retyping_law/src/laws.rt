@@ -3,7 +3,6 @@
 ghost use Rattle.std.specs.Prelude.{◌≡◌, ◌≤◌, ◌+◌, ◌&&◌, ℕ, false, List, [], ◌∷◌, length, Option, Some};
 ghost use Rattle.slab.specs.Slab.{get};
 ghost use Rattle.pd_atom.specs.declared.Atom.{Atom};
-ghost use Rattle.pd_atom.specs.Names.{Names};
 ghost use Rattle.pd_clock.specs.declared.times.Rate.{Rate};
 ghost use Rattle.pd_kind.specs.States.{size_of};
 ghost use Rattle.pd_canvas.specs.Pages.{Entry, boxed, empty_page};
