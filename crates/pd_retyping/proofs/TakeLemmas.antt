@@ -212,6 +212,7 @@ short_told (Err e) P R Q f h k = f e h k
 -- the subpatch took the text
 pub takes_text : (p q : Patch) (names table : Names) (text : List Atom) (now key : ℕ) (n : Node) (a : Added) (gone : List BoxWire) (steps : ℕ) → gone ≡ [] → a.known.names ≡ table
     → keeps_inside (entry_of n.element) (settled_text names text) ≡ true → GotText p q table key n a → Becomes p q names text now key n a gone steps steps
+unfolding takes_of
 takes_text p q names table text now key n a gone steps none known kept G = inr (record {
   can = takes_of names text n a kept G.gives;
   none_gone = none;
