@@ -1,6 +1,6 @@
 -- A patch of which a box stands at another place.
 use Rattle.std.proofs.Common.{◌≡◌, ℕ, suc, ℤ, Bool, true, false, cond, ◌&&◌, ◌||◌, is_some, List, [], ◌∷◌, map, slice_get, Option, Some, None, IsSome, inl, inr, refl, sym, ap, ◌∙◌, subst, ◌≢◌}
-use Rattle.std.specs.Prelude.{◌⊎◌, Result, Ok, Err, option_map}
+use Rattle.std.specs.Prelude.{◌⊎◌, Result, Ok, Err, IfOk, IfErr, option_map}
 use Rattle.std.specs.List.{AllByRecursion}
 use Rattle.std.proofs.lemmas.Option.{none-some, same_Some}
 use mathlib.Core.Logic.{⊎_elim}
@@ -32,20 +32,26 @@ use Rattle.pd_web.specs.declared.web.Hop.{Hop}
 use Rattle.pd_web.specs.declared.web.Web.{Web}
 use Rattle.pd_web.specs.Canvases.{keys_at}
 use Rattle.pd_web.specs.Homes.{IsPortOf, inner_in as box_in}
+use Rattle.pd_web.specs.Changes.{wires_told, Meet}
 use Rattle.pd_web.specs.Hops.{fan_hops}
 use Rattle.pd_web.specs.Jacks.{KindsSmall, spot_jack, jacks_in, jacks_at, made_in}
+use Rattle.pd_web.proofs.CountLemmas.{same_are_as_many}
 use Rattle.pd_patch.specs.declared.patch.Patch.{Patch}
 use Rattle.pd_patch.specs.Built.{HasPorts}
 use Rattle.pd_patch.specs.Linked.{StayInside, ShareCanvas}
 use Rattle.pd_patch.specs.Orders.{is_signal_node, signal_among, signal_wires_among, HasOrder, AreOrdered}
 use Rattle.pd_patch.specs.Telling.{order_in}
 use Rattle.pd_wiring.specs.declared.refusals.EditRefusal.{EditRefusal}
-use Rattle.pd_wiring.specs.declared.refusals.EditRefusal.TheVariants.{NoBox}
-use Rattle.pd_wiring.specs.Changes.{CanRewire}
+use Rattle.pd_wiring.specs.declared.refusals.EditRefusal.TheVariants.{NoBox, NoMemory}
+use Rattle.pd_wiring.specs.Changes.{CanRewire, SameButRoom}
+use Rattle.pd_wiring.proofs.BuiltLemmas.{roomed}
 use Rattle.pd_boxes.specs.Put.{CanPut}
+use Rattle.pd_boxes.proofs.AskingLemmas.{put_rewired}
+use Rattle.pd_following.proofs.ReserveLemmas.{meet_same}
+use Rattle.pd_adding.specs.Coming.{own_zero, zero_in}
 use Rattle.pd_adding.specs.Standing.{is_port_in}
+use Rattle.pd_shifting.specs.Moves.{is_array_in, is_port_around, moving, moving_box, moving_in, IsNotMoved, IsShortOfRoom, MovesBox, ShiftsBox, StaysButTree}
 use Rattle.pd_shifting.specs.declared.shifting.MovedBox.{MovedBox}
-use Rattle.pd_shifting.specs.Moves.{is_array_in, moving, moving_box, moving_in, MovesBox, ShiftsBox, StaysButTree}
 
 -- Which box moves.
 
@@ -53,23 +59,23 @@ ok_part : Result (ℕ × ℕ) EditRefusal → Option (ℕ × ℕ)
 ok_part (Ok x) = Some x
 ok_part (Err why) = None
 
--- the path leads to this canvas, where the box of the number has this key; it is no array
+-- the path leads to this canvas, where the box of the number has this key, and it is no array
 pub record IsMoving (g : Grove) (number : ℕ) (o : Option ℕ) (canvas key : ℕ) : Type 0 where
   pub leads : o ≡ Some canvas
   pub is : slice_get (keys_at g canvas) number ≡ Some key
   pub no_array : is_array_in (get g.nodes key) ≡ false
 
-by_form : (g : Grove) (number d j : ℕ) (a : Bool) (canvas key : ℕ) → slice_get (keys_at g d) number ≡ Some j → is_array_in (get g.nodes j) ≡ a
+by_array : (g : Grove) (number d j : ℕ) (a : Bool) (canvas key : ℕ) → slice_get (keys_at g d) number ≡ Some j → is_array_in (get g.nodes j) ≡ a
     → cond {A = Result (ℕ × ℕ) EditRefusal} a (Err (NoBox number)) (Ok (d, j)) ≡ Ok (canvas, key) → IsMoving g number (Some d) canvas key
 unfolding ok_part
-by_form g number d j true canvas key at x e = cc
-by_form g number d j false canvas key at x e =
+by_array g number d j true canvas key at x e = cc
+by_array g number d j false canvas key at x e =
     let same : (d, j) ≡ (canvas, key) = same_Some (d, j) (canvas, key) (ap ok_part e) in
     subst (λ (z : ℕ × ℕ). IsMoving g number (Some d) z.0 z.1) same (record { leads = refl; is = at; no_array = x })
 
 by_box : (g : Grove) (number d : ℕ) (o : Option ℕ) (canvas key : ℕ) → slice_get (keys_at g d) number ≡ o → moving_box g d number o ≡ Ok (canvas, key) → IsMoving g number (Some d) canvas key
 by_box g number d None canvas key at e = cc
-by_box g number d (Some j) canvas key at e = by_form g number d j (is_array_in (get g.nodes j)) canvas key at refl e
+by_box g number d (Some j) canvas key at e = by_array g number d j (is_array_in (get g.nodes j)) canvas key at refl e
 
 pub is_moving : (g : Grove) (number : ℕ) (o : Option ℕ) (canvas key : ℕ) → moving_in g number o ≡ Ok (canvas, key) → IsMoving g number o canvas key
 is_moving g number None canvas key e = cc
@@ -294,21 +300,98 @@ still_rewires p q canvas key number x y F is plain A S can = record {
   numbers = λ c. rw (S.numbers, A.boards) (can.numbers c);
 }
 
-put_by : (p q : Patch) (canvas key number : ℕ) (x y : ℤ) → slice_get (keys_at p.grove canvas) number ≡ Some key → ShiftsBox p q canvas key x y → CanPut p → CanPut q
-put_by p q c key number x y is (inl s) C =
-    let g = p.grove in
-    let h = q.grove in
-    let plain = no_spot (holder_in (get g.boards c)) (get g.nodes key) s.plain in
-    record {
-      forest = forest_as g h c key number x y C.forest is plain s.box;
-      small = small_as g h c key number x y C.forest is plain s.box C.small;
-      apart = none_as g h c key number x y C.forest is plain s.box root_owner C.apart;
-      runs = still_rewires p q c key number x y C.forest is plain s.box s.rest C.runs;
-    }
-put_by p q c key number x y is (inr s) C = s.slid.can
-
--- a patch into which boxes can come goes on to be one
+-- a patch of which a box moved can be edited on
 pub still_put : (p q : Patch) (path : List ℕ) (number : ℕ) (x y : ℤ) (b : MovedBox) → MovesBox p q path number x y b → CanPut p → CanPut q
-still_put p q path number x y b M C =
-    let at = is_moving p.grove number (sub_reached p.grove (Some p.grove.root) path) b.canvas b.key M.is in
-    put_by p q b.canvas b.key number x y at.is M.shifts C
+still_put p q path number x y b M C = by_case M.shifts
+  where
+    at : IsMoving p.grove number (sub_reached p.grove (Some p.grove.root) path) b.canvas b.key
+    at = is_moving p.grove number (sub_reached p.grove (Some p.grove.root) path) b.canvas b.key M.is
+
+    by_case : ShiftsBox p q b.canvas b.key x y → CanPut q
+    by_case (inr s) = s.slid.can
+    by_case (inl s) =
+        let g = p.grove in
+        let h = q.grove in
+        let plain = no_spot (holder_in (get g.boards b.canvas)) (get g.nodes b.key) s.plain in
+        record {
+          forest = forest_as g h b.canvas b.key number x y C.forest at.is plain s.box;
+          small = small_as g h b.canvas b.key number x y C.forest at.is plain s.box C.small;
+          apart = none_as g h b.canvas b.key number x y C.forest at.is plain s.box root_owner C.apart;
+          runs = still_rewires p q b.canvas b.key number x y C.forest at.is plain s.box s.rest C.runs;
+        }
+
+-- wires still meet
+pub still_meets : (p q : Patch) (path : List ℕ) (number : ℕ) (x y : ℤ) (b : MovedBox) → MovesBox p q path number x y b → Meet p.web → Meet q.web
+still_meets p q path number x y b M meet = by_case M.shifts
+  where
+    by_case : ShiftsBox p q b.canvas b.key x y → Meet q.web
+    by_case (inl s) = subst Meet (sym s.rest.web) meet
+    by_case (inr s) = s.slid.meet
+
+-- there are as many
+pub as_many_wires : (p q : Patch) (path : List ℕ) (number : ℕ) (x y : ℤ) (b : MovedBox) → MovesBox p q path number x y b → wires_told q.web ≡ wires_told p.web
+as_many_wires p q path number x y b M = by_case M.shifts
+  where
+    by_case : ShiftsBox p q b.canvas b.key x y → wires_told q.web ≡ wires_told p.web
+    by_case (inl s) = ap wires_told s.rest.web
+    by_case (inr s) = s.slid.wires ∙ same_are_as_many p.web s.ready.web s.room.web
+
+zero_by : (g h : Grove) → h.boards ≡ g.boards → h.root ≡ g.root → zero_in (get h.boards h.root) ≡ zero_in (get g.boards g.root)
+zero_by g h boards root = ap (λ (s : Slab Board). zero_in (get s h.root)) boards ∙ ap (λ (r : ℕ). zero_in (get g.boards r)) root
+
+-- the patch has the `$0` that it had
+pub zero_stays : (p q : Patch) (path : List ℕ) (number : ℕ) (x y : ℤ) (b : MovedBox) → MovesBox p q path number x y b → own_zero q ≡ own_zero p
+zero_stays p q path number x y b M = by_case M.shifts
+  where
+    by_case : ShiftsBox p q b.canvas b.key x y → own_zero q ≡ own_zero p
+    by_case (inl s) = zero_by p.grove q.grove s.box.boards s.box.root
+    by_case (inr s) =
+        zero_by s.ready.grove q.grove s.slid.box.boards s.slid.box.root ∙ zero_by p.grove s.ready.grove (ap (λ (g : Grove). g.boards) s.room.grove) (ap (λ (g : Grove). g.root) s.room.grove)
+
+-- What `move_box` answers.
+
+abbrev pub Answers : Patch → Patch → List ℕ → ℕ → ℤ → ℤ → Result MovedBox EditRefusal → Type 0
+Answers p q path number x y (Ok b) = MovesBox p q path number x y b
+Answers p q path number x y (Err why) = (why ≡ NoMemory) × IsShortOfRoom p q path number
+
+module _ (p q : Patch) (path : List ℕ) (number : ℕ) (x y : ℤ) where
+  pub moved_so : (r : Result MovedBox EditRefusal) → Answers p q path number x y r → IfOk r (λ b. MovesBox p q path number x y b)
+  moved_so (Ok b) h = h
+  moved_so (Err why) h = tt
+
+  pub refused_so : (r : Result MovedBox EditRefusal) → Answers p q path number x y r → IfErr r (λ why. IsNotMoved p q path number why)
+  refused_so (Ok b) h = tt
+  refused_so (Err why) h = inr h
+
+  pub on_so : (r : Result MovedBox EditRefusal) → Answers p q path number x y r → CanPut p → CanPut q
+  on_so (Ok b) h C = still_put p q path number x y b h C
+  on_so (Err why) h C = h.1.goes_on
+
+  pub meet_so : (r : Result MovedBox EditRefusal) → Answers p q path number x y r → Meet p.web → Meet q.web
+  meet_so (Ok b) h M = still_meets p q path number x y b h M
+  meet_so (Err why) h M = meet_same p.web q.web h.1.room.web M
+
+  pub zero_so : (r : Result MovedBox EditRefusal) → Answers p q path number x y r → own_zero q ≡ own_zero p
+  zero_so (Ok b) h = zero_stays p q path number x y b h
+  zero_so (Err why) h = zero_by p.grove q.grove (ap (λ (g : Grove). g.boards) h.1.room.grove) (ap (λ (g : Grove). g.root) h.1.room.grove)
+
+  pub wires_so : (r : Result MovedBox EditRefusal) → Answers p q path number x y r → wires_told q.web ≡ wires_told p.web
+  wires_so (Ok b) h = as_many_wires p q path number x y b h
+  wires_so (Err why) h = same_are_as_many p.web q.web h.1.room.web
+
+  -- of what moving a port box answers
+  pub answers_by : (canvas key : ℕ) → moving p path number ≡ Ok (canvas, key) → is_port_around p.grove canvas key ≡ true → CanPut p → (r : Result MovedBox EditRefusal)
+      → IfOk r (λ b. (path' : List ℕ) (number' : ℕ) → moving p path' number' ≡ Ok (canvas, key) → MovesBox p q path' number' x y b)
+      → IfErr r (λ why. (why ≡ NoMemory) × SameButRoom p q) → Answers p q path number x y r
+  answers_by canvas key is port C (Ok b) moved short = moved path number is
+  answers_by canvas key is port C (Err why) moved short = (
+    short.0,
+    record {
+      canvas = canvas;
+      key = key;
+      is = is;
+      port = port;
+      room = short.1;
+      goes_on = put_rewired p q short.1.grove (roomed p q short.1 C.runs) C;
+    },
+  )

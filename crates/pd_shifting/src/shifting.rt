@@ -1,10 +1,12 @@
 //! A box that an edit moves in the running patch.
 
-ghost use Rattle.std.specs.Prelude.{◌≡◌, Ok, IfOk, IfErr};
+ghost use Rattle.std.specs.Prelude.{◌≡◌, ℕ, List, false, Ok, IfOk, IfErr};
+ghost use Rattle.slab.specs.Slab.{ContainsKey};
+ghost use Rattle.pd_num.specs.Scale.{millionths, IsInRange};
 ghost use Rattle.pd_web.specs.Changes.{wires_told, Meet};
 ghost use Rattle.pd_boxes.specs.Put.{CanPut};
 ghost use Rattle.pd_adding.specs.Coming.{own_zero};
-ghost use Rattle.pd_shifting.specs.Moves.{IsNotMoved, MovesBox};
+ghost use Rattle.pd_shifting.specs.Moves.{is_port_around, moving as moving_so, IsNotMoved, MovesBox};
 
 use crate::asking::{Moving, box_to_move, port_to_slide};
 use crate::sliding::slide;
@@ -47,19 +49,25 @@ pub fn move_box(
     // They are called for what they say of the place, which the proof cites.
     let _x = x.micros();
     let _y = y.micros();
-    let Moving { canvas, key } = box_to_move(patch, path, number)?;
-    if let Some(port) = port_to_slide(patch, canvas, key) {
-        let around = slide(alloc, patch, key, port, x, y)?;
-        return Ok(MovedBox {
-            canvas,
-            key,
-            around,
-        });
+    let moving = box_to_move(patch, path, number)?;
+    match port_to_slide(patch, moving) {
+        Some(port) => slide(alloc, patch, moving, port, x, y),
+        None => Ok(shift(patch, moving, x, y)),
     }
-    patch.grove.move_box(key, x, y);
-    Ok(MovedBox {
-        canvas,
-        key,
+}
+
+/// Moves a box that is no port of a box around.
+fn shift(patch: &mut Patch, moving: Moving, x: Num, y: Num) -> MovedBox
+    requires there { ContainsKey patch.old.grove.nodes moving.key }
+    requires plain { is_port_around patch.old.grove moving.canvas moving.key ≡ false }
+    requires x_told { IsInRange millionths x }
+    requires y_told { IsInRange millionths y }
+    ensures { (path : List ℕ) (number : ℕ) → moving_so patch.old path number ≡ Ok (moving.canvas, moving.key) → MovesBox patch.old patch.new path number x y result }
+{
+    patch.grove.move_box(moving.key, x, y);
+    MovedBox {
+        canvas: moving.canvas,
+        key: moving.key,
         around: None,
-    })
+    }
 }

@@ -121,7 +121,7 @@ pub record IsSplit (xs : List ℕ) (i x : ℕ) : Type 0 where
   pub whole : xs ≡ before ++ x ∷ behind
   pub place : i ≡ length before
 
-split_at : (xs : List ℕ) (i x : ℕ) → slice_get xs i ≡ Some x → IsSplit xs i x
+pub split_at : (xs : List ℕ) (i x : ℕ) → slice_get xs i ≡ Some x → IsSplit xs i x
 split_at [] i x e = absurd (none-some x e)
 split_at (y ∷ xs) zero x e = record { before = []; behind = xs; whole = ap (λ z. z ∷ xs) (same_Some y x e); place = refl }
 split_at (y ∷ xs) (suc i) x e =

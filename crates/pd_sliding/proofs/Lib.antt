@@ -4,3 +4,5 @@ pub mod SlideLemmas
 pub mod GroveLemmas
 pub mod WireLemmas
 pub mod RunLemmas
+pub mod CallLemmas
+pub mod RoomLemmas

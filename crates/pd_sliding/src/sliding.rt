@@ -6,7 +6,7 @@ ghost use Rattle.pd_grove.specs.declared.ports.Side.TheVariants.{Inlets, Outlets
 ghost use Rattle.pd_grove.specs.Owning.{AreOwn};
 ghost use Rattle.pd_grove.specs.Telling.{inner_in};
 ghost use Rattle.pd_web.specs.Changes.{HasRoom, Meet, wires_told};
-ghost use Rattle.pd_web.specs.Hops.{fan_hops, feed_hops, port_told};
+ghost use Rattle.pd_web.specs.Hops.{fan_hops, feed_hops, port_told, ports_told};
 ghost use Rattle.pd_web.specs.Jacks.{jacks_at};
 ghost use Rattle.pd_seek.specs.Places.{AreInOrder};
 ghost use Rattle.pd_ports.specs.Known.{KnowsHomes};
@@ -74,6 +74,7 @@ fn follow(
     requires ends { port.side ≡ Outlets → HasRoom web.old 0 (2 * length (fan_hops web.old port.node port.port)) 0 }
     ensures slides { (to : ℕ) → IsOneElsewhere web.old (jacks_at port.side grove.now port.node) port.node port.side key port.port to →
         Slides web.old web.new port.node port.side port.port to }
+    ensures now { ports_told web.new port.side port.node ≡ jacks_at port.side grove.now port.node }
     ensures in_order { (to : ℕ) → IsOneElsewhere web.old (jacks_at port.side grove.now port.node) port.node port.side key port.port to →
         (n i : ℕ) → HaveOwnLabel labels.now (feed_hops web.old n i) port.node → AreInOrder labels.now (feed_hops web.old n i) →
         AreInOrder labels.now (feed_hops web.new n (inlet_slid port.side port.node port.port to n i)) }
