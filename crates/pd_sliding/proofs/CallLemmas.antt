@@ -1,6 +1,5 @@
 -- What the box around asks for to follow, and what its wires are then, on either side.
-use Rattle.std.proofs.Common.{◌≡◌, ℕ, ℤ, List, length, slice_get, Some, IsSome, is_some, inl, inr, sym, ap, ◌∙◌, subst}
-use Rattle.slab.specs.Slab.{get}
+use Rattle.std.proofs.Common.{◌≡◌, ℕ, ℤ, List, length, slice_get, Some, inl, inr, sym, ap, ◌∙◌, subst}
 use Rattle.pd_grove.specs.declared.grove.Grove.{Grove}
 use Rattle.pd_grove.specs.declared.ports.Side.{Side}
 use Rattle.pd_grove.specs.declared.ports.Side.TheVariants.{Inlets, Outlets}

@@ -1,9 +1,8 @@
 -- A side of a box that follows its canvas, where one of its ports stands elsewhere.
-use Rattle.std.proofs.Common.{◌≡◌, ◌≢◌, ℕ, zero, suc, ◌<◌, ◌≤◌, ◌==◌, Bool, true, false, cond, List, [], ◌∷◌, map, length, slice_get, Option, Some, None, IsSome, inl, inr, eq-eqb, refl, sym, ap, ◌∙◌, subst, arith}
+use Rattle.std.proofs.Common.{◌≡◌, ◌≢◌, ℕ, zero, suc, ◌<◌, ◌≤◌, ◌==◌, Bool, true, false, cond, List, [], ◌∷◌, map, length, slice_get, Some, inl, inr, eq-eqb, refl, sym, ap, ◌∙◌, subst, arith}
 use Rattle.std.specs.Prelude.{option_map}
-use Rattle.std.specs.List.{insert}
 use Rattle.std.proofs.lemmas.Bool.{cases_eq, cases_lt}
-use Rattle.std.proofs.lemmas.Option.{none-some, same_Some, slice_get-map, slice_get_past}
+use Rattle.std.proofs.lemmas.Option.{none-some, slice_get-map, slice_get_past}
 use Rattle.pd_grove.specs.declared.ports.Side.{Side}
 use Rattle.pd_grove.specs.declared.ports.Side.TheVariants.{Inlets, Outlets}
 use Rattle.pd_web.specs.declared.jacks.Jack.{Jack}
@@ -12,14 +11,14 @@ use Rattle.pd_web.specs.declared.web.Hop.{Hop}
 use Rattle.pd_web.specs.declared.web.Web.{Web}
 use Rattle.pd_web.specs.Changes.{line_told, hop_at, Meet}
 use Rattle.pd_web.specs.Homes.{inner_in}
-use Rattle.pd_web.specs.Hops.{ports_told, jack_told, port_told, fan_keys, feed_keys, fan_hops, feed_hops, hop_from, hop_to}
-use Rattle.pd_ports.specs.Known.{AreBareWithout, AreFreeFor, KnowsHomes}
+use Rattle.pd_web.specs.Hops.{ports_told, jack_told, fan_keys, feed_keys, fan_hops, feed_hops, hop_from, hop_to}
+use Rattle.pd_ports.specs.Known.{AreBareWithout, AreFreeFor}
 use Rattle.pd_ports.specs.Moves.{Goes, FollowsPorts, keys_at, box_of, port_of, with_port, StandsOn}
 use Rattle.pd_following.specs.Raising.{up, other, hops_at}
-use Rattle.pd_following.proofs.ListLemmas.{up_or, insert_here, insert_up, insert_length, map_same}
+use Rattle.pd_following.proofs.ListLemmas.{up_or, insert_here, insert_length, map_same}
 use Rattle.pd_following.proofs.RaiseLemmas.{hop_across, hops_keys, line_hop, map_then, keys_within, keys_past, differ_test, other_differs, some_of, FansTold, FeedsTold, line_at, other_box, other_port, own_box, own_port, twice}
 use Rattle.pd_sliding.specs.Slides.{slid, hop_slid, IsOneElsewhere}
-use Rattle.pd_sliding.proofs.ListLemmas.{slid_here, slid_far, slid_stands, slid_to, slid_up}
+use Rattle.pd_sliding.proofs.ListLemmas.{slid_here, slid_far, slid_stands, slid_up}
 
 -- a mapped list has an element where the list has one
 map_back : {X Y : Type 0} (f : X → Y) (xs : List X) (i : ℕ) (y : Y) → slice_get (map f xs) i ≡ Some y → (x : X) × (slice_get xs i ≡ Some x)

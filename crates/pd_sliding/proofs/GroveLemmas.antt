@@ -1,5 +1,5 @@
 -- A canvas in a box of which a port box stands at another place: one port of the box stands elsewhere among the others.
-use Rattle.std.proofs.Common.{◌≡◌, ◌≢◌, ℕ, zero, suc, ℤ, ◌<◌, ◌≤◌, ◌+◌, Bool, List, [], ◌∷◌, ◌++◌, map, length, slice_get, Option, Some, None, IsSome, inl, inr, refl, sym, ap, ◌∙◌, subst, arith}
+use Rattle.std.proofs.Common.{◌≡◌, ◌≢◌, ℕ, zero, suc, ℤ, ◌≤◌, ◌+◌, List, [], ◌∷◌, ◌++◌, map, length, slice_get, Option, Some, None, IsSome, inl, inr, refl, sym, ap, ◌∙◌, subst, arith}
 use Rattle.std.specs.Prelude.{option_map}
 use Rattle.std.specs.List.{insert}
 use mathlib.Core.Logic.{⊎_elim}
@@ -12,11 +12,10 @@ use Rattle.pd_object.specs.Ports.{IsSmallKind}
 use Rattle.pd_grove.specs.declared.boards.Board.{Board}
 use Rattle.pd_grove.specs.declared.grove.Grove.{Grove}
 use Rattle.pd_grove.specs.declared.nodes.Node.{Node}
-use Rattle.pd_grove.specs.declared.ports.PortSpot.{PortSpot}
 use Rattle.pd_grove.specs.declared.ports.Side.{Side}
 use Rattle.pd_grove.specs.Forest.{IsForest, holder_in}
 use Rattle.pd_grove.specs.Owning.{board_in}
-use Rattle.pd_grove.specs.Ports.{port_signal, ports_among, spot_at}
+use Rattle.pd_grove.specs.Ports.{port_signal, ports_among}
 use Rattle.pd_grove.specs.Refits.{at_place, Alters}
 use Rattle.pd_grove.specs.Standing.{depth_of}
 use Rattle.pd_grove.specs.Telling.{inner_in, keys_in, kind_in}
@@ -27,7 +26,7 @@ use Rattle.pd_web.specs.Jacks.{KindsSmall, spot_jack, canvas_jacks, jacks_by, ja
 use Rattle.pd_following.specs.Ports.{port_jack}
 use Rattle.pd_following.proofs.JackLemmas.{ports_held}
 use Rattle.pd_following.proofs.ListLemmas.{map_insert}
-use Rattle.pd_following.proofs.SpotLemmas.{HasMore, among_more, among_same, spots_same, no_spot, port_spot, one_side}
+use Rattle.pd_following.proofs.SpotLemmas.{among_more, among_same, spots_same, no_spot, port_spot, one_side}
 
 -- What a box tells, wherever it stands.
 

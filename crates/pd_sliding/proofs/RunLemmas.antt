@@ -1,15 +1,12 @@
 -- A patch that runs, of which a port box stands elsewhere, and with it a port of the box around.
-use Rattle.std.proofs.Common.{◌≡◌, ◌≢◌, ℕ, ℤ, zero, suc, ◌<◌, ◌||◌, Bool, true, false, cond, List, [], ◌∷◌, map, length, slice_get, Option, Some, None, IsSome, inl, inr, refl, sym, ap, ◌∙◌, subst, arith}
+use Rattle.std.proofs.Common.{◌≡◌, ◌≢◌, ℕ, ℤ, zero, suc, ◌<◌, ◌||◌, Bool, true, false, List, [], ◌∷◌, map, length, slice_get, Some, IsSome, inl, inr, refl, sym, ap, ◌∙◌, subst, arith}
 use Rattle.std.specs.Prelude.{if◌then◌else◌}
 use Rattle.std.specs.List.{insert, list_any, AllByRecursion}
 use Rattle.std.proofs.lemmas.Bool.{cases_eq}
-use Rattle.std.proofs.lemmas.Option.{none-some, same_Some}
-use Rattle.slab.specs.Slab.{Slab, get}
-use Rattle.pd_order.specs.Listing.{Listing}
+use Rattle.std.proofs.lemmas.Option.{same_Some}
+use Rattle.slab.specs.Slab.{get}
 use Rattle.pd_links.specs.declared.links.Links.{Links}
-use Rattle.pd_grove.specs.declared.boards.Board.{Board}
 use Rattle.pd_grove.specs.declared.grove.Grove.{Grove}
-use Rattle.pd_grove.specs.declared.nodes.Node.{Node}
 use Rattle.pd_grove.specs.declared.ports.PortSpot.{PortSpot}
 use Rattle.pd_grove.specs.declared.ports.Side.{Side}
 use Rattle.pd_grove.specs.declared.ports.Side.TheVariants.{Inlets, Outlets}
@@ -21,7 +18,6 @@ use Rattle.pd_bind.specs.Owning.{root_owner}
 use Rattle.pd_web.specs.declared.jacks.Jack.{Jack}
 use Rattle.pd_web.specs.declared.web.Hop.{Hop}
 use Rattle.pd_web.specs.declared.web.Web.{Web}
-use Rattle.pd_web.specs.Canvases.{keys_at}
 use Rattle.pd_web.specs.Homes.{inner_in}
 use Rattle.pd_web.specs.Hops.{ports_told, jack_told, fan_hops}
 use Rattle.pd_web.specs.Jacks.{jacks_at, spot_jack}
@@ -29,10 +25,8 @@ use Rattle.pd_ports.specs.Known.{HoldAlone, KnowsHomes}
 use Rattle.pd_patch.specs.declared.patch.Patch.{Patch}
 use Rattle.pd_patch.specs.Built.{HasPorts}
 use Rattle.pd_patch.specs.Linked.{HasLinks, StayInside, ShareCanvas}
-use Rattle.pd_patch.specs.Numbers.{AreUnder}
 use Rattle.pd_patch.specs.Orders.{AreOrdered}
 use Rattle.pd_patch.specs.Values.{block_count}
-use Rattle.pd_wiring.specs.Changes.{CanRewire}
 use Rattle.pd_wiring.specs.Graphs.{AreOrderedBy, AreWired}
 use Rattle.pd_wiring.proofs.GraphLemmas.{ordered_by_links, ordered_by_wires}
 use Rattle.pd_placing.proofs.ChangeLemmas.{alike_all}
@@ -44,7 +38,7 @@ use Rattle.pd_following.proofs.ListLemmas.{insert_here, insert_length}
 use Rattle.pd_following.proofs.RunLemmas.{known_found, known_had}
 use Rattle.pd_sliding.specs.Slides.{IsOneElsewhere, Slides}
 use Rattle.pd_sliding.specs.Sliding.{CanSlide, StaysButPorts}
-use Rattle.pd_sliding.proofs.GroveLemmas.{forest_as, holds, holds_then, jacks_same, keys_as, made_as, new, none_as, old, rest_jacks, signal_as, small_as, StandsAmong}
+use Rattle.pd_sliding.proofs.GroveLemmas.{forest_as, holds, holds_then, jacks_same, made_as, new, none_as, old, rest_jacks, signal_as, small_as, StandsAmong}
 use Rattle.pd_sliding.proofs.WireLemmas.{inside_slid, links_slid}
 
 -- the one is among the boxes wherever it is put

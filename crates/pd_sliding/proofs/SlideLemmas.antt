@@ -1,8 +1,7 @@
 -- What a web tells where one port of a box went elsewhere.
-use Rattle.std.proofs.Common.{◌≡◌, ◌≢◌, ℕ, zero, suc, ◌<◌, ◌≤◌, ◌==◌, Bool, true, false, not, cond, List, [], ◌∷◌, filter, map, length, slice_get, Option, Some, None, IsSome, inl, inr, eq-eqb, refl, sym, ap, ◌∙◌, subst, arith}
+use Rattle.std.proofs.Common.{◌≡◌, ◌≢◌, ℕ, ◌<◌, ◌≤◌, ◌==◌, Bool, true, false, not, cond, List, [], ◌∷◌, map, length, slice_get, Option, Some, IsSome, inl, inr, eq-eqb, refl, sym, ap, ◌∙◌, subst, arith}
 use Rattle.std.proofs.lemmas.Bool.{cases_eq, cases_lt}
-use Rattle.std.proofs.lemmas.Option.{none-some, same_Some}
-use Rattle.pd_grove.specs.declared.ports.Side.{Side}
+use Rattle.std.proofs.lemmas.Option.{same_Some}
 use Rattle.pd_grove.specs.declared.ports.Side.TheVariants.{Inlets, Outlets}
 use Rattle.pd_web.specs.declared.jacks.Jack.{Jack}
 use Rattle.pd_web.specs.declared.sockets.Spot.{Spot}
@@ -11,7 +10,7 @@ use Rattle.pd_web.specs.declared.web.Web.{Web}
 use Rattle.pd_web.specs.Wiring.{sink_at}
 use Rattle.pd_web.specs.Changes.{Meet}
 use Rattle.pd_web.specs.Homes.{inner_in}
-use Rattle.pd_web.specs.Hops.{ports_told, jack_told, port_told, fan_keys, fan_hops, feed_hops, hop_by, hop_to, places_of}
+use Rattle.pd_web.specs.Hops.{ports_told, jack_told, fan_keys, fan_hops, feed_hops, hop_by, hop_to, places_of}
 use Rattle.pd_seek.specs.Places.{label_at, AreInOrder, IsNoLater}
 use Rattle.pd_ports.specs.Known.{KnowsHomes}
 use Rattle.pd_ports.specs.Moves.{FollowsPorts}
@@ -27,7 +26,7 @@ use Rattle.pd_following.proofs.RaiseLemmas.{differ_test, hop_key, keys_past, Fan
 use Rattle.pd_sliding.specs.Slides.{slid, outlet_slid, place_slid, inlet_slid, hop_slid, IsOneElsewhere, Slides}
 use Rattle.pd_sliding.specs.Sliding.{HaveOwnLabel}
 use Rattle.pd_sliding.proofs.ListLemmas.{slid_order, slid_to, slid_up}
-use Rattle.pd_sliding.proofs.FollowLemmas.{across_hops, comes_low, count_then, far_stays, goes_low, goes_slid, it_is, it_was, jack_slid, keys_slid, other_hops, own_hops}
+use Rattle.pd_sliding.proofs.FollowLemmas.{across_hops, comes_low, count_then, far_stays, goes_low, goes_slid, it_was, jack_slid, other_hops, own_hops}
 
 -- the places of hops that lead to other ports
 places_slid : (key from to : ℕ) (hops : List Hop) → places_of (map (hop_slid key from to) hops) ≡ map (place_slid Inlets key from to) (places_of hops)

@@ -1,5 +1,4 @@
-use Rattle.std.proofs.Common.{List, ℕ, is_some, Some, refl, sym, ap, ◌∙◌, subst}
-use Rattle.pd_grove.specs.declared.nodes.Node.{Node}
+use Rattle.std.proofs.Common.{List, ℕ, is_some, refl, sym, ap, subst}
 use Rattle.pd_web.specs.Hops.{feed_hops}
 use Rattle.pd_seek.specs.Places.{AreInOrder}
 use Rattle.pd_patch.specs.declared.patch.Patch.{Patch}
