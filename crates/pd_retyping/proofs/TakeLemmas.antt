@@ -1,6 +1,6 @@
 -- Which of what grew is a subpatch whose text another one takes, and one that took it.
 use Rattle.std.proofs.Common.{◌≡◌, ℕ, Bool, true, is_some, List, [], ◌∷◌, ◌++◌, length, Option, Some, None, Result, Ok, Err, inl, inr, refl, sym, ap, ◌∙◌, subst, arith}
-use Rattle.std.specs.Prelude.{IfOk, IfErr, OnErr}
+use Rattle.std.specs.Prelude.{IsSome, IfOk, IfErr, OnErr}
 use Rattle.std.specs.Option.{option_to_list}
 use mathlib.Core.Logic.{⊎_elim}
 use Rattle.std.proofs.lemmas.List.{length-map, length-append}
@@ -194,6 +194,10 @@ one_popped xs (y ∷ ys) o x one e is =
     let all = ap (λ (zs : List Row). length zs) (e ∙ ap (λ (p : Option Row). (y ∷ ys) ++ option_to_list p) is) in
     let parts = length-append ys (x ∷ []) in
     absurd (omega (arith, all, parts, one))
+
+pub never_none : (o : Option Row) → IsSome o → o ≡ None → ⊥
+never_none None s e = cc
+never_none (Some x) s e = absurd (none-some x (sym e))
 
 -- room for the name, with the same table
 pub same_room : (p : Patch) (room : NameRoom) (names table : Names) → names ≡ table → TakesName p room table → TakesName p room names
