@@ -50,7 +50,7 @@ map_more f (y ∷ xs) zero x = refl
 map_more {X} {Y} f (y ∷ xs) (suc n) x = ap (λ (l : List Y). f y ∷ l) (map_more f xs n x)
 
 -- the others have the numbers that they had, and from there on the next
-pub get_raised : (xs : List ℕ) (n y s : ℕ) → n ≤ length xs → slice_get (take n xs ++ y ∷ drop n xs) (raised n s) ≡ slice_get xs s
+pub get_raised : {X : Type 0} (xs : List X) (n : ℕ) (y : X) (s : ℕ) → n ≤ length xs → slice_get (take n xs ++ y ∷ drop n xs) (raised n s) ≡ slice_get xs s
 get_raised [] zero y s l = ap (slice_get (y ∷ [])) (next s)
   where
     next : (s : ℕ) → raised 0 s ≡ suc s
