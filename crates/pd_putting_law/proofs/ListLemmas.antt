@@ -107,16 +107,3 @@ slice_get_out (x ∷ xs) (suc i) e = more (length xs) i (slice_get_out xs i e)
   where
     more : (n i : ℕ) → n ≤ i → suc n ≤ suc i
     more n i l = omega (arith, l)
-
--- what stands in a list stands there with further ones behind
-pub get_front : (xs ys : List ℕ) (i x : ℕ) → slice_get xs i ≡ Some x → slice_get (xs ++ ys) i ≡ Some x
-get_front [] ys i x e = absurd (none-some x e)
-get_front (y ∷ xs) ys zero x e = e
-get_front (y ∷ xs) ys (suc i) x e = get_front xs ys i x e
-
--- one element more stands behind the others
-pub get_last : (xs : List ℕ) (y i x : ℕ) → slice_get xs i ≡ None → slice_get (xs ++ y ∷ []) i ≡ Some x → x ≡ y
-get_last [] y zero x e f = cc
-get_last [] y (suc i) x e f = absurd (none-some x f)
-get_last (z ∷ xs) y zero x e f = absurd (none-some z (sym e))
-get_last (z ∷ xs) y (suc i) x e f = get_last xs y i x e f
