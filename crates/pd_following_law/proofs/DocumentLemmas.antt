@@ -8,6 +8,7 @@ use Rattle.pd_atom.specs.Names.{Names}
 use Rattle.pd_canvas.specs.Edits.{appended}
 use Rattle.pd_canvas.specs.Pages.{Entry, Page}
 use Rattle.pd_canvas.specs.Paths.{edit_at}
+use Rattle.pd_canvas.specs.Turns.{put_in}
 use Rattle.pd_tree.specs.Trees.{Tree}
 use Rattle.pd_grove.specs.declared.boards.Board.{Board}
 use Rattle.pd_grove.specs.declared.grove.Grove.{Grove}
@@ -35,8 +36,8 @@ use Rattle.pd_boxes.proofs.WireLemmas.{inside_still, no_fans}
 use Rattle.pd_reload_law.specs.Wires.{AreNumbered, IsAmong, StayAmong, RewiresAt}
 use Rattle.pd_reload_law.proofs.EditLemmas.{document_edited}
 use Rattle.pd_saved_law.proofs.EditLemmas.{stays_among, sub_leads}
-use Rattle.pd_putting_law.specs.Putting.{HasBoxLast, IsSavedAs, KeepsWires}
-use Rattle.pd_putting_law.proofs.PageLemmas.{document_put}
+use Rattle.pd_putting_law.specs.Putting.{HasBoxAt, HasBoxLast, IsSavedAs, KeepsWires}
+use Rattle.pd_putting_law.proofs.PageLemmas.{document_put, document_put_in}
 use Rattle.pd_following.specs.Ports.{CanPutPort, IsPortPut, port_jack}
 use Rattle.pd_following.proofs.ComeLemmas.{ready_own}
 use Rattle.pd_following.proofs.RunLemmas.{numbered}
@@ -101,48 +102,69 @@ module _ (p q : Patch) (table : Names) (place : Place) (s : Seed) (key holder : 
       ap (λ (g : Grove). present_page g q.web q.numbers.items) I.rest.grove ∙ ap (λ ns. present_page I.ready.grove q.web ns.items) I.rest.numbers
       ∙ ready_document path n t (subst (λ (g : Grove). GroveStands g t.sheet t.boxes) I.rest.grove G) low (subst (λ (g : Grove). StandsAt g path n holder) I.rest.grove A)
 
-  -- the box itself came last
-  module _ (last : place.number ≡ length (keys_at p.grove place.canvas)) where
-    before : keys_before p place ≡ keys_at p.grove place.canvas
-    before = ap (λ m. take m (keys_at p.grove place.canvas)) last ∙ take_all (length (keys_at p.grove place.canvas)) (keys_at p.grove place.canvas) (omega arith)
+  -- the box itself came
 
-    behind : keys_behind p place ≡ []
-    behind = ap (λ m. drop m (keys_at p.grove place.canvas)) last ∙ drop_all (length (keys_at p.grove place.canvas)) (keys_at p.grove place.canvas) (omega arith)
+  part : HasPartMore (get p.grove.nodes) (get I.ready.grove.nodes) (get p.grove.boards) (get I.ready.grove.boards) place.canvas key (keys_before p place) (keys_behind p place)
+  part =
+      part_more (get p.grove.nodes) (get I.ready.grove.nodes) (get I.ready.grove.nodes) (get p.grove.boards) (get I.ready.grove.boards) (get I.ready.grove.boards) p.grove.root place.canvas key
+      (node_of place.canvas s) (keys_before p place) (keys_behind p place) I.comes.grove (λ l d live. refl) (λ x live. refl) refl P.can.forest
+      (still_forest p I.ready table place s key I.comes P.can.forest P.can.runs)
 
-    abbrev Part : List ℕ → List ℕ → Type 0
-    Part = HasPartMore (get p.grove.nodes) (get I.ready.grove.nodes) (get p.grove.boards) (get I.ready.grove.boards) place.canvas key
+  keeps : KeepsWires p.grove I.ready.grove p.web I.ready.web p.numbers.items I.ready.numbers.items key
+  keeps = record {
+    inside = λ c. stays_among p c P.can.runs;
+    fans = λ k o live. I.comes.ports.fans k o;
+    bare = λ o. I.comes.ports.fans key o ∙ no_fans p.web key (bare p I.ready table place s key I.comes P.can.forest P.can.runs) o;
+    numbered = P.can.runs.numbers;
+    renumbered = numbered_ready;
+  }
 
-    part : Part (keys_at p.grove place.canvas) []
-    part =
-        subst (Part (keys_at p.grove place.canvas)) behind (subst (λ (l : List ℕ). Part l (keys_behind p place)) before
-        (part_more (get p.grove.nodes) (get I.ready.grove.nodes) (get I.ready.grove.nodes) (get p.grove.boards) (get I.ready.grove.boards) (get I.ready.grove.boards) p.grove.root place.canvas key
-        (node_of place.canvas s) (keys_before p place) (keys_behind p place) I.comes.grove (λ l d live. refl) (λ x live. refl) refl P.can.forest
-        (still_forest p I.ready table place s key I.comes P.can.forest P.can.runs)))
+  saved_ready : (e : Entry) → IsSavedAs (get q.grove.boards) (get q.grove.nodes key) e → IsSavedAs (get I.ready.grove.boards) (get I.ready.grove.nodes key) e
+  saved_ready e saved = subst (λ (g : Grove). IsSavedAs (get g.boards) (get g.nodes key) e) I.rest.grove saved
 
-    keeps : KeepsWires p.grove I.ready.grove p.web I.ready.web p.numbers.items I.ready.numbers.items key
-    keeps = record {
-      inside = λ c. stays_among p c P.can.runs;
-      fans = λ k o live. I.comes.ports.fans k o;
-      bare = λ o. I.comes.ports.fans key o ∙ no_fans p.web key (bare p I.ready table place s key I.comes P.can.forest P.can.runs) o;
-      numbered = P.can.runs.numbers;
-      renumbered = numbered_ready;
-    }
+  module _ (inner : List ℕ) (leads : sub_reached p.grove (Some p.grove.root) inner ≡ Some place.canvas) where
+    -- at any number
+    module _ (within : place.number ≤ length (keys_at p.grove place.canvas)) where
+      comes_at : HasBoxAt p.grove I.ready.grove inner place.canvas key place.number
+      comes_at = record { forest = P.can.forest; leads = leads; part = part; within = within; root = I.comes.root }
 
-    comes_last : (inner : List ℕ) → sub_reached p.grove (Some p.grove.root) inner ≡ Some place.canvas → HasBoxLast p.grove I.ready.grove inner place.canvas key
-    comes_last inner leads = record { forest = P.can.forest; leads = leads; part = part; root = I.comes.root }
+      pub port_at : HasBoxAt p.grove q.grove inner place.canvas key place.number
+      port_at = subst (λ (g : Grove). HasBoxAt p.grove g inner place.canvas key place.number) (sym I.rest.grove) comes_at
 
-    pub port_last : (inner : List ℕ) → sub_reached p.grove (Some p.grove.root) inner ≡ Some place.canvas → HasBoxLast p.grove q.grove inner place.canvas key
-    port_last inner leads = subst (λ (g : Grove). HasBoxLast p.grove g inner place.canvas key) (sym I.rest.grove) (comes_last inner leads)
+      pub put_document : (path : List ℕ) (n : ℕ) (e : Entry) (t : Tree) → GroveStands q.grove t.sheet t.boxes → deep t.boxes ≤ 256 → StandsAt q.grove path n holder
+          → IsSavedAs (get q.grove.boards) (get q.grove.nodes key) e
+          → present_page q.grove q.web q.numbers.items ≡ edit_at path (with_port side n I.number) (edit_at inner (put_in place.number e) (present_page p.grove p.web p.numbers.items))
+      put_document path n e t G low A saved =
+          wires_document path n t G low A
+          ∙ ap (λ (x : Page). edit_at path (with_port side n I.number) x)
+          (document_put_in p.grove I.ready.grove p.web I.ready.web p.numbers.items I.ready.numbers.items inner place.canvas key place.number e comes_at keeps (saved_ready e saved))
 
-    box_document : (inner : List ℕ) (e : Entry) → sub_reached p.grove (Some p.grove.root) inner ≡ Some place.canvas → IsSavedAs (get q.grove.boards) (get q.grove.nodes key) e
-        → present_page I.ready.grove I.ready.web I.ready.numbers.items ≡ edit_at inner (appended e) (present_page p.grove p.web p.numbers.items)
-    box_document inner e leads saved =
-        document_put p.grove I.ready.grove p.web I.ready.web p.numbers.items I.ready.numbers.items inner place.canvas key e
-        (comes_last inner leads) keeps
-        (subst (λ (g : Grove). IsSavedAs (get g.boards) (get g.nodes key) e) I.rest.grove saved)
+    -- last
+    module _ (last : place.number ≡ length (keys_at p.grove place.canvas)) where
+      before : keys_before p place ≡ keys_at p.grove place.canvas
+      before = ap (λ m. take m (keys_at p.grove place.canvas)) last ∙ take_all (length (keys_at p.grove place.canvas)) (keys_at p.grove place.canvas) (omega arith)
 
-    pub port_document : (path inner : List ℕ) (n : ℕ) (e : Entry) (t : Tree) → GroveStands q.grove t.sheet t.boxes → deep t.boxes ≤ 256 → StandsAt q.grove path n holder
-        → sub_reached p.grove (Some p.grove.root) inner ≡ Some place.canvas → IsSavedAs (get q.grove.boards) (get q.grove.nodes key) e
-        → present_page q.grove q.web q.numbers.items ≡ edit_at path (with_port side n I.number) (edit_at inner (appended e) (present_page p.grove p.web p.numbers.items))
-    port_document path inner n e t G low A leads saved =
-        wires_document path n t G low A ∙ ap (λ (x : Page). edit_at path (with_port side n I.number) x) (box_document inner e leads saved)
+      behind : keys_behind p place ≡ []
+      behind = ap (λ m. drop m (keys_at p.grove place.canvas)) last ∙ drop_all (length (keys_at p.grove place.canvas)) (keys_at p.grove place.canvas) (omega arith)
+
+      abbrev Part : List ℕ → List ℕ → Type 0
+      Part = HasPartMore (get p.grove.nodes) (get I.ready.grove.nodes) (get p.grove.boards) (get I.ready.grove.boards) place.canvas key
+
+      comes_last : HasBoxLast p.grove I.ready.grove inner place.canvas key
+      comes_last = record {
+        forest = P.can.forest;
+        leads = leads;
+        part = subst (Part (keys_at p.grove place.canvas)) behind (subst (λ (l : List ℕ). Part l (keys_behind p place)) before part);
+        root = I.comes.root;
+      }
+
+      pub port_last : HasBoxLast p.grove q.grove inner place.canvas key
+      port_last = subst (λ (g : Grove). HasBoxLast p.grove g inner place.canvas key) (sym I.rest.grove) comes_last
+
+      pub port_document : (path : List ℕ) (n : ℕ) (e : Entry) (t : Tree) → GroveStands q.grove t.sheet t.boxes → deep t.boxes ≤ 256 → StandsAt q.grove path n holder
+          → IsSavedAs (get q.grove.boards) (get q.grove.nodes key) e
+          → present_page q.grove q.web q.numbers.items ≡ edit_at path (with_port side n I.number) (edit_at inner (appended e) (present_page p.grove p.web p.numbers.items))
+      port_document path n e t G low A saved =
+          wires_document path n t G low A
+          ∙ ap (λ (x : Page). edit_at path (with_port side n I.number) x)
+          (document_put p.grove I.ready.grove p.web I.ready.web p.numbers.items I.ready.numbers.items inner place.canvas key e comes_last keeps (saved_ready e saved))

@@ -1,4 +1,4 @@
--- The box that an edit put stands last in its canvas, and the tree with it runs and grows again.
+-- The box that an edit names stands in its canvas, and the tree with it runs and grows again.
 use Rattle.std.proofs.Common.{◌≡◌, ◌≢◌, ◌≤◌, ◌+◌, ◌-◌, ℕ, zero, suc, Bool, true, false, max, ◌&&◌, nat_lt, if◌then◌else◌, ◌==◌, List, [], ◌∷◌, ◌++◌, length, Option, Some, None, Result, Ok, Err, IfSome, ◌⊎◌, inl, inr, refl, sym, ap, ◌∙◌, subst, arith, true≢false}
 use Rattle.std.specs.Prelude.{filter, option_map}
 use mathlib.Core.Logic.{⊎_elim}
@@ -21,7 +21,7 @@ use Rattle.pd_library.specs.declared.answers.Answer.{Answer}
 use Rattle.pd_tree.specs.declared.rows.Sheet.{Sheet}
 use Rattle.pd_tree.specs.Ports.{fits}
 use Rattle.pd_tree.specs.Trees.{Cell, Stand, Trees, Done, Leaf, Holder, Tree, stand_of, document_boxes}
-use Rattle.pd_growth.specs.Steps.{gives}
+use Rattle.pd_growth.specs.Steps.{Stock, gives}
 use Rattle.pd_growth.specs.Growing.{inside_grown}
 use Rattle.pd_growth.specs.Growth.{Inner, around_root, box_grown, without_ending}
 use Rattle.pd_grove.specs.declared.boards.Board.{Board}
@@ -33,7 +33,7 @@ use Rattle.pd_grove.specs.Standing.{BoardSeen, NodeSeen, board_seen, node_seen, 
 use Rattle.pd_grove.specs.States.{IsFresh}
 use Rattle.pd_grove.specs.TextOrder.{is_sub}
 use Rattle.pd_web.specs.declared.jacks.Jack.{Jack}
-use Rattle.pd_web.specs.Canvases.{HoldersAreNoPorts}
+use Rattle.pd_web.specs.Canvases.{keys_at, HoldersAreNoPorts}
 use Rattle.pd_web.specs.Changes.{wires_told}
 use Rattle.pd_patch.specs.declared.patch.Patch.{Patch}
 use Rattle.pd_patch.proofs.GrowthLemmas.{grown_box_fits}
@@ -54,11 +54,11 @@ use Rattle.pd_reload_law.specs.Reloading.{RunsAs}
 use Rattle.pd_saved_law.specs.Fitting.{WiresFit}
 use Rattle.pd_inside_law.specs.Inside.{HoldsWires}
 use Rattle.pd_putting_law.specs.Again.{StandsAgain}
-use Rattle.pd_putting_law.specs.Edits.{PutsBox}
-use Rattle.pd_putting_law.specs.Puts.{put_at}
+use Rattle.pd_putting_law.specs.Edits.{TakesElement}
+use Rattle.pd_putting_law.specs.Puts.{put_before}
 use Rattle.pd_putting_law.specs.Putting.{ComeFresh, IsBare, IsNewBox, element_put}
 use Rattle.pd_putting_law.proofs.AgainLemmas.{stands_on}
-use Rattle.pd_putting_law.proofs.GrownLemmas.{new_grown, put_bare, put_runs, put_again}
+use Rattle.pd_putting_law.proofs.GrownLemmas.{new_grown, put_bare, come_runs, come_again}
 use Rattle.pd_putting_law.proofs.StandLemmas.{path_along}
 use Rattle.pd_putting_law.proofs.WithinLemmas.{ChangesWithin, path_within, around_levels}
 use Rattle.pd_following.specs.Ports.{port_jack}
@@ -71,13 +71,13 @@ use Rattle.pd_adding.specs.Adding.{GrewWith}
 use Rattle.pd_adding.proofs.GrowLemmas.{growth_is}
 use Rattle.pd_adding.proofs.SingleLemmas.{same_inner}
 use Rattle.pd_putting.specs.declared.adding.NewBox.{NewBox}
-use Rattle.pd_putting.specs.Adds.{last_place, IsBoxPut, IsSubPut, IsPortBoxPut, IsPartBoxPut, HasCome, AddsBox}
+use Rattle.pd_putting.specs.Adds.{place_at, IsBoxPutAt, IsSubPutAt, IsPortBoxPutAt, IsPartBoxPutAt, HasComeAt, AddsBoxAt}
 use Rattle.pd_put_law.proofs.RoomLemmas.{room_runs}
-use Rattle.pd_put_law.proofs.WholeLemmas.{ComesWhole, keeps, last}
-use Rattle.pd_put_law.proofs.LastLemmas.{ComesLast, as_whole, come_fresh, last_wires, leaf_last, shell_last}
+use Rattle.pd_put_law.proofs.WholeLemmas.{ComesWhole, keeps, comes_at}
+use Rattle.pd_put_law.proofs.AloneLemmas.{ComesAlone, as_whole, come_fresh, alone_wires, leaf_alone, shell_alone}
 use Rattle.pd_put_law.proofs.PartLemmas.{part_stands, part_fresh, part_wires, part_whole}
 use Rattle.pd_put_law.proofs.AroundLemmas.{fits_followed, holds_followed}
-use Rattle.pd_put_law.proofs.PortLemmas.{port_last, port_followed}
+use Rattle.pd_put_law.proofs.PortLemmas.{port_alone, port_followed}
 
 -- ---- the element of the edit
 
@@ -220,11 +220,11 @@ all_stays p = record { grove = refl; holds = λ t h. h; fits = λ f. f }
 
 -- What came in, by this node, is a box of a cell: one without a canvas, or one that holds one. Room was set aside for it; and the box around
 -- may have got a port after that.
-pub record HasComeIn (old new : Patch) (now : ℕ) (a : Added) (path : List ℕ) (key : ℕ) : Type 0 where
+pub record HasComeIn (old new : Patch) (number now : ℕ) (a : Added) (path : List ℕ) (key : ℕ) : Type 0 where
   pub ready : Patch
   pub room : SameButRoom old ready
   pub done : Patch
-  pub whole : ComesWhole ready done path a.canvas key
+  pub whole : ComesWhole ready done path a.canvas key number
   pub around : StaysWired done new
   pub wires : wires_told new.web ≡ wires_told ready.web + wires_inside a.boxes
   pub fresh : ComeFresh old.rate now (get ready.grove.nodes) (get done.grove.nodes)
@@ -255,12 +255,13 @@ node_here : (o : Option Node) (x : NodeSeen) → option_map node_seen o ≡ Some
 node_here None x h = absurd (none-some x h)
 node_here (Some n) x h = record { node = n; is = refl; same = ap (λ (y : NodeSeen). y.cell) (same_Some (node_seen n) x h) }
 
-module _ (old new : Patch) (now : ℕ) (a : Added) (path : List ℕ) (key : ℕ) (can : CanPut old) (leads : sub_reached old.grove (Some old.grove.root) path ≡ Some a.canvas) where
+module _ (old new : Patch) (number now : ℕ) (a : Added) (path : List ℕ) (key : ℕ) (can : CanPut old) (leads : sub_reached old.grove (Some old.grove.root) path ≡ Some a.canvas)
+    (within : number ≤ length (keys_at old.grove a.canvas)) where
   -- a box without a canvas
   leaf_by : (ready done : Patch) (seed : Seed) (cell : Cell) → SameButRoom old ready → a.boxes ≡ Leaf cell Done → stand_of seed.row ≡ record { cell = cell; sheet = None; boxes = 0 }
-      → IsFresh old.rate now seed → ComesIn ready done a.known.names (last_place old a.canvas) seed key → ComesLast ready done path a.canvas key → StaysWired done new
-      → wires_told new.web ≡ wires_told ready.web → HasComeIn old new now a path key
-  leaf_by ready done seed cell room single is_row fresh comes last around wires =
+      → IsFresh old.rate now seed → ComesIn ready done a.known.names (place_at a.canvas number) seed key → ComesAlone ready done path a.canvas key number → StaysWired done new
+      → wires_told new.web ≡ wires_told ready.web → HasComeIn old new number now a path key
+  leaf_by ready done seed cell room single is_row fresh comes alone around wires =
       let n : Node = node_of a.canvas seed in
       let is : get done.grove.nodes key ≡ Some n = comes.grove.is in
       let same : (node_seen n).cell ≡ cell = ap (λ (x : Stand). x.cell) is_row in
@@ -268,10 +269,10 @@ module _ (old new : Patch) (now : ℕ) (a : Added) (path : List ℕ) (key : ℕ)
         ready = ready;
         room = room;
         done = done;
-        whole = as_whole ready done path a.canvas key last;
+        whole = as_whole ready done path a.canvas key number alone;
         around = around;
         wires = none_more (wires_told new.web) (wires_told ready.web) (wires_inside a.boxes) wires (ap wires_inside single);
-        fresh = come_fresh ready done path a.canvas key last old.rate now n is (ap (λ x. Some x) fresh);
+        fresh = come_fresh ready done path a.canvas key number alone old.rate now n is (ap (λ x. Some x) fresh);
         node = n;
         is = is;
         state = ap (λ x. Some x) fresh;
@@ -282,24 +283,24 @@ module _ (old new : Patch) (now : ℕ) (a : Added) (path : List ℕ) (key : ℕ)
         sort = inl single;
       }
 
-  leaf_in : IsBoxPut old new now a key → HasComeIn old new now a path key
+  leaf_in : IsBoxPutAt old new number now a key → HasComeIn old new number now a path key
   leaf_in P =
-      let C = leaf_last old P.ready new a.known.names path a.canvas key P.seed P.room can P.goes_on.forest P.goes_on.runs.numbers leads P.put.comes in
-      leaf_by P.ready new P.seed P.plain.cell P.room P.plain.single P.is_row P.fresh P.put.comes C (all_stays new) (last_wires P.ready new path a.canvas key C)
+      let C = leaf_alone old P.ready new a.known.names path a.canvas key number P.seed P.room can P.goes_on.forest P.goes_on.runs.numbers leads within P.put.comes in
+      leaf_by P.ready new P.seed P.plain.cell P.room P.plain.single P.is_row P.fresh P.put.comes C (all_stays new) (alone_wires P.ready new path a.canvas key number C)
 
-  port_in : IsPortBoxPut old new now a key → HasComeIn old new now a path key
+  port_in : IsPortBoxPutAt old new number now a key → HasComeIn old new number now a path key
   port_in P =
       let done : Patch = P.put.ready in
       let jack : Jack = port_jack P.port.side P.seed.row.kind key in
-      let F = port_followed old new now a path key can leads P in
+      let F = port_followed old new number now a path key can leads within P in
       let around : StaysWired done new = record {
         grove = F.grove;
         holds = holds_followed done new P.port.holder P.port.side P.put.number jack F;
         fits = fits_followed done new P.port.holder P.port.side P.put.number jack F;
       } in
-      leaf_by P.ready done P.seed P.port.cell P.room P.port.single P.is_row P.fresh P.put.comes (port_last old new now a path key can leads P) around P.put.wires
+      leaf_by P.ready done P.seed P.port.cell P.room P.port.single P.is_row P.fresh P.put.comes (port_alone old new number now a path key can leads within P) around P.put.wires
 
-  sub_in_it : IsSubPut old new now a key → HasComeIn old new now a path key
+  sub_in_it : IsSubPutAt old new number now a key → HasComeIn old new number now a path key
   sub_in_it P =
       let G = P.put.comes.grove in
       let n : Node = with_inner P.put.comes.canvas (node_of a.canvas P.seed) in
@@ -308,42 +309,42 @@ module _ (old new : Patch) (now : ℕ) (a : Added) (path : List ℕ) (key : ℕ)
       same_Some P.put.comes.board.sheet P.sub.sheet (sym P.put.comes.sheet ∙ ap (λ (x : Stand). x.sheet) P.is_row) in
       let boxes : Holder (stand_of P.seed.row).cell P.put.comes.board.sheet Done Done ≡ a.boxes =
       ap (λ (x : Cell). Holder x P.put.comes.board.sheet Done Done) same ∙ ap (λ (s : Sheet). Holder P.sub.cell s Done Done) sheet ∙ sym P.sub.single in
-      let C = shell_last old P.ready new a.known.names path a.canvas key P.seed P.room can P.goes_on.forest P.goes_on.runs.numbers leads P.put in
+      let C = shell_alone old P.ready new a.known.names path a.canvas key number P.seed P.room can P.goes_on.forest P.goes_on.runs.numbers leads within P.put in
       let none : wires_inside a.boxes ≡ 0 = (let e = ap wires_inside P.sub.single in let z = none_fit P.sub.sheet.wires in omega (arith, e, z)) in
       record {
         ready = P.ready;
         room = P.room;
         done = new;
-        whole = as_whole P.ready new path a.canvas key C;
+        whole = as_whole P.ready new path a.canvas key number C;
         around = all_stays new;
-        wires = none_more (wires_told new.web) (wires_told P.ready.web) (wires_inside a.boxes) (last_wires P.ready new path a.canvas key C) none;
-        fresh = come_fresh P.ready new path a.canvas key C old.rate now n G.canvas.is (ap (λ x. Some x) P.fresh);
+        wires = none_more (wires_told new.web) (wires_told P.ready.web) (wires_inside a.boxes) (alone_wires P.ready new path a.canvas key number C) none;
+        fresh = come_fresh P.ready new path a.canvas key number C old.rate now n G.canvas.is (ap (λ x. Some x) P.fresh);
         node = n;
         is = G.canvas.is;
         state = ap (λ x. Some x) P.fresh;
         stands = subst (Stands (get new.grove.nodes) (get new.grove.boards) a.canvas (depth_of (get P.ready.grove.boards a.canvas)) (key ∷ [])) boxes
             (stands_as_box (get P.ready.grove.nodes) (get new.grove.nodes) (get P.ready.grove.boards) (get new.grove.boards) P.ready.grove.root a.canvas key P.put.comes.canvas P.seed
-            P.put.comes.board (keys_before P.ready (last_place old a.canvas)) (keys_behind P.ready (last_place old a.canvas)) G);
+            P.put.comes.board (keys_before P.ready (place_at a.canvas number)) (keys_behind P.ready (place_at a.canvas number)) G);
         cell = P.sub.cell;
         is_cell = same;
         sort = inr P.sub.canvas;
       }
 
-  part_in : IsPartBoxPut old new now a key → IsNewBox a.boxes → HoldersAreNoPorts a.boxes → HasComeIn old new now a path key
+  part_in : IsPartBoxPutAt old new number now a key → IsNewBox a.boxes → HoldersAreNoPorts a.boxes → HasComeIn old new number now a path key
   part_in P is_new bare =
-      let S = part_stands old new now a path key can leads P is_new bare in
+      let S = part_stands old new number now a path key can leads within P is_new bare in
       let H : Stands (get new.grove.nodes) (get new.grove.boards) a.canvas (depth_of (get P.ready.grove.boards a.canvas)) (key ∷ []) (Holder P.holder.cell P.holder.sheet P.holder.inner Done) =
       subst (Stands (get new.grove.nodes) (get new.grove.boards) a.canvas (depth_of (get P.ready.grove.boards a.canvas)) (key ∷ [])) P.holder.single S in
       let N : NodeHere (get new.grove.nodes key) P.holder.cell = node_here (get new.grove.nodes key) _ H.2 in
-      let W = part_whole old new now a path key can leads P is_new bare in
-      let F = part_fresh old new now a path key can leads P is_new bare in
+      let W = part_whole old new number now a path key can leads within P is_new bare in
+      let F = part_fresh old new number now a path key can leads within P is_new bare in
       record {
         ready = P.ready;
         room = P.room;
         done = new;
         whole = W;
         around = all_stays new;
-        wires = part_wires old new now a path key can leads P is_new bare;
+        wires = part_wires old new number now a path key can leads within P is_new bare;
         fresh = F;
         node = N.node;
         is = N.is;
@@ -354,14 +355,16 @@ module _ (old new : Patch) (now : ℕ) (a : Added) (path : List ℕ) (key : ℕ)
         sort = inr P.holder.canvas;
       }
 
-  pub come_in : HasCome old new now a key → IsNewBox a.boxes → HoldersAreNoPorts a.boxes → HasComeIn old new now a path key
+  pub come_in : HasComeAt old new number now a key → IsNewBox a.boxes → HoldersAreNoPorts a.boxes → HasComeIn old new number now a path key
   come_in put is_new bare = ⊎_elim leaf_in
-      (λ (other : IsSubPut old new now a key ⊎ (IsPortBoxPut old new now a key ⊎ IsPartBoxPut old new now a key)). ⊎_elim sub_in_it
-      (λ (more : IsPortBoxPut old new now a key ⊎ IsPartBoxPut old new now a key). ⊎_elim port_in (λ (P : IsPartBoxPut old new now a key). part_in P is_new bare) more) other) put
+      (λ (other : IsSubPutAt old new number now a key ⊎ (IsPortBoxPutAt old new number now a key ⊎ IsPartBoxPutAt old new number now a key)). ⊎_elim sub_in_it
+      (λ (more : IsPortBoxPutAt old new number now a key ⊎ IsPartBoxPutAt old new number now a key). ⊎_elim port_in
+      (λ (P : IsPartBoxPutAt old new number now a key). part_in P is_new bare) more) other) put
 
--- ---- an edit that put a box
+-- ---- a box that an edit names
 
-module _ (old new : Patch) (n : Counts) (name path : List ℕ) (now : ℕ) (e : Edit) (k after : Known) (b : NewBox) (X : AddsBox old new n name path now e k after b) where
+module _ (old new : Patch) (number : ℕ) (n : Counts) (name path : List ℕ) (now : ℕ) (e : Edit) (k after : Known) (b : NewBox)
+    (X : AddsBoxAt old new number n name path now e k after b) where
   abbrev pub box : Trees
   box = X.added.boxes
 
@@ -423,11 +426,11 @@ module _ (old new : Patch) (n : Counts) (name path : List ℕ) (now : ℕ) (e : 
   no_ports =
       (grown_box_fits (answer_in files.files) (without_ending name) (255 - length path) (around_root (own_zero old)) element (stock_by files.names n) grew_so.after box own_grew).1
 
-  pub came : CanPut old → HasComeIn old new now X.added path b.key
-  came can = come_in old new now X.added path b.key can may.leads X.put is_new no_ports
+  pub came : CanPut old → HasComeIn old new number now X.added path b.key
+  came can = come_in old new number now X.added path b.key can may.leads X.within X.put is_new no_ports
 
   module _ (can : CanPut old) (t : Tree) (R : RunsAs old.grove t) (A : StandsAgain (answer_in k.files) name k.names t) where
-    abbrev in_it : HasComeIn old new now X.added path b.key
+    abbrev in_it : HasComeIn old new number now X.added path b.key
     in_it = came can
 
     abbrev ready : Patch
@@ -469,33 +472,35 @@ module _ (old new : Patch) (n : Counts) (name path : List ℕ) (now : ℕ) (e : 
       inner = subst (TextsOf files.names) (sym bare.boxes) tt;
     }
 
-    pub puts_box : PutsBox ready.grove done.grove ready.web done.web ready.numbers.items done.numbers.items path X.added.canvas b.key lib name t (settled_edit k.names e)
-        (stock_by files.names n) grew_so.after box
-    puts_box = record {
-      element = element;
-      puts = puts;
+    abbrev stock_then : Stock
+    stock_then = stock_by files.names n
+
+    pub takes : TakesElement ready.grove done.grove ready.web done.web ready.numbers.items done.numbers.items path X.added.canvas b.key number lib name t element
+        stock_then grew_so.after box
+    takes = record {
+      bare = bare;
       names = entry_of;
       left = left;
       deep = all_in (length path) long;
       room = low;
       grew = grew;
-      box = last ready done path X.added.canvas b.key in_it.whole;
+      box = comes_at ready done path X.added.canvas b.key number in_it.whole;
       stands = in_it.stands;
       rate = old.rate;
       now = now;
       fresh = in_it.fresh;
-      wires = keeps ready done path X.added.canvas b.key in_it.whole;
+      wires = keeps ready done path X.added.canvas b.key number in_it.whole;
     }
 
-    pub box_runs : RunsAs new.grove (put_at path box t)
+    pub box_runs : RunsAs new.grove (put_before path number box t)
     box_runs =
-        subst (λ (g : Grove). RunsAs g (put_at path box t)) (sym in_it.around.grove)
-        (put_runs ready.grove done.grove ready.web done.web ready.numbers.items done.numbers.items path X.added.canvas b.key lib name t (settled_edit k.names e)
-        (stock_by files.names n) grew_so.after box runs_ready again_then puts_box)
+        subst (λ (g : Grove). RunsAs g (put_before path number box t)) (sym in_it.around.grove)
+        (come_runs ready.grove done.grove ready.web done.web ready.numbers.items done.numbers.items path X.added.canvas b.key number lib name t element
+        stock_then grew_so.after box runs_ready again_then takes)
 
-    pub box_again : StandsAgain (answer_in after.files) name after.names (put_at path box t)
+    pub box_again : StandsAgain (answer_in after.files) name after.names (put_before path number box t)
     box_again =
-        subst (λ (fs : List (ℕ × Answer)). StandsAgain (answer_in fs) name after.names (put_at path box t)) (sym known_files)
-        (subst (λ (ns : Names). StandsAgain lib name ns (put_at path box t)) (sym known_names)
-        (put_again ready.grove done.grove ready.web done.web ready.numbers.items done.numbers.items path X.added.canvas b.key lib name t (settled_edit k.names e)
-        (stock_by files.names n) grew_so.after box runs_ready again_then puts_box))
+        subst (λ (fs : List (ℕ × Answer)). StandsAgain (answer_in fs) name after.names (put_before path number box t)) (sym known_files)
+        (subst (λ (ns : Names). StandsAgain lib name ns (put_before path number box t)) (sym known_names)
+        (come_again ready.grove done.grove ready.web done.web ready.numbers.items done.numbers.items path X.added.canvas b.key number lib name t element
+        stock_then grew_so.after box runs_ready again_then takes))

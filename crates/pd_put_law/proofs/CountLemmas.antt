@@ -11,8 +11,18 @@ use Rattle.pd_tree.specs.declared.rows.Sheet.{Sheet}
 use Rattle.pd_tree.specs.Trees.{Cell, Trees, Done, Leaf, Holder, Tree, join, weight, frame_in, box_with, document_boxes, document_in}
 use Rattle.pd_patch.specs.Sounds.{sound_of}
 use Rattle.pd_regrowth_law.specs.Canvases.{Nest, Alone, Inside, nested, AreSubpatches}
-use Rattle.pd_putting_law.specs.Puts.{with_boxes, put_at}
-use Rattle.pd_putting_law.proofs.WithinLemmas.{ChangesWithin}
+use Rattle.pd_putting_law.specs.Puts.{boxes_before, with_before, put_before}
+use Rattle.pd_putting_law.proofs.WithinLemmas.{ChangesWithin, parts_at}
+
+-- what is counted box by box is more by what the boxes more count
+more_before : (f : Trees → ℕ) → ((t u : Trees) → f (join t u) ≡ f t + f u) → (n : ℕ) (t new : Trees) → f (boxes_before n new t) ≡ f t + f new
+more_before f joined n t new =
+    let q = parts_at n t in
+    sum (f q.before) (f new) (f q.behind) (f (join new q.behind)) (f t) (f (boxes_before n new t)) (joined new q.behind) (ap f q.whole ∙ joined q.before q.behind)
+    (ap f (q.more new) ∙ joined q.before (join new q.behind))
+  where
+    sum : (a n b i t x : ℕ) → i ≡ n + b → t ≡ a + b → x ≡ a + i → x ≡ t + n
+    sum a n b i t x h k e = omega (arith, h, k, e)
 
 -- ---- boxes and values
 
@@ -33,26 +43,26 @@ sound_join rate (Holder c s inner t) u =
     sum : (a i b c x : ℕ) → x ≡ b + c → a + (i + x) ≡ (a + (i + b)) + c
     sum a i b c x h = omega (arith, h)
 
-nest_weight : (nest : Nest) (u : Tree) (new : Trees) → weight (nested nest (with_boxes new u)).boxes ≡ weight (nested nest u).boxes + weight new
-nest_weight Alone u new = weight_join u.boxes new
-nest_weight (Inside sheet before c nest behind) u new =
+nest_weight : (nest : Nest) (u : Tree) (n : ℕ) (new : Trees) → weight (nested nest (with_before n new u)).boxes ≡ weight (nested nest u).boxes + weight new
+nest_weight Alone u n new = more_before weight weight_join n u.boxes new
+nest_weight (Inside sheet before c nest behind) u n new =
     let t = nested nest u in
-    let r = nested nest (with_boxes new u) in
+    let r = nested nest (with_before n new u) in
     sum (weight before) (weight t.boxes) (weight r.boxes) (weight behind) (weight new) (weight (join before (Holder c t.sheet t.boxes behind)))
     (weight (join before (Holder c r.sheet r.boxes behind))) (weight_join before (Holder c t.sheet t.boxes behind)) (weight_join before (Holder c r.sheet r.boxes behind))
-    (nest_weight nest u new)
+    (nest_weight nest u n new)
   where
     sum : (a t r b n x y : ℕ) → x ≡ a + (t + b + 1) → y ≡ a + (r + b + 1) → r ≡ t + n → y ≡ x + n
     sum a t r b n x y h k e = omega (arith, h, k, e)
 
-nest_sound : (rate : Rate) (nest : Nest) (u : Tree) (new : Trees) → sound_of rate (nested nest (with_boxes new u)).boxes ≡ sound_of rate (nested nest u).boxes + sound_of rate new
-nest_sound rate Alone u new = sound_join rate u.boxes new
-nest_sound rate (Inside sheet before c nest behind) u new =
+nest_sound : (rate : Rate) (nest : Nest) (u : Tree) (n : ℕ) (new : Trees) → sound_of rate (nested nest (with_before n new u)).boxes ≡ sound_of rate (nested nest u).boxes + sound_of rate new
+nest_sound rate Alone u n new = more_before (sound_of rate) (sound_join rate) n u.boxes new
+nest_sound rate (Inside sheet before c nest behind) u n new =
     let t = nested nest u in
-    let r = nested nest (with_boxes new u) in
+    let r = nested nest (with_before n new u) in
     sum (sound_of rate before) (size_of c.kind rate) (sound_of rate t.boxes) (sound_of rate r.boxes) (sound_of rate behind) (sound_of rate new)
     (sound_of rate (join before (Holder c t.sheet t.boxes behind))) (sound_of rate (join before (Holder c r.sheet r.boxes behind)))
-    (sound_join rate before (Holder c t.sheet t.boxes behind)) (sound_join rate before (Holder c r.sheet r.boxes behind)) (nest_sound rate nest u new)
+    (sound_join rate before (Holder c t.sheet t.boxes behind)) (sound_join rate before (Holder c r.sheet r.boxes behind)) (nest_sound rate nest u n new)
   where
     sum : (a s t r b n x y : ℕ) → x ≡ a + (s + (t + b)) → y ≡ a + (s + (r + b)) → r ≡ t + n → y ≡ x + n
     sum a s t r b n x y h k e = omega (arith, h, k, e)
@@ -83,26 +93,26 @@ wires_join (Holder c s inner t) u =
     sum : (a b c x : ℕ) → x ≡ b + c → a + x ≡ (a + b) + c
     sum a b c x h = omega (arith, h)
 
-sheet_stays : (nest : Nest) (u : Tree) (new : Trees) → (nested nest (with_boxes new u)).sheet ≡ (nested nest u).sheet
-sheet_stays Alone u new = refl
-sheet_stays (Inside sheet before c nest behind) u new = refl
+sheet_stays : (nest : Nest) (u : Tree) (n : ℕ) (new : Trees) → (nested nest (with_before n new u)).sheet ≡ (nested nest u).sheet
+sheet_stays Alone u n new = refl
+sheet_stays (Inside sheet before c nest behind) u n new = refl
 
 sub_wires : (c : Cell) (s : Sheet) (inner rest : Boxes) → c.head.form ≡ Sub → inner_wires (box_with c.head.form c.head s inner rest) ≡ length s.wires + inner_wires inner + inner_wires rest
 sub_wires c s inner rest f = box_wires c.head.form c.head s inner rest ∙ ap (λ (y : Shape). kept_wires y s inner + inner_wires rest) f
 
-nest_wires : (nest : Nest) (u : Tree) (new : Trees) → AreSubpatches nest
-    → inner_wires (document_boxes (nested nest (with_boxes new u)).boxes) ≡ inner_wires (document_boxes (nested nest u).boxes) + inner_wires (document_boxes new)
-nest_wires Alone u new f = wires_join u.boxes new
-nest_wires (Inside sheet before c nest behind) u new f =
+nest_wires : (nest : Nest) (u : Tree) (n : ℕ) (new : Trees) → AreSubpatches nest
+    → inner_wires (document_boxes (nested nest (with_before n new u)).boxes) ≡ inner_wires (document_boxes (nested nest u).boxes) + inner_wires (document_boxes new)
+nest_wires Alone u n new f = more_before (λ x. inner_wires (document_boxes x)) wires_join n u.boxes new
+nest_wires (Inside sheet before c nest behind) u n new f =
     let t = nested nest u in
-    let r = nested nest (with_boxes new u) in
+    let r = nested nest (with_before n new u) in
     let b = document_boxes behind in
     sum (inner_wires (document_boxes before)) (length t.sheet.wires) (length r.sheet.wires) (inner_wires (document_boxes t.boxes)) (inner_wires (document_boxes r.boxes))
     (inner_wires b) (inner_wires (document_boxes new)) (inner_wires (document_boxes (join before (Holder c t.sheet t.boxes behind))))
     (inner_wires (document_boxes (join before (Holder c r.sheet r.boxes behind))))
     (wires_join before (Holder c t.sheet t.boxes behind) ∙ ap (λ (x : ℕ). inner_wires (document_boxes before) + x) (sub_wires c t.sheet (document_boxes t.boxes) b f.0))
     (wires_join before (Holder c r.sheet r.boxes behind) ∙ ap (λ (x : ℕ). inner_wires (document_boxes before) + x) (sub_wires c r.sheet (document_boxes r.boxes) b f.0))
-    (ap (λ (s : Sheet). length s.wires) (sheet_stays nest u new)) (nest_wires nest u new f.1)
+    (ap (λ (s : Sheet). length s.wires) (sheet_stays nest u n new)) (nest_wires nest u n new f.1)
   where
     sum : (a l m t r b n x y : ℕ) → x ≡ a + (l + t + b) → y ≡ a + (m + r + b) → m ≡ l → r ≡ t + n → y ≡ x + n
     sum a l m t r b n x y h k e f = omega (arith, h, k, e, f)
@@ -158,6 +168,13 @@ module _ (names : Names) where
   are_last (Leaf c t) u a = are_last t u a.4
   are_last (Holder c s inner t) u a = are_last t u (rest_of c.head.form c.head s (document_boxes inner) (document_boxes (join t u)) a)
 
+  are_before : (n : ℕ) (t new : Trees) → AreBoxes names (document_boxes t) → AreBoxes names (document_boxes new) → AreBoxes names (document_boxes (boxes_before n new t))
+  are_before n t new a b =
+      let q = parts_at n t in
+      let all = subst (λ (x : Trees). AreBoxes names (document_boxes x)) q.whole a in
+      subst (λ (x : Trees). AreBoxes names (document_boxes x)) (sym (q.more new))
+      (are_joined q.before (join new q.behind) (are_first q.before q.behind all) (are_joined new q.behind b (are_last q.before q.behind all)))
+
   inner_are : (f : Shape) (h : Head) (s : Sheet) (inner rest : Boxes) → f ≡ Sub → AreBoxes names (box_with f h s inner rest) → AreBoxes names inner
   inner_are f h s inner rest e a = (subst (λ (y : Shape). AreBoxes names (box_with y h s inner rest)) e a).3
 
@@ -166,18 +183,18 @@ module _ (names : Names) where
   with_inner Sub h s inner other rest e a b = (a.0, subst (λ (y : Shape). HoldsNone y (page_of (frame_in s) other)) (sym e) tt, a.2, b, a.4)
   with_inner f h s inner other rest e a b = a
 
-  nest_boxes : (nest : Nest) (u : Tree) (new : Trees) → AreSubpatches nest → AreBoxes names (document_boxes (nested nest u).boxes) → AreBoxes names (document_boxes new)
-      → AreBoxes names (document_boxes (nested nest (with_boxes new u)).boxes)
-  nest_boxes Alone u new f a b = are_joined u.boxes new a b
-  nest_boxes (Inside sheet before c nest behind) u new f a b =
+  nest_boxes : (nest : Nest) (u : Tree) (n : ℕ) (new : Trees) → AreSubpatches nest → AreBoxes names (document_boxes (nested nest u).boxes) → AreBoxes names (document_boxes new)
+      → AreBoxes names (document_boxes (nested nest (with_before n new u)).boxes)
+  nest_boxes Alone u n new f a b = are_before n u.boxes new a b
+  nest_boxes (Inside sheet before c nest behind) u n new f a b =
       let t = nested nest u in
-      let r = nested nest (with_boxes new u) in
+      let r = nested nest (with_before n new u) in
       let hold = Holder c t.sheet t.boxes behind in
       let here : AreBoxes names (box_with c.head.form c.head t.sheet (document_boxes t.boxes) (document_boxes behind)) = are_last before hold a in
       let inner : AreBoxes names (document_boxes r.boxes) =
-      nest_boxes nest u new f.1 (inner_are c.head.form c.head t.sheet (document_boxes t.boxes) (document_boxes behind) f.0 here) b in
+      nest_boxes nest u n new f.1 (inner_are c.head.form c.head t.sheet (document_boxes t.boxes) (document_boxes behind) f.0 here) b in
       are_joined before (Holder c r.sheet r.boxes behind) (are_first before hold a)
-      (subst (λ (s : Sheet). AreBoxes names (box_with c.head.form c.head s (document_boxes r.boxes) (document_boxes behind))) (sym (sheet_stays nest u new))
+      (subst (λ (s : Sheet). AreBoxes names (box_with c.head.form c.head s (document_boxes r.boxes) (document_boxes behind))) (sym (sheet_stays nest u n new))
       (with_inner c.head.form c.head t.sheet (document_boxes t.boxes) (document_boxes r.boxes) (document_boxes behind) f.0 here inner))
 
   -- an element that holds no boxes
@@ -192,38 +209,38 @@ entry_wires e boxes wires = none (length e.page.wires) (inner_wires e.page.boxes
 
 -- ---- the tree with boxes more in a canvas
 
-module _ (path : List ℕ) (t u : Tree) (w : ChangesWithin path t u) (new : Trees) where
-  pub put_weight : weight (put_at path new t).boxes ≡ weight t.boxes + weight new
+module _ (path : List ℕ) (t u : Tree) (w : ChangesWithin path t u) (n : ℕ) (new : Trees) where
+  pub put_weight : weight (put_before path n new t).boxes ≡ weight t.boxes + weight new
   put_weight =
-      ap (λ (x : Tree). weight x.boxes) (w.changed (with_boxes new)) ∙ nest_weight w.nest u new ∙ ap (λ (x : Tree). weight x.boxes + weight new) (sym w.whole)
+      ap (λ (x : Tree). weight x.boxes) (w.changed (with_before n new)) ∙ nest_weight w.nest u n new ∙ ap (λ (x : Tree). weight x.boxes + weight new) (sym w.whole)
 
-  pub put_sound : (rate : Rate) → sound_of rate (put_at path new t).boxes ≡ sound_of rate t.boxes + sound_of rate new
+  pub put_sound : (rate : Rate) → sound_of rate (put_before path n new t).boxes ≡ sound_of rate t.boxes + sound_of rate new
   put_sound rate =
-      ap (λ (x : Tree). sound_of rate x.boxes) (w.changed (with_boxes new)) ∙ nest_sound rate w.nest u new
+      ap (λ (x : Tree). sound_of rate x.boxes) (w.changed (with_before n new)) ∙ nest_sound rate w.nest u n new
       ∙ ap (λ (x : Tree). sound_of rate x.boxes + sound_of rate new) (sym w.whole)
 
-  put_wires : inner_wires (document_boxes (put_at path new t).boxes) ≡ inner_wires (document_boxes t.boxes) + inner_wires (document_boxes new)
+  put_wires : inner_wires (document_boxes (put_before path n new t).boxes) ≡ inner_wires (document_boxes t.boxes) + inner_wires (document_boxes new)
   put_wires =
-      ap (λ (x : Tree). inner_wires (document_boxes x.boxes)) (w.changed (with_boxes new)) ∙ nest_wires w.nest u new w.subpatches
+      ap (λ (x : Tree). inner_wires (document_boxes x.boxes)) (w.changed (with_before n new)) ∙ nest_wires w.nest u n new w.subpatches
       ∙ ap (λ (x : Tree). inner_wires (document_boxes x.boxes) + inner_wires (document_boxes new)) (sym w.whole)
 
-  pub put_sheet : (put_at path new t).sheet ≡ t.sheet
-  put_sheet = ap (λ (x : Tree). x.sheet) (w.changed (with_boxes new)) ∙ sheet_stays w.nest u new ∙ ap (λ (x : Tree). x.sheet) (sym w.whole)
+  pub put_sheet : (put_before path n new t).sheet ≡ t.sheet
+  put_sheet = ap (λ (x : Tree). x.sheet) (w.changed (with_before n new)) ∙ sheet_stays w.nest u n new ∙ ap (λ (x : Tree). x.sheet) (sym w.whole)
 
-  put_boxes : (names : Names) → AreBoxes names (document_boxes t.boxes) → AreBoxes names (document_boxes new) → AreBoxes names (document_boxes (put_at path new t).boxes)
+  put_boxes : (names : Names) → AreBoxes names (document_boxes t.boxes) → AreBoxes names (document_boxes new) → AreBoxes names (document_boxes (put_before path n new t).boxes)
   put_boxes names a b =
-      subst (λ (x : Tree). AreBoxes names (document_boxes x.boxes)) (sym (w.changed (with_boxes new)))
-      (nest_boxes names w.nest u new w.subpatches (subst (λ (x : Tree). AreBoxes names (document_boxes x.boxes)) w.whole a) b)
+      subst (λ (x : Tree). AreBoxes names (document_boxes x.boxes)) (sym (w.changed (with_before n new)))
+      (nest_boxes names w.nest u n new w.subpatches (subst (λ (x : Tree). AreBoxes names (document_boxes x.boxes)) w.whole a) b)
 
   pub put_proper : (names : Names) → IsProper names (document_in t) → AreBoxes names (document_boxes new) → inner_wires (document_boxes new) ≡ 0
-      → weight (put_at path new t).boxes ≤ 16384 → levels (document_boxes (put_at path new t).boxes) ≤ 255 → IsProper names (document_in (put_at path new t))
+      → weight (put_before path n new t).boxes ≤ 16384 → levels (document_boxes (put_before path n new t).boxes) ≤ 255 → IsProper names (document_in (put_before path n new t))
   put_proper names h b none few low = record {
     sound = (subst (λ (s : Sheet). IsFrame names (frame_in s)) (sym put_sheet) h.sound.0, put_boxes names h.sound.1 b);
     limits = record {
-      boxes = within (pages.weight (document_boxes (put_at path new t).boxes)) (weight (put_at path new t).boxes) (document_weight (put_at path new t).boxes) few;
-      wires = same (length t.sheet.wires) (length (put_at path new t).sheet.wires) (inner_wires (document_boxes t.boxes)) (inner_wires (document_boxes new))
-          (inner_wires (document_boxes (put_at path new t).boxes)) (ap (λ (s : Sheet). length s.wires) put_sheet) none put_wires h.limits.wires;
-      levels = more (levels (document_boxes (put_at path new t).boxes)) low;
+      boxes = within (pages.weight (document_boxes (put_before path n new t).boxes)) (weight (put_before path n new t).boxes) (document_weight (put_before path n new t).boxes) few;
+      wires = same (length t.sheet.wires) (length (put_before path n new t).sheet.wires) (inner_wires (document_boxes t.boxes)) (inner_wires (document_boxes new))
+          (inner_wires (document_boxes (put_before path n new t).boxes)) (ap (λ (s : Sheet). length s.wires) put_sheet) none put_wires h.limits.wires;
+      levels = more (levels (document_boxes (put_before path n new t).boxes)) low;
     };
   }
     where

@@ -2,7 +2,7 @@ pub mod RoomLemmas
 pub mod WholeLemmas
 pub mod LineLemmas
 pub mod PartLemmas
-pub mod LastLemmas
+pub mod AloneLemmas
 pub mod InsideLemmas
 pub mod FollowLemmas
 pub mod AroundLemmas
@@ -14,3 +14,4 @@ pub mod HeadLemmas
 pub mod WrittenLemmas
 pub mod OwnerLemmas
 pub mod PutLemmas
+pub mod LastLemmas

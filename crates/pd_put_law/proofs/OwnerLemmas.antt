@@ -40,7 +40,7 @@ use Rattle.pd_putting_law.specs.Again.{StandsAgain}
 use Rattle.pd_adding.specs.declared.counts.Counts.{Counts}
 use Rattle.pd_putting.specs.declared.adding.NewBox.{NewBox}
 use Rattle.pd_canvas.specs.declared.edits.Edit.{Edit}
-use Rattle.pd_putting.specs.Adds.{IsBoxPut, IsSubPut, IsPortBoxPut, IsPartBoxPut, AddsBox}
+use Rattle.pd_putting.specs.Adds.{IsBoxPutAt, IsSubPutAt, IsPortBoxPutAt, IsPartBoxPutAt, AddsBoxAt}
 use Rattle.pd_put_law.proofs.ComeLemmas.{goes_on}
 
 -- ---- the same boxes in text order
@@ -132,19 +132,19 @@ own_same : (p q : Patch) (names : Names) (file : List ℕ) → RestStays p q →
 own_same p q names file r h class name =
     ap (λ ns. owners_of ns class name) r.names ∙ h class name ∙ sym (ap (λ (g : Grove). owners_in names file g class name) r.grove)
 
--- ---- an edit that put a box
+-- ---- a box that an edit names
 
-pub box_owners : (old new : Patch) (n : Counts) (name path : List ℕ) (now : ℕ) (e : Edit) (k after : Known) (b : NewBox) (t : Tree) → AddsBox old new n name path now e k after b
+pub box_owners : (old new : Patch) (number : ℕ) (n : Counts) (name path : List ℕ) (now : ℕ) (e : Edit) (k after : Known) (b : NewBox) (t : Tree) → AddsBoxAt old new number n name path now e k after b
     → RunsAs old.grove t → StandsAgain (answer_in k.files) name k.names t → HasOwners old k.names name → HasOwners new after.names name
-box_owners old new n name path now e k after b t X R A h =
+box_owners old new number n name path now e k after b t X R A h =
     let is : after.names ≡ X.added.known.names = ap (λ (x : Known). x.names) X.known_is in
-    let more : HasOwners old after.names name = own_more (answer_in k.files) name old k.names after.names t R.stands R.shallow A (goes_on old new n name path now e k after b X) h in
+    let more : HasOwners old after.names name = own_more (answer_in k.files) name old k.names after.names t R.stands R.shallow A (goes_on old new number n name path now e k after b X) h in
     let again : HasOwners old X.added.known.names name = subst (λ (ns : Names). HasOwners old ns name) is more in
     subst (λ (ns : Names). HasOwners new ns name) (sym is) (⊎_elim
-    (λ (P : IsBoxPut old new now X.added b.key). P.put.comes.owners name (room_own old P.ready X.added.known.names name P.room again))
-    (λ (other : IsSubPut old new now X.added b.key ⊎ (IsPortBoxPut old new now X.added b.key ⊎ IsPartBoxPut old new now X.added b.key)). ⊎_elim
-    (λ (P : IsSubPut old new now X.added b.key). P.put.comes.owners name (room_own old P.ready X.added.known.names name P.room again))
-    (λ (more : IsPortBoxPut old new now X.added b.key ⊎ IsPartBoxPut old new now X.added b.key). ⊎_elim
-    (λ (P : IsPortBoxPut old new now X.added b.key).
+    (λ (P : IsBoxPutAt old new number now X.added b.key). P.put.comes.owners name (room_own old P.ready X.added.known.names name P.room again))
+    (λ (other : IsSubPutAt old new number now X.added b.key ⊎ (IsPortBoxPutAt old new number now X.added b.key ⊎ IsPartBoxPutAt old new number now X.added b.key)). ⊎_elim
+    (λ (P : IsSubPutAt old new number now X.added b.key). P.put.comes.owners name (room_own old P.ready X.added.known.names name P.room again))
+    (λ (more : IsPortBoxPutAt old new number now X.added b.key ⊎ IsPartBoxPutAt old new number now X.added b.key). ⊎_elim
+    (λ (P : IsPortBoxPutAt old new number now X.added b.key).
     own_same P.put.ready new X.added.known.names name P.put.rest (P.put.comes.owners name (room_own old P.ready X.added.known.names name P.room again)))
-    (λ (P : IsPartBoxPut old new now X.added b.key). P.put.owners name (room_own old P.ready X.added.known.names name P.room again)) more) other) X.put)
+    (λ (P : IsPartBoxPutAt old new number now X.added b.key). P.put.owners name (room_own old P.ready X.added.known.names name P.room again)) more) other) X.put)

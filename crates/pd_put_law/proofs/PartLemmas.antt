@@ -1,5 +1,5 @@
--- A box that an edit put with all that lies in it comes last into its canvas, and as many wires come as fit in it.
-use Rattle.std.proofs.Common.{◌≡◌, ◌<◌, ◌+◌, ℕ, zero, suc, Bool, true, false, cond, List, [], ◌∷◌, ◌++◌, length, length-append, append-nil, slice_get, Option, Some, None, IsSome, IsTrue, nat_eq, inl, inr, eqb-true, true≢false, refl, sym, ap, ◌∙◌, subst, arith}
+-- A box that an edit names comes with all that lies in it into its canvas, and as many wires come as fit in it.
+use Rattle.std.proofs.Common.{◌≡◌, ◌<◌, ◌≤◌, ◌+◌, ℕ, zero, suc, Bool, true, false, cond, List, [], ◌∷◌, ◌++◌, length, length-append, append-nil, slice_get, Option, Some, None, IsSome, IsTrue, nat_eq, inl, inr, eqb-true, true≢false, refl, sym, ap, ◌∙◌, subst, arith}
 use Rattle.std.specs.Prelude.{◌⊎◌, option_map}
 use Rattle.std.specs.List.{AllByRecursion}
 use Rattle.std.proofs.lemmas.Bool.{or_cases, false≢true}
@@ -46,8 +46,8 @@ use Rattle.pd_reload_law.proofs.SortedLemmas.{all_append}
 use Rattle.pd_putting_law.specs.Putting.{ComeFresh, IsNewBox, IsNewHolder}
 use Rattle.pd_putting_law.proofs.StandLemmas.{seen_inner}
 use Rattle.pd_adding.specs.Growing.{Added}
-use Rattle.pd_putting.specs.Adds.{last_place, IsPartBoxPut}
-use Rattle.pd_put_law.proofs.LastLemmas.{at_end, can_room, leads_room}
+use Rattle.pd_putting.specs.Adds.{place_at, IsPartBoxPutAt}
+use Rattle.pd_put_law.proofs.AloneLemmas.{can_room, leads_room, within_room}
 use Rattle.pd_put_law.proofs.WholeLemmas.{ComesWhole}
 
 -- ---- keys
@@ -184,8 +184,8 @@ seen_keys : (o : Option Board) (x : BoardSeen) → option_map board_seen o ≡ S
 seen_keys None x h = absurd (none-some x h)
 seen_keys (Some b) x h = ap (λ (y : BoardSeen). y.keys) (same_Some (board_seen b) x h)
 
-module _ (old new : Patch) (now : ℕ) (a : Added) (path : List ℕ) (key : ℕ) (can : CanPut old) (leads : sub_reached old.grove (Some old.grove.root) path ≡ Some a.canvas)
-    (P : IsPartBoxPut old new now a key) (is_new : IsNewBox a.boxes) (bare : HoldersAreNoPorts a.boxes) where
+module _ (old new : Patch) (number now : ℕ) (a : Added) (path : List ℕ) (key : ℕ) (can : CanPut old) (leads : sub_reached old.grove (Some old.grove.root) path ≡ Some a.canvas)
+    (within : number ≤ length (keys_at old.grove a.canvas)) (P : IsPartBoxPutAt old new number now a key) (is_new : IsNewBox a.boxes) (bare : HoldersAreNoPorts a.boxes) where
   abbrev mid : Patch
   mid = P.ready
 
@@ -202,7 +202,7 @@ module _ (old new : Patch) (now : ℕ) (a : Added) (path : List ℕ) (key : ℕ)
   boards = get new.grove.boards
 
   can_mid : CanPut mid
-  can_mid = can_room old mid new a.known.names path c key P.seed P.room can P.goes_on.forest P.goes_on.runs.numbers leads
+  can_mid = can_room old mid new a.known.names path c key number P.seed P.room can P.goes_on.forest P.goes_on.runs.numbers leads within
 
   pub part_stands : Stands nodes boards c (depth_of (get mid.grove.boards c)) (key ∷ []) a.boxes
   part_stands = P.put.stands a.boxes P.are_rows (ap width P.holder.single)
@@ -236,7 +236,7 @@ module _ (old new : Patch) (now : ℕ) (a : Added) (path : List ℕ) (key : ℕ)
   -- a box of a canvas that came is one of them
   came : (d i k : ℕ) → get mid.grove.boards d ≡ None → slice_get (keys_at new.grove d) i ≡ Some k → IsTrue (is_among part k)
   came d i k none at =
-      came_inside mid.grove new.grove c key (keys_before mid (last_place old c)) (keys_behind mid (last_place old c)) can_mid.forest P.put.root P.put.grove part P.put.comes.is_part k d none
+      came_inside mid.grove new.grove c key (keys_before mid (place_at c number)) (keys_behind mid (place_at c number)) can_mid.forest P.put.root P.put.grove part P.put.comes.is_part k d none
       (P.goes_on.forest.own.home d i k at)
 
   -- a canvas that came is in one of them
@@ -276,13 +276,14 @@ module _ (old new : Patch) (now : ℕ) (a : Added) (path : List ℕ) (key : ℕ)
       empty_keys nodes boards S.0 (depth_of (boards c) + 1) S.1 P.holder.inner S.4 (new_empty P.holder.cell.head.form P.holder.sheet P.holder.inner holder f.0) in
       ap (λ (x : ℕ). keys_at new.grove x) (sym (same_Some S.0 d f.1)) ∙ seen_keys (boards S.0) _ S.3 ∙ none
 
-  pub part_whole : ComesWhole mid new path c key
+  pub part_whole : ComesWhole mid new path c key number
   part_whole = record {
     can = can_mid;
     forest = P.goes_on.forest;
     numbered = P.goes_on.runs.numbers;
-    leads = leads_room old mid new a.known.names path c key P.seed P.room can P.goes_on.forest P.goes_on.runs.numbers leads;
-    part = at_end old mid new a.known.names path c key P.seed P.room can P.goes_on.forest P.goes_on.runs.numbers leads P.put.grove;
+    leads = leads_room old mid new a.known.names path c key number P.seed P.room can P.goes_on.forest P.goes_on.runs.numbers leads within;
+    part = P.put.grove;
+    within = within_room old mid new a.known.names path c key number P.seed P.room can P.goes_on.forest P.goes_on.runs.numbers leads within;
     root = P.put.root;
     own = own_empty;
     stays = record {

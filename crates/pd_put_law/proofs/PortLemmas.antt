@@ -1,5 +1,5 @@
--- A port box that an edit put comes last into its canvas, and then the box around has the port that it is.
-use Rattle.std.proofs.Common.{◌≡◌, ℕ, List, Some, sym, ap, ◌∙◌, subst}
+-- A port box that an edit names comes into its canvas, and then the box around has the port that it is.
+use Rattle.std.proofs.Common.{◌≡◌, ◌≤◌, ℕ, List, length, Some, sym, ◌∙◌, subst}
 use Rattle.slab.specs.Slab.{get}
 use Rattle.pd_grove.specs.declared.grove.Grove.{Grove}
 use Rattle.pd_grove.specs.declared.ports.Side.{Side}
@@ -20,20 +20,20 @@ use Rattle.pd_following.specs.Ports.{port_jack}
 use Rattle.pd_following.specs.Raising.{IsOneMore}
 use Rattle.pd_following.proofs.ComeLemmas.{hold_alone, ready_holds, ready_one_more}
 use Rattle.pd_following_law.specs.Raised.{StandsAt}
-use Rattle.pd_putting.specs.Adds.{last_place, IsPortBoxPut}
+use Rattle.pd_putting.specs.Adds.{place_at, IsPortBoxPutAt}
 use Rattle.pd_put_law.proofs.HomeLemmas.{had_known}
-use Rattle.pd_put_law.proofs.LastLemmas.{ComesLast, as_whole, leaf_last}
-use Rattle.pd_put_law.proofs.InsideLemmas.{subs_more}
+use Rattle.pd_put_law.proofs.AloneLemmas.{ComesAlone, as_whole, leaf_alone}
+use Rattle.pd_put_law.proofs.InsideLemmas.{leads_still}
 use Rattle.pd_put_law.proofs.AroundLemmas.{HasFollowed, holder_stands}
 
-module _ (old new : Patch) (now : ℕ) (a : Added) (path : List ℕ) (key : ℕ) (can : CanPut old) (leads : sub_reached old.grove (Some old.grove.root) path ≡ Some a.canvas)
-    (P : IsPortBoxPut old new now a key) where
+module _ (old new : Patch) (number now : ℕ) (a : Added) (path : List ℕ) (key : ℕ) (can : CanPut old) (leads : sub_reached old.grove (Some old.grove.root) path ≡ Some a.canvas)
+    (within : number ≤ length (keys_at old.grove a.canvas)) (P : IsPortBoxPutAt old new number now a key) where
   -- the patch with the box, before the box around has its port
   abbrev done : Patch
   done = P.put.ready
 
   abbrev place : Place
-  place = last_place old a.canvas
+  place = place_at a.canvas number
 
   abbrev holder : ℕ
   holder = P.port.holder
@@ -57,8 +57,8 @@ module _ (old new : Patch) (now : ℕ) (a : Added) (path : List ℕ) (key : ℕ)
       subst (λ (g : Grove). AreNumbered done.numbers.items (keys_at g c)) P.put.rest.grove
       (subst (λ ns. AreNumbered ns.items (keys_at new.grove c)) P.put.rest.numbers (P.goes_on.runs.numbers c))
 
-  pub port_last : ComesLast P.ready done path a.canvas key
-  port_last = leaf_last old P.ready done a.known.names path a.canvas key P.seed P.room can forest numbered leads P.put.comes
+  pub port_alone : ComesAlone P.ready done path a.canvas key number
+  port_alone = leaf_alone old P.ready done a.known.names path a.canvas key number P.seed P.room can forest numbered leads within P.put.comes
 
   inside : StayInside done.grove done.web
   inside =
@@ -71,9 +71,7 @@ module _ (old new : Patch) (now : ℕ) (a : Added) (path : List ℕ) (key : ℕ)
       record { within = P.put.raises.within; ports = sym P.put.follows.ports ∙ P.put.raises.ports; boxes = one.boxes; apart = one.apart }
 
   leads_done : sub_reached done.grove (Some done.grove.root) path ≡ Some a.canvas
-  leads_done =
-      ap (λ (r : ℕ). sub_reached done.grove (Some r) path) port_last.root
-      ∙ subs_more P.ready done path a.canvas key (as_whole P.ready done path a.canvas key port_last) path P.ready.grove.root a.canvas port_last.leads
+  leads_done = leads_still P.ready done path a.canvas key number (as_whole P.ready done path a.canvas key number port_alone)
 
   holds : inner_in (get done.grove.nodes holder) ≡ Some a.canvas
   holds = ready_holds P.ready done a.known.names place P.seed key holder side P.could P.put.comes known

@@ -1,5 +1,5 @@
--- A box that comes last into a canvas of the patch's own document, with all that lies in it.
-use Rattle.std.proofs.Common.{◌≡◌, ◌≢◌, ℕ, List, [], ◌∷◌, ◌++◌, slice_get, Some, None, IsSome, ap}
+-- A box that comes into a canvas of the patch's own document, with all that lies in it.
+use Rattle.std.proofs.Common.{◌≡◌, ◌≢◌, ◌≤◌, ℕ, List, [], ◌∷◌, ◌++◌, length, take, drop, slice_get, Some, None, IsSome, ap}
 use Rattle.slab.specs.Slab.{get}
 use Rattle.pd_tree.specs.Trees.{Tree}
 use Rattle.pd_grove.specs.declared.ports.Side.{Side}
@@ -19,7 +19,7 @@ use Rattle.pd_boxes.specs.Put.{CanPut}
 use Rattle.pd_saved_law.proofs.EditLemmas.{stays_among}
 use Rattle.pd_reload_law.specs.Wires.{AreNumbered}
 use Rattle.pd_alike_law.specs.Feeds.{FedOnce}
-use Rattle.pd_putting_law.specs.Putting.{HasBoxLast, KeepsWires}
+use Rattle.pd_putting_law.specs.Putting.{HasBoxAt, KeepsWires}
 use Rattle.pd_putting_law.proofs.PathLemmas.{Forest}
 
 -- the boxes that were there have the ports and the wires that they had
@@ -39,14 +39,15 @@ pub record IsLaid (p q : Patch) : Type 0 where
       → places_of (feed_hops q.web k inlet) ≡ feeding k inlet (lines_at q.grove d)
   pub bare : (d i k : ℕ) (u : Tree) → get p.grove.boards d ≡ None → slice_get (keys_at q.grove d) i ≡ Some k → CanvasStands q.grove d u → HoldersAreNoPorts u.boxes
 
--- A box, under a key that had none, last in a canvas of the patch's own document, with all that lies in it. It has no wires, and where it is a
--- subpatch no boxes.
-pub record ComesWhole (p q : Patch) (path : List ℕ) (c key : ℕ) : Type 0 where
+-- A box, under a key that had none, at a number of a canvas of the patch's own document, with all that lies in it. It has no wires, and where it is
+-- a subpatch no boxes.
+pub record ComesWhole (p q : Patch) (path : List ℕ) (c key number : ℕ) : Type 0 where
   pub can : CanPut p
   pub forest : Forest q.grove
   pub numbered : (d : ℕ) → AreNumbered q.numbers.items (keys_at q.grove d)
   pub leads : sub_reached p.grove (Some p.grove.root) path ≡ Some c
-  pub part : HasPartMore (get p.grove.nodes) (get q.grove.nodes) (get p.grove.boards) (get q.grove.boards) c key (keys_at p.grove c) []
+  pub part : HasPartMore (get p.grove.nodes) (get q.grove.nodes) (get p.grove.boards) (get q.grove.boards) c key (take number (keys_at p.grove c)) (drop number (keys_at p.grove c))
+  pub within : number ≤ length (keys_at p.grove c)
   pub root : q.grove.root ≡ p.grove.root
   pub own : (d : ℕ) → sub_in (get q.grove.nodes key) ≡ Some d → keys_at q.grove d ≡ []
   pub stays : BoxesStay p q
@@ -55,8 +56,8 @@ pub record ComesWhole (p q : Patch) (path : List ℕ) (c key : ℕ) : Type 0 whe
   pub fed : FedOnce p.web → FedOnce q.web
   pub meet : Meet p.web → Meet q.web
 
-module _ (p q : Patch) (path : List ℕ) (c key : ℕ) (C : ComesWhole p q path c key) where
-  pub keys_more : keys_at q.grove c ≡ keys_at p.grove c ++ key ∷ []
+module _ (p q : Patch) (path : List ℕ) (c key number : ℕ) (C : ComesWhole p q path c key number) where
+  pub keys_more : keys_at q.grove c ≡ take number (keys_at p.grove c) ++ key ∷ drop number (keys_at p.grove c)
   keys_more = C.part.has
 
   pub keys_stay : (d : ℕ) → d ≢ c → IsSome (get p.grove.boards d) → keys_at q.grove d ≡ keys_at p.grove d
@@ -71,5 +72,5 @@ module _ (p q : Patch) (path : List ℕ) (c key : ℕ) (C : ComesWhole p q path 
     renumbered = C.numbered;
   }
 
-  pub last : HasBoxLast p.grove q.grove path c key
-  last = record { forest = C.can.forest; leads = C.leads; part = C.part; root = C.root }
+  pub comes_at : HasBoxAt p.grove q.grove path c key number
+  comes_at = record { forest = C.can.forest; leads = C.leads; part = C.part; within = C.within; root = C.root }

@@ -39,8 +39,8 @@ use Rattle.pd_contents_law.proofs.MadeLemmas.{made_contents}
 use Rattle.pd_contents_law.proofs.SettledLemmas.{onward, table_before, contents_more}
 use Rattle.pd_proper_law.specs.Saves.{kinds_of, is_written, form_of, IsOwnBox, IsWritten}
 use Rattle.pd_putting_law.specs.Again.{StandsAgain}
-use Rattle.pd_putting_law.specs.Puts.{put_at}
-use Rattle.pd_putting_law.proofs.AgainLemmas.{box_is, new_made}
+use Rattle.pd_putting_law.specs.Puts.{put_before}
+use Rattle.pd_putting_law.proofs.AgainLemmas.{box_is, made_more}
 use Rattle.pd_putting_law.proofs.PathLemmas.{live_box}
 use Rattle.pd_putting_law.proofs.StandLemmas.{path_along}
 use Rattle.pd_putting_law.proofs.WithinLemmas.{path_within}
@@ -48,7 +48,7 @@ use Rattle.pd_adding.specs.declared.counts.Counts.{Counts}
 use Rattle.pd_adding.specs.Boxes.{settled_edit}
 use Rattle.pd_adding.specs.Counts.{stock_by}
 use Rattle.pd_putting.specs.declared.adding.NewBox.{NewBox}
-use Rattle.pd_putting.specs.Adds.{AddsBox}
+use Rattle.pd_putting.specs.Adds.{AddsBoxAt}
 use Rattle.pd_put_law.proofs.RoomLemmas.{room_subs}
 use Rattle.pd_put_law.proofs.ComeLemmas.{HasComeIn, box, element, may, puts, bare, written, came, files, grew_so, six, goes_on, low, grew, box_again}
 use Rattle.pd_put_law.proofs.InsideLemmas.{subs_back, was_at}
@@ -115,13 +115,14 @@ room_contents p q names states r h k w =
 canvas_settled : (names : Names) (k : Kind) → k ≡ kind.Canvas → IsKindSettled names k
 canvas_settled names k e = subst (IsKindSettled names) (sym e) tt
 
-module _ (old new : Patch) (n : Counts) (name path : List ℕ) (now : ℕ) (e : Edit) (k after : Known) (b : NewBox) (X : AddsBox old new n name path now e k after b)
+module _ (old new : Patch) (number : ℕ) (n : Counts) (name path : List ℕ) (now : ℕ) (e : Edit) (k after : Known) (b : NewBox)
+    (X : AddsBoxAt old new number n name path now e k after b)
     (can : CanPut old) (t : Tree) (R : RunsAs old.grove t) (A : StandsAgain (answer_in k.files) name k.names t) where
   abbrev it : Trees
-  it = box old new n name path now e k after b X
+  it = box old new number n name path now e k after b X
 
-  abbrev in_it : HasComeIn old new now X.added path b.key
-  in_it = came old new n name path now e k after b X can
+  abbrev in_it : HasComeIn old new number now X.added path b.key
+  in_it = came old new number n name path now e k after b X can
 
   abbrev c : Cell
   c = in_it.cell
@@ -139,42 +140,42 @@ module _ (old new : Patch) (n : Counts) (name path : List ℕ) (now : ℕ) (e : 
   here = X.added.canvas
 
   abbrev known_then : Known
-  known_then = files old new n name path now e k after b X
+  known_then = files old new number n name path now e k after b X
 
   abbrev drawn : Entry
-  drawn = element old new n name path now e k after b X
+  drawn = element old new number n name path now e k after b X
 
   long : 6 ≤ length k.names
-  long = six old new n name path now e k after b X
+  long = six old new number n name path now e k after b X
 
   more : Extends k.names after.names
-  more = goes_on old new n name path now e k after b X
+  more = goes_on old new number n name path now e k after b X
 
   along : (u : Tree) × (own_along path t ≡ Some u) × CanvasStands old.grove here u × (depth_of (get old.grove.boards here) ≡ length path)
-  along = path_along old.grove path here t can.forest R.stands (may old new n name path now e k after b X).leads
+  along = path_along old.grove path here t can.forest R.stands (may old new number n name path now e k after b X).leads
 
   document : document_boxes it ≡ boxed (drawn ∷ [])
   document =
-      let B = bare old new n name path now e k after b X in
-      box_is (answer_in known_then.files) name (255 - length path) t.sheet.zero drawn (stock_by known_then.names n) (grew_so old new n name path now e k after b X).after it
-      (low old new n name path now e k after b X) B.holds (subst HoldNone (sym B.boxes) tt) (grew old new n name path now e k after b X can t R A)
+      let B = bare old new number n name path now e k after b X in
+      box_is (answer_in known_then.files) name (255 - length path) t.sheet.zero drawn (stock_by known_then.names n) (grew_so old new number n name path now e k after b X).after it
+      (low old new number n name path now e k after b X) B.holds (subst HoldNone (sym B.boxes) tt) (grew old new number n name path now e k after b X can t R A)
 
   made : AreMade it
-  made = new_made (answer_in after.files) name after.names path t along.0 it along.1 (box_again old new n name path now e k after b X can t R A)
+  made = made_more (answer_in after.files) name after.names path number t along.0 it along.1 (box_again old new number n name path now e k after b X can t R A)
 
   -- ---- the document
 
   text_later : (later : Names) → Extends k.names later → IsTable later → AreReady later drawn.head.text
-  text_later later on table = ready_later k.names later on long table drawn.head.text (written old new n name path now e k after b X).text
+  text_later later on table = ready_later k.names later on long table drawn.head.text (written old new number n name path now e k after b X).text
 
   head_proper : (later : Names) → Extends k.names later → IsTable later → IsHead later drawn.head
   head_proper later on table =
-      let w = written old new n name path now e k after b X in
-      let p : IsPlainHead drawn.head = put_plain (settled_edit k.names e) drawn (puts old new n name path now e k after b X) in
+      let w = written old new number n name path now e k after b X in
+      let p : IsPlainHead drawn.head = put_plain (settled_edit k.names e) drawn (puts old new number n name path now e k after b X) in
       record {
         x = w.x;
         y = w.y;
-        text = (text_later later on table, (may old new n name path now e k after b X).short);
+        text = (text_later later on table, (may old new number n name path now e k after b X).short);
         width = subst IsWidth (sym p.width) tt;
         tail = subst (AllByRecursion (AreReady later)) (sym p.tail) tt;
         form = p.form later;
@@ -182,28 +183,28 @@ module _ (old new : Patch) (n : Counts) (name path : List ℕ) (now : ℕ) (e : 
 
   boxes_proper : (later : Names) → Extends k.names later → IsTable later → AreBoxes later (document_boxes it)
   boxes_proper later on table =
-      let B = bare old new n name path now e k after b X in
+      let B = bare old new number n name path now e k after b X in
       let f : IsFrame later (frame_of drawn.page) =
-      put_frame later table (settled_edit k.names e) drawn (puts old new n name path now e k after b X) (text_later later on table) in
+      put_frame later table (settled_edit k.names e) drawn (puts old new number n name path now e k after b X) (text_later later on table) in
       subst (AreBoxes later) (sym document) (entry_boxes later drawn (head_proper later on table) B.holds f B.boxes)
 
   none_wired : inner_wires (document_boxes it) ≡ 0
   none_wired =
-      let B = bare old new n name path now e k after b X in
+      let B = bare old new number n name path now e k after b X in
       ap inner_wires document ∙ entry_wires drawn B.boxes B.wires
 
-  pub box_proper : (later : Names) → Extends after.names later → IsTable later → weight (put_at path it t).boxes ≤ 16384 → IsProper later (document_in t)
-      → IsProper later (document_in (put_at path it t))
+  pub box_proper : (later : Names) → Extends after.names later → IsTable later → weight (put_before path number it t).boxes ≤ 16384 → IsProper later (document_in t)
+      → IsProper later (document_in (put_before path number it t))
   box_proper later on table few h =
-      put_proper path t along.0 (path_within path t along.0 along.1) it later h (boxes_proper later (onward k.names after.names later more on) table) none_wired few
-      (box_again old new n name path now e k after b X can t R A).shallow
+      put_proper path t along.0 (path_within path t along.0 along.1) number it later h (boxes_proper later (onward k.names after.names later more on) table) none_wired few
+      (box_again old new number n name path now e k after b X can t R A).shallow
 
   -- ---- what is written of boxes
 
   leaf_settled : it ≡ Leaf c Done → is_written c.head.form ≡ true → IsKindSettled after.names c.kind
   leaf_settled single w =
       let head : c.head ≡ drawn.head = same_head c drawn (ap document_boxes (sym single) ∙ document) in
-      let text : AreReady k.names c.head.text = subst (λ (h : Head). AreReady k.names h.text) (sym head) (written old new n name path now e k after b X).text in
+      let text : AreReady k.names c.head.text = subst (λ (h : Head). AreReady k.names h.text) (sym head) (written old new number n name path now e k after b X).text in
       let all : AreMade (Leaf c Done) = subst AreMade single made in
       kind_stays k.names after.names more long c.head.form c refl all.0 text w
 
@@ -222,18 +223,18 @@ module _ (old new : Patch) (n : Counts) (name path : List ℕ) (now : ℕ) (e : 
 
   was_own : (j : ℕ) → j ≢ b.key → IsOwnBox done.grove j → WasOwn j
   was_own j d w =
-      let back = subs_back mid done path here b.key in_it.whole w.path w.canvas w.place j w.leads w.at in
-      let at = was_at mid done path here b.key in_it.whole w.canvas w.place j back.1 d w.at in
+      let back = subs_back mid done path here b.key number in_it.whole w.path w.canvas w.place j w.leads w.at in
+      let at = was_at mid done path here b.key number in_it.whole w.canvas w.place j back.2 d w.at in
       record {
         own = record {
-          path = w.path;
+          path = back.0;
           canvas = w.canvas;
-          place = w.place;
-          leads = sym (room_subs old.grove mid.grove in_it.room.grove w.path) ∙ back.0;
-          at = ap (λ (ks : List ℕ). slice_get ks w.place) (sym (keys_same old.grove mid.grove in_it.room.grove w.canvas)) ∙ at;
+          place = at.0;
+          leads = sym (room_subs old.grove mid.grove in_it.room.grove back.0) ∙ back.1;
+          at = ap (λ (ks : List ℕ). slice_get ks at.0) (sym (keys_same old.grove mid.grove in_it.room.grove w.canvas)) ∙ at.1;
         };
         same = ap (λ (g : Grove). get g.nodes j) in_it.around.grove
-            ∙ in_it.whole.part.boxes_stay j (live_box mid.grove in_it.whole.can.forest w.canvas w.place j at) ∙ in_it.room.grove.nodes j;
+            ∙ in_it.whole.part.boxes_stay j (live_box mid.grove in_it.whole.can.forest w.canvas at.0 j at.1) ∙ in_it.room.grove.nodes j;
       }
 
   new_contents : IsWritten new.grove b.key → IfSome (states_of new b.key) (HasContents (counts_of (kinds_of new) b.key) after.names)

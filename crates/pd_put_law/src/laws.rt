@@ -23,8 +23,8 @@ ghost use Rattle.pd_proper_law.specs.Saves.{kinds_of, IsWritten};
 ghost use Rattle.pd_putting_law.specs.Again.{StandsAgain};
 ghost use Rattle.pd_adding.specs.declared.counts.Counts.{Counts};
 ghost use Rattle.pd_putting.specs.declared.adding.NewBox.{NewBox};
-ghost use Rattle.pd_putting.specs.Adds.{AddsBox};
-ghost use Rattle.pd_putting_law.specs.Puts.{put_at};
+ghost use Rattle.pd_putting.specs.Adds.{next_number, AddsBox, AddsBoxAt};
+ghost use Rattle.pd_putting_law.specs.Puts.{put_at, put_before};
 
 /// Where room was set aside for boxes the same tree stands, its wires hold and fit, and there are as many; each name has its owners, and what a save
 /// writes of boxes stays.
@@ -82,6 +82,55 @@ pub fn boxes_can_be_saved()
         IsProper later (document_in t) → IsProper later (document_in (put_at path adds.added.boxes t)) }
     ensures contents { (old new : Patch) (n : Counts) (name path : List ℕ) (now : ℕ) (e : Edit) (k after : Known) (b : NewBox) (t : Tree) →
         AddsBox old new n name path now e k after b → CanPut old → RunsAs old.grove t → StandsAgain (answer_in k.files) name k.names t →
+        HaveContents (IsWritten old.grove) (counts_of (kinds_of old)) k.names (states_of old) →
+        HaveContents (IsWritten new.grove) (counts_of (kinds_of new)) after.names (states_of new) }
+{}
+
+/// Where a box that an edit names came at any number of its canvas, the table of names goes on, and the tree that stood stands with the box there, before the one that had
+/// its number. It grows again from its own document, its wires hold and fit, and as many came as fit in the box; each name has its owners. A box that an edit put last is such a box.
+pub fn boxes_come_to_places()
+    ensures last { (old new : Patch) (n : Counts) (name path : List ℕ) (now : ℕ) (e : Edit) (k after : Known) (b : NewBox) →
+        (adds : AddsBox old new n name path now e k after b) → AddsBoxAt old new (next_number old adds.added) n name path now e k after b }
+    ensures names { (old new : Patch) (number : ℕ) (n : Counts) (name path : List ℕ) (now : ℕ) (e : Edit) (k after : Known) (b : NewBox) →
+        AddsBoxAt old new number n name path now e k after b → Extends k.names after.names }
+    ensures runs { (old new : Patch) (number : ℕ) (n : Counts) (name path : List ℕ) (now : ℕ) (e : Edit) (k after : Known) (b : NewBox) (t : Tree) →
+        (adds : AddsBoxAt old new number n name path now e k after b) → CanPut old → RunsAs old.grove t → StandsAgain (answer_in k.files) name k.names t →
+        RunsAs new.grove (put_before path number adds.added.boxes t) }
+    ensures again { (old new : Patch) (number : ℕ) (n : Counts) (name path : List ℕ) (now : ℕ) (e : Edit) (k after : Known) (b : NewBox) (t : Tree) →
+        (adds : AddsBoxAt old new number n name path now e k after b) → CanPut old → RunsAs old.grove t → StandsAgain (answer_in k.files) name k.names t →
+        StandsAgain (answer_in after.files) name after.names (put_before path number adds.added.boxes t) }
+    ensures holds { (old new : Patch) (number : ℕ) (n : Counts) (name path : List ℕ) (now : ℕ) (e : Edit) (k after : Known) (b : NewBox) (t : Tree) →
+        (adds : AddsBoxAt old new number n name path now e k after b) → CanPut old → RunsAs old.grove t → HoldsWires old t →
+        HoldsWires new (put_before path number adds.added.boxes t) }
+    ensures fit { (old new : Patch) (number : ℕ) (n : Counts) (name path : List ℕ) (now : ℕ) (e : Edit) (k after : Known) (b : NewBox) →
+        AddsBoxAt old new number n name path now e k after b → CanPut old → WiresFit old → WiresFit new }
+    ensures wires { (old new : Patch) (number : ℕ) (n : Counts) (name path : List ℕ) (now : ℕ) (e : Edit) (k after : Known) (b : NewBox) →
+        (adds : AddsBoxAt old new number n name path now e k after b) → CanPut old → wires_told new.web ≡ wires_told old.web + wires_inside adds.added.boxes }
+    ensures owners { (old new : Patch) (number : ℕ) (n : Counts) (name path : List ℕ) (now : ℕ) (e : Edit) (k after : Known) (b : NewBox) (t : Tree) →
+        AddsBoxAt old new number n name path now e k after b → RunsAs old.grove t → StandsAgain (answer_in k.files) name k.names t →
+        HasOwners old k.names name → HasOwners new after.names name }
+{}
+
+/// The counts with such a box are those of the tree with it.
+pub fn counts_follow_places()
+    ensures boxes { (old new : Patch) (number : ℕ) (n : Counts) (name path : List ℕ) (now : ℕ) (e : Edit) (k after : Known) (b : NewBox) (t : Tree) →
+        (adds : AddsBoxAt old new number n name path now e k after b) → CanPut old → RunsAs old.grove t → n.boxes ≡ weight t.boxes →
+        b.counts.boxes ≡ weight (put_before path number adds.added.boxes t).boxes }
+    ensures wires { (old new : Patch) (number : ℕ) (n : Counts) (name path : List ℕ) (now : ℕ) (e : Edit) (k after : Known) (b : NewBox) →
+        (adds : AddsBoxAt old new number n name path now e k after b) → b.counts.wires ≡ n.wires + wires_inside adds.added.boxes }
+    ensures sound { (old new : Patch) (number : ℕ) (n : Counts) (name path : List ℕ) (now : ℕ) (e : Edit) (k after : Known) (b : NewBox) (t : Tree) →
+        (adds : AddsBoxAt old new number n name path now e k after b) → CanPut old → RunsAs old.grove t → n.sound ≡ sound_of old.rate t.boxes →
+        b.counts.sound ≡ sound_of old.rate (put_before path number adds.added.boxes t).boxes }
+{}
+
+/// The document of the tree with such a box is proper where that of the tree was, and what a save writes of boxes stays so with it.
+pub fn places_can_be_saved()
+    ensures proper { (old new : Patch) (number : ℕ) (n : Counts) (name path : List ℕ) (now : ℕ) (e : Edit) (k after : Known) (b : NewBox) (t : Tree) (later : Names) →
+        (adds : AddsBoxAt old new number n name path now e k after b) → CanPut old → RunsAs old.grove t → StandsAgain (answer_in k.files) name k.names t →
+        Extends after.names later → IsTable later → weight (put_before path number adds.added.boxes t).boxes ≤ 16384 →
+        IsProper later (document_in t) → IsProper later (document_in (put_before path number adds.added.boxes t)) }
+    ensures contents { (old new : Patch) (number : ℕ) (n : Counts) (name path : List ℕ) (now : ℕ) (e : Edit) (k after : Known) (b : NewBox) (t : Tree) →
+        AddsBoxAt old new number n name path now e k after b → CanPut old → RunsAs old.grove t → StandsAgain (answer_in k.files) name k.names t →
         HaveContents (IsWritten old.grove) (counts_of (kinds_of old)) k.names (states_of old) →
         HaveContents (IsWritten new.grove) (counts_of (kinds_of new)) after.names (states_of new) }
 {}

@@ -1,5 +1,5 @@
 -- A box that an edit puts into a canvas of a running patch.
-use Rattle.std.specs.Prelude.{◌≡◌, ◌⊎◌, ◌<◌, ◌+◌, ℕ, List, ◌∷◌, length, Option, Some, None, Ok, Err, IfSome}
+use Rattle.std.specs.Prelude.{◌≡◌, ◌⊎◌, ◌<◌, ◌≤◌, ◌+◌, ℕ, List, ◌∷◌, length, Option, Some, None, Ok, Err, IfSome}
 use Rattle.std.specs.List.{AllByRecursion}
 use Rattle.slab.specs.Slab.{get}
 use Rattle.pd_atom.specs.Names.{IsTable}
@@ -35,32 +35,36 @@ use Rattle.pd_adding.specs.Growing.{Added}
 use Rattle.pd_adding.specs.Adding.{ComesTo, GrewWith}
 use Rattle.pd_putting.specs.declared.adding.NewBox.{NewBox}
 
--- where it comes: behind the boxes of the canvas
+-- where it comes: at a number of a canvas
+abbrev pub place_at : ℕ → ℕ → Place
+place_at canvas number = record { canvas = canvas; number = number }
+
+-- behind the boxes of the canvas
 abbrev pub last_place : Patch → ℕ → Place
 last_place p canvas = record { canvas = canvas; number = length (keys_at p.grove canvas) }
 
 -- What grew is one box without a canvas, and no port of a box around.
-pub record IsPlain (p : Patch) (a : Added) : Type 0 where
+pub record IsPlainAt (p : Patch) (number : ℕ) (a : Added) : Type 0 where
   pub cell : Cell
   pub single : a.boxes ≡ Leaf cell Done
-  pub no_port : IsNoPort p (last_place p a.canvas) cell.kind
+  pub no_port : IsNoPort p (place_at a.canvas number) cell.kind
 
 -- What grew is one subpatch without boxes, which isn't too deep. An abstraction is none, though its file may have no boxes: it has a `$0` of its own.
-pub record IsSub (p : Patch) (a : Added) : Type 0 where
+pub record IsSubAt (p : Patch) (number : ℕ) (a : Added) : Type 0 where
   pub cell : Cell
   pub sheet : Sheet
   pub single : a.boxes ≡ Holder cell sheet Done Done
   pub form : cell.head.form ≡ Sub
   pub canvas : cell.kind ≡ kind.Canvas
-  pub shallow : IsShallow p (last_place p a.canvas)
+  pub shallow : IsShallow p (place_at a.canvas number)
 
 -- What grew is one box without a canvas, and it is a port of the box around, on this side.
-pub record IsPort (p : Patch) (a : Added) : Type 0 where
+pub record IsPortHere (p : Patch) (number : ℕ) (a : Added) : Type 0 where
   pub cell : Cell
   pub single : a.boxes ≡ Leaf cell Done
   pub holder : ℕ
   pub side : Side
-  pub at : IsPortAt p.grove (last_place p a.canvas) cell.kind holder side
+  pub at : IsPortAt p.grove (place_at a.canvas number) cell.kind holder side
 
 -- What grew is one box with a canvas in it and whatever lies in that, and isn't too deep for the place.
 pub record IsHolder (p : Patch) (a : Added) : Type 0 where
@@ -72,13 +76,13 @@ pub record IsHolder (p : Patch) (a : Added) : Type 0 where
   pub shallow : depth_of (get p.grove.boards a.canvas) + deep a.boxes < 257
 
 -- What grew is one of these, as any box that grows is where it isn't too deep for its place.
-abbrev pub CanCome : Patch → Added → Type 0
-CanCome p a = IsPlain p a ⊎ (IsSub p a ⊎ (IsPort p a ⊎ IsHolder p a))
+abbrev pub CanComeAt : Patch → ℕ → Added → Type 0
+CanComeAt p number a = IsPlainAt p number a ⊎ (IsSubAt p number a ⊎ (IsPortHere p number a ⊎ IsHolder p a))
 
--- What grew came in as the last box of its canvas, under this key, and keeps what its kind keeps at first. All else of the patch stays, but that
+-- What grew came in at a number of its canvas, under this key, and keeps what its kind keeps at first. All else of the patch stays, but that
 -- there is more room.
-pub record IsBoxPut (old new : Patch) (now : ℕ) (a : Added) (key : ℕ) : Type 0 where
-  pub plain : IsPlain old a
+pub record IsBoxPutAt (old new : Patch) (number now : ℕ) (a : Added) (key : ℕ) : Type 0 where
+  pub plain : IsPlainAt old number a
   pub ready : Patch
   pub room : SameButRoom old ready
   pub seed : Seed
@@ -86,12 +90,12 @@ pub record IsBoxPut (old new : Patch) (now : ℕ) (a : Added) (key : ℕ) : Type
   pub suits : RowSuits a.known.names seed.row
   pub leaf : IsLeaf seed
   pub fresh : IsFresh old.rate now seed
-  pub put : IsPut ready new a.known.names (last_place old a.canvas) seed key
+  pub put : IsPut ready new a.known.names (place_at a.canvas number) seed key
   pub goes_on : CanPut new
 
 -- The same of a subpatch without boxes.
-pub record IsSubPut (old new : Patch) (now : ℕ) (a : Added) (key : ℕ) : Type 0 where
-  pub sub : IsSub old a
+pub record IsSubPutAt (old new : Patch) (number now : ℕ) (a : Added) (key : ℕ) : Type 0 where
+  pub sub : IsSubAt old number a
   pub ready : Patch
   pub room : SameButRoom old ready
   pub seed : Seed
@@ -99,24 +103,24 @@ pub record IsSubPut (old new : Patch) (now : ℕ) (a : Added) (key : ℕ) : Type
   pub suits : RowSuits a.known.names seed.row
   pub shell : IsShell seed
   pub fresh : IsFresh old.rate now seed
-  pub put : IsShellPut ready new a.known.names (last_place old a.canvas) seed key
+  pub put : IsShellPut ready new a.known.names (place_at a.canvas number) seed key
   pub goes_on : CanPut new
 
 -- The same of a port box: the box around has the port that it is.
-pub record IsPortBoxPut (old new : Patch) (now : ℕ) (a : Added) (key : ℕ) : Type 0 where
-  pub port : IsPort old a
+pub record IsPortBoxPutAt (old new : Patch) (number now : ℕ) (a : Added) (key : ℕ) : Type 0 where
+  pub port : IsPortHere old number a
   pub ready : Patch
   pub room : SameButRoom old ready
   pub seed : Seed
   pub is_row : stand_of seed.row ≡ record { cell = port.cell; sheet = None; boxes = 0 }
   pub suits : RowSuits a.known.names seed.row
   pub fresh : IsFresh old.rate now seed
-  pub could : CanPutPort ready (last_place old a.canvas) seed port.holder port.side
-  pub put : IsPortPut ready new a.known.names (last_place old a.canvas) seed key port.holder port.side
+  pub could : CanPutPort ready (place_at a.canvas number) seed port.holder port.side
+  pub put : IsPortPut ready new a.known.names (place_at a.canvas number) seed key port.holder port.side
   pub goes_on : CanPut new
 
 -- The same of a box with all that lies in it: each box of it keeps what its kind keeps at first.
-pub record IsPartBoxPut (old new : Patch) (now : ℕ) (a : Added) (key : ℕ) : Type 0 where
+pub record IsPartBoxPutAt (old new : Patch) (number now : ℕ) (a : Added) (key : ℕ) : Type 0 where
   pub holder : IsHolder old a
   pub ready : Patch
   pub room : SameButRoom old ready
@@ -128,12 +132,45 @@ pub record IsPartBoxPut (old new : Patch) (now : ℕ) (a : Added) (key : ℕ) : 
   pub fresh : AreFresh old.rate now (seed ∷ seeds)
   pub steps : ℕ
   pub steps' : ℕ
-  pub put : IsPartPut ready new a.known.names (last_place old a.canvas) seed seeds key steps steps'
+  pub put : IsPartPut ready new a.known.names (place_at a.canvas number) seed seeds key steps steps'
   pub goes_on : CanPut new
 
 -- what grew came in
+abbrev pub HasComeAt : Patch → Patch → ℕ → ℕ → Added → ℕ → Type 0
+HasComeAt old new number now a key =
+    IsBoxPutAt old new number now a key ⊎ (IsSubPutAt old new number now a key ⊎ (IsPortBoxPutAt old new number now a key ⊎ IsPartBoxPutAt old new number now a key))
+
+-- ---- as the last box of its canvas
+
+abbrev pub next_number : Patch → Added → ℕ
+next_number p a = length (keys_at p.grove a.canvas)
+
+abbrev pub IsPlain : Patch → Added → Type 0
+IsPlain p a = IsPlainAt p (next_number p a) a
+
+abbrev pub IsSub : Patch → Added → Type 0
+IsSub p a = IsSubAt p (next_number p a) a
+
+abbrev pub IsPort : Patch → Added → Type 0
+IsPort p a = IsPortHere p (next_number p a) a
+
+abbrev pub CanCome : Patch → Added → Type 0
+CanCome p a = CanComeAt p (next_number p a) a
+
+abbrev pub IsBoxPut : Patch → Patch → ℕ → Added → ℕ → Type 0
+IsBoxPut old new now a key = IsBoxPutAt old new (next_number old a) now a key
+
+abbrev pub IsSubPut : Patch → Patch → ℕ → Added → ℕ → Type 0
+IsSubPut old new now a key = IsSubPutAt old new (next_number old a) now a key
+
+abbrev pub IsPortBoxPut : Patch → Patch → ℕ → Added → ℕ → Type 0
+IsPortBoxPut old new now a key = IsPortBoxPutAt old new (next_number old a) now a key
+
+abbrev pub IsPartBoxPut : Patch → Patch → ℕ → Added → ℕ → Type 0
+IsPartBoxPut old new now a key = IsPartBoxPutAt old new (next_number old a) now a key
+
 abbrev pub HasCome : Patch → Patch → ℕ → Added → ℕ → Type 0
-HasCome old new now a key = IsBoxPut old new now a key ⊎ (IsSubPut old new now a key ⊎ (IsPortBoxPut old new now a key ⊎ IsPartBoxPut old new now a key))
+HasCome old new now a key = HasComeAt old new (next_number old a) now a key
 
 -- a box with all that lies in it, in text order
 abbrev pub keys_within : Patch → ℕ → List ℕ
@@ -147,6 +184,24 @@ looks_with p key (Some canvas) = 8 + looks_of p.grove p.links (keys_within p key
 
 abbrev pub put_looks : Patch → ℕ → ℕ
 put_looks p key = looks_with p key (inner_in (get p.grove.nodes key))
+
+-- A box that an edit names came in at this number, with this known after it, as what grew: `k` was known before it, `n` were the counts of the patch,
+-- and it is this time. The documents that were found before it are proper. It grew where the files were known for which it asked.
+pub record AddsBoxAt (old new : Patch) (number : ℕ) (n : Counts) (name path : List ℕ) (now : ℕ) (e : Edit) (k after : Known) (b : NewBox) : Type 0 where
+  pub added : Added
+  pub within : number ≤ length (keys_at old.grove added.canvas)
+  pub table : IsTable k.names
+  pub found : AreProper k.names k.files
+  pub is_known : IsKnown k.names e
+  pub written : IfSome (box_put (settled_edit k.names e)) (CanBeWritten k.names)
+  pub comes : ComesTo None old n name path e k (Ok added)
+  pub files : Known
+  pub grew : GrewWith old n name path e k files added
+  pub put : HasComeAt old new number now added b.key
+  pub canvas : b.canvas ≡ added.canvas
+  pub counts : b.counts ≡ added.counts
+  pub known_is : after ≡ added.known
+  pub table_after : IsTable after.names
 
 -- An edit put a box, with this known after it, as what grew: `k` was known before it, `n` were the counts of the patch, and it is this time. The
 -- documents that were found before it are proper. It grew where the files were known for which it asked.

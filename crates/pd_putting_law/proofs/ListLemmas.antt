@@ -50,7 +50,7 @@ map_more f (y ∷ xs) zero x = refl
 map_more {X} {Y} f (y ∷ xs) (suc n) x = ap (λ (l : List Y). f y ∷ l) (map_more f xs n x)
 
 -- the others have the numbers that they had, and from there on the next
-pub get_raised : (xs : List ℕ) (n y s : ℕ) → n ≤ length xs → slice_get (take n xs ++ y ∷ drop n xs) (raised n s) ≡ slice_get xs s
+pub get_raised : {X : Type 0} (xs : List X) (n : ℕ) (y : X) (s : ℕ) → n ≤ length xs → slice_get (take n xs ++ y ∷ drop n xs) (raised n s) ≡ slice_get xs s
 get_raised [] zero y s l = ap (slice_get (y ∷ [])) (next s)
   where
     next : (s : ℕ) → raised 0 s ≡ suc s
@@ -107,16 +107,3 @@ slice_get_out (x ∷ xs) (suc i) e = more (length xs) i (slice_get_out xs i e)
   where
     more : (n i : ℕ) → n ≤ i → suc n ≤ suc i
     more n i l = omega (arith, l)
-
--- what stands in a list stands there with further ones behind
-pub get_front : (xs ys : List ℕ) (i x : ℕ) → slice_get xs i ≡ Some x → slice_get (xs ++ ys) i ≡ Some x
-get_front [] ys i x e = absurd (none-some x e)
-get_front (y ∷ xs) ys zero x e = e
-get_front (y ∷ xs) ys (suc i) x e = get_front xs ys i x e
-
--- one element more stands behind the others
-pub get_last : (xs : List ℕ) (y i x : ℕ) → slice_get xs i ≡ None → slice_get (xs ++ y ∷ []) i ≡ Some x → x ≡ y
-get_last [] y zero x e f = cc
-get_last [] y (suc i) x e f = absurd (none-some x f)
-get_last (z ∷ xs) y zero x e f = absurd (none-some z (sym e))
-get_last (z ∷ xs) y (suc i) x e f = get_last xs y i x e f

@@ -1,5 +1,5 @@
 -- Paths through a forest: only one leads from a canvas to another.
-use Rattle.std.proofs.Common.{◌≡◌, ◌≢◌, ℕ, suc, ◌+◌, List, [], ◌∷◌, length, slice_get, Option, Some, None, IsSome, refl, sym, ap, ◌∙◌, subst, arith}
+use Rattle.std.proofs.Common.{◌≡◌, ◌≢◌, ℕ, suc, ◌+◌, List, [], ◌∷◌, ◌++◌, length, slice_get, Option, Some, None, IsSome, refl, sym, ap, ◌∙◌, subst, arith}
 use Rattle.std.specs.Prelude.{option_and_then}
 use Rattle.std.proofs.lemmas.Option.{none-some, same_Some}
 use Rattle.slab.specs.Slab.{get}
@@ -19,21 +19,21 @@ Forest g = IsForest (get g.nodes) (get g.boards) g.root
 
 -- ---- steps
 
-nowhere : (g : Grove) (path : List ℕ) → reached g None path ≡ None
+pub nowhere : (g : Grove) (path : List ℕ) → reached g None path ≡ None
 nowhere g [] = refl
 nowhere g (n ∷ path) = nowhere g path
 
-sub_nowhere : (g : Grove) (path : List ℕ) → sub_reached g None path ≡ None
+pub sub_nowhere : (g : Grove) (path : List ℕ) → sub_reached g None path ≡ None
 sub_nowhere g [] = refl
 sub_nowhere g (n ∷ path) = sub_nowhere g path
 
 -- the box through which a path goes on
-record StepsIn (g : Grove) (c n : ℕ) (path : List ℕ) (d : ℕ) : Type 0 where
-  key : ℕ
-  inner : ℕ
-  is : slice_get (keys_at g c) n ≡ Some key
-  holds : inner_in (get g.nodes key) ≡ Some inner
-  on : reached g (Some inner) path ≡ Some d
+pub record StepsIn (g : Grove) (c n : ℕ) (path : List ℕ) (d : ℕ) : Type 0 where
+  pub key : ℕ
+  pub inner : ℕ
+  pub is : slice_get (keys_at g c) n ≡ Some key
+  pub holds : inner_in (get g.nodes key) ≡ Some inner
+  pub on : reached g (Some inner) path ≡ Some d
 
 steps_by : (g : Grove) (c n : ℕ) (path : List ℕ) (d : ℕ) (o : Option ℕ) → slice_get (keys_at g c) n ≡ o
     → reached g (option_and_then (λ k. inner_in (get g.nodes k)) o) path ≡ Some d → StepsIn g c n path d
@@ -44,10 +44,10 @@ steps_by g c n path d (Some k) at e = on (inner_in (get g.nodes k)) refl e
     on None s e = absurd (none-some d (sym (nowhere g path) ∙ e))
     on (Some j) s e = record { key = k; inner = j; is = at; holds = s; on = e }
 
-steps : (g : Grove) (c n : ℕ) (path : List ℕ) (d : ℕ) → reached g (Some c) (n ∷ path) ≡ Some d → StepsIn g c n path d
+pub steps : (g : Grove) (c n : ℕ) (path : List ℕ) (d : ℕ) → reached g (Some c) (n ∷ path) ≡ Some d → StepsIn g c n path d
 steps g c n path d e = steps_by g c n path d (slice_get (keys_at g c) n) refl e
 
-step_on : (g : Grove) (c i k j : ℕ) (path : List ℕ) (d : ℕ) → slice_get (keys_at g c) i ≡ Some k → inner_in (get g.nodes k) ≡ Some j
+pub step_on : (g : Grove) (c i k j : ℕ) (path : List ℕ) (d : ℕ) → slice_get (keys_at g c) i ≡ Some k → inner_in (get g.nodes k) ≡ Some j
     → reached g (Some j) path ≡ Some d → reached g (Some c) (i ∷ path) ≡ Some d
 step_on g c i k j path d is holds e =
     ap (λ o. reached g (option_and_then (λ x. inner_in (get g.nodes x)) o) path) is ∙ ap (λ o. reached g o path) holds ∙ e
@@ -86,6 +86,25 @@ live_box g F c i k is = let b = box_there (get g.nodes k) c (F.own.home c i k is
 
 pub live_canvas : (g : Grove) → Forest g → (k j : ℕ) → inner_in (get g.nodes k) ≡ Some j → IsSome (get g.boards j)
 live_canvas g F k j holds = let b = held_there (get g.boards j) k (F.inside k j holds) in is_some (get g.boards j) b.board b.is
+
+-- a canvas to which a path leads lives
+pub reached_live : (g : Grove) → Forest g → (path : List ℕ) (c d : ℕ) → IsSome (get g.boards c) → reached g (Some c) path ≡ Some d → IsSome (get g.boards d)
+reached_live g F [] c d live e = subst (λ x. IsSome (get g.boards x)) (same_Some c d e) live
+reached_live g F (n ∷ path) c d live e =
+    let s = steps g c n path d e in
+    reached_live g F path s.inner d (live_canvas g F s.key s.inner s.holds) s.on
+
+-- ---- one path and then another
+
+pub then_reached : (g : Grove) (way more : List ℕ) (o : Option ℕ) → reached g o (way ++ more) ≡ reached g (reached g o way) more
+then_reached g [] more o = refl
+then_reached g (n ∷ way) more None = then_reached g way more None
+then_reached g (n ∷ way) more (Some c) = then_reached g way more (option_and_then (λ k. inner_in (get g.nodes k)) (slice_get (keys_at g c) n))
+
+pub then_sub : (g : Grove) (way more : List ℕ) (o : Option ℕ) → sub_reached g o (way ++ more) ≡ sub_reached g (sub_reached g o way) more
+then_sub g [] more o = refl
+then_sub g (n ∷ way) more None = then_sub g way more None
+then_sub g (n ∷ way) more (Some c) = then_sub g way more (option_and_then (λ k. sub_in (get g.nodes k)) (slice_get (keys_at g c) n))
 
 -- ---- one path
 
