@@ -1,6 +1,6 @@
 //! Which box an edit moves, or why it is refused, and which port of the box around it is.
 
-ghost use Rattle.std.specs.Prelude.{◌≡◌, ◌||◌, ℕ, true, false, Some, Ok, Err, IfOk, IfErr, IfSome, IfNone, IsSome, is_some};
+ghost use Rattle.std.specs.Prelude.{◌≡◌, ◌||◌, true, false, Some, Ok, Err, IfOk, IfErr, IfSome, IfNone, IsSome, is_some};
 ghost use Rattle.slab.specs.Slab.{get};
 ghost use Rattle.pd_canvas.specs.Edits.{is_array as is_array_so};
 ghost use Rattle.pd_canvas.specs.Views.{shape_of};

@@ -1,6 +1,6 @@
 //! A port box of a canvas in a box that an edit moves, and with it the port of that box.
 
-ghost use Rattle.std.specs.Prelude.{◌≡◌, ℕ, List, true, Ok, IfOk, IfErr};
+ghost use Rattle.std.specs.Prelude.{◌≡◌, ◌==◌, ℕ, List, true, cond, None, Ok, IfOk, IfErr};
 ghost use Rattle.slab.specs.Slab.{get};
 ghost use Rattle.pd_num.specs.Scale.{millionths, IsInRange};
 ghost use Rattle.pd_grove.specs.Owning.{board_in};
@@ -45,8 +45,15 @@ pub(crate) fn slide(
     Ok(MovedBox {
         canvas: moving.canvas,
         key: moving.key,
-        around: if port.port == number { None } else { around },
+        around: changed(port.port, number, around),
     })
+}
+
+/// A canvas, where the number of a port in it changed.
+fn changed(from: u32, to: u32, canvas: Option<u32>) -> Option<u32>
+    ensures { result ≡ cond (from == to) None canvas }
+{
+    if from == to { None } else { canvas }
 }
 
 /// The canvas in which a box lies.
