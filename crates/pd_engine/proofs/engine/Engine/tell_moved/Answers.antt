@@ -1,4 +1,3 @@
-use Rattle.std.proofs.Common.{List, ℕ, Option}
 use Rattle.std.proofs.lemmas.Result.{err_from_is_err_and}
 use Rattle.pd_say.proofs.GatheringLemmas.{took_more}
 use Rattle.pd_stage.specs.Lines.{loops_if, loops_text}
