@@ -1,6 +1,5 @@
 -- An edit that moves a box leaves a steady stage steady, where a tree and its owners stand after it.
 use Rattle.std.proofs.Common.{◌≡◌, inl, inr, ◌<◌, ℕ, ℤ, List, [], Option, Some, None, IsSome, option_map, refl, sym, subst}
-use Rattle.slab.specs.Slab.{get}
 use Rattle.pd_regrowth_law.proofs.StepLemmas.{extends_same}
 use Rattle.pd_grove.specs.declared.nodes.Node.{Node}
 use Rattle.pd_grove.specs.Refits.{at_place}
