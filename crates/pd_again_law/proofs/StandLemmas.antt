@@ -37,13 +37,12 @@ use Rattle.pd_guards.proofs.MoreLemmas.{longer}
 use Rattle.pd_sized.specs.Kinds.{kinds_of, blank_of, KeepsOfKind}
 use Rattle.pd_contents_law.proofs.SettledLemmas.{onward}
 use Rattle.pd_proper_law.proofs.SavableLemmas.{kinds_savable}
-use Rattle.pd_stage.specs.Choices.{Base, base_of, Wanted, Edits, Asks, Saves, Undoes, Redoes, Made, Choice, Refuses, Lacks, Makes, later}
+use Rattle.pd_stage.specs.Choices.{Base, base_of, Wanted, Edits, Asks, Saves, Undoes, Redoes, Made, Choice, Refuses, Lacks, Makes}
 use Rattle.pd_stage.specs.Lawful.{StandsAt, known_at, IsMade, IsShort, IsRewiringLawful, IsPutIn, IsUnputForRoom, IsPutLawful, IsTakenOut, IsLeftInForRoom, IsTakingLawful, IsMovedTo, IsLeftAtForRoom, IsMovingLawful, IsRetypedTo, IsUnretypedForRoom, IsRetypingLawful, IsEditLawful, IsSaved, MayCome}
 use Rattle.pd_stage.specs.Stages.{Stage, with_ahead}
 use Rattle.pd_stage.specs.Events.{with_net, stage_by}
 use Rattle.pd_steady.specs.Steady.{IsSteady}
 use Rattle.pd_steady.proofs.FairLemmas.{IsRefusal, IsFair}
-use Rattle.pd_steady.proofs.TimeLemmas.{within}
 use Rattle.pd_again_law.specs.Again.{TakesNoNumber, BringsNoNumber, KeepsNumbers, LeavesNumbers}
 use Rattle.pd_again_law.proofs.NumberLemmas.{HasFirstNumbers, still_first, put_first, goes_behind}
 use Rattle.pd_again_law.proofs.HeldLemmas.{Settled, IsHeld, bare_kind, NetHeld, told, held_in, held_edit, held_room}
