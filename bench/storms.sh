@@ -3,7 +3,7 @@
 #
 #   events        a message asks for 256 edits of wires in each of 10,000 events, a millisecond apart: 128 wires are made and cut again
 #   script        a script has a million edits of the same wires
-#   boxes         a script fills an empty patch with 16,384 boxes and deletes them all, half of them at its front and half at its end, ten times
+#   boxes         a script fills an empty patch with 16,384 boxes and deletes them all, half of them at its front and half at its end, 100 times
 #   abstractions  a script puts an abstraction of ten boxes and deletes it, 20,000 times
 #   blocks        a patch leads an oscillator from one channel to the other at each block, through ten minutes of sound
 #   hour          the same through an hour
@@ -122,7 +122,7 @@ for storm in "$@"; do
   case $storm in
     events) count=10000 ;;
     script) count=1000000 ;;
-    boxes) count=$((10 * share)) ;;
+    boxes) count=$((100 * share)) ;;
     abstractions) count=20000 ;;
     blocks) count=600000 ;;
     hour) count=3600000 ;;
