@@ -1,3 +1,4 @@
+pub mod Runs
 pub mod NumberLemmas
 pub mod BareLemmas
 pub mod HeldLemmas

@@ -8,15 +8,8 @@ use Rattle.pd_clock.specs.declared.times.Rate.{Rate}
 use Rattle.pd_clock.specs.Rates.{samples}
 use Rattle.pd_feed.specs.Script.{Script as Text}
 use Rattle.pd_patch.specs.declared.patch.Patch.{Patch}
-use Rattle.pd_stage.specs.Choices.{Base, Choice}
-use Rattle.pd_stage.specs.Leads.{Sinks}
-use Rattle.pd_stage.specs.Stages.{Stage, Taken, Passage}
-use Rattle.pd_stage.specs.Times.{block_units}
-use Rattle.pd_engine.specs.Opening.{Files, Grows, first_stage, opened}
-use Rattle.pd_steady.specs.Runs.{own_ways}
-use Rattle.pd_steady.specs.Steady.{IsSteady}
-use Rattle.pd_steady.specs.Steps.{steps_by}
-use Rattle.pd_steady.proofs.FairLemmas.{AreFair, fair_first, fair_second}
+use Rattle.pd_again_law.specs.Runs.{Base, Choice, Sinks, Stage, Taken, Passage, block_units, Files, Grows, first_stage, opened, own_ways, IsSteady, steps_by}
+use Rattle.pd_again_law.proofs.Runs.{AreFair, fair_first, fair_second}
 use Rattle.pd_again_law.specs.Again.{AllLeaveNumbers, AreAgainBehind, AreAgain}
 use Rattle.pd_again_law.proofs.StandLemmas.{EditLaws}
 use Rattle.pd_again_law.proofs.FoundLemmas.{IsGood, AreFound, EndsWell, one_block, opened_leads, steps_lead, last_found, both_found}

@@ -1,7 +1,7 @@
 -- What the words ask for, played with nothing passed over.
 use Rattle.std.proofs.Common.{inl, inr, ℕ, List, Option, Some, None}
 use Rattle.pd_clock.specs.declared.times.Rate.{Rate}
-use Rattle.pd_stage.specs.Leads.{Sinks}
+use Rattle.pd_again_law.specs.Runs.{Sinks}
 use Rattle.pd_words.specs.Grammar.{Asked}
 use Rattle.pd_play.specs.Patches.{PlaysOpened, PlaysMadeOpened, PlaysBy, PlaysAsked}
 use Rattle.pd_play.specs.declared.status.Status.{Status}

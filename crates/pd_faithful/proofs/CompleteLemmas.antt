@@ -21,16 +21,9 @@ use Rattle.pd_made.specs.Scripts.{made_script}
 use Rattle.pd_made_growth_law.specs.Grows.{GrowsSmall}
 use Rattle.pd_patch.specs.Sounds.{sound_of}
 use Rattle.pd_words.specs.Grammar.{Asked}
-use Rattle.pd_engine.specs.declared.refusals.OpenRefusal.{OpenRefusal}
-use Rattle.pd_engine.specs.declared.refusals.OpenRefusal.TheVariants as opening
-use Rattle.pd_engine.specs.declared.refusals.BadCause.{BadCause}
-use Rattle.pd_engine.specs.declared.refusals.BadCause.TheVariants as cause
-use Rattle.pd_engine.specs.Opening.{Reads, Grows, growth_of, file_read, Stops, IsUngathered, IsUngrown, IsRefused, IsUnread, IsFileRefused}
-use Rattle.pd_stage.specs.Stages.{Stage, Taken, choices_of}
-use Rattle.pd_stage.specs.Lawful.{AreLawful}
-use Rattle.pd_stage.specs.Leads.{Sinks}
-use Rattle.pd_steady.specs.Runs.{opened_by}
-use Rattle.pd_steady.specs.Freely.{free_ways}
+use Rattle.pd_again_law.specs.Runs.opening
+use Rattle.pd_again_law.specs.Runs.cause
+use Rattle.pd_again_law.specs.Runs.{OpenRefusal, BadCause, Reads, Grows, growth_of, file_read, Stops, IsUngathered, IsUngrown, IsRefused, IsUnread, IsFileRefused, Stage, Taken, choices_of, AreLawful, Sinks, opened_by, free_ways}
 use Rattle.pd_play.specs.Causes.{HasCauses}
 use Rattle.pd_play.specs.Ending.{no_line, opened_as}
 use Rattle.pd_play.specs.Made.{made_names, summary_line}

@@ -8,7 +8,7 @@ use Rattle.pd_script.specs.Tokens.{tokens_of}
 use Rattle.pd_script.specs.Scripts.{command_of}
 use Rattle.pd_script.specs.declared.commands.Script.{Script}
 use Rattle.pd_script.specs.declared.commands.Script.TheVariants as script
-use Rattle.pd_stage.specs.Stages.{with_names}
+use Rattle.pd_again_law.specs.Runs.{with_names}
 use Rattle.pd_play.specs.Runs.{Point, Run, Ending, Broken, most_time, at_stage, at_time, counted, bad, behind, millionths, carried_out, said_run, read_run, record_run, records_run, end_run, run_of, MeetsEnd}
 use Rattle.pd_play.specs.declared.status.Status.TheVariants.{Done, ScriptBad, ReadFault}
 

@@ -10,18 +10,8 @@ use Rattle.pd_script.specs.declared.commands.Command.{Command}
 use Rattle.pd_script.specs.declared.commands.Command.TheVariants as command
 use Rattle.pd_script.specs.declared.commands.Script.{Script}
 use Rattle.pd_script.specs.declared.commands.Script.TheVariants as script
-use Rattle.pd_guards.specs.Worlds.{IsSent}
-use Rattle.pd_guards.proofs.MoreLemmas.{name_more, atoms_more}
-use Rattle.pd_stage.specs.Stages.{Stage, Passage, with_names}
-use Rattle.pd_stage.specs.Times.{block_units}
-use Rattle.pd_engine.specs.Commands.{commanded}
-use Rattle.pd_steady.specs.Runs.{commanded_by}
-use Rattle.pd_steady.specs.Freely.{free_ways}
-use Rattle.pd_steady.specs.Steady.{IsSteady, IsCommand}
-use Rattle.pd_steady.proofs.FairLemmas.{AreFair, fair_first, fair_second}
-use Rattle.pd_steady.proofs.EventLemmas.{Guards, IsFree}
-use Rattle.pd_steady.proofs.TimeLemmas.{advanced_free, finished_free}
-use Rattle.pd_steady.proofs.RunLemmas.{commanded_free, named_steady}
+use Rattle.pd_again_law.specs.Runs.{IsSent, Stage, Passage, with_names, block_units, commanded, commanded_by, free_ways, IsSteady, IsCommand}
+use Rattle.pd_again_law.proofs.Runs.{name_more, atoms_more, AreFair, fair_first, fair_second, Guards, IsFree, advanced_free, finished_free, commanded_free, named_steady}
 use Rattle.pd_play.specs.Runs.{Point, Run, Ending, most_time, at_stage, at_time, reached, done, run_of}
 use Rattle.pd_play.specs.declared.status.Status.TheVariants.{Done}
 use Rattle.pd_faithful.specs.Scripts.{reached_by, done_by, run_of_by}

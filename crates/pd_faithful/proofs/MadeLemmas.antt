@@ -27,8 +27,7 @@ use Rattle.pd_made.specs.Voices.{voices}
 use Rattle.pd_made_law.specs.Records.{cut_record, join_record, end_record, records_of, made_records, wire_to, cut_edit, join_edit}
 use Rattle.pd_made_law.proofs.ScriptLemmas.{voices_few, voices_count}
 use Rattle.pd_made_growth_law.specs.Grows.{GrowsSmall}
-use Rattle.pd_stage.specs.Stages.{with_names, followed_by}
-use Rattle.pd_steady.specs.Runs.{Ways, commanded_by}
+use Rattle.pd_again_law.specs.Runs.{with_names, followed_by, Ways, commanded_by}
 use Rattle.pd_play.specs.Made.{made_names}
 use Rattle.pd_play.specs.Runs.{Point, Run, Whole, most_time, at_stage, at_time, counted, bad}
 use Rattle.pd_play.specs.declared.status.Status.TheVariants.{Done}

@@ -5,17 +5,8 @@ use Rattle.pd_atom.specs.Names.{Names}
 use Rattle.pd_clock.specs.Queue.{Clock}
 use Rattle.pd_walk.specs.declared.walker.Start.TheVariants as start
 use Rattle.pd_walk.specs.Outcome.{outcome, all_loaded}
-use Rattle.pd_guards.proofs.FactLemmas.{either_by}
-use Rattle.pd_guards.proofs.MoreLemmas.{longer}
-use Rattle.pd_stage.specs.Stages.{Stage, Passage, still, followed_by}
-use Rattle.pd_stage.specs.Events.{Firing, Left, going_on, begun, delivered, event}
-use Rattle.pd_stage.specs.Times.{most_fired, first_clock, if_below, next_clock, taken_off, with_taken, with_fired, fires, fires_or_not, fires_below, clocks_fire, block_sounds, block_runs, blocks_run, time_is, comes_to, advanced}
-use Rattle.pd_stage.proofs.EditLemmas.{Alters}
-use Rattle.pd_steady.specs.Steady.{IsSteady}
-use Rattle.pd_steady.proofs.FairLemmas.{AreFair, fair_first, fair_second, altered_extends, event_keeps}
-use Rattle.pd_steady.proofs.EventLemmas.{Guards, event_free, loads_extend}
-use Rattle.pd_steady.proofs.ExtendLemmas.{outcome_extends}
-use Rattle.pd_steady.proofs.TimeLemmas.{fired_steady, block_free}
+use Rattle.pd_again_law.proofs.Runs.{either_by, longer, Alters, AreFair, fair_first, fair_second, altered_extends, event_keeps, Guards, event_free, loads_extend, outcome_extends, fired_steady, block_free}
+use Rattle.pd_again_law.specs.Runs.{Stage, Passage, still, followed_by, Firing, Left, going_on, begun, delivered, event, most_fired, first_clock, if_below, next_clock, taken_off, with_taken, with_fired, fires, fires_or_not, fires_below, clocks_fire, block_sounds, block_runs, blocks_run, time_is, comes_to, advanced, IsSteady}
 
 -- numbers apart, since tactics read all that is in scope
 within : (a b c : ℕ) → a ≤ b → b ≤ c → a ≤ c

@@ -10,10 +10,8 @@ use Rattle.pd_script.specs.Scripts.{command_of}
 use Rattle.pd_script.specs.declared.commands.Command.{Command}
 use Rattle.pd_script.specs.declared.commands.Script.{Script}
 use Rattle.pd_script.specs.declared.commands.Script.TheVariants as script
-use Rattle.pd_stage.specs.Stages.{Stage, Taken, Passage, with_names, joined, followed_by}
-use Rattle.pd_engine.specs.Commands.{commanded}
-use Rattle.pd_steady.specs.Runs.{Ways, own_ways, commanded_by}
-use Rattle.pd_steady.proofs.OwnLemmas.{commanded_own, advanced_own, finished_own}
+use Rattle.pd_again_law.specs.Runs.{Stage, Taken, Passage, with_names, joined, followed_by, commanded, Ways, own_ways, commanded_by}
+use Rattle.pd_again_law.proofs.Runs.{commanded_own, advanced_own, finished_own}
 use Rattle.pd_play.specs.Runs.{Point, Run, Ending, Whole, Broken, most_time, at_stage, at_time, counted, bad, behind, goes_on, millionths, reached, done, end_reached, carried_out, said_run, read_run, record_run, records_run, end_run, run_of}
 use Rattle.pd_play.specs.declared.status.Status.TheVariants.{Done}
 use Rattle.pd_faithful.specs.Scripts.{reached_by, done_by, said_run_by, read_run_by, record_run_by, records_run_by, end_run_by, run_of_by}

@@ -9,13 +9,8 @@ use Rattle.pd_script.specs.Tokens.{tokens_of}
 use Rattle.pd_script.specs.Scripts.{command_of}
 use Rattle.pd_script.specs.declared.commands.Script.{Script}
 use Rattle.pd_script.specs.declared.commands.Script.TheVariants as script
-use Rattle.pd_stage.specs.Stages.{Stage, Passage, with_names, joined}
-use Rattle.pd_steady.specs.Runs.{own_ways}
-use Rattle.pd_engine.specs.Commands.{commanded}
-use Rattle.pd_stage.proofs.LeadLemmas.{joined_assoc}
-use Rattle.pd_steady.specs.Steps.{Step, Does, Learns, Comes, IsStep, step_by, steps_by}
-use Rattle.pd_steady.proofs.FairLemmas.{AreFair, fair_first, fair_second}
-use Rattle.pd_steady.proofs.OwnLemmas.{commanded_own, finished_own}
+use Rattle.pd_again_law.specs.Runs.{Stage, Passage, with_names, joined, own_ways, commanded, Step, Does, Learns, Comes, IsStep, step_by, steps_by}
+use Rattle.pd_again_law.proofs.Runs.{joined_assoc, AreFair, fair_first, fair_second, commanded_own, finished_own}
 use Rattle.pd_play.specs.Runs.{Point, Run, Ending, Whole, Broken, most_time, at_stage, at_time, counted, ended, bad, behind, millionths, reached, done, said_run, read_run, record_run, records_run, end_run, run_of}
 use Rattle.pd_play.specs.declared.status.Status.TheVariants.{ReadFault}
 use Rattle.pd_faithful.specs.Points.{most_units, IsSteadyAt, ended_by, IsStepped}

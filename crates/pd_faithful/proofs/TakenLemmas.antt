@@ -17,15 +17,8 @@ use Rattle.pd_patch.specs.declared.patch.Patch.{Patch}
 use Rattle.pd_turns.specs.Turns.{World}
 use Rattle.pd_walk.specs.Outcome.{all_loaded}
 use Rattle.pd_hearing.specs.Worlds.{Kept}
-use Rattle.pd_stage.specs.Choices.{Base, Wanted, Asks, Choice, Refuses, Lacks, Makes, first_choice, later, loads_of_choice}
-use Rattle.pd_stage.specs.Stages.{Stage, Taken, choices_of, Passage, with_names, with_ahead, still, joined, followed_by}
-use Rattle.pd_stage.specs.Lawful.{AreLawful}
-use Rattle.pd_stage.specs.Events.{Beginning, Firing, Left, whole, left_after, going_on, after_deliveries, stage_by, edit_taken, loaded_by, edit_loaded_by, asked_by, edits_taken_by, edits_of_by, delivered, with_kept, event, edit_event}
-use Rattle.pd_stage.specs.Times.{most_fired, block_units, next_clock, taken_off, with_taken, with_fired, fires, fires_or_not, fires_below, clocks_fire, block_sounds, block_runs, blocks_run, time_is, comes_to, advanced, finished}
-use Rattle.pd_stage.specs.Leads.{Sinks}
-use Rattle.pd_engine.specs.Commands.{commanded}
-use Rattle.pd_engine.specs.Opening.{first_stage, opened}
-use Rattle.pd_steady.proofs.FairLemmas.{IsRefusal, AreFair, lawful_fair}
+use Rattle.pd_again_law.specs.Runs.{Base, Wanted, Asks, Choice, Refuses, Lacks, Makes, first_choice, later, loads_of_choice, Stage, Taken, choices_of, Passage, with_names, with_ahead, still, joined, followed_by, AreLawful, Beginning, Firing, Left, whole, left_after, going_on, after_deliveries, stage_by, edit_taken, loaded_by, edit_loaded_by, asked_by, edits_taken_by, edits_of_by, delivered, with_kept, event, edit_event, most_fired, block_units, next_clock, taken_off, with_taken, with_fired, fires, fires_or_not, fires_below, clocks_fire, block_sounds, block_runs, blocks_run, time_is, comes_to, advanced, finished, Sinks, commanded, first_stage, opened}
+use Rattle.pd_again_law.proofs.Runs.{IsRefusal, AreFair, lawful_fair}
 use Rattle.pd_play.specs.Runs.{Point, Run, Ending, Whole, Broken, most_time, at_stage, at_time, counted, bad, millionths, reached, done, carried_out, said_run, read_run, record_run, records_run, end_run, run_of}
 use Rattle.pd_play.specs.Playing.{Plays}
 use Rattle.pd_play.specs.Patches.{with_line}

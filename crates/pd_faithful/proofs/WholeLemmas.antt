@@ -9,17 +9,8 @@ use Rattle.pd_clock.specs.Rates.{samples}
 use Rattle.pd_feed.specs.Script.{Script as Text, script_of}
 use Rattle.pd_feed.specs.Feed.{IsAtEnd}
 use Rattle.pd_patch.specs.declared.patch.Patch.{Patch}
-use Rattle.pd_stage.specs.Items.{Item}
-use Rattle.pd_stage.specs.Choices.{Base, Choice}
-use Rattle.pd_stage.specs.Stages.{Stage, Taken, choices_of, Passage, still, saying, after}
-use Rattle.pd_stage.specs.Lawful.{AreLawful}
-use Rattle.pd_stage.specs.Leads.{Sinks, sinks, Took, Leads as LeadsOn}
-use Rattle.pd_stage.proofs.LeadLemmas.{after-joined, choices-append, lawful_both}
-use Rattle.pd_engine.specs.Opening.{Grows, OpensFile, opened, Opens as EngineOpens}
-use Rattle.pd_steady.specs.Runs.{opened_by}
-use Rattle.pd_steady.specs.Freely.{free_ways}
-use Rattle.pd_steady.specs.Steady.{IsSteady}
-use Rattle.pd_steady.proofs.FairLemmas.{AreFair, fair_second}
+use Rattle.pd_again_law.specs.Runs.{Item, Base, Choice, Stage, Taken, choices_of, Passage, still, saying, after, AreLawful, Sinks, sinks, Took, Leads as LeadsOn, Grows, OpensFile, opened, Opens as EngineOpens, opened_by, free_ways, IsSteady}
+use Rattle.pd_again_law.proofs.Runs.{after-joined, choices-append, lawful_both, AreFair, fair_second}
 use Rattle.pd_again_law.specs.Again.{AreAgain}
 use Rattle.pd_made.specs.Documents.{made_document}
 use Rattle.pd_made.specs.Scripts.{made_script}

@@ -14,10 +14,7 @@ use Rattle.pd_gather.specs.Gather.{Known}
 use Rattle.pd_patch.specs.Sounds.{sound_of}
 use Rattle.pd_patch.specs.declared.patch.Patch.{Patch}
 use Rattle.pd_words.specs.Grammar.{Asked}
-use Rattle.pd_stage.specs.Choices.{Base, Choice}
-use Rattle.pd_stage.specs.Lawful.{AreLawful}
-use Rattle.pd_engine.specs.Opening.{Reads, Grows, GathersAll, growth_of}
-use Rattle.pd_steady.specs.Freely.{free_ways}
+use Rattle.pd_again_law.specs.Runs.{Base, Choice, AreLawful, Reads, Grows, GathersAll, growth_of, free_ways}
 use Rattle.pd_play.specs.Runs.{Whole}
 use Rattle.pd_play.specs.declared.status.Status.{Status}
 use Rattle.pd_play.specs.declared.status.Status.TheVariants.{Done, NoMemory}

@@ -7,13 +7,7 @@ use Rattle.pd_clock.specs.declared.times.Rate.{Rate}
 use Rattle.pd_clock.specs.Rates.{samples}
 use Rattle.pd_feed.specs.Script.{Script as Text}
 use Rattle.pd_patch.specs.declared.patch.Patch.{Patch}
-use Rattle.pd_stage.specs.Choices.{Base, Choice}
-use Rattle.pd_stage.specs.Lawful.{AreLawful}
-use Rattle.pd_stage.specs.Leads.{Sinks}
-use Rattle.pd_stage.specs.Stages.{Stage}
-use Rattle.pd_engine.specs.Opening.{Grows, OpensFile, opened}
-use Rattle.pd_steady.specs.Runs.{own_ways}
-use Rattle.pd_steady.specs.Freely.{free_ways}
+use Rattle.pd_again_law.specs.Runs.{Base, Choice, AreLawful, Sinks, Stage, Grows, OpensFile, opened, own_ways, free_ways}
 use Rattle.pd_play.specs.Runs.{Point, Ending, behind, run_of}
 use Rattle.pd_play.specs.Patches.{start, PlaysOpened, PlaysMadeOpened}
 use Rattle.pd_play.specs.declared.status.Status.{Status}

@@ -1,9 +1,6 @@
 -- From which points a script passes nothing over, and the steps of its run.
 use Rattle.std.specs.Prelude.{◌≡◌, ℕ, ◌≤◌, ◌*◌, List}
-use Rattle.pd_stage.specs.Stages.{Stage, Passage, still, followed_by}
-use Rattle.pd_steady.specs.Runs.{Ways, own_ways, finished_by}
-use Rattle.pd_steady.specs.Steady.{IsSteady}
-use Rattle.pd_steady.specs.Steps.{Step, AreSteps, steps_by}
+use Rattle.pd_again_law.specs.Runs.{Stage, Passage, still, followed_by, Ways, own_ways, finished_by, IsSteady, Step, AreSteps, steps_by}
 use Rattle.pd_play.specs.Runs.{Point, Run, most_time}
 use Rattle.pd_play.specs.declared.status.Status.{Status}
 use Rattle.pd_play.specs.declared.status.Status.TheVariants.{Done}

@@ -9,9 +9,7 @@ use Rattle.pd_script.specs.Scripts.{command_of}
 use Rattle.pd_script.specs.declared.commands.Script.{Script}
 use Rattle.pd_script.specs.declared.commands.Script.TheVariants as script
 use Rattle.pd_patch.specs.declared.patch.Patch.{Patch}
-use Rattle.pd_stage.specs.Choices.{Base, Choice}
-use Rattle.pd_stage.specs.Stages.{Stage, Passage, with_names, followed_by}
-use Rattle.pd_steady.specs.Runs.{Ways, commanded_by, advanced_by, finished_by, opened_by}
+use Rattle.pd_again_law.specs.Runs.{Base, Choice, Stage, Passage, with_names, followed_by, Ways, commanded_by, advanced_by, finished_by, opened_by}
 use Rattle.pd_play.specs.Runs.{Point, Run, Ending, Whole, most_time, at_stage, at_time, counted, bad, behind, goes_on, millionths, end_run}
 use Rattle.pd_play.specs.Patches.{start}
 use Rattle.pd_play.specs.declared.status.Status.TheVariants.{Done}

@@ -9,12 +9,7 @@ use Rattle.pd_feed.specs.Feed.{IsAtEnd}
 use Rattle.pd_patch.specs.declared.patch.Patch.{Patch}
 use Rattle.pd_made.specs.Documents.{made_document}
 use Rattle.pd_made.specs.Scripts.{made_script}
-use Rattle.pd_stage.specs.Choices.{Base}
-use Rattle.pd_stage.specs.Stages.{Stage, Taken, choices_of}
-use Rattle.pd_stage.specs.Lawful.{AreLawful}
-use Rattle.pd_stage.specs.Leads.{Sinks}
-use Rattle.pd_engine.specs.Opening.{Reads, Grows}
-use Rattle.pd_steady.specs.Freely.{free_ways}
+use Rattle.pd_again_law.specs.Runs.{Base, Stage, Taken, choices_of, AreLawful, Sinks, Reads, Grows, free_ways}
 use Rattle.pd_again_law.specs.Again.{AreAgain}
 use Rattle.pd_words.specs.Grammar.{Asked}
 use Rattle.pd_play.specs.Runs.{Ending, Broken}

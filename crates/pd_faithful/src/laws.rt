@@ -11,12 +11,12 @@ pub fn scripts_are_by_events()
 pub fn scripts_are_steps()
     ensures { law.ScriptsAreSteps }
 {
-    pd_guards::delivery_passes_nothing_over();
-    pd_guards::messages_keep_values();
-    pd_guards::order_lasts();
-    pd_sized::messages_keep_sizes();
-    pd_guards::blocks_stay_in_order();
-    pd_guards::commands_begin_in_order();
+    pd_again_law::delivery_passes_nothing_over();
+    pd_again_law::messages_keep_values();
+    pd_again_law::order_lasts();
+    pd_again_law::messages_keep_sizes();
+    pd_again_law::blocks_stay_in_order();
+    pd_again_law::commands_begin_in_order();
     pd_script::tables_go_on();
 }
 
@@ -27,14 +27,14 @@ pub fn scripts_pass_nothing_over()
     ensures opens { law.FilesOpenSteadily }
     ensures whole { law.RunsPassNothingOver }
 {
-    pd_guards::delivery_passes_nothing_over();
-    pd_guards::messages_keep_values();
-    pd_guards::order_lasts();
-    pd_sized::messages_keep_sizes();
-    pd_guards::blocks_stay_in_order();
-    pd_guards::commands_begin_in_order();
+    pd_again_law::delivery_passes_nothing_over();
+    pd_again_law::messages_keep_values();
+    pd_again_law::order_lasts();
+    pd_again_law::messages_keep_sizes();
+    pd_again_law::blocks_stay_in_order();
+    pd_again_law::commands_begin_in_order();
     pd_script::tables_go_on();
-    pd_steady::opening_is_steady();
+    pd_again_law::opening_is_steady();
 }
 
 /// What a call of `play` prints, writes and puts into the folder, where the patch opens, is a run in which nothing is ever passed over. So it is
@@ -43,14 +43,14 @@ pub fn play_passes_nothing_over()
     ensures opened { law.PlaysPassNothingOver }
     ensures made { law.MadePlaysPassNothingOver }
 {
-    pd_guards::delivery_passes_nothing_over();
-    pd_guards::messages_keep_values();
-    pd_guards::order_lasts();
-    pd_sized::messages_keep_sizes();
-    pd_guards::blocks_stay_in_order();
-    pd_guards::commands_begin_in_order();
+    pd_again_law::delivery_passes_nothing_over();
+    pd_again_law::messages_keep_values();
+    pd_again_law::order_lasts();
+    pd_again_law::messages_keep_sizes();
+    pd_again_law::blocks_stay_in_order();
+    pd_again_law::commands_begin_in_order();
     pd_script::tables_go_on();
-    pd_steady::opening_is_steady();
+    pd_again_law::opening_is_steady();
     pd_again_law::boxes_come_into_trees();
     pd_again_law::counts_follow_boxes();
     pd_again_law::boxes_can_be_saved();

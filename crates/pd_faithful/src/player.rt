@@ -3,7 +3,7 @@
 ghost use Rattle.std.specs.Prelude.{◌≡◌, ◌≤◌, true, false, IfSome, is_some, map};
 ghost use Rattle.std.specs.String.{string_bytes};
 ghost use Rattle.pd_words.specs.Grammar.{words_of};
-ghost use Rattle.pd_stage.specs.Leads.{sinks};
+ghost use Rattle.pd_again_law.specs.Runs.{sinks};
 ghost use Rattle.pd_play.specs.Causes.{HasCauses};
 ghost use Rattle.pd_play.specs.Telling.{IsUnplayed};
 ghost use Rattle.pd_faithful.specs.Whole.{PlaysAskedFreely};

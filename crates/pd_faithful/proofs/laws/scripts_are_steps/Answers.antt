@@ -1,4 +1,4 @@
-use Rattle.pd_steady.proofs.FairLemmas.{lawful_fair}
+use Rattle.pd_again_law.proofs.Runs.{lawful_fair}
 use Rattle.pd_play.specs.Runs.{run_of}
 use Rattle.pd_faithful.proofs.StepLemmas.{run_stepped}
 use Rattle.pd_faithful.proofs.laws.scripts_are_steps.Goals as goal

@@ -1,8 +1,6 @@
 use Rattle.pd_clock.specs.Rates.{samples}
-use Rattle.pd_stage.specs.Stages.{Passage}
-use Rattle.pd_stage.proofs.LeadLemmas.{lawful_first, lawful_second}
-use Rattle.pd_engine.specs.Opening.{opened}
-use Rattle.pd_steady.proofs.FairLemmas.{lawful_fair}
+use Rattle.pd_again_law.specs.Runs.{Passage, opened}
+use Rattle.pd_again_law.proofs.Runs.{lawful_first, lawful_second, lawful_fair}
 use Rattle.pd_play.specs.Runs.{Run, run_of}
 use Rattle.pd_play.specs.Patches.{start}
 use Rattle.pd_faithful.proofs.FreeLemmas.{run_free}
