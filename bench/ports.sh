@@ -1,11 +1,12 @@
 #!/usr/bin/env bash
-# Measures inlets that come into subpatches of a patch, and that go from them: bench/ports.sh [EDITS]
+# Measures inlets that come into subpatches of a patch, that go from them and that change places in them: bench/ports.sh [EDITS]
 #
 # The patch has voices of `osc~` into `*~`, all led to one `dac~`, and behind them EDITS subpatches (4,000, or as many as there is room for among the
 # 16,384 boxes of a patch) with an inlet each, to which a message box is wired. An edit puts another inlet into each of them, to the left of the first, so
-# that the wire follows; or there are two of them, and an edit deletes the left one, so that the wire follows; all at the start of the run. Printed are
-# microseconds an edit of the whole run, the reading of its record and the memory of the box with it, less those of a run without edits, the least of
-# nine runs each, by the number of boxes that the patch has at first. Build the program first, by ./play, or name another one in PDPLAY.
+# that the wire follows; or there are two of them, and an edit deletes the left one, or moves it to the right of the other, so that the wire follows; all
+# at the start of the run. Printed are microseconds an edit of the whole run, the reading of its record and the memory of the box with it, less those of
+# a run without edits, the least of nine runs each, by the number of boxes that the patch has at first. Build the program first, by ./play, or name
+# another one in PDPLAY.
 set -u
 top=$(cd "$(dirname "$0")/.." && pwd) || exit 2
 # shellcheck source=bench/main-pd.sh
@@ -28,10 +29,11 @@ patch() {
 }
 
 printf '%-8s %7s %12s\n' inlet boxes each
-for kind in comes goes; do
+for kind in comes goes moves; do
   case $kind in
     comes) inlets=1 && words="obj 10 10 inlet" ;;
     goes) inlets=2 && words="delete 0" ;;
+    moves) inlets=2 && words="move 0 300 10" ;;
   esac
   for voices in 50 500 1500 5500; do
     room=$(((16384 - 2 * voices - 2) / 3))
