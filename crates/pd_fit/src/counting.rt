@@ -26,7 +26,7 @@ pub fn has_too_many_wires(alloc: Global, sheet: &Sheet, rows: &[Row]) -> Result<
     requires { AllByRecursion (λ r. IsSmallKind r.kind) rows.now }
     ensures { (t : Trees) → stands_in rows.now ≡ stands_of t → IfOk result (λ many. many ≡ nat_lt 65536 (wires_fitting sheet.now t)) }
 {
-    let mut stack = VecDeque::new(alloc);
+    let mut stack = VecDeque::with_capacity(alloc, rows.len())?;
     let left = stack_rows(alloc, rows, &mut stack)?;
     let boxes = take_all(alloc, &mut stack)?;
     Ok(less_fitting(boxes.as_slice(), sheet.wires.as_slice(), left) == 0)
@@ -41,7 +41,7 @@ pub fn wires_in(alloc: Global, rows: &[Row]) -> Result<u32, AllocError>
     requires { AllByRecursion (λ r. IsSmallKind r.kind) rows.now }
     ensures { (t : Trees) → stands_in rows.now ≡ stands_of t → IfOk result (λ count. count ≡ min 65537 (wires_inside t)) }
 {
-    let mut stack = VecDeque::new(alloc);
+    let mut stack = VecDeque::with_capacity(alloc, rows.len())?;
     let left = stack_rows(alloc, rows, &mut stack)?;
     Ok(MOST_WIRES + 1 - left)
 }
@@ -130,7 +130,7 @@ fn take_first(
     ensures taken { IfOk result (λ taken. taken.items ≡ take count stack.old.items) }
     ensures rest { OnOk result (stack.new.items ≡ drop count stack.old.items) }
 {
-    let mut taken = Vec::new(alloc);
+    let mut taken = Vec::with_capacity(alloc, count)?;
     for _ in 0..count {
         take_one(stack, &mut taken)?;
     }

@@ -94,7 +94,7 @@ pub(crate) fn push_plain(
     Ok(())
 }
 
-/// Puts a box last that holds a canvas, before the boxes of that canvas.
+/// Puts a box last that holds a canvas, before the boxes of that canvas, for which it sets room aside.
 pub(crate) fn push_holder(
     alloc: Global,
     element: &Element,
@@ -106,6 +106,7 @@ pub(crate) fn push_holder(
     ensures rows { IfOk result (λ _. stands_in rows.new.items ≡ stands_in rows.old.items ++ holder_stand (entry_of element.now).head text sheet boxes ∷ []) }
     ensures suit { (names : Names) → TextSuits names text → AllByRecursion (RowSuits names) rows.old.items → IfOk result (λ _. AllByRecursion (RowSuits names) rows.new.items) }
 {
+    rows.reserve(boxes as usize + 1)?;
     rows.push(Row {
         element: bare(alloc, element)?,
         text,

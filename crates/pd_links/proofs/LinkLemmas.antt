@@ -1,5 +1,5 @@
 -- Orders over links, against those over the wires of a canvas.
-use Rattle.std.proofs.Common.{◌≡◌, ℕ, ◌+◌, ◌<◌, ◌≤◌, ◌==◌, Bool, cond, true, List, [], ◌∷◌, ◌++◌, length, take, get_or, refl, sym, ◌∙◌, ap, subst, arith}
+use Rattle.std.proofs.Common.{◌≡◌, ℕ, ◌+◌, ◌<◌, ◌≤◌, ◌^◌, ◌==◌, Bool, cond, true, List, [], ◌∷◌, ◌++◌, length, take, get_or, refl, sym, ◌∙◌, ap, subst, arith}
 use Rattle.std.proofs.lemmas.List.{take_more, take_all}
 use Rattle.pd_order.specs.Graph.{Graph, tally, take_out, IsLawful, IsOrder, cut_wire, add_wire}
 use Rattle.pd_order.proofs.Basics.{by_test, same_node, same_test, other_node, other_test, ltb', ltb-true', ltb-false', tally-take_out, tally-append}
@@ -8,7 +8,7 @@ use Rattle.pd_chain.specs.declared.graph.SignalWire.{SignalWire}
 use Rattle.pd_chain.specs.Wires.{place_of, sources_into, sinks_from, graph_of, IsCanvas}
 use Rattle.pd_chain.proofs.WireLemmas.{drawn_lawful}
 use Rattle.pd_links.specs.declared.links.Links.{Links}
-use Rattle.pd_links.specs.Linked.{label_at, feeders_of, followers_of, link_graph, SameLinks, AreLinked, HasOneMore, RiseAlong}
+use Rattle.pd_links.specs.Linked.{label_at, feeders_of, followers_of, link_graph, AreLinked, HasOneMore, KeepsLinkRoom, RiseAlong, SameLinks, TakesFrom, TakesInto, TakesOne, UsesLinkRoom}
 
 -- the links with boxes ranked by their numbers
 abbrev numbered : List ℕ → Links → Graph
@@ -154,3 +154,41 @@ same_then_more l k m s t same more = record {
   feeders = λ x u. more.feeders x u ∙ ap (λ (xs : List ℕ). tally u (cond (x == t) (s ∷ xs) xs)) (same.feeders x);
   followers = λ x u. more.followers x u ∙ ap (λ (xs : List ℕ). tally u (cond (x == s) (t ∷ xs) xs)) (same.followers x);
 }
+
+-- Room that lasts.
+
+pub same_room : (l : Links) → KeepsLinkRoom l l
+same_room l = record { from = λ x n T. T; into = λ x n T. T }
+
+pub room_more : (l m k : Links) → KeepsLinkRoom l m → KeepsLinkRoom m k → KeepsLinkRoom l k
+room_more l m k a b = record { from = λ x n T. b.from x n (a.from x n T); into = λ x n T. b.into x n (a.into x n T) }
+
+less_from : (l : Links) (x n : ℕ) → TakesFrom l x (n + 1) → TakesFrom l x n
+less_from l x n T = let a = T.0 in let b = T.1 in (omega (arith, a), omega (arith, b))
+
+less_into : (l : Links) (x n : ℕ) → TakesInto l x (n + 1) → TakesInto l x n
+less_into l x n T = let a = T.0 in let b = T.1 in (omega (arith, a), omega (arith, b))
+
+-- a wire that is none of the links uses no room
+pub one_unused : (l : Links) (s t : ℕ) → UsesLinkRoom l l s t
+one_unused l s t = record { from = λ n T. less_from l s n T; other_from = λ x n differ T. T; into = λ n T. less_into l t n T; other_into = λ x n differ T. T }
+
+-- room for some is room for one
+pub takes_one : (l : Links) (s t a b : ℕ) → 0 < a → 0 < b → TakesFrom l s a → TakesInto l t b → TakesOne l s t
+takes_one l s t a b p q A B =
+    let x = A.0 in let y = A.1 in let u = B.0 in let v = B.1 in
+    record { room_from = omega (arith, x, p); room_into = omega (arith, u, q); few_from = omega (arith, y, p); few_into = omega (arith, v, q) }
+
+-- room set aside is more room
+pub room_stays : (l m : Links) → SameLinks l m → KeepsLinkRoom l m
+room_stays l m same = record {
+  from = λ x n T. let a = T.0 in let b = same.spare_from x in (omega (arith, a, b), subst (λ (xs : List ℕ). length xs + n + 1 < 2 ^ 32) (sym (same.followers x)) T.1);
+  into = λ x n T. let a = T.0 in let b = same.spare_into x in (omega (arith, a, b), subst (λ (xs : List ℕ). length xs + n + 1 < 2 ^ 32) (sym (same.feeders x)) T.1);
+}
+
+-- there is room for none
+pub takes_none : (l : Links) (x : ℕ) → TakesFrom l x 0 × TakesInto l x 0
+takes_none l x =
+    let a = l.few_from x in
+    let b = l.few_into x in
+    ((omega arith, omega (arith, a)), (omega arith, omega (arith, b)))

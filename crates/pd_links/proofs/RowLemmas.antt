@@ -1,10 +1,11 @@
 -- Lists of keys under keys, after a call.
-use Rattle.std.proofs.Common.{◌≡◌, ℕ, zero, suc, ◌+◌, ◌-◌, ◌<◌, ◌≤◌, ◌^◌, ◌==◌, false, cond, not, eqb, List, [], ◌∷◌, ◌++◌, length, get_or, set, Some, None, vec_len, vec_capacity, refl, sym, ◌∙◌, ap, subst, arith}
+use Rattle.std.proofs.Common.{◌≡◌, ◌≢◌, ℕ, zero, suc, ◌+◌, ◌-◌, ◌<◌, ◌≤◌, ◌^◌, ◌==◌, false, cond, not, eqb, List, [], ◌∷◌, ◌++◌, length, get_or, set, Some, None, vec_len, vec_capacity, refl, sym, ◌∙◌, ap, subst, arith}
 use Rattle.std.specs.List.{position, prefix_len, swap_remove}
 use Rattle.std.specs.declared.vec.Vec.{Vec}
 use Rattle.std.specs.declared.alloc.Global.{Global}
 use Rattle.std.proofs.lemmas.Bool.{eqb-true, eqb-false}
 use Rattle.std.proofs.lemmas.Bool.Decides.{nat_tests}
+use Rattle.std.proofs.lemmas.List.{length-append}
 use Rattle.std.proofs.lemmas.List.Sorted.{IsPermutation-swap_remove}
 use Rattle.std.proofs.lemmas.List.Quantifiers.{position-Some}
 use Rattle.std.specs.Prelude.{nat_lt, nat_eq}
@@ -12,7 +13,7 @@ use Rattle.pd_order.specs.Graph.{tally}
 use Rattle.pd_order.proofs.Basics.{by_test, same_node, other_node, other_test, tally-append}
 use Rattle.pd_order.proofs.FoldLemmas.{tally-IsPermutation}
 use Rattle.pd_chain.proofs.PlaceLemmas.{length_alike}
-use Rattle.pd_links.specs.Rows.{keys_in, keys_at, spare_at, AreFew, SameRows, OthersStay}
+use Rattle.pd_links.specs.Rows.{keys_in, keys_at, spare_in, spare_at, AreFew, SameRows, OthersStay}
 
 pub same_rows : (rows : List (Vec ℕ Global)) → SameRows rows rows
 same_rows rows = record { keys = λ k. refl; spare = λ k. omega arith }
@@ -158,3 +159,36 @@ few_less rows rows' k v h o few x = by_test (x == k)
     let n : length (keys_at rows k) ≡ length (v ∷ keys_at rows' k) = length_alike (keys_at rows k) (v ∷ keys_at rows' k) h in
     let f = few k in subst (λ (n : ℕ). length (keys_at rows' n) + 1 < 2 ^ 32) (sym e) (omega arith))
     (λ t. subst (λ q. length (keys_in q) + 1 < 2 ^ 32) (sym (o x (other_node x k t))) (few x))
+
+-- where a key goes, room stays
+pub take_spare : (rows : List (Vec ℕ Global)) (i other : ℕ) (d w : Vec ℕ Global) → i < length rows → ((u : ℕ) → tally u (get_or rows i d).items ≡ tally u (other ∷ w.items))
+    → vec_capacity w ≡ vec_capacity (get_or rows i d) → spare_at rows i ≤ spare_at (set rows i w) i
+take_spare rows i other d w l h c =
+    let n = length_alike (get_or rows i d).items (other ∷ w.items) h in
+    let a = spare_there rows i w l in
+    let b = spare_here rows i d l in
+    let x = w.ok.0 in
+    let y = (get_or rows i d).ok.0 in
+    omega (arith, n, a, b, c, x, y)
+
+-- so many keys more come under a key without memory, and can be counted
+abbrev pub TakesKeys : List (Vec ℕ Global) → ℕ → ℕ → Type 0
+TakesKeys rows x n = (n ≤ spare_at rows x) × (length (keys_at rows x) + n + 1 < 2 ^ 32)
+
+pub takes_other : (rows rows' : List (Vec ℕ Global)) (k x n : ℕ) → OthersStay rows rows' k → x ≢ k → TakesKeys rows x n → TakesKeys rows' x n
+takes_other rows rows' k x n o differ T = subst (λ q. (n ≤ spare_in q) × (length (keys_in q) + n + 1 < 2 ^ 32)) (sym (o x differ)) T
+
+pub takes_less : (rows rows' : List (Vec ℕ Global)) (k v x n : ℕ) → ((u : ℕ) → tally u (keys_at rows k) ≡ tally u (v ∷ keys_at rows' k)) → spare_at rows k ≤ spare_at rows' k
+    → OthersStay rows rows' k → TakesKeys rows x n → TakesKeys rows' x n
+takes_less rows rows' k v x n h s o T = by_test (x == k)
+    (λ t. subst (λ (y : ℕ). TakesKeys rows y n → TakesKeys rows' y n) (sym (same_node x k t))
+    (λ (A : TakesKeys rows k n).
+    let e : length (keys_at rows k) ≡ length (v ∷ keys_at rows' k) = length_alike (keys_at rows k) (v ∷ keys_at rows' k) h in
+    let a = A.0 in let b = A.1 in (omega (arith, a, s), omega (arith, b, e))) T)
+    (λ t. takes_other rows rows' k x n o (other_node x k t) T)
+
+pub takes_more : (rows rows' : List (Vec ℕ Global)) (k v n : ℕ) → keys_at rows' k ≡ keys_at rows k ++ v ∷ [] → spare_at rows' k + 1 ≡ spare_at rows k
+    → TakesKeys rows k (n + 1) → TakesKeys rows' k n
+takes_more rows rows' k v n h s T =
+    let e : length (keys_at rows' k) ≡ length (keys_at rows k) + 1 = ap length h ∙ length-append (keys_at rows k) (v ∷ []) in
+    let a = T.0 in let b = T.1 in (omega (arith, a, s), omega (arith, b, e))

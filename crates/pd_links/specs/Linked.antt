@@ -1,5 +1,5 @@
 -- The graph that links and labels tell, and how it stands to the wires of a canvas.
-use Rattle.std.specs.Prelude.{◌≡◌, ℕ, ◌+◌, ◌<◌, ◌≤◌, ◌^◌, ◌==◌, ◌↔◌, cond, List, ◌∷◌, length, slice_index_or}
+use Rattle.std.specs.Prelude.{◌≡◌, ◌≢◌, ℕ, ◌+◌, ◌<◌, ◌≤◌, ◌^◌, ◌==◌, ◌↔◌, cond, List, ◌∷◌, length, slice_index_or}
 use Rattle.pd_order.specs.Graph.{Graph, tally}
 use Rattle.pd_chain.specs.declared.graph.SignalWire.{SignalWire}
 use Rattle.pd_chain.specs.Wires.{place_of, sources_into, sinks_from}
@@ -56,6 +56,26 @@ pub record TakesOne (l : Links) (source sink : ℕ) : Type 0 where
   pub room_into : 0 < spare_into l sink
   pub few_from : length (followers_of l source) + 2 < 2 ^ 32
   pub few_into : length (feeders_of l sink) + 2 < 2 ^ 32
+
+-- there is room for so many wires more from the box x, and they can be counted
+abbrev pub TakesFrom : Links → ℕ → ℕ → Type 0
+TakesFrom l x wires = (wires ≤ spare_from l x) × (length (followers_of l x) + wires + 1 < 2 ^ 32)
+
+-- there is room for so many wires more to it, and they can be counted
+abbrev pub TakesInto : Links → ℕ → ℕ → Type 0
+TakesInto l x wires = (wires ≤ spare_into l x) × (length (feeders_of l x) + wires + 1 < 2 ^ 32)
+
+-- what there was room for, there still is
+pub record KeepsLinkRoom (old new : Links) : Type 0 where
+  pub from : (x wires : ℕ) → TakesFrom old x wires → TakesFrom new x wires
+  pub into : (x wires : ℕ) → TakesInto old x wires → TakesInto new x wires
+
+-- what there was room for, there still is, but for one wire from the source to the sink
+pub record UsesLinkRoom (old new : Links) (source sink : ℕ) : Type 0 where
+  pub from : (wires : ℕ) → TakesFrom old source (wires + 1) → TakesFrom new source wires
+  pub other_from : (x wires : ℕ) → x ≢ source → TakesFrom old x wires → TakesFrom new x wires
+  pub into : (wires : ℕ) → TakesInto old sink (wires + 1) → TakesInto new sink wires
+  pub other_into : (x wires : ℕ) → x ≢ sink → TakesInto old x wires → TakesInto new x wires
 
 -- `more` has one wire more from the source to the sink, and else the same
 pub record HasOneMore (links more : Links) (source sink : ℕ) : Type 0 where

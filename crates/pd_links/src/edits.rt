@@ -1,7 +1,7 @@
 // Signal wires that come and go.
 ghost use Rattle.std.specs.Prelude.{◌≡◌, ◌≢◌, ℕ, true, ◌+◌, ◌<◌, ◌≤◌, ◌^◌, [], length, slice_index, IfOk, OnOk};
 ghost use Rattle.pd_order.specs.Graph.{tally};
-ghost use Rattle.pd_links.specs.Linked.{feeders_of, followers_of, spare_into, spare_from, SameLinks, TakesOne, HasOneMore};
+ghost use Rattle.pd_links.specs.Linked.{feeders_of, followers_of, spare_into, spare_from, KeepsLinkRoom, UsesLinkRoom, SameLinks, TakesFrom, TakesInto, TakesOne, HasOneMore};
 
 use crate::links::Links;
 use crate::rows::{count_at, key_at, make_room, put, take};
@@ -9,6 +9,9 @@ use std::alloc::{AllocError, Global};
 
 /// A box has fewer wires than this on each side.
 const MOST_WIRES: u32 = 4_294_967_294;
+
+/// The wires of a box on one side and those for which there is room are fewer together.
+const LIMIT: u32 = 4_294_967_295;
 
 impl Links {
     /// No wires. It takes no memory yet.
@@ -49,6 +52,29 @@ impl Links {
         Err(AllocError)
     }
 
+    /// Makes room for `from` wires more from the source, and for `into` more to the sink.
+    ///
+    /// # Errors
+    ///
+    /// `AllocError` where memory ran out, or where one of the two boxes would have more wires than can be counted.
+    pub fn reserve_ends(
+        &mut self,
+        source: u32,
+        from: u32,
+        sink: u32,
+        into: u32,
+    ) -> Result<(), AllocError>
+        ensures same { SameLinks self.old self.new }
+        ensures from { OnOk result (TakesFrom self.new source from) }
+        ensures into { OnOk result (TakesInto self.new sink into) }
+    {
+        if self.follower_count(source) >= LIMIT - from || self.feeder_count(sink) >= LIMIT - into {
+            return Err(AllocError);
+        }
+        make_room(self.alloc, &mut self.from, source, from)?;
+        make_room(self.alloc, &mut self.into, sink, into)
+    }
+
     // Whether one wire more can be counted at both its boxes.
     fn has_number(&self, source: u32, sink: u32) -> bool
         ensures from { result ≡ true → length (followers_of self.now source) + 2 < 2 ^ 32 }
@@ -68,6 +94,7 @@ impl Links {
         ensures spare_into { spare_into self.new sink + 1 ≡ spare_into self.old sink }
         ensures others_from { (x : ℕ) → x ≢ source → spare_from self.new x ≡ spare_from self.old x }
         ensures others_into { (x : ℕ) → x ≢ sink → spare_into self.new x ≡ spare_into self.old x }
+        ensures room { UsesLinkRoom self.old self.new source sink }
     {
         put(self.from.as_mut_slice(), source, sink);
         put(self.into.as_mut_slice(), sink, source);
@@ -78,6 +105,7 @@ impl Links {
         requires from { 0 < tally sink (followers_of self.old source) }
         requires into { 0 < tally source (feeders_of self.old sink) }
         ensures wires { HasOneMore self.new self.old source sink }
+        ensures room { KeepsLinkRoom self.old self.new }
     {
         take(self.from.as_mut_slice(), source, sink);
         take(self.into.as_mut_slice(), sink, source);

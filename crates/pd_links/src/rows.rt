@@ -65,6 +65,7 @@ pub(crate) fn take(rows: &mut [Vec<u32>], key: u32, other: u32)
     requires there { key < length rows.old }
     requires listed { 0 < tally other (keys_at rows.old key) }
     ensures keys { (u : ℕ) → tally u (keys_at rows.old key) ≡ tally u (other ∷ keys_at rows.new key) }
+    ensures spare { spare_at rows.old key ≤ spare_at rows.new key }
     ensures others { OthersStay rows.old rows.new key }
 {
     let row = &mut rows[key as usize];

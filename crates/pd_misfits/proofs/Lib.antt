@@ -7,6 +7,7 @@ pub mod GatherLemmas
 pub mod WireLemmas
 pub mod ShedLemmas
 pub mod FitLemmas
+pub mod ToldLemmas
 pub mod SameLemmas
 pub mod RoomLemmas
 pub mod CanvasLemmas

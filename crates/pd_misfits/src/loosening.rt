@@ -1,6 +1,7 @@
 //! Wires at a box go.
 
 ghost use Rattle.std.specs.Prelude.{◌≡◌};
+ghost use Rattle.pd_links.specs.Linked.{KeepsLinkRoom};
 ghost use Rattle.pd_web.specs.Changes.{wires_told, Meet};
 ghost use Rattle.pd_wiring.specs.Changes.{CanRewire};
 ghost use Rattle.pd_taking.specs.Loosening.{Loosens};
@@ -27,6 +28,7 @@ pub fn loosen_wires<L: Ledger>(
     requires counted { wires ≡ wires_told patch.old.web }
     ensures loosens { Loosens patch.old patch.new key steps.old steps.new }
     ensures sheds { Sheds patch.old.web patch.new.web gone.now }
+    ensures room { KeepsLinkRoom patch.old.links patch.new.links }
     ensures counted { result ≡ wires_told patch.new.web }
 {
     let mut left = wires;

@@ -13,7 +13,7 @@ use std::alloc::{AllocError, Global};
 pub(crate) fn is_word(bytes: &[u8], word: &[u8]) -> bool
     ensures { result ≡ bytes_eq bytes.now word.now }
 {
-    bytes == word
+    bytes.len() == word.len() && bytes == word
 }
 
 /// One.

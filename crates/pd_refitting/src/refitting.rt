@@ -8,6 +8,7 @@ ghost use Rattle.pd_owning.specs.Bound.{AreOwnersBut, HasRoom, OthersStay};
 ghost use Rattle.pd_grove.specs.declared.nodes.Node.{Node};
 ghost use Rattle.pd_grove.specs.Forest.{IsForest};
 ghost use Rattle.pd_grove.specs.TextOrder.{spots_in_order};
+ghost use Rattle.pd_web.specs.Changes.{KeepsRoom};
 ghost use Rattle.pd_boxes.specs.Put.{node_of};
 ghost use Rattle.pd_refitting.specs.Refits.{Becomes, CanRefit, IsRefitted, refit_looks};
 ghost use Rattle.pd_refitting.specs.Room.{TakesRefit};
@@ -36,6 +37,7 @@ pub fn refit<L: Ledger>(
     requires room { TakesRefit patch.old room symbols.old }
     ensures refitted { (n : Node) → get patch.old.grove.nodes room.key ≡ Some n → IsRefitted patch.old patch.new symbols.old room.key n room.seed }
     ensures table { symbols.new ≡ symbols.old }
+    ensures room { KeepsRoom patch.old.web patch.new.web }
     ensures looks { (n : Node) → get patch.old.grove.nodes room.key ≡ Some n → steps.new ≤ steps.old + refit_looks n.kind room.seed.row.kind }
 {
     let RefitRoom {

@@ -25,7 +25,8 @@ use Rattle.pd_taking.specs.Loosening.{hops_at, line_at, Loosens}
 use Rattle.pd_refitting.specs.Refits.{IsPlainIn, CanRefit, IsRefitted, refit_looks}
 use Rattle.pd_renaming.specs.Renaming.{CanRename, IsRenamed}
 use Rattle.pd_misfits.specs.declared.wires.BoxWire.{BoxWire}
-use Rattle.pd_misfits.specs.Misfits.{turns, misfits, NoneTurns}
+use Rattle.pd_misfits.specs.Misfits.{misfits, turning}
+use Rattle.pd_turning.specs.Returns.{PutsBack}
 use Rattle.pd_misfits.specs.Shedding.{AreWiresAt, Sheds}
 use Rattle.pd_adding.specs.declared.adding.Grown.{Grown}
 use Rattle.pd_adding.specs.Growing.{Added}
@@ -46,19 +47,14 @@ abbrev pub IsUnplanned : Names → Patch → List ℕ → ℕ → List Atom → 
 IsUnplanned names p path number text why =
     (why ≡ NoMemory) ⊎ (retyping names p path number text ≡ Err why)
 
--- no wire at a port of the box of the key that fits where that is of this kind turns
-abbrev pub NoneTurnsAt : Web → ℕ → Kind → Side → ℕ → Type 0
-NoneTurnsAt w key k side port = (i : ℕ) (h : Hop) → slice_get (hops_at w side key port) i ≡ Some h → turns w key k (line_at side key port h) ≡ false
-
 -- a box without a canvas can become one of this kind in its place
 pub record IsAlike (p : Patch) (key : ℕ) (n : Node) (k : Kind) : Type 0 where
   pub bare : n.inner ≡ None
-  pub wires : NoneTurns p.web key k
   pub plain : IsPlainIn p n.board n.kind
   pub stays_plain : IsPlainIn p n.board k
 
--- A box without a canvas can become that of the seed, and these are the wires at it that don't fit then.
-pub record CanMake (p : Patch) (key : ℕ) (n : Node) (s : Seed) (gone : List BoxWire) : Type 0 where
+-- A box without a canvas can become that of the seed, and these are the wires at it that don't fit then, and those that turn.
+pub record CanMake (p : Patch) (key : ℕ) (n : Node) (s : Seed) (gone turned : List BoxWire) : Type 0 where
   pub can : CanPut p
   pub meet : Meet p.web
   pub is : get p.grove.nodes key ≡ Some n
@@ -66,18 +62,27 @@ pub record CanMake (p : Patch) (key : ℕ) (n : Node) (s : Seed) (gone : List Bo
   pub leaf : IsLeaf s
   pub gone_are : gone ≡ misfits p n.board key s.row.kind
   pub wires : AreWiresAt p.web key gone
+  pub turned_are : turned ≡ turning p n.board key s.row.kind
+  pub turning_wires : AreWiresAt p.web key turned
 
--- Room was set aside, the wires at the box of a key that don't fit that of a seed went, and then it became that one.
-pub record MakesOther (old new : Patch) (table : Names) (key : ℕ) (n : Node) (s : Seed) (gone : List BoxWire) (steps steps' : ℕ) : Type 0 where
+-- Room was set aside, the wires at the box of a key that don't fit that of a seed went, and those that turn; then it became that one, and these came back.
+pub record MakesOther (old new : Patch) (table : Names) (key : ℕ) (n : Node) (s : Seed) (gone turned : List BoxWire) (steps steps' : ℕ) : Type 0 where
   pub ready : Patch
   pub room : SameButRoom old ready
   pub loose : Patch
   pub between : ℕ
   pub loosens : Loosens ready loose key steps between
   pub sheds : Sheds old.web loose.web gone
-  pub could : CanRefit loose key n s
-  pub refit : IsRefitted loose new table key n s
-  pub looks : steps' ≤ between + refit_looks n.kind s.row.kind
+  pub free : Patch
+  pub freed : ℕ
+  pub frees : Loosens loose free key between freed
+  pub out : Sheds loose.web free.web turned
+  pub could : CanRefit free key n s
+  pub fitted : Patch
+  pub refit : IsRefitted free fitted table key n s
+  pub placed : ℕ
+  pub looks : placed ≤ freed + refit_looks n.kind s.row.kind
+  pub back : PutsBack loose.web fitted new key turned placed steps'
 
 -- The box stays: memory was wanting, and there may be more room; or it can't become what grew yet, and the patch stays.
 abbrev pub StaysItself : Patch → Patch → ℕ → Node → Added → EditRefusal → Type 0

@@ -33,8 +33,9 @@ pub use Rattle.pd_taking.specs.Loosening.{looks_for}
 use Rattle.pd_refitting.specs.Refits.{IsPlainIn, CanRefit, IsRefitted}
 pub use Rattle.pd_refitting.specs.Refits.{refit_looks}
 pub use Rattle.pd_misfits.specs.declared.wires.BoxWire.{BoxWire}
-use Rattle.pd_misfits.specs.Misfits.{misfits, NoneTurns}
+use Rattle.pd_misfits.specs.Misfits.{misfits, turning}
 use Rattle.pd_misfits.specs.Shedding.{Sheds}
+use Rattle.pd_turning.specs.Returns.{looks_back, PutsBack}
 use Rattle.pd_renaming.specs.Renaming.{CanRename, IsRenamed}
 use Rattle.pd_adding.specs.declared.counts.Counts.{Counts}
 use Rattle.pd_adding.specs.Counts.{counts_less}
@@ -64,19 +65,18 @@ pub record RetypesTo (p : Patch) (n : Counts) (name path : List ℕ) (number : �
   pub chosen : IsChosen p path number canvas key node
   pub comes : ComesTo None p (counts_but p.rate node n) name path (put_instead (entry_of node.element) text) k r
 
--- The box of the key holds no canvas, and what grew is one box that holds none. Its wires that fit the new box carry what they carried. Neither is a
--- port of a box around.
+-- The box of the key holds no canvas, and what grew is one box that holds none. Neither is a port of a box around.
 pub record CanBecome (p : Patch) (key : ℕ) (n : Node) (a : Added) : Type 0 where
   pub cell : Cell
   pub single : a.boxes ≡ Leaf cell Done
   pub bare : n.inner ≡ None
-  pub wires : NoneTurns p.web key cell.kind
   pub plain : IsPlainIn p n.board n.kind
   pub stays_plain : IsPlainIn p n.board cell.kind
 
--- The wires at the box of a key that don't fit what grew went, each with the mend that the order of its canvas needs. Then the box became what grew, with
--- the others, and keeps what its kind keeps at first. All else of the patch stays, but that there is more room. Signal wires were looked at for these mends, and
--- for the place of the new box in the order of its canvas.
+-- The wires at the box of a key that don't fit what grew went, each with the mend that the order of its canvas needs, and then those that fit it, but become
+-- signal wires with it or cease to be such. Then the box became what grew, with the others, and keeps what its kind keeps at first; and the wires that turn came back
+-- where they were, each with its mend. All else of the patch stays, but that there is more room. Signal wires were looked at for these mends, and for the place of
+-- the new box in the order of its canvas.
 pub record HasBecome (old new : Patch) (now key : ℕ) (n : Node) (a : Added) (gone : List BoxWire) (steps steps' : ℕ) : Type 0 where
   pub can : CanBecome old key n a
   pub gone_are : gone ≡ misfits old n.board key can.cell.kind
@@ -86,14 +86,23 @@ pub record HasBecome (old new : Patch) (now key : ℕ) (n : Node) (a : Added) (g
   pub between : ℕ
   pub loosens : Loosens ready loose key steps between
   pub sheds : Sheds old.web loose.web gone
+  pub turned : List BoxWire
+  pub turned_are : turned ≡ turning old n.board key can.cell.kind
+  pub free : Patch
+  pub freed : ℕ
+  pub frees : Loosens loose free key between freed
+  pub out : Sheds loose.web free.web turned
   pub seed : Seed
   pub is_row : stand_of seed.row ≡ record { cell = can.cell; sheet = None; boxes = 0 }
   pub suits : RowSuits a.known.names seed.row
   pub leaf : IsLeaf seed
   pub fresh : IsFresh old.rate now seed
-  pub could : CanRefit loose key n seed
-  pub refit : IsRefitted loose new a.known.names key n seed
-  pub looks : steps' ≤ between + refit_looks n.kind can.cell.kind
+  pub could : CanRefit free key n seed
+  pub fitted : Patch
+  pub refit : IsRefitted free fitted a.known.names key n seed
+  pub placed : ℕ
+  pub looks : placed ≤ freed + refit_looks n.kind can.cell.kind
+  pub back : PutsBack loose.web fitted new key turned placed steps'
   pub goes_on : CanPut new
 
 -- A subpatch takes the text of what grew, a subpatch without boxes, and keeps what it holds. Both could be made.
@@ -136,9 +145,10 @@ module _ {old new : Patch} {names : Names} {text : List Atom} {now key : ℕ} {n
   clocks_become (inl x) clocks = without key clocks
   clocks_become (inr x) clocks = clocks
 
-  -- no more signal wires were looked at than the mends for the wires that went take, and the place of a new box in the order of its canvas
+  -- no more signal wires were looked at than the mends for the wires that went or turned take, and the place of a new box in the order of its canvas
   abbrev pub looks_become : (canvas : ℕ) → Becomes old new names text now key n a gone steps steps' → ℕ
-  looks_become canvas (inl x) = looks_for canvas x.loosens.gone x.loose + refit_looks n.kind x.can.cell.kind
+  looks_become canvas (inl x) =
+      looks_for canvas x.loosens.gone x.loose + (looks_for canvas x.frees.gone x.free + (refit_looks n.kind x.can.cell.kind + looks_back canvas x.back.tightens.back new))
   looks_become canvas (inr x) = 0
 
 -- counts with another number of wires

@@ -3,6 +3,7 @@
 ghost use Rattle.std.specs.Prelude.{◌≡◌, ◌≤◌, ◌+◌, ℕ, false, Some};
 ghost use Rattle.slab.specs.Slab.{get};
 ghost use Rattle.pd_order.specs.Graph.{add_wire};
+ghost use Rattle.pd_links.specs.Linked.{KeepsLinkRoom};
 ghost use Rattle.pd_grove.specs.Owning.{board_in};
 ghost use Rattle.pd_web.specs.Changes.{CutsWire};
 ghost use Rattle.pd_patch.specs.Telling.{order_in};
@@ -25,6 +26,7 @@ pub fn detach<L: Ledger>(patch: &mut Patch, line: Line, key: WireKey, steps: &mu
     ensures rest { StaysButWire patch.old patch.new line.source }
     ensures rewires { CanRewire patch.new }
     ensures built { StaysBuilt patch.old patch.new }
+    ensures room { KeepsLinkRoom patch.old.links patch.new.links }
     ensures control { is_signal_so patch.old.web line ≡ false → steps.new ≡ steps.old }
     ensures looks { (c : ℕ) → board_in (get patch.old.grove.nodes line.source) ≡ Some c → steps.new ≤ steps.old
         + most_mending (add_wire (graph_in patch.new c) line.source line.sink) line.sink (order_in patch.old.orders.items c) (order_in patch.new.orders.items c) }

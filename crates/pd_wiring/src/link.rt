@@ -4,7 +4,7 @@ ghost use Rattle.std.specs.Prelude.{◌≡◌, ◌<◌, ◌≤◌, ◌+◌, ℕ,
 ghost use Rattle.slab.specs.Slab.{get};
 ghost use Rattle.pd_order.specs.Graph.{tally, add_wire};
 ghost use Rattle.pd_links.specs.declared.links.Links.{Links};
-ghost use Rattle.pd_links.specs.Linked.{feeders_of, followers_of, TakesOne, HasOneMore};
+ghost use Rattle.pd_links.specs.Linked.{feeders_of, followers_of, HasOneMore, KeepsLinkRoom, TakesOne, UsesLinkRoom};
 ghost use Rattle.pd_grove.specs.Owning.{board_in};
 ghost use Rattle.pd_patch.specs.Linked.{ShareCanvas};
 ghost use Rattle.pd_patch.specs.Orders.{is_signal_node};
@@ -29,6 +29,7 @@ pub(crate) fn link<L: Ledger>(patch: &mut Patch, wire: SignalWire, steps: &mut S
     requires signal { is_signal_node (get patch.old.grove.nodes wire.sink) ≡ true }
     requires orders { HasOrders patch.old }
     ensures links { HasOneMore patch.old.links patch.new.links wire.source wire.sink }
+    ensures room { UsesLinkRoom patch.old.links patch.new.links wire.source wire.sink }
     ensures orders { HasOrders patch.new }
     ensures rest { StaysButWire patch.old patch.new wire.source }
     ensures web { patch.new.web ≡ patch.old.web }
@@ -47,6 +48,7 @@ pub(crate) fn unlink<L: Ledger>(patch: &mut Patch, wire: SignalWire, steps: &mut
     requires signal { is_signal_node (get patch.old.grove.nodes wire.sink) ≡ true }
     requires orders { HasOrders patch.old }
     ensures links { HasOneMore patch.new.links patch.old.links wire.source wire.sink }
+    ensures room { KeepsLinkRoom patch.old.links patch.new.links }
     ensures orders { HasOrders patch.new }
     ensures rest { StaysButWire patch.old patch.new wire.source }
     ensures web { patch.new.web ≡ patch.old.web }

@@ -3,6 +3,7 @@
 ghost use Rattle.std.specs.Prelude.{◌≡◌, ◌≤◌, ◌+◌, ℕ, false, Some};
 ghost use Rattle.slab.specs.Slab.{get};
 ghost use Rattle.pd_wire.specs.Book.{StandsAt};
+ghost use Rattle.pd_links.specs.Linked.{UsesLinkRoom};
 ghost use Rattle.pd_grove.specs.Owning.{board_in};
 ghost use Rattle.pd_web.specs.Lines.{IsRoute};
 ghost use Rattle.pd_web.specs.Hops.{fan_keys, feed_hops};
@@ -40,6 +41,7 @@ pub fn attach_before<L: Ledger>(
     ensures rest { StaysButWire patch.old patch.new line.source }
     ensures rewires { CanRewire patch.new }
     ensures built { StaysBuilt patch.old patch.new }
+    ensures left { UsesLinkRoom patch.old.links patch.new.links line.source line.sink }
     ensures control { is_signal_so patch.old.web line ≡ false → steps.new ≡ steps.old }
     ensures looks { (c : ℕ) → board_in (get patch.old.grove.nodes line.source) ≡ Some c → steps.new ≤ steps.old
         + most_mending (graph_in patch.new c) line.sink (order_in patch.old.orders.items c) (order_in patch.new.orders.items c) }

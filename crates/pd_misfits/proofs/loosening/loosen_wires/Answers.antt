@@ -1,4 +1,5 @@
 use Rattle.std.proofs.Common.{arith}
+use Rattle.pd_links.proofs.LinkLemmas.{room_more, same_room}
 use Rattle.pd_wiring.proofs.WebLemmas.{HasLaws}
 use Rattle.pd_taking.proofs.LoseLemmas.{IsWeb}
 use Rattle.pd_taking.proofs.LoosenLemmas.{loosens_none}
@@ -9,6 +10,7 @@ pub loop-wire-init : goal.loop-wire-init
 loop-wire-init g c = record {
   loosens = loosens_none c.args.patch.now c.args.key c.args.steps.now c.requires.runs c.requires.meet;
   sheds = sheds_none c.args.patch.now.web;
+  room = same_room c.args.patch.now.links;
   counted = c.requires.counted;
 }
 
@@ -36,6 +38,7 @@ loop-wire-preserved g c =
       loosens = item_loosens p q r c.args.key c.args.gone.now i m c.requires.wires sheds c.loop-wire-test.true c.wire-item.is c.args.steps.now c.loop-wire.steps c.detach.new.steps was.loosens web laws
           (record { done = record { cuts = e.cuts; rest = e.rest; rewires = e.rewires; built = e.built }; control = e.control; looks = e.looks });
       sheds = item_sheds p q r c.args.key c.args.gone.now i m c.requires.wires sheds c.loop-wire-test.true c.wire-item.is e.cuts;
+      room = room_more p.links q.links r.links was.room e.room;
       counted =
           let less = item_one_less p q r c.args.key c.args.gone.now i m c.requires.wires sheds c.loop-wire-test.true c.wire-item.is laws e.cuts in
           let same = was.counted in
@@ -54,3 +57,6 @@ overflow_sub-left g c =
 
 pub returns-clause-sheds : goal.returns-clause-sheds
 returns-clause-sheds g c = sheds_all c.args.patch.now.web c.loop-wire.patch.web c.args.gone.now c.loop-wire.wire-index c.loop-wire-test.false c.loop-wire.invariant.sheds
+
+pub returns-clause-room : goal.returns-clause-room
+returns-clause-room g c = c.loop-wire.invariant.room

@@ -232,6 +232,9 @@ returns-clause-refitted g c = λ n is.
       present = refl;
     }
 
+pub returns-clause-room : goal.returns-clause-room
+returns-clause-room g c = c.refit_box.ensures.room
+
 pub returns-clause-looks : goal.returns-clause-looks
 returns-clause-looks g c = λ n is.
     let p = c.args.patch.now in

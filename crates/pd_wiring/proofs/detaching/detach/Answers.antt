@@ -1,5 +1,6 @@
 use Rattle.std.proofs.Common.{◌≡◌, true, false, refl, sym, ap, ◌∙◌, subst, arith}
 use Rattle.std.specs.Prelude.{is_some}
+use Rattle.pd_links.proofs.LinkLemmas.{same_room}
 use Rattle.pd_web.specs.declared.web.Web.{Web}
 use Rattle.pd_web.specs.Changes.{CutsWire}
 use Rattle.pd_wiring.proofs.WebLemmas.{HasLaws, line_here, line_inside}
@@ -65,6 +66,9 @@ returns-then-not-signal-clause-built g c =
     stays_built p (record p { web = c.cut.new.self }) c.cut.new.self c.args.line.source S refl c.cut.ensures.kept
     (λ (b : CanRewire p). detach_control p c.cut.new.self c.args.line c.args.key laws c.requires.wire c.cut.ensures (record p { web = c.cut.new.self }) (sym c.is_signal_line-signal.ensures ∙ c.if-not-signal.true) S refl refl refl b)
 
+pub returns-then-not-signal-clause-room : goal.returns-then-not-signal-clause-room
+returns-then-not-signal-clause-room g c = same_room c.args.patch.now.links
+
 pub returns-then-not-signal-clause-looks : goal.returns-then-not-signal-clause-looks
 returns-then-not-signal-clause-looks g c = λ k lies. omega arith
 
@@ -93,6 +97,9 @@ returns-clause-built g c =
     let S : StaysButWire p c.unlink.new.patch c.args.line.source = record { grove = r.grove; names = r.names; timers = r.timers; numbers = r.numbers; values = r.values; rate = r.rate; present = r.present; orders = r.orders; places = r.places } in
     stays_built p c.unlink.new.patch c.cut.new.self c.args.line.source S c.unlink.ensures.web c.cut.ensures.kept
     (λ (b : CanRewire p). detach_signal p c.cut.new.self c.args.line c.args.key laws c.requires.wire c.cut.ensures c.unlink.new.patch (sym c.is_signal_line-signal.ensures ∙ c.if-not-signal.false) S c.unlink.ensures.web c.unlink.ensures.links c.unlink.ensures.orders b)
+
+pub returns-clause-room : goal.returns-clause-room
+returns-clause-room g c = c.unlink.ensures.room
 
 pub returns-clause-control : goal.returns-clause-control
 returns-clause-control g c =

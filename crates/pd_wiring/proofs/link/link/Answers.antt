@@ -1,6 +1,6 @@
 use Rattle.std.proofs.Common.{sym, subst}
 use Rattle.pd_links.specs.declared.links.Links.{Links}
-use Rattle.pd_links.specs.Linked.{HasOneMore}
+use Rattle.pd_links.specs.Linked.{HasOneMore, UsesLinkRoom}
 use Rattle.pd_links.proofs.LinkLemmas.{wire_there}
 use Rattle.pd_wiring.proofs.MendLemmas.{all_came}
 use Rattle.pd_wiring.proofs.link.link.Goals as goal
@@ -19,6 +19,9 @@ mend_canvas-requires-clause-orders g c =
 pub returns-clause-links : goal.returns-clause-links
 returns-clause-links g c =
     subst (λ (x : Links). HasOneMore c.args.patch.now.links x c.args.wire.source c.args.wire.sink) (sym c.mend_canvas.ensures.links) c.add.ensures.wires
+
+pub returns-clause-room : goal.returns-clause-room
+returns-clause-room g c = subst (λ (x : Links). UsesLinkRoom c.args.patch.now.links x c.args.wire.source c.args.wire.sink) (sym c.mend_canvas.ensures.links) c.add.ensures.room
 
 pub returns-clause-rest : goal.returns-clause-rest
 returns-clause-rest g c =

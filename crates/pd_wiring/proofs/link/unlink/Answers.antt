@@ -1,6 +1,6 @@
 use Rattle.std.proofs.Common.{◌≡◌, sym, subst}
 use Rattle.pd_links.specs.declared.links.Links.{Links}
-use Rattle.pd_links.specs.Linked.{HasOneMore}
+use Rattle.pd_links.specs.Linked.{HasOneMore, KeepsLinkRoom}
 use Rattle.pd_wiring.specs.declared.mend.Change.{Change}
 use Rattle.pd_wiring.specs.declared.mend.Change.TheVariants.{Came, Went}
 use Rattle.pd_wiring.proofs.MendLemmas.{all_went}
@@ -20,6 +20,9 @@ mend_canvas-requires-clause-orders g c =
 pub returns-clause-links : goal.returns-clause-links
 returns-clause-links g c =
     subst (λ (x : Links). HasOneMore x c.args.patch.now.links c.args.wire.source c.args.wire.sink) (sym c.mend_canvas.ensures.links) c.cut.ensures.wires
+
+pub returns-clause-room : goal.returns-clause-room
+returns-clause-room g c = subst (λ (x : Links). KeepsLinkRoom c.args.patch.now.links x) (sym c.mend_canvas.ensures.links) c.cut.ensures.room
 
 pub returns-clause-rest : goal.returns-clause-rest
 returns-clause-rest g c =

@@ -1,4 +1,5 @@
 use Rattle.std.proofs.Common.{arith, ◌≡◌, ℕ, List, length, true, false, refl, sym, ◌∙◌, subst}
+use Rattle.pd_links.proofs.LinkLemmas.{one_unused}
 use Rattle.pd_web.specs.declared.web.Web.{Web}
 use Rattle.pd_web.specs.Hops.{fan_keys, feed_hops}
 use Rattle.pd_web.specs.Changes.{Joins}
@@ -73,6 +74,9 @@ returns-then-is_signal_line-clause-built g c =
     (λ (b : CanRewire p). attach_signal p c.rejoin-key.new.self c.args.line c.rejoin-key.result n.0 at.0 c.requires.route J c.requires.together c.link.new.patch
     (sym c.is_signal_line.ensures ∙ c.if-is_signal_line.true) S c.link.ensures.web c.link.ensures.links c.link.ensures.orders b)
 
+pub returns-then-is_signal_line-clause-left : goal.returns-then-is_signal_line-clause-left
+returns-then-is_signal_line-clause-left g c = c.link.ensures.room
+
 pub returns-then-is_signal_line-clause-control : goal.returns-then-is_signal_line-clause-control
 returns-then-is_signal_line-clause-control g c =
     let p = c.args.patch.now in
@@ -117,6 +121,9 @@ returns-clause-built g c =
     stays_built p (record p { web = c.rejoin-key.new.self }) c.rejoin-key.new.self c.args.line.source S refl J.kept
     (λ (b : CanRewire p). attach_control p c.rejoin-key.new.self c.args.line c.rejoin-key.result n.0 at.0 c.requires.route J c.requires.together
     (record p { web = c.rejoin-key.new.self }) (sym c.is_signal_line.ensures ∙ c.if-is_signal_line.false) S refl refl refl b)
+
+pub returns-clause-left : goal.returns-clause-left
+returns-clause-left g c = one_unused c.args.patch.now.links c.args.line.source c.args.line.sink
 
 pub returns-clause-looks : goal.returns-clause-looks
 returns-clause-looks g c = λ k lies. omega arith
