@@ -2,6 +2,7 @@
 use Rattle.std.specs.Prelude.{◌≡◌, ◌⊎◌, ◌<◌, ◌≤◌, ◌+◌, ℕ, List, ◌∷◌, length, Option, Some, None, Ok, Err, IfSome}
 use Rattle.std.specs.List.{AllByRecursion}
 use Rattle.slab.specs.Slab.{get}
+use Rattle.pd_io.specs.declared.files.FileRow.{FileRow}
 use Rattle.pd_atom.specs.Names.{IsTable}
 use Rattle.pd_canvas.specs.declared.edits.Edit.{Edit}
 use Rattle.pd_canvas.specs.Pages.{Sub}
@@ -204,14 +205,14 @@ pub record AddsBoxAt (old new : Patch) (number : ℕ) (n : Counts) (name path : 
   pub table_after : IsTable after.names
 
 -- An edit put a box, with this known after it, as what grew: `k` was known before it, `n` were the counts of the patch, and it is this time. The
--- documents that were found before it are proper. It grew where the files were known for which it asked.
-pub record AddsBox (old new : Patch) (n : Counts) (name path : List ℕ) (now : ℕ) (e : Edit) (k after : Known) (b : NewBox) : Type 0 where
+-- documents that were found before it are proper. It grew where the files were known for which it asked, by what the shelf holds, where it tells that.
+pub record AddsBoxBy (holds : Option (List FileRow)) (old new : Patch) (n : Counts) (name path : List ℕ) (now : ℕ) (e : Edit) (k after : Known) (b : NewBox) : Type 0 where
   pub added : Added
   pub table : IsTable k.names
   pub found : AreProper k.names k.files
   pub is_known : IsKnown k.names e
   pub written : IfSome (box_put (settled_edit k.names e)) (CanBeWritten k.names)
-  pub comes : ComesTo None old n name path e k (Ok added)
+  pub comes : ComesTo holds old n name path e k (Ok added)
   pub files : Known
   pub grew : GrewWith old n name path e k files added
   pub put : HasCome old new now added b.key
@@ -220,22 +221,32 @@ pub record AddsBox (old new : Patch) (n : Counts) (name path : List ℕ) (now : 
   pub known_is : after ≡ added.known
   pub table_after : IsTable after.names
 
+-- the same whatever the shelf holds
+abbrev pub AddsBox : Patch → Patch → Counts → (name path : List ℕ) → (now : ℕ) → Edit → (k after : Known) → NewBox → Type 0
+AddsBox = AddsBoxBy None
+
 -- Why an edit that puts a box is refused: memory was wanting; or the folder gave no file for which growing the box asks; or it comes to this refusal;
 -- or its text names what the table hasn't. No box is refused for what it is.
-abbrev pub IsNotPut : Patch → Counts → List ℕ → List ℕ → Edit → Known → EditRefusal → Type 0
-IsNotPut p n name path e k why =
-    (why ≡ NoMemory) ⊎ (((why ≡ ShelfFault) × IsComing (coming k.names p path e)) ⊎ (ComesTo None p n name path e k (Err why) ⊎
+abbrev pub IsNotPutBy : Option (List FileRow) → Patch → Counts → List ℕ → List ℕ → Edit → Known → EditRefusal → Type 0
+IsNotPutBy holds p n name path e k why =
+    (why ≡ NoMemory) ⊎ (((why ≡ ShelfFault) × IsComing (coming k.names p path e)) ⊎ (ComesTo holds p n name path e k (Err why) ⊎
     ((why ≡ NoDocument) × (IsKnown k.names e → ⊥))))
 
+abbrev pub IsNotPut : Patch → Counts → List ℕ → List ℕ → Edit → Known → EditRefusal → Type 0
+IsNotPut = IsNotPutBy None
+
 -- the box could come, and memory was wanting to put it
-pub record IsShortOfRoom (old new : Patch) (n : Counts) (name path : List ℕ) (e : Edit) (k : Known) : Type 0 where
+pub record IsShortOfRoomBy (holds : Option (List FileRow)) (old new : Patch) (n : Counts) (name path : List ℕ) (e : Edit) (k : Known) : Type 0 where
   pub added : Added
-  pub comes : ComesTo None old n name path e k (Ok added)
+  pub comes : ComesTo holds old n name path e k (Ok added)
   pub can_come : CanCome old added
   pub room : SameButRoom old new
   pub goes_on : CanPut new
 
+abbrev pub IsShortOfRoom : Patch → Patch → Counts → List ℕ → List ℕ → Edit → Known → Type 0
+IsShortOfRoom = IsShortOfRoomBy None
+
 -- it is refused for this, and the patch stays; or the box could come, memory was wanting to put it, and there may be more room
-abbrev pub IsNotAdded : Patch → Patch → Counts → List ℕ → List ℕ → Edit → Known → EditRefusal → Type 0
-IsNotAdded old new n name path e k why =
-    ((new ≡ old) × IsNotPut old n name path e k why) ⊎ ((why ≡ NoMemory) × IsShortOfRoom old new n name path e k)
+abbrev pub IsNotAddedBy : Option (List FileRow) → Patch → Patch → Counts → List ℕ → List ℕ → Edit → Known → EditRefusal → Type 0
+IsNotAddedBy holds old new n name path e k why =
+    ((new ≡ old) × IsNotPutBy holds old n name path e k why) ⊎ ((why ≡ NoMemory) × IsShortOfRoomBy holds old new n name path e k)

@@ -1,8 +1,9 @@
 -- A box that an edit makes another one in a canvas of a running patch.
 use Rattle.std.proofs.Common.{inl, inr}
-use Rattle.std.specs.Prelude.{◌≡◌, ◌⊎◌, ◌≤◌, ◌+◌, ℕ, true, false, List, [], Some, None, Result, Ok, Err, slice_get}
+use Rattle.std.specs.Prelude.{◌≡◌, ◌⊎◌, ◌≤◌, ◌+◌, ℕ, true, false, List, [], Some, None, Result, Ok, Err, slice_get, Option}
 use Rattle.std.specs.List.{All}
 use Rattle.slab.specs.Slab.{get}
+use Rattle.pd_io.specs.declared.files.FileRow.{FileRow}
 use Rattle.pd_atom.specs.declared.Atom.{Atom}
 use Rattle.pd_atom.specs.Names.{IsTable, Names}
 use Rattle.pd_atom.specs.Atoms.{IsOf}
@@ -56,14 +57,18 @@ pub record IsChosen (p : Patch) (path : List ℕ) (number canvas key : ℕ) (n :
   pub is : get p.grove.nodes key ≡ Some n
   pub takes : takes_text_so (entry_of n.element) ≡ true
 
--- What the box becomes comes to this, by what the shelf gives, in order, for each file that growing it asks for and of which nothing is known: it
--- grows among the boxes that stay, as an edit would put it. `n` are the counts of the patch, and `name` is its file name.
-pub record RetypesTo (p : Patch) (n : Counts) (name path : List ℕ) (number : ℕ) (text : List Atom) (k : Known) (r : Result Added EditRefusal) : Type 0 where
+-- What the box becomes comes to this, by what the shelf gives, which is what it holds, where it tells that, in order, for each file that growing it
+-- asks for and of which nothing is known: it grows among the boxes that stay, as an edit would put it. `n` are the counts of the patch, and `name` is its file name.
+pub record RetypesToBy (holds : Option (List FileRow)) (p : Patch) (n : Counts) (name path : List ℕ) (number : ℕ) (text : List Atom) (k : Known) (r : Result Added EditRefusal) : Type 0 where
   pub canvas : ℕ
   pub key : ℕ
   pub node : Node
   pub chosen : IsChosen p path number canvas key node
-  pub comes : ComesTo None p (counts_but p.rate node n) name path (put_instead (entry_of node.element) text) k r
+  pub comes : ComesTo holds p (counts_but p.rate node n) name path (put_instead (entry_of node.element) text) k r
+
+-- the same whatever the shelf holds
+abbrev pub RetypesTo : Patch → Counts → (name path : List ℕ) → (number : ℕ) → (text : List Atom) → Known → Result Added EditRefusal → Type 0
+RetypesTo = RetypesToBy None
 
 -- The box of the key holds no canvas, and what grew is one box that holds none. Neither is a port of a box around.
 pub record CanBecome (p : Patch) (key : ℕ) (n : Node) (a : Added) : Type 0 where
@@ -158,7 +163,7 @@ with_wires c wires = record { boxes = c.boxes; wires = wires; sound = c.sound; n
 -- An edit made a box another one, with this known after it: `k` was known before it, `n` were the counts of the patch, and it is this time. The
 -- documents that were found before it are proper. What the box became grew where the files were known for which it asked, from what an edit would
 -- have put: the box which a document gets, but that of a subpatch that keeps what it holds an empty one grew.
-pub record RetypesBox (old new : Patch) (n : Counts) (name path : List ℕ) (number : ℕ) (text : List Atom) (now : ℕ) (k after : Known) (steps steps' : ℕ) (b : RetypedBox) : Type 0 where
+pub record RetypesBoxBy (holds : Option (List FileRow)) (old new : Patch) (n : Counts) (name path : List ℕ) (number : ℕ) (text : List Atom) (now : ℕ) (k after : Known) (steps steps' : ℕ) (b : RetypedBox) : Type 0 where
   pub node : Node
   pub chosen : IsChosen old path number b.canvas b.key node
   pub is : retyping k.names old path number text ≡ Ok (b.canvas, (b.key, retyped (settled_text k.names text) (entry_of node.element)))
@@ -171,7 +176,7 @@ pub record RetypesBox (old new : Patch) (n : Counts) (name path : List ℕ) (num
   pub is_known : All (IsOf k.names) text
   pub written : CanBeWritten k.names entry
   pub added : Added
-  pub comes : ComesTo None old (counts_but old.rate node n) name path (put_instead (entry_of node.element) text) k (Ok added)
+  pub comes : ComesTo holds old (counts_but old.rate node n) name path (put_instead (entry_of node.element) text) k (Ok added)
   pub files : Known
   pub grew : GrewWith old (counts_but old.rate node n) name path (put_instead (entry_of node.element) text) k files added
   pub became : Becomes old new k.names text now b.key node added b.gone.items steps steps'
@@ -180,30 +185,39 @@ pub record RetypesBox (old new : Patch) (n : Counts) (name path : List ℕ) (num
   pub known_is : after ≡ added.known
   pub table_after : IsTable after.names
 
+abbrev pub RetypesBox : Patch → Patch → Counts → (name path : List ℕ) → (number : ℕ) → (text : List Atom) → (now : ℕ) → (k after : Known) → (steps steps' : ℕ) → RetypedBox → Type 0
+RetypesBox = RetypesBoxBy None
+
 -- an edit comes to a box that can't become what grew yet
-pub record IsNotYet (p : Patch) (n : Counts) (name path : List ℕ) (number : ℕ) (text : List Atom) (k : Known) : Type 0 where
+pub record IsNotYetBy (holds : Option (List FileRow)) (p : Patch) (n : Counts) (name path : List ℕ) (number : ℕ) (text : List Atom) (k : Known) : Type 0 where
   pub added : Added
-  pub comes : RetypesTo p n name path number text k (Ok added)
+  pub comes : RetypesToBy holds p n name path number text k (Ok added)
   pub other : CanBecome p comes.key comes.node added → ⊥
   pub no_text : CanTakeText k.names text comes.node added → ⊥
 
 -- Why an edit makes no box another one: memory was wanting; or there is no such box, or a reason against its text; or the folder gave no file for
 -- which growing asks; or growing comes to this refusal; or the text names what the table hasn't, or such a box isn't made another one yet.
-abbrev pub IsRefused : Patch → Counts → List ℕ → List ℕ → ℕ → List Atom → Known → EditRefusal → Type 0
-IsRefused p n name path number text k why =
+abbrev pub IsRefusedBy : Option (List FileRow) → Patch → Counts → List ℕ → List ℕ → ℕ → List Atom → Known → EditRefusal → Type 0
+IsRefusedBy holds p n name path number text k why =
     (why ≡ NoMemory) ⊎ ((retyping k.names p path number text ≡ Err why) ⊎ (((why ≡ ShelfFault) × IsRetyping (retyping k.names p path number text)) ⊎
-    (RetypesTo p n name path number text k (Err why) ⊎
-    ((why ≡ NoDocument) × ((All (IsOf k.names) text → ⊥) ⊎ IsNotYet p n name path number text k)))))
+    (RetypesToBy holds p n name path number text k (Err why) ⊎
+    ((why ≡ NoDocument) × ((All (IsOf k.names) text → ⊥) ⊎ IsNotYetBy holds p n name path number text k)))))
+
+abbrev pub IsRefused : Patch → Counts → List ℕ → List ℕ → ℕ → List Atom → Known → EditRefusal → Type 0
+IsRefused = IsRefusedBy None
 
 -- the box could become what grew or take its text, and memory was wanting
-pub record IsShortOfRoom (old new : Patch) (n : Counts) (name path : List ℕ) (number : ℕ) (text : List Atom) (k : Known) : Type 0 where
+pub record IsShortOfRoomBy (holds : Option (List FileRow)) (old new : Patch) (n : Counts) (name path : List ℕ) (number : ℕ) (text : List Atom) (k : Known) : Type 0 where
   pub added : Added
-  pub comes : RetypesTo old n name path number text k (Ok added)
+  pub comes : RetypesToBy holds old n name path number text k (Ok added)
   pub can : CanBecome old comes.key comes.node added ⊎ CanTakeText k.names text comes.node added
   pub room : SameButRoom old new
   pub goes_on : CanPut new
 
+abbrev pub IsShortOfRoom : Patch → Patch → Counts → List ℕ → List ℕ → ℕ → List Atom → Known → Type 0
+IsShortOfRoom = IsShortOfRoomBy None
+
 -- it is refused for this, and the patch stays; or the box could become another, memory was wanting, and there may be more room
-abbrev pub IsNotRetyped : Patch → Patch → Counts → List ℕ → List ℕ → ℕ → List Atom → Known → EditRefusal → Type 0
-IsNotRetyped old new n name path number text k why =
-    ((new ≡ old) × IsRefused old n name path number text k why) ⊎ ((why ≡ NoMemory) × IsShortOfRoom old new n name path number text k)
+abbrev pub IsNotRetypedBy : Option (List FileRow) → Patch → Patch → Counts → List ℕ → List ℕ → ℕ → List Atom → Known → EditRefusal → Type 0
+IsNotRetypedBy holds old new n name path number text k why =
+    ((new ≡ old) × IsRefusedBy holds old n name path number text k why) ⊎ ((why ≡ NoMemory) × IsShortOfRoomBy holds old new n name path number text k)

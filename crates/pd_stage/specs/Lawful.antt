@@ -1,11 +1,13 @@
 -- What an edit may come to.
-use Rattle.std.specs.Prelude.{◌≡◌, ◌⊎◌, ℕ, ℤ, List, [], ◌∷◌, Some, None, Ok, Err}
+use Rattle.std.specs.Prelude.{◌≡◌, ◌⊎◌, ℕ, ℤ, List, [], ◌∷◌, Option, Some, None, Ok, Err}
 use Rattle.std.specs.List.{AllByRecursion}
 use Rattle.pd_atom.specs.Names.{IsTable, Extends}
 use Rattle.pd_atom.specs.declared.Atom.{Atom}
 use Rattle.pd_canvas.specs.declared.edits.Edit.{Edit}
 use Rattle.pd_canvas.specs.declared.edits.Edit.TheVariants as edit
 use Rattle.pd_doc.specs.Writing.{text_of}
+use Rattle.pd_io.specs.declared.files.FileRow.{FileRow}
+use Rattle.pd_io.specs.Rows.{stored}
 use Rattle.pd_gather.specs.Gather.{Known, known}
 use Rattle.pd_web.specs.Changes.{wires_told, Meet}
 use Rattle.pd_patch.specs.declared.patch.Patch.{Patch}
@@ -17,7 +19,7 @@ use Rattle.pd_wiring.specs.declared.refusals.EditRefusal.{EditRefusal}
 use Rattle.pd_wiring.specs.declared.refusals.EditRefusal.TheVariants as refusal
 use Rattle.pd_boxes.specs.Put.{CanPut}
 use Rattle.pd_adding.specs.Counts.{AreWithin}
-use Rattle.pd_putting.specs.Adds.{put_looks, AddsBox, IsNotPut, IsShortOfRoom}
+use Rattle.pd_putting.specs.Adds.{put_looks, AddsBoxBy, IsNotPutBy, IsShortOfRoomBy}
 use Rattle.pd_putting.specs.declared.adding.NewBox.{NewBox}
 use Rattle.pd_deleting.specs.Deletes as deleting
 use Rattle.pd_deleting.specs.Deletes.{going, without_all, part_gone, looks_gone, DeletesBox}
@@ -26,7 +28,7 @@ use Rattle.pd_shifting.specs.Moves as shifting
 use Rattle.pd_shifting.specs.Moves.{moving, MovesBox}
 use Rattle.pd_shifting.specs.declared.shifting.MovedBox.{MovedBox}
 use Rattle.pd_retyping.specs.Retypes as retyping
-use Rattle.pd_retyping.specs.Retypes.{clocks_become, looks_become, RetypesBox}
+use Rattle.pd_retyping.specs.Retypes.{clocks_become, looks_become, RetypesBoxBy}
 use Rattle.pd_retyping.specs.declared.retyping.RetypedBox.{RetypedBox}
 use Rattle.pd_say.specs.declared.refusals.Why.{Why}
 use Rattle.pd_say.specs.declared.refusals.Why.TheVariants as why
@@ -109,17 +111,17 @@ IsRewiringLawful s path e (Refuses reason) = IsRefusedFor s path e reason
 IsRewiringLawful s path e (Lacks net) = IsShort s path e net
 IsRewiringLawful s path e (Makes m) = IsMade s path e m
 
--- An edit put a box with all that lies in it: all other boxes keep what they kept, the clocks stay, names and files go on, and the counts stay within the
+-- An edit put a box with all that lies in it, as it grew by what the folder holds, where it tells that: all other boxes keep what they kept, the clocks stay, names and files go on, and the counts stay within the
 -- limits of a patch. It is told why boxes could not be made, which wires in it don't fit, and loops of its canvas, of the one around where it is a port of
 -- that, and of those in it. The load boxes that lie in it are loaded. It looks at no more signal wires than its place in the order of its canvas and
 -- the orders of the canvases in it take.
-pub record IsPutIn (s : Stage) (path : List ℕ) (e : Edit) (m : Made) : Type 0 where
+pub record IsPutInBy (holds : Option (List FileRow)) (s : Stage) (path : List ℕ) (e : Edit) (m : Made) : Type 0 where
   pub old : Patch
   pub new : Patch
   pub after : Known
   pub box : NewBox
   pub stands : StandsAt old s
-  pub adds : AddsBox old new s.base.counts s.file path s.time e (known_at s) after box
+  pub adds : AddsBoxBy holds old new s.base.counts s.file path s.time e (known_at s) after box
   pub net : m.net ≡ net_of new
   pub states : m.states ≡ states_of new
   pub clocks : m.clocks ≡ s.clocks
@@ -132,26 +134,33 @@ pub record IsPutIn (s : Stage) (path : List ℕ) (e : Edit) (m : Made) : Type 0 
   pub loads : m.loads ≡ loads_inside new box.key
   pub looks : m.looks ≡ put_looks new box.key
 
+-- the same whatever the folder holds
+abbrev pub IsPutIn : Stage → List ℕ → Edit → Made → Type 0
+IsPutIn = IsPutInBy None
+
 -- no box is put, for this reason
-pub record IsUnput (s : Stage) (path : List ℕ) (e : Edit) (reason : Why) : Type 0 where
+pub record IsUnputBy (holds : Option (List FileRow)) (s : Stage) (path : List ℕ) (e : Edit) (reason : Why) : Type 0 where
   pub patch : Patch
   pub cause : EditRefusal
   pub stands : StandsAt patch s
-  pub refused : IsNotPut patch s.base.counts s.file path e (known_at s) cause
+  pub refused : IsNotPutBy holds patch s.base.counts s.file path e (known_at s) cause
   pub reason_is : reason ≡ why_of cause
 
 -- a box could be put, and memory was wanting
-pub record IsUnputForRoom (s : Stage) (path : List ℕ) (e : Edit) (net : Net) : Type 0 where
+pub record IsUnputForRoomBy (holds : Option (List FileRow)) (s : Stage) (path : List ℕ) (e : Edit) (net : Net) : Type 0 where
   pub old : Patch
   pub new : Patch
   pub stands : StandsAt old s
-  pub short : IsShortOfRoom old new s.base.counts s.file path e (known_at s)
+  pub short : IsShortOfRoomBy holds old new s.base.counts s.file path e (known_at s)
   pub net_is : net ≡ net_of new
 
+abbrev pub IsPutLawfulBy : Option (List FileRow) → Stage → List ℕ → Edit → Choice → Type 0
+IsPutLawfulBy holds s path e (Refuses reason) = IsUnputBy holds s path e reason
+IsPutLawfulBy holds s path e (Lacks net) = IsUnputForRoomBy holds s path e net
+IsPutLawfulBy holds s path e (Makes m) = IsPutInBy holds s path e m
+
 abbrev pub IsPutLawful : Stage → List ℕ → Edit → Choice → Type 0
-IsPutLawful s path e (Refuses reason) = IsUnput s path e reason
-IsPutLawful s path e (Lacks net) = IsUnputForRoom s path e net
-IsPutLawful s path e (Makes m) = IsPutIn s path e m
+IsPutLawful = IsPutLawfulBy None
 
 -- An edit took a box out with all that lay in it and with its wires, and from the box around the port that it was: all other boxes keep what they kept, and
 -- their clocks; names and files stay, the counts stay within the limits of a patch, and it is told which wires went with the port, and a loop of its
@@ -237,10 +246,10 @@ IsMovingLawful s path number x y (Refuses reason) = IsLeftAt s path number reaso
 IsMovingLawful s path number x y (Lacks net) = IsLeftAtForRoom s path number net
 IsMovingLawful s path number x y (Makes m) = IsMovedTo s path number x y m
 
--- An edit made a box another one, or a subpatch took its text and kept what it holds: all other boxes keep what they kept, and their clocks; names and files
+-- An edit made a box another one, as it grew by what the folder holds, where it tells that, or a subpatch took its text and kept what it holds: all other boxes keep what they kept, and their clocks; names and files
 -- go on, the counts stay within the limits of a patch, and it is told why the box could not be made, which wires didn't fit any more and went, and a loop of
 -- its canvas. It looks at no more signal wires than the mends for the wires that went, and than a new box in the order of its canvas takes.
-pub record IsRetypedTo (s : Stage) (path : List ℕ) (number : ℕ) (text : List Atom) (m : Made) : Type 0 where
+pub record IsRetypedToBy (holds : Option (List FileRow)) (s : Stage) (path : List ℕ) (number : ℕ) (text : List Atom) (m : Made) : Type 0 where
   pub old : Patch
   pub new : Patch
   pub after : Known
@@ -248,7 +257,7 @@ pub record IsRetypedTo (s : Stage) (path : List ℕ) (number : ℕ) (text : List
   pub steps : ℕ
   pub steps' : ℕ
   pub stands : StandsAt old s
-  pub retypes : RetypesBox old new s.base.counts s.file path number text s.time (known_at s) after steps steps' box
+  pub retypes : RetypesBoxBy holds old new s.base.counts s.file path number text s.time (known_at s) after steps steps' box
   pub net : m.net ≡ net_of new
   pub states : m.states ≡ states_of new
   pub clocks : m.clocks ≡ clocks_become retypes.became s.clocks
@@ -261,35 +270,45 @@ pub record IsRetypedTo (s : Stage) (path : List ℕ) (number : ℕ) (text : List
   pub loads : m.loads ≡ []
   pub looks : m.looks ≡ looks_become box.canvas retypes.became
 
+-- the same whatever the folder holds
+abbrev pub IsRetypedTo : Stage → List ℕ → ℕ → List Atom → Made → Type 0
+IsRetypedTo = IsRetypedToBy None
+
 -- no box becomes another one, for this reason
-pub record IsUnretyped (s : Stage) (path : List ℕ) (number : ℕ) (text : List Atom) (reason : Why) : Type 0 where
+pub record IsUnretypedBy (holds : Option (List FileRow)) (s : Stage) (path : List ℕ) (number : ℕ) (text : List Atom) (reason : Why) : Type 0 where
   pub patch : Patch
   pub cause : EditRefusal
   pub stands : StandsAt patch s
-  pub refused : retyping.IsRefused patch s.base.counts s.file path number text (known_at s) cause
+  pub refused : retyping.IsRefusedBy holds patch s.base.counts s.file path number text (known_at s) cause
   pub reason_is : reason ≡ why_of cause
 
 -- a box could become another one, and memory was wanting
-pub record IsUnretypedForRoom (s : Stage) (path : List ℕ) (number : ℕ) (text : List Atom) (net : Net) : Type 0 where
+pub record IsUnretypedForRoomBy (holds : Option (List FileRow)) (s : Stage) (path : List ℕ) (number : ℕ) (text : List Atom) (net : Net) : Type 0 where
   pub old : Patch
   pub new : Patch
   pub stands : StandsAt old s
-  pub short : retyping.IsShortOfRoom old new s.base.counts s.file path number text (known_at s)
+  pub short : retyping.IsShortOfRoomBy holds old new s.base.counts s.file path number text (known_at s)
   pub net_is : net ≡ net_of new
 
+abbrev pub IsRetypingLawfulBy : Option (List FileRow) → Stage → List ℕ → ℕ → List Atom → Choice → Type 0
+IsRetypingLawfulBy holds s path number text (Refuses reason) = IsUnretypedBy holds s path number text reason
+IsRetypingLawfulBy holds s path number text (Lacks net) = IsUnretypedForRoomBy holds s path number text net
+IsRetypingLawfulBy holds s path number text (Makes m) = IsRetypedToBy holds s path number text m
+
 abbrev pub IsRetypingLawful : Stage → List ℕ → ℕ → List Atom → Choice → Type 0
-IsRetypingLawful s path number text (Refuses reason) = IsUnretyped s path number text reason
-IsRetypingLawful s path number text (Lacks net) = IsUnretypedForRoom s path number text net
-IsRetypingLawful s path number text (Makes m) = IsRetypedTo s path number text m
+IsRetypingLawful = IsRetypingLawfulBy None
 
 -- an edit of the patch's own document: wires and boxes come and go, and boxes move and become others
+abbrev pub IsEditLawfulBy : Option (List FileRow) → Stage → List ℕ → Edit → Choice → Type 0
+IsEditLawfulBy holds s path (edit.Connect v) c = IsRewiringLawful s path (edit.Connect v) c
+IsEditLawfulBy holds s path (edit.Disconnect v) c = IsRewiringLawful s path (edit.Disconnect v) c
+IsEditLawfulBy holds s path (edit.Delete number) c = IsTakingLawful s path number c
+IsEditLawfulBy holds s path (edit.Retype number text) c = IsRetypingLawfulBy holds s path number text c
+IsEditLawfulBy holds s path (edit.Move number x y) c = IsMovingLawful s path number x y c
+IsEditLawfulBy holds s path e c = IsPutLawfulBy holds s path e c
+
 abbrev pub IsEditLawful : Stage → List ℕ → Edit → Choice → Type 0
-IsEditLawful s path (edit.Connect v) c = IsRewiringLawful s path (edit.Connect v) c
-IsEditLawful s path (edit.Disconnect v) c = IsRewiringLawful s path (edit.Disconnect v) c
-IsEditLawful s path (edit.Delete number) c = IsTakingLawful s path number c
-IsEditLawful s path (edit.Retype number text) c = IsRetypingLawful s path number text c
-IsEditLawful s path (edit.Move number x y) c = IsMovingLawful s path number x y c
-IsEditLawful s path e c = IsPutLawful s path e c
+IsEditLawful = IsEditLawfulBy None
 
 -- The patch's document is put under the name of its file, by a table of names; each wire of the patch stands once; and all else stays.
 pub record IsSaved (s : Stage) (m : Made) : Type 0 where
@@ -314,17 +333,47 @@ IsSaveLawful s (Makes m) = IsSaved s m
 
 -- what is asked for comes to this: an edit that a message asked for comes to the same as one of a command; there are no drafts of abstractions, and
 -- nothing to undo or redo
+abbrev pub MayComeBy : Option (List FileRow) → Wanted → Stage → Choice → Type 0
+MayComeBy holds (Edits None path e) s c = IsEditLawfulBy holds s path e c
+MayComeBy holds (Edits (Some document) path e) s c = c ≡ Refuses why.NoDocument
+MayComeBy holds (Asks path e) s c = IsEditLawfulBy holds s path e c
+MayComeBy holds (Saves None) s c = IsSaveLawful s c
+MayComeBy holds (Saves (Some document)) s c = c ≡ Refuses why.NoDocument
+MayComeBy holds Undoes s c = c ≡ Refuses why.NothingToUndo
+MayComeBy holds Redoes s c = c ≡ Refuses why.NothingToRedo
+
 abbrev pub MayCome : Wanted → Stage → Choice → Type 0
-MayCome (Edits None path e) s c = IsEditLawful s path e c
-MayCome (Edits (Some document) path e) s c = c ≡ Refuses why.NoDocument
-MayCome (Asks path e) s c = IsEditLawful s path e c
-MayCome (Saves None) s c = IsSaveLawful s c
-MayCome (Saves (Some document)) s c = c ≡ Refuses why.NoDocument
-MayCome Undoes s c = c ≡ Refuses why.NothingToUndo
-MayCome Redoes s c = c ≡ Refuses why.NothingToRedo
+MayCome = MayComeBy None
 
 abbrev pub IsLawful : Taken → Type 0
 IsLawful t = MayCome t.wanted t.found t.choice
 
+-- each edit may come to what it came to, whatever the folder holds
 abbrev pub AreLawful : List Taken → Type 0
 AreLawful edits = AllByRecursion IsLawful edits
+
+-- what a folder holds once files were put, where it tells that
+abbrev pub held_with : List (List ℕ × List ℕ) → Option (List FileRow) → Option (List FileRow)
+held_with [] held = held
+held_with (file ∷ files) held = held_with files (stored file.0 file.1 held)
+
+-- and where putting one failed: it isn't told any more
+abbrev pub held_failing : Wanted → Option (List FileRow) → Option (List FileRow)
+held_failing (Saves document) held = None
+held_failing wanted held = held
+
+-- what it holds behind an edit
+abbrev pub held_on : Wanted → Choice → Option (List FileRow) → Option (List FileRow)
+held_on wanted (Refuses reason) held = held_failing wanted held
+held_on wanted (Lacks net) held = held
+held_on wanted (Makes m) held = held_with m.files held
+
+-- and behind some
+abbrev pub held_behind : List Taken → Option (List FileRow) → Option (List FileRow)
+held_behind [] held = held
+held_behind (t ∷ edits) held = held_behind edits (held_on t.wanted t.choice held)
+
+-- each edit comes to what it may by what the folder holds when it comes, where it tells that
+abbrev pub GoByFolder : Option (List FileRow) → List Taken → Type 0
+GoByFolder held [] = Unit {0}
+GoByFolder held (t ∷ edits) = MayComeBy held t.wanted t.found t.choice × GoByFolder (held_on t.wanted t.choice held) edits
