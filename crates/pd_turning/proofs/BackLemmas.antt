@@ -91,13 +91,13 @@ drop_at [] i m e = absurd (none-some m e)
 drop_at (x ∷ ms) zero m e = ap (λ (y : BoxWire). y ∷ ms) (same_Some x m e)
 drop_at (x ∷ ms) (suc i) m e = drop_at ms i m e ∙ let on : suc (i + 1) ≡ suc i + 1 = omega arith in ap (λ n. m ∷ drop n (x ∷ ms)) on
 
-in_drop : (ms : List BoxWire) (i j : ℕ) (n : BoxWire) → slice_get ms j ≡ Some n → i ≤ j → IsIn n (drop i ms)
+pub in_drop : (ms : List BoxWire) (i j : ℕ) (n : BoxWire) → slice_get ms j ≡ Some n → i ≤ j → IsIn n (drop i ms)
 in_drop [] i j n e l = absurd (none-some n e)
 in_drop (x ∷ ms) zero j n e l = in_listed n (x ∷ ms) j e
 in_drop (x ∷ ms) (suc i) zero n e l = absurd (omega (arith, l))
 in_drop (x ∷ ms) (suc i) (suc j) n e l = in_drop ms i j n e (omega (arith, l))
 
-from_drop : (ms : List BoxWire) (i : ℕ) (n : BoxWire) → IsIn n (drop i ms) → (j : ℕ) × ((i ≤ j) × (slice_get ms j ≡ Some n))
+pub from_drop : (ms : List BoxWire) (i : ℕ) (n : BoxWire) → IsIn n (drop i ms) → (j : ℕ) × ((i ≤ j) × (slice_get ms j ≡ Some n))
 from_drop [] zero n h = absurd h
 from_drop [] (suc i) n h = absurd h
 from_drop (x ∷ ms) zero n h = let l = listed_in n (x ∷ ms) h in (l.0, (omega arith, l.1))
@@ -113,7 +113,7 @@ left_of_fewer ms i h t = by_cases (is_left (drop i ms) h) (λ e. e)
 
 module _ (w : Web) (box : ℕ) (ms : List BoxWire) (A : AreWiresAt w box ms) (F : FollowFans w ms) (W : IsWired w) (once : StandOnce w) where
   -- The first wire behind one of the list that is not to come is the first that is none of the list.
-  first_kept : (i j : ℕ) (m : BoxWire) (rest : List Hop) → i ≤ j → slice_get ms j ≡ Some m → hops_behind w m ≡ rest
+  pub first_kept : (i j : ℕ) (m : BoxWire) (rest : List Hop) → i ≤ j → slice_get ms j ≡ Some m → hops_behind w m ≡ rest
       → ((first_left ms rest ≡ None) × (filter (is_left (drop i ms)) rest ≡ [])) ⊎ ((h : Hop) × (first_left ms rest ≡ Some h.key) × (slice_get (filter (is_left (drop i ms)) rest) 0 ≡ Some h) × (is_left ms h ≡ true))
   first_kept i j m [] l at e = inl (refl, refl)
   first_kept i j m (h ∷ rest) l at e =
@@ -132,7 +132,7 @@ module _ (w : Web) (box : ℕ) (ms : List BoxWire) (A : AreWiresAt w box ms) (F 
 
   -- One wire comes back.
   module _ (i : ℕ) (m : BoxWire) (at : slice_get ms i ≡ Some m) where
-    not_again : is_among (drop (i + 1) ms) m.key ≡ false
+    pub not_again : is_among (drop (i + 1) ms) m.key ≡ false
     not_again = by_cases (is_among (drop (i + 1) ms) m.key)
         (λ t.
         let s = among_some (drop (i + 1) ms) m.key t in
@@ -145,13 +145,13 @@ module _ (w : Web) (box : ℕ) (ms : List BoxWire) (A : AreWiresAt w box ms) (F 
     kept_both : (h : Hop) → h.key ≢ m.key → is_left (drop i ms) h ≡ is_left (drop (i + 1) ms) h
     kept_both h differ = ap (λ (ns : List BoxWire). is_left ns h) (drop_at ms i m at) ∙ ap (λ b. not (b || is_among (drop (i + 1) ms) h.key)) (by_cases (h.key == m.key) (λ t. absurd (differ (eqb-true h.key m.key t))) (λ t. t))
 
-    gone_now : is_left (drop i ms) (hop_of m) ≡ false
+    pub gone_now : is_left (drop i ms) (hop_of m) ≡ false
     gone_now = ap not (among_here (drop i ms) m (in_drop ms i i m at (omega arith)))
 
-    kept_then : is_left (drop (i + 1) ms) (hop_of m) ≡ true
+    pub kept_then : is_left (drop (i + 1) ms) (hop_of m) ≡ true
     kept_then = ap not not_again
 
-    same_filter : (hops : List Hop) → Lacks hops m.key → filter (is_left (drop i ms)) hops ≡ filter (is_left (drop (i + 1) ms)) hops
+    pub same_filter : (hops : List Hop) → Lacks hops m.key → filter (is_left (drop i ms)) hops ≡ filter (is_left (drop (i + 1) ms)) hops
     same_filter hops lacks = filter_like (is_left (drop i ms)) (is_left (drop (i + 1) ms)) hops (λ h is_in. let l = listed_in h hops is_in in kept_both h (lacks l.0 h l.1))
 
     -- every other fan-out
@@ -161,26 +161,26 @@ module _ (w : Web) (box : ℕ) (ms : List BoxWire) (A : AreWiresAt w box ms) (F 
         let line = line_same w box ms A F W once node outlet i place h m stands at (sym e) in
         other (sym (ap (λ (l : Line). l.source) line)) (sym (ap (λ (l : Line). l.outlet) line)))
 
-    B : Fanned w m.line.source m.line.outlet (hop_of m)
-    B = wire_fanned w box ms A F W once i m at
+    pub fan_parts : Fanned w m.line.source m.line.outlet (hop_of m)
+    fan_parts = wire_fanned w box ms A F W once i m at
 
-    abbrev before_it : List Hop
-    before_it = filter (is_left (drop i ms)) B.ahead
+    abbrev pub before_it : List Hop
+    before_it = filter (is_left (drop i ms)) fan_parts.ahead
 
-    abbrev behind_it : List Hop
-    behind_it = filter (is_left (drop i ms)) B.rest
+    abbrev pub behind_it : List Hop
+    behind_it = filter (is_left (drop i ms)) fan_parts.rest
 
-    lacked : filter (is_left (drop i ms)) (fan_hops w m.line.source m.line.outlet) ≡ before_it ++ behind_it
+    pub lacked : filter (is_left (drop i ms)) (fan_hops w m.line.source m.line.outlet) ≡ before_it ++ behind_it
     lacked =
-        ap (filter (is_left (drop i ms))) B.parts ∙ filter-append (is_left (drop i ms)) B.ahead (hop_of m ∷ B.rest)
+        ap (filter (is_left (drop i ms))) fan_parts.parts ∙ filter-append (is_left (drop i ms)) fan_parts.ahead (hop_of m ∷ fan_parts.rest)
         ∙ ap (λ b. before_it ++ cond b (hop_of m ∷ behind_it) behind_it) gone_now
 
-    had : filter (is_left (drop (i + 1) ms)) (fan_hops w m.line.source m.line.outlet) ≡ before_it ++ hop_of m ∷ behind_it
+    pub had : filter (is_left (drop (i + 1) ms)) (fan_hops w m.line.source m.line.outlet) ≡ before_it ++ hop_of m ∷ behind_it
     had =
-        ap (filter (is_left (drop (i + 1) ms))) B.parts ∙ filter-append (is_left (drop (i + 1) ms)) B.ahead (hop_of m ∷ B.rest)
-        ∙ ap (λ b. filter (is_left (drop (i + 1) ms)) B.ahead ++ cond b (hop_of m ∷ filter (is_left (drop (i + 1) ms)) B.rest) (filter (is_left (drop (i + 1) ms)) B.rest)) kept_then
-        ∙ ap (λ (xs : List Hop). xs ++ hop_of m ∷ filter (is_left (drop (i + 1) ms)) B.rest) (sym (same_filter B.ahead B.lacks))
-        ∙ ap (λ (xs : List Hop). before_it ++ hop_of m ∷ xs) (sym (same_filter B.rest B.lacks_too))
+        ap (filter (is_left (drop (i + 1) ms))) fan_parts.parts ∙ filter-append (is_left (drop (i + 1) ms)) fan_parts.ahead (hop_of m ∷ fan_parts.rest)
+        ∙ ap (λ b. filter (is_left (drop (i + 1) ms)) fan_parts.ahead ++ cond b (hop_of m ∷ filter (is_left (drop (i + 1) ms)) fan_parts.rest) (filter (is_left (drop (i + 1) ms)) fan_parts.rest)) kept_then
+        ∙ ap (λ (xs : List Hop). xs ++ hop_of m ∷ filter (is_left (drop (i + 1) ms)) fan_parts.rest) (sym (same_filter fan_parts.ahead fan_parts.lacks))
+        ∙ ap (λ (xs : List Hop). before_it ++ hop_of m ∷ xs) (sym (same_filter fan_parts.rest fan_parts.lacks_too))
 
     -- where it comes in
     pub record ComesIn (q : Web) : Type 0 where
@@ -198,12 +198,12 @@ module _ (w : Web) (box : ℕ) (ms : List BoxWire) (A : AreWiresAt w box ms) (F 
         let all : length fan ≡ length S.front + length S.back = ap length S.parts ∙ length_parts S.front S.back in
         let first : slice_get fan place ≡ slice_get S.back 0 = ap (λ (xs : List Hop). slice_get xs place) S.parts ∙ get_seam S.front S.back in
         let stands : slice_get keys place ≡ first_left ms (hops_behind w m) = ⊎_elim
-        (λ (x : (first_left ms B.rest ≡ None) × (behind_it ≡ [])).
+        (λ (x : (first_left ms fan_parts.rest ≡ None) × (behind_it ≡ [])).
         let none = ap length (like_none ms S.back behind_it S.back_like x.1) in
-        slice_get_past keys place (omega (arith, len, all, none)) ∙ sym (ap (first_left ms) B.is_behind ∙ x.0))
-        (λ (x : (h : Hop) × (first_left ms B.rest ≡ Some h.key) × (slice_get behind_it 0 ≡ Some h) × (is_left ms h ≡ true)).
-        key_listed (λ k. slice_get q.spots.items (sink_at q.book k)) keys place x.0 (first ∙ like_first ms S.back behind_it x.0 S.back_like x.2 x.3) ∙ sym (ap (first_left ms) B.is_behind ∙ x.1))
-        (first_kept i i m B.rest (omega arith) at B.is_behind) in
+        slice_get_past keys place (omega (arith, len, all, none)) ∙ sym (ap (first_left ms) fan_parts.is_behind ∙ x.0))
+        (λ (x : (h : Hop) × (first_left ms fan_parts.rest ≡ Some h.key) × (slice_get behind_it 0 ≡ Some h) × (is_left ms h ≡ true)).
+        key_listed (λ k. slice_get q.spots.items (sink_at q.book k)) keys place x.0 (first ∙ like_first ms S.back behind_it x.0 S.back_like x.2 x.3) ∙ sym (ap (first_left ms) fan_parts.is_behind ∙ x.1))
+        (first_kept i i m fan_parts.rest (omega arith) at fan_parts.is_behind) in
         record {
           place = place;
           stands = (omega (arith, len, all), stands);

@@ -72,7 +72,7 @@ same_canvas p box l R at share = ⊎_elim
     (λ (s : l.sink ≡ box). lies_in p share.canvas l.source R share.one ∙ sym (lies_in p share.canvas l.sink R share.other) ∙ ap (λ k. board_in (get p.grove.nodes k)) s)
     at
 
-tightens_none : (p : Patch) (box looks : ℕ) → CanRewire p → (T : Tightens p p box looks looks) × (length T.back ≡ 0)
+pub tightens_none : (p : Patch) (box looks : ℕ) → CanRewire p → (T : Tightens p p box looks looks) × (length T.back ≡ 0)
 tightens_none p box looks R = (
   record {
     back = [];
@@ -86,7 +86,7 @@ tightens_none p box looks R = (
   refl,
 )
 
-tightens_more : (p q r : Patch) (box key : ℕ) (l : Line) (before : Option ℕ) (fan_place s s' s'' : ℕ) (T : Tightens p q box s s') → IsAt box l → ShareCanvas q.grove l.source l.sink
+pub tightens_more : (p q r : Patch) (box key : ℕ) (l : Line) (before : Option ℕ) (fan_place s s' s'' : ℕ) (T : Tightens p q box s s') → IsAt box l → ShareCanvas q.grove l.source l.sink
     → StandsAt (fan_keys q.web l.source l.outlet) fan_place before → PutsIn q r key l before s' s'' → (U : Tightens p r box s s'') × (length U.back ≡ length T.back + 1)
 tightens_more p q r box key l before fan_place s s' s'' T at share stands D =
     let S = D.rest in
@@ -123,7 +123,7 @@ tightens_more p q r box key l before fan_place s s' s'' T at share stands D =
     )
 
 -- feeds in order are with one more at its place
-all_ordered : (labels : List ℕ) (w v : Web) (key : ℕ) (l : Line) (fan_place place : ℕ) → IsPlace labels l (feed_hops w l.sink l.inlet) place → Joins w v key l fan_place place → AreAllInOrder labels w → AreAllInOrder labels v
+pub all_ordered : (labels : List ℕ) (w v : Web) (key : ℕ) (l : Line) (fan_place place : ℕ) → IsPlace labels l (feed_hops w l.sink l.inlet) place → Joins w v key l fan_place place → AreAllInOrder labels w → AreAllInOrder labels v
 all_ordered labels w v key l fan_place place is J order node inlet = same_port node inlet l.sink l.inlet
     (λ a b. subst (λ n. AreInOrder labels (feed_hops v n inlet)) (sym a) (subst (λ o. AreInOrder labels (feed_hops v l.sink o)) (sym b)
     (subst (λ (hs : List Hop). AreInOrder labels hs) (sym J.feeds) (feeds_ordered labels l key (feed_hops w l.sink l.inlet) place (order l.sink l.inlet) is))))
@@ -131,7 +131,7 @@ all_ordered labels w v key l fan_place place is J order node inlet = same_port n
 
 -- Room.
 
-from_more : (l k : Links) (ms : List BoxWire) (m : BoxWire) → UsesLinkRoom l k m.line.source m.line.sink → ((x : ℕ) → TakesFrom l x (count_from (m ∷ ms) x)) → (x : ℕ) → TakesFrom k x (count_from ms x)
+pub from_more : (l k : Links) (ms : List BoxWire) (m : BoxWire) → UsesLinkRoom l k m.line.source m.line.sink → ((x : ℕ) → TakesFrom l x (count_from (m ∷ ms) x)) → (x : ℕ) → TakesFrom k x (count_from ms x)
 from_more l k ms m U T x = ⊎_elim
     (λ (e : x ≡ m.line.source).
     let one : count_from (m ∷ ms) x ≡ count_from ms x + 1 = ap (λ b. cond b 1 0 + count_from ms x) (eq-eqb m.line.source x (sym e)) ∙ omega arith in
@@ -141,7 +141,7 @@ from_more l k ms m U T x = ⊎_elim
     U.other_from x (count_from ms x) d (subst (TakesFrom l x) same (T x)))
     (cases_eq x m.line.source)
 
-into_more : (l k : Links) (ms : List BoxWire) (m : BoxWire) → UsesLinkRoom l k m.line.source m.line.sink → ((x : ℕ) → TakesInto l x (count_into (m ∷ ms) x)) → (x : ℕ) → TakesInto k x (count_into ms x)
+pub into_more : (l k : Links) (ms : List BoxWire) (m : BoxWire) → UsesLinkRoom l k m.line.source m.line.sink → ((x : ℕ) → TakesInto l x (count_into (m ∷ ms) x)) → (x : ℕ) → TakesInto k x (count_into ms x)
 into_more l k ms m U T x = ⊎_elim
     (λ (e : x ≡ m.line.sink).
     let one : count_into (m ∷ ms) x ≡ count_into ms x + 1 = ap (λ b. cond b 1 0 + count_into ms x) (eq-eqb m.line.sink x (sym e)) ∙ omega arith in
