@@ -35,27 +35,27 @@ pub like_self : (ms : List BoxWire) (xs : List Hop) → AreLike ms xs xs
 like_self ms [] = tt
 like_self ms (x ∷ xs) = ((refl, refl, λ t. refl), like_self ms xs)
 
-record Split (ms : List BoxWire) (xs ys zs : List Hop) : Type 0 where
+pub record Split (ms : List BoxWire) (xs ys zs : List Hop) : Type 0 where
   pub front : List Hop
   pub back : List Hop
   pub parts : xs ≡ front ++ back
   pub front_like : AreLike ms front ys
   pub back_like : AreLike ms back zs
 
-like_split : (ms : List BoxWire) (xs ys zs : List Hop) → AreLike ms xs (ys ++ zs) → Split ms xs ys zs
+pub like_split : (ms : List BoxWire) (xs ys zs : List Hop) → AreLike ms xs (ys ++ zs) → Split ms xs ys zs
 like_split ms xs [] zs L = record { front = []; back = xs; parts = refl; front_like = tt; back_like = L }
 like_split ms [] (y ∷ ys) zs L = absurd L
 like_split ms (x ∷ xs) (y ∷ ys) zs L =
     let S = like_split ms xs ys zs L.1 in
     record { front = x ∷ S.front; back = S.back; parts = ap (λ (ws : List Hop). x ∷ ws) S.parts; front_like = (L.0, S.front_like); back_like = S.back_like }
 
-like_join : (ms : List BoxWire) (us vs ys zs : List Hop) → AreLike ms us ys → AreLike ms vs zs → AreLike ms (us ++ vs) (ys ++ zs)
+pub like_join : (ms : List BoxWire) (us vs ys zs : List Hop) → AreLike ms us ys → AreLike ms vs zs → AreLike ms (us ++ vs) (ys ++ zs)
 like_join ms [] vs [] zs L M = M
 like_join ms [] vs (y ∷ ys) zs L M = absurd L
 like_join ms (u ∷ us) vs [] zs L M = absurd L
 like_join ms (u ∷ us) vs (y ∷ ys) zs L M = (L.0, like_join ms us vs ys zs L.1 M)
 
-like_first : (ms : List BoxWire) (xs ys : List Hop) (h : Hop) → AreLike ms xs ys → slice_get ys 0 ≡ Some h → is_left ms h ≡ true → slice_get xs 0 ≡ Some h
+pub like_first : (ms : List BoxWire) (xs ys : List Hop) (h : Hop) → AreLike ms xs ys → slice_get ys 0 ≡ Some h → is_left ms h ≡ true → slice_get xs 0 ≡ Some h
 like_first ms [] [] h L e t = e
 like_first ms [] (y ∷ ys) h L e t = absurd L
 like_first ms (x ∷ xs) [] h L e t = absurd L
@@ -63,7 +63,7 @@ like_first ms (x ∷ xs) (y ∷ ys) h L e t =
     let same = same_Some y h e in
     ap (λ (z : Hop). Some z) (L.0.2 (ap (is_left ms) same ∙ t) ∙ same)
 
-like_none : (ms : List BoxWire) (xs ys : List Hop) → AreLike ms xs ys → ys ≡ [] → xs ≡ []
+pub like_none : (ms : List BoxWire) (xs ys : List Hop) → AreLike ms xs ys → ys ≡ [] → xs ≡ []
 like_none ms [] ys L e = refl
 like_none ms (x ∷ xs) [] L e = absurd L
 like_none ms (x ∷ xs) (y ∷ ys) L e = absurd (some_none e)
@@ -104,7 +104,7 @@ from_drop (x ∷ ms) zero n h = let l = listed_in n (x ∷ ms) h in (l.0, (omega
 from_drop (x ∷ ms) (suc i) n h = let r = from_drop ms i n h in let l = r.1.0 in (suc r.0, (omega (arith, l), r.1.1))
 
 -- what is none of the list is none of those to come
-left_of_fewer : (ms : List BoxWire) (i : ℕ) (h : Hop) → is_left ms h ≡ true → is_left (drop i ms) h ≡ true
+pub left_of_fewer : (ms : List BoxWire) (i : ℕ) (h : Hop) → is_left ms h ≡ true → is_left (drop i ms) h ≡ true
 left_of_fewer ms i h t = by_cases (is_left (drop i ms) h) (λ e. e)
     (λ e.
     let s = among_some (drop i ms) h.key (not_left (drop i ms) h e) in
