@@ -250,3 +250,6 @@ IsShortOfRoom = IsShortOfRoomBy None
 abbrev pub IsNotAddedBy : Option (List FileRow) → Patch → Patch → Counts → List ℕ → List ℕ → Edit → Known → EditRefusal → Type 0
 IsNotAddedBy holds old new n name path e k why =
     ((new ≡ old) × IsNotPutBy holds old n name path e k why) ⊎ ((why ≡ NoMemory) × IsShortOfRoomBy holds old new n name path e k)
+
+abbrev pub IsNotAdded : Patch → Patch → Counts → List ℕ → List ℕ → Edit → Known → EditRefusal → Type 0
+IsNotAdded = IsNotAddedBy None
