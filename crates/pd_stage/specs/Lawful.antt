@@ -146,6 +146,9 @@ pub record IsUnputBy (holds : Option (List FileRow)) (s : Stage) (path : List �
   pub refused : IsNotPutBy holds patch s.base.counts s.file path e (known_at s) cause
   pub reason_is : reason ≡ why_of cause
 
+abbrev pub IsUnput : Stage → List ℕ → Edit → Why → Type 0
+IsUnput = IsUnputBy None
+
 -- a box could be put, and memory was wanting
 pub record IsUnputForRoomBy (holds : Option (List FileRow)) (s : Stage) (path : List ℕ) (e : Edit) (net : Net) : Type 0 where
   pub old : Patch
@@ -153,6 +156,9 @@ pub record IsUnputForRoomBy (holds : Option (List FileRow)) (s : Stage) (path : 
   pub stands : StandsAt old s
   pub short : IsShortOfRoomBy holds old new s.base.counts s.file path e (known_at s)
   pub net_is : net ≡ net_of new
+
+abbrev pub IsUnputForRoom : Stage → List ℕ → Edit → Net → Type 0
+IsUnputForRoom = IsUnputForRoomBy None
 
 abbrev pub IsPutLawfulBy : Option (List FileRow) → Stage → List ℕ → Edit → Choice → Type 0
 IsPutLawfulBy holds s path e (Refuses reason) = IsUnputBy holds s path e reason
@@ -282,6 +288,9 @@ pub record IsUnretypedBy (holds : Option (List FileRow)) (s : Stage) (path : Lis
   pub refused : retyping.IsRefusedBy holds patch s.base.counts s.file path number text (known_at s) cause
   pub reason_is : reason ≡ why_of cause
 
+abbrev pub IsUnretyped : Stage → List ℕ → ℕ → List Atom → Why → Type 0
+IsUnretyped = IsUnretypedBy None
+
 -- a box could become another one, and memory was wanting
 pub record IsUnretypedForRoomBy (holds : Option (List FileRow)) (s : Stage) (path : List ℕ) (number : ℕ) (text : List Atom) (net : Net) : Type 0 where
   pub old : Patch
@@ -289,6 +298,9 @@ pub record IsUnretypedForRoomBy (holds : Option (List FileRow)) (s : Stage) (pat
   pub stands : StandsAt old s
   pub short : retyping.IsShortOfRoomBy holds old new s.base.counts s.file path number text (known_at s)
   pub net_is : net ≡ net_of new
+
+abbrev pub IsUnretypedForRoom : Stage → List ℕ → ℕ → List Atom → Net → Type 0
+IsUnretypedForRoom = IsUnretypedForRoomBy None
 
 abbrev pub IsRetypingLawfulBy : Option (List FileRow) → Stage → List ℕ → ℕ → List Atom → Choice → Type 0
 IsRetypingLawfulBy holds s path number text (Refuses reason) = IsUnretypedBy holds s path number text reason
