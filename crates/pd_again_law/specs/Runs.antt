@@ -4,7 +4,7 @@ pub use Rattle.pd_stage.specs.Choices.{Base, Choice, Wanted, Asks, Refuses, Lack
 pub use Rattle.pd_stage.specs.Events.{Firing, Left, going_on, begun, delivered, Beginning, whole, left_after, after_deliveries, stage_by, loaded_by, edit_loaded_by, asked_by, edits_of_by, with_kept}
 unfoldable pub use Rattle.pd_stage.specs.Events.{event, edit_taken, edits_taken_by, edit_event}
 pub use Rattle.pd_stage.specs.Items.{Item}
-pub use Rattle.pd_stage.specs.Lawful.{AreLawful}
+pub use Rattle.pd_stage.specs.Lawful.{AreLawful, GoByFolder}
 pub use Rattle.pd_stage.specs.Leads.{Sinks, sinks, Took, Leads}
 pub use Rattle.pd_stage.specs.Stages.{Stage, Taken, Passage, choices_of, with_names, followed_by, still, joined, with_ahead, saying, after}
 pub use Rattle.pd_stage.specs.Times.{block_units, most_fired, first_clock, if_below, next_clock, taken_off, with_taken, with_fired, fires, fires_or_not, clocks_fire, block_runs, time_is, comes_to, advanced, finished}
