@@ -369,14 +369,14 @@ abbrev pub held_with : List (List ℕ × List ℕ) → Option (List FileRow) →
 held_with [] held = held
 held_with (file ∷ files) held = held_with files (stored file.0 file.1 held)
 
--- and where putting one failed: it isn't told any more
-abbrev pub held_failing : Wanted → Option (List FileRow) → Option (List FileRow)
-held_failing (Saves document) held = None
-held_failing wanted held = held
+-- and where something was refused: after a save that it failed to take it isn't told any more
+abbrev pub held_failing : Wanted → Why → Option (List FileRow) → Option (List FileRow)
+held_failing (Saves document) why.ShelfFault held = None
+held_failing wanted reason held = held
 
 -- what it holds behind an edit
 abbrev pub held_on : Wanted → Choice → Option (List FileRow) → Option (List FileRow)
-held_on wanted (Refuses reason) held = held_failing wanted held
+held_on wanted (Refuses reason) held = held_failing wanted reason held
 held_on wanted (Lacks net) held = held
 held_on wanted (Makes m) held = held_with m.files held
 
