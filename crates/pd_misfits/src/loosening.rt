@@ -1,6 +1,6 @@
 //! Wires at a box go.
 
-ghost use Rattle.std.specs.Prelude.{◌≡◌};
+ghost use Rattle.std.specs.Prelude.{◌≡◌, ◌+◌, length};
 ghost use Rattle.pd_links.specs.Linked.{KeepsLinkRoom};
 ghost use Rattle.pd_web.specs.Changes.{wires_told, Meet};
 ghost use Rattle.pd_wiring.specs.Changes.{CanRewire};
@@ -30,6 +30,7 @@ pub fn loosen_wires<L: Ledger>(
     ensures sheds { Sheds patch.old.web patch.new.web gone.now }
     ensures room { KeepsLinkRoom patch.old.links patch.new.links }
     ensures counted { result ≡ wires_told patch.new.web }
+    ensures fewer { wires_told patch.new.web + length gone.now ≡ wires_told patch.old.web }
 {
     let mut left = wires;
     for wire in gone {

@@ -1,5 +1,5 @@
 -- A box that is to become another one, and one that did.
-use Rattle.std.specs.Prelude.{◌≡◌, ◌⊎◌, ◌≤◌, ◌+◌, ℕ, true, false, List, Some, None, Err, slice_get}
+use Rattle.std.specs.Prelude.{◌≡◌, ◌⊎◌, ◌≤◌, ◌+◌, ℕ, true, List, length, Some, None, Err}
 use Rattle.slab.specs.Slab.{get}
 use Rattle.pd_atom.specs.declared.Atom.{Atom}
 use Rattle.pd_atom.specs.Names.{Names}
@@ -11,17 +11,14 @@ use Rattle.pd_tree.specs.declared.rows.Sheet.{Sheet}
 use Rattle.pd_tree.specs.Trees.{Cell, Done, Holder, Trees}
 use Rattle.pd_grove.specs.declared.nodes.Node.{Node}
 use Rattle.pd_grove.specs.declared.seeds.Seed.{Seed}
-use Rattle.pd_grove.specs.declared.ports.Side.{Side}
 use Rattle.pd_grove.specs.TextOrder.{is_sub}
-use Rattle.pd_web.specs.declared.web.Hop.{Hop}
-use Rattle.pd_web.specs.declared.web.Web.{Web}
 use Rattle.pd_web.specs.Changes.{Meet}
 use Rattle.pd_patch.specs.declared.patch.Patch.{Patch}
 use Rattle.pd_wiring.specs.declared.refusals.EditRefusal.{EditRefusal}
 use Rattle.pd_wiring.specs.declared.refusals.EditRefusal.TheVariants.{NoDocument, NoMemory}
 use Rattle.pd_boxes.specs.Room.{SameButRoom}
 use Rattle.pd_boxes.specs.Put.{CanPut, IsLeaf}
-use Rattle.pd_taking.specs.Loosening.{hops_at, line_at, Loosens}
+use Rattle.pd_taking.specs.Loosening.{Loosens}
 use Rattle.pd_refitting.specs.Refits.{IsPlainIn, CanRefit, IsRefitted, refit_looks}
 use Rattle.pd_renaming.specs.Renaming.{CanRename, IsRenamed}
 use Rattle.pd_misfits.specs.declared.wires.BoxWire.{BoxWire}
@@ -48,7 +45,7 @@ IsUnplanned names p path number text why =
     (why ≡ NoMemory) ⊎ (retyping names p path number text ≡ Err why)
 
 -- a box without a canvas can become one of this kind in its place
-pub record IsAlike (p : Patch) (key : ℕ) (n : Node) (k : Kind) : Type 0 where
+pub record IsAlike (p : Patch) (n : Node) (k : Kind) : Type 0 where
   pub bare : n.inner ≡ None
   pub plain : IsPlainIn p n.board n.kind
   pub stays_plain : IsPlainIn p n.board k
@@ -58,31 +55,37 @@ pub record CanMake (p : Patch) (key : ℕ) (n : Node) (s : Seed) (gone turned : 
   pub can : CanPut p
   pub meet : Meet p.web
   pub is : get p.grove.nodes key ≡ Some n
-  pub alike : IsAlike p key n s.row.kind
+  pub alike : IsAlike p n s.row.kind
   pub leaf : IsLeaf s
   pub gone_are : gone ≡ misfits p n.board key s.row.kind
   pub wires : AreWiresAt p.web key gone
   pub turned_are : turned ≡ turning p n.board key s.row.kind
   pub turning_wires : AreWiresAt p.web key turned
 
--- Room was set aside, the wires at the box of a key that don't fit that of a seed went, and those that turn; then it became that one, and these came back.
-pub record MakesOther (old new : Patch) (table : Names) (key : ℕ) (n : Node) (s : Seed) (gone turned : List BoxWire) (steps steps' : ℕ) : Type 0 where
-  pub ready : Patch
-  pub room : SameButRoom old ready
+-- The wires at the box of a key that don't fit that of a seed went, and those that turn; then it became that one, and these came back.
+pub record Remakes (old new : Patch) (table : Names) (key : ℕ) (n : Node) (s : Seed) (gone turned : List BoxWire) (steps steps' : ℕ) : Type 0 where
   pub loose : Patch
   pub between : ℕ
-  pub loosens : Loosens ready loose key steps between
+  pub loosens : Loosens old loose key steps between
   pub sheds : Sheds old.web loose.web gone
+  pub went : length loosens.gone ≡ length gone
   pub free : Patch
   pub freed : ℕ
   pub frees : Loosens loose free key between freed
   pub out : Sheds loose.web free.web turned
+  pub as_many : length frees.gone ≡ length turned
   pub could : CanRefit free key n s
   pub fitted : Patch
   pub refit : IsRefitted free fitted table key n s
   pub placed : ℕ
   pub looks : placed ≤ freed + refit_looks n.kind s.row.kind
   pub back : PutsBack loose.web fitted new key turned placed steps'
+
+-- room was set aside, and then it was done
+pub record MakesOther (old new : Patch) (table : Names) (key : ℕ) (n : Node) (s : Seed) (gone turned : List BoxWire) (steps steps' : ℕ) : Type 0 where
+  pub ready : Patch
+  pub room : SameButRoom old ready
+  pub made : Remakes ready new table key n s gone turned steps steps'
 
 -- The box stays: memory was wanting, and there may be more room; or it can't become what grew yet, and the patch stays.
 abbrev pub StaysItself : Patch → Patch → ℕ → Node → Added → EditRefusal → Type 0

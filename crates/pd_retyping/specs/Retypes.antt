@@ -1,6 +1,6 @@
 -- A box that an edit makes another one in a canvas of a running patch.
 use Rattle.std.proofs.Common.{inl, inr}
-use Rattle.std.specs.Prelude.{◌≡◌, ◌⊎◌, ◌≤◌, ◌+◌, ℕ, true, false, List, [], Some, None, Result, Ok, Err, slice_get, Option}
+use Rattle.std.specs.Prelude.{◌≡◌, ◌⊎◌, ◌≤◌, ◌+◌, ℕ, true, false, List, [], length, Some, None, Result, Ok, Err, slice_get, Option}
 use Rattle.std.specs.List.{All}
 use Rattle.slab.specs.Slab.{get}
 use Rattle.pd_io.specs.declared.files.FileRow.{FileRow}
@@ -91,12 +91,14 @@ pub record HasBecome (old new : Patch) (now key : ℕ) (n : Node) (a : Added) (g
   pub between : ℕ
   pub loosens : Loosens ready loose key steps between
   pub sheds : Sheds old.web loose.web gone
+  pub went : length loosens.gone ≡ length gone
   pub turned : List BoxWire
   pub turned_are : turned ≡ turning old n.board key can.cell.kind
   pub free : Patch
   pub freed : ℕ
   pub frees : Loosens loose free key between freed
   pub out : Sheds loose.web free.web turned
+  pub as_many : length frees.gone ≡ length turned
   pub seed : Seed
   pub is_row : stand_of seed.row ≡ record { cell = can.cell; sheet = None; boxes = 0 }
   pub suits : RowSuits a.known.names seed.row

@@ -12,6 +12,8 @@ loop-wire-init g c = record {
   sheds = sheds_none c.args.patch.now.web;
   room = same_room c.args.patch.now.links;
   counted = c.requires.counted;
+  within = omega arith;
+  fewer = omega arith;
 }
 
 pub detach-requires-clause-runs : goal.detach-requires-clause-runs
@@ -43,6 +45,11 @@ loop-wire-preserved g c =
           let less = item_one_less p q r c.args.key c.args.gone.now i m c.requires.wires sheds c.loop-wire-test.true c.wire-item.is laws e.cuts in
           let same = was.counted in
           omega (arith, less, same);
+      within = let lt = c.loop-wire-test.true in omega (arith, lt);
+      fewer =
+          let less = item_one_less p q r c.args.key c.args.gone.now i m c.requires.wires sheds c.loop-wire-test.true c.wire-item.is laws e.cuts in
+          let same = was.fewer in
+          omega (arith, less, same);
     }
 
 pub overflow_sub-left : goal.overflow_sub-left
@@ -60,3 +67,10 @@ returns-clause-sheds g c = sheds_all c.args.patch.now.web c.loop-wire.patch.web 
 
 pub returns-clause-room : goal.returns-clause-room
 returns-clause-room g c = c.loop-wire.invariant.room
+
+pub returns-clause-fewer : goal.returns-clause-fewer
+returns-clause-fewer g c =
+    let within = c.loop-wire.invariant.within in
+    let all = c.loop-wire-test.false in
+    let fewer = c.loop-wire.invariant.fewer in
+    omega (arith, within, all, fewer)

@@ -1,4 +1,4 @@
-use Rattle.std.proofs.Common.{◌≡◌, take}
+use Rattle.std.proofs.Common.{◌≡◌, ◌≤◌, ◌+◌, length, take}
 use Rattle.pd_links.specs.Linked.{KeepsLinkRoom}
 use Rattle.pd_web.specs.Changes.{wires_told}
 use Rattle.pd_taking.specs.Loosening.{Loosens}
@@ -11,4 +11,6 @@ invariant-loop-wire g l = record {
   sheds : Sheds l.fn.patch.web l.patch.web (take l.wire-index l.gone);
   room : KeepsLinkRoom l.fn.patch.links l.patch.links;
   counted : l.left ≡ wires_told l.patch.web;
+  within : l.wire-index ≤ length l.gone;
+  fewer : wires_told l.patch.web + l.wire-index ≡ wires_told l.fn.patch.web;
 }
