@@ -60,5 +60,5 @@ pub same_rate : (old new : Patch) (n : Counts) (name path : List ℕ) (number : 
 same_rate old new n name path number text now k after steps steps' b r = by r.became
   where
     by : Becomes old new k.names text now b.key r.node r.added b.gone.items steps steps' → new.rate ≡ old.rate
-    by (inl x) = x.refit.rate ∙ x.loosens.rest.rate ∙ x.room.rate
+    by (inl x) = x.back.tightens.rest.rate ∙ x.refit.rate ∙ x.frees.rest.rate ∙ x.loosens.rest.rate ∙ x.room.rate
     by (inr x) = x.renamed.rest.rate ∙ x.room.rate

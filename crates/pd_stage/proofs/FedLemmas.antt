@@ -146,7 +146,7 @@ module _ (w w' : Web) (key : ℕ) (l : Line) (fan_place place : ℕ) (j : Joins 
       let once : tally x (keys_of hops) ≤ 1 = f.once l.sink l.inlet x in
       omega (arith, more', once))
 
-  joined_fed : wires_told w < 65536 → AreFed w'
+  pub joined_fed : wires_told w < 65536 → AreFed w'
   joined_fed few = record {
     live = of_each (λ (hs : List Hop). (x : ℕ) → 0 < tally x (keys_of hs) → IsSome (line_told w' x)) joined_live (λ n i x m. still_live x (f.live n i x m));
     once = of_each (λ (hs : List Hop). (x : ℕ) → tally x (keys_of hs) ≤ 1) joined_once f.once;

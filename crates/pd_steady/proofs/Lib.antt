@@ -10,6 +10,7 @@ pub mod FollowLemmas
 pub mod ComeLemmas
 pub mod LessLemmas
 pub mod LooseLemmas
+mod BackLemmas
 pub mod LeaveLemmas
 pub mod StandLemmas
 pub mod ExtendLemmas

@@ -27,10 +27,10 @@ module _ (p q : Patch) (grove : q.grove ≡ p.grove) (values : q.values ≡ p.va
   same_blocks : blocks_told q ≡ blocks_told p
   same_blocks = rw values refl
 
-  still_blocks : HasRows p.web (blocks_told p) → HasRows q.web (blocks_told q)
+  pub still_blocks : HasRows p.web (blocks_told p) → HasRows q.web (blocks_told q)
   still_blocks h k o l = subst (λ (b : Blocks). IsSome (block_at b k o)) (sym same_blocks) (h k o (same_row p.web q.web k o (ports k) l))
 
-  still_all : (P : List ℤ → Type 0) → AllByRecursion (AllByRecursion P) (blocks_told p) → AllByRecursion (AllByRecursion P) (blocks_told q)
+  pub still_all : (P : List ℤ → Type 0) → AllByRecursion (AllByRecursion P) (blocks_told p) → AllByRecursion (AllByRecursion P) (blocks_told q)
   still_all P h = subst (AllByRecursion (AllByRecursion P)) (sym same_blocks) h
 
   still_keeps : (AreFed p.web → AreFed q.web) → KeepsBoxes p q

@@ -437,7 +437,8 @@ retype_short s path number text m t h o order = by h.retypes.became
     by : Becomes h.old h.new s.names text s.time h.box.key h.retypes.node h.retypes.added h.box.gone.items h.steps h.steps' → length o.chain + length o.stuck ≤ most_boxes
     by (inl b) =
         few_still s t h.old h.new path h.box.canvas h.stands.net h.retypes.chosen.leads
-        (ap (λ (boards : Slab Board). keys_in (get boards h.box.canvas)) b.refit.grove.boards ∙ ap (λ (g : Grove). keys_at g h.box.canvas) b.loosens.rest.grove
+        (ap (λ (g : Grove). keys_at g h.box.canvas) b.back.tightens.rest.grove
+        ∙ ap (λ (boards : Slab Board). keys_in (get boards h.box.canvas)) b.refit.grove.boards ∙ ap (λ (g : Grove). keys_at g h.box.canvas) (b.frees.rest.grove ∙ b.loosens.rest.grove)
         ∙ seen_keys (get h.old.grove.boards h.box.canvas) (get b.ready.grove.boards h.box.canvas) (b.room.grove.boards h.box.canvas)) b.goes_on o order
     by (inr b) =
         few_still s t h.old h.new path h.box.canvas h.stands.net h.retypes.chosen.leads

@@ -34,6 +34,7 @@ use Rattle.pd_steady.specs.Steady.{HasRows, IsSteady}
 use Rattle.pd_steady.proofs.StartLemmas.{small_few}
 use Rattle.pd_steady.proofs.AddedLemmas.{IsAddedWell, added_well}
 use Rattle.pd_steady.proofs.AlikeLemmas.{KeepsAlike, altered_alike, alike_objects, alike_steady}
+use Rattle.pd_steady.proofs.BackLemmas.{back_node, back_new}
 use Rattle.pd_steady.proofs.ComeLemmas.{node_with}
 use Rattle.pd_steady.proofs.KeyLemmas.{HasOneNew, KeepsBoxes, keeps_then, room_keeps, refit_under, one_new}
 use Rattle.pd_steady.proofs.LooseLemmas.{loose_keeps}
@@ -71,11 +72,18 @@ module _ (s : Stage) (path : List ℕ) (number : ℕ) (text : List Atom) (m : Ma
   abbrev new_node : Other → Node
   new_node b = node_with to.retypes.node.board b.seed None
 
-  one_other : (b : Other) → HasOneNew to.old to.new to.box.key (new_node b)
+  -- it stands among the others, which stay where wires went
+  one_other : (b : Other) → HasOneNew to.old b.fitted to.box.key (new_node b)
   one_other b =
-      let kept : KeepsBoxes to.old b.loose =
+      let loose : KeepsBoxes to.old b.loose =
       keeps_then to.old b.ready b.loose (room_keeps to.old b.ready b.room) (loose_keeps b.ready b.loose to.box.key to.steps b.between b.loosens) in
-      one_new to.old b.loose to.new to.box.key (new_node b) kept (refit_under b.loose to.new to.retypes.added.known.names to.box.key to.retypes.node b.seed b.refit)
+      let free : KeepsBoxes to.old b.free = keeps_then to.old b.loose b.free loose (loose_keeps b.loose b.free to.box.key b.between b.freed b.frees) in
+      one_new to.old b.free b.fitted to.box.key (new_node b) free (refit_under b.free b.fitted to.retypes.added.known.names to.box.key to.retypes.node b.seed b.refit)
+
+  -- so it does where the wires that turn came back
+  other_new : (b : Other) (P : ℕ → Node → Type 0) → P to.box.key (new_node b) → HasNew to.old to.new P
+  other_new b P h =
+      back_new b.fitted to.new to.box.key b.placed to.steps' b.back.tightens b.back.kept to.old P (one_by to.old b.fitted P to.box.key (new_node b) (one_other b) h)
 
   -- it keeps what its kind keeps at first
   other_fresh : (b : Other) → (new_node b).state ≡ Some (started (start_of (new_node b).kind to.old.rate) s.time)
@@ -110,7 +118,7 @@ module _ (s : Stage) (path : List ℕ) (number : ℕ) (text : List Atom) (m : Ma
   retyped_others k other = by to.retypes.became
     where
       by : Other ⊎ Renamed → states_of to.new k ≡ states_of to.old k
-      by (inl b) = ap (λ (o : Option Node). state_in o) ((one_other b).others k other)
+      by (inl b) = ap (λ (o : Option Node). state_in o) (back_node b.fitted to.new to.box.key b.placed to.steps' b.back.tightens k ∙ (one_other b).others k other)
       by (inr b) = (renamed_alike b).state k
 
   -- what boxes keep is of their kinds
@@ -120,7 +128,7 @@ module _ (s : Stage) (path : List ℕ) (number : ℕ) (text : List Atom) (m : Ma
       by : Other ⊎ Renamed → KeepsOfKind (λ k. kind_in ((net_of to.new).nodes k)) (states_of to.new)
       by (inl b) =
           let new : HasNew to.old to.new (λ k n. option_map blank n.state ≡ Some (blank_of n.kind)) =
-          one_by to.old to.new (λ k n. option_map blank n.state ≡ Some (blank_of n.kind)) to.box.key (new_node b) (one_other b) (fresh_objects (new_node b) to.old.rate s.time (other_fresh b)) in
+          other_new b (λ k n. option_map blank n.state ≡ Some (blank_of n.kind)) (fresh_objects (new_node b) to.old.rate s.time (other_fresh b)) in
           new_objects to.old to.new (λ k n. option_map blank n.state ≡ Some (blank_of n.kind)) new (λ k n own. own) old
       by (inr b) = alike_objects to.old to.new (renamed_alike b) old
 
@@ -145,7 +153,6 @@ retype_steady most s ahead path number text m h to tree =
     by on was both (inl b) =
         let low : to.box.key < 2 ^ 32 = stands_low to.old to.box.key to.retypes.node to.retypes.chosen.is was.ready.kinds was.ready.keys in
         let new : HasNew to.old to.new (IsWellAt names s.time) =
-        one_by to.old to.new (IsWellAt names s.time) to.box.key (new_node at path number text m to b) (one_other at path number text m to b)
-        (other_well at path number text m to b h.order.first, low) in
+        other_new at path number text m to b (IsWellAt names s.time) (other_well at path number text m to b h.order.first, low) in
         new_steady most s to.old to.new m.clocks names m.base ahead was on new both
     by on was both (inr b) = alike_steady to.old to.new (renamed_alike at path number text m to b) most s m.clocks names m.base ahead was on both

@@ -9,8 +9,8 @@
 //! (`names_stay_steady`) and time (`time_stays_steady`), in a run in which each edit is lawful: edits of wires and
 //! saves leave all that steadiness speaks of; a box that an edit puts, with all that lies in it, also a port of the box
 //! around, is of a kind in order and keeps what its kind keeps at first, and so does one that another box becomes,
-//! whatever ports the two have and whatever wires don't fit any more; where wires follow a port that came, or one that
-//! went, each inlet has wires as it had them; where an edit takes a box out with all that lies in it, also a port of
+//! whatever ports the two have and whatever wires don't fit any more or turn; where wires follow a port that came, or one
+//! that went, each inlet has wires as it had them; where an edit takes a box out with all that lies in it, also a port of
 //! the box around, all others keep what they kept, and their names have their owners; and where one moves a box, also a
 //! port of the box around, or gives a subpatch another text, all keep what they kept. So it is with those that a script
 //! asks for and with those that messages ask for, which are taken at the end of their event; and the boxes that are
