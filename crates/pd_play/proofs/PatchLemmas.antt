@@ -9,7 +9,6 @@ use Rattle.pd_say.proofs.GatheringLemmas.{printed_nothing}
 use Rattle.pd_stage.specs.Items.{said}
 use Rattle.pd_stage.specs.Choices.{Choice}
 use Rattle.pd_stage.specs.Stages.{Stage, Taken, choices_of, saying}
-use Rattle.pd_stage.specs.Lawful.{AreLawful}
 use Rattle.pd_stage.specs.Leads.{Sinks, Begins}
 use Rattle.pd_stage.proofs.ItemLemmas.{said-append}
 use Rattle.pd_stage.proofs.LeadLemmas.{begins_after, begins_more}
@@ -99,15 +98,15 @@ module _ (name : List ℕ) (closing : Stage → List ℕ) (run : Run) (edits : L
         took = took_no_line x y t h.items edits h.took w.1;
       })
 
-  all_told : AreLawful edits → Played run edits how x y → Answers (ends_with name closing run.status run.passage.stage) status y.lines t before now
+  all_told : Played run edits how x y → Answers (ends_with name closing run.status run.passage.stage) status y.lines t before now
       → Tells name closing run edits status x (with_lines y t)
-  all_told lawful h (inl a) =
+  all_told h (inl a) =
       inl (record {
         status_is = a.0;
         edits_are = append-nil run.passage.edits ∙ h.edits_are;
-        took = took_line run.passage.stage x y t run.passage.items edits line lawful h.took a.1;
+        took = took_line x y t run.passage.items edits line h.took a.1;
       })
-  all_told lawful h (inr a) =
+  all_told h (inr a) =
       let s : Stage = run.passage.stage in
       let took = a.2 in
       let first : Begins (said took.part) [] (saying s line) =
@@ -117,16 +116,16 @@ module _ (name : List ℕ) (closing : Stage → List ℕ) (run : Run) (edits : L
         items = run.passage.items ++ said took.part;
         begins = subst (λ (l : List Taken). Begins (run.passage.items ++ said took.part) l (with_line name closing run).passage) (append-nil run.passage.edits ∙ h.edits_are)
             (begins_after run.passage.items (said took.part) run.passage.edits [] (saying s line) first);
-        took = took_line s x y t run.passage.items edits took.part lawful h.took took.is;
+        took = took_line x y t run.passage.items edits took.part h.took took.is;
       })
 
-  run_told : (s : Stage) → (how ≡ Done → run.passage.stage ≡ s) → AreLawful edits → Plays run edits how x y → Answers (ends_with name closing how s) status y.lines t before now
+  run_told : (s : Stage) → (how ≡ Done → run.passage.stage ≡ s) → Plays run edits how x y → Answers (ends_with name closing how s) status y.lines t before now
       → Tells name closing run edits status x (with_lines y t)
-  run_told s stands lawful (inl h) a =
-      all_told lawful h
+  run_told s stands (inl h) a =
+      all_told h
       (subst (λ (q : Status). Answers (ends_with name closing q run.passage.stage) status y.lines t before now) h.status_is
       (with_text status how (last_line name closing how s) (last_line name closing how run.passage.stage) y.lines t before now (line_at name closing how s run.passage.stage stands) a))
-  run_told s stands lawful (inr h) a = short_told s h a
+  run_told s stands (inr h) a = short_told s h a
 
 -- what was given, and what is still to come
 script_whole : (given more : List ℕ) (left left' : Option (List ℕ)) → left ≡ with_front given left' → IfSome left' (λ b. b ≡ more) →
@@ -170,8 +169,9 @@ script_told name closing begin to status how left left' read read' x y t before 
       is_script = is_script e.ending e.given e.more left left' read read' e.came e.by;
       edits = e.edits;
       lawful = e.lawful;
+      by_folder = e.by_folder;
       tells = run_told name closing (run (choices_of e.edits)) e.edits status how x y t before now (to []).stage
-          (λ d. ap (λ (c : List Choice). (run c).passage.stage) (sym same) ∙ e.stands d []) e.lawful
+          (λ d. ap (λ (c : List Choice). (run c).passage.stage) (sym same) ∙ e.stands d [])
           (subst (λ (c : List Choice). Plays (run c) e.edits how x y) same (e.plays [])) a;
       over = λ d. over_told text begin e.edits left' (e.over (told_done (ends_with name closing how (to []).stage) status y.lines t before now a d));
     }

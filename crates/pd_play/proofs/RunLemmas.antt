@@ -15,15 +15,14 @@ use Rattle.pd_script.specs.declared.commands.Script.{Script}
 use Rattle.pd_stage.specs.Items.{Item}
 use Rattle.pd_stage.specs.Choices.{Choice}
 use Rattle.pd_stage.specs.Stages.{Stage, Taken, choices_of, Passage, with_names, still, after}
-use Rattle.pd_stage.specs.Lawful.{AreLawful}
 use Rattle.pd_stage.specs.Leads.{Sinks, Took, Begins, Comes, Stops}
-use Rattle.pd_stage.proofs.LeadLemmas.{lawful_both, choices-more, after-after, after-joined, begins_after, begins_more}
+use Rattle.pd_stage.proofs.LeadLemmas.{lawful_both, took_then, choices-more, after-after, after-joined, begins_after, begins_more}
 use Rattle.pd_play.specs.declared.status.Status.{Status}
 use Rattle.pd_play.specs.declared.status.Status.TheVariants.{Done, ScriptBad, ReadFault, WriteFault}
 use Rattle.pd_play.specs.Runs.{Point, Run, Ending, Whole, Broken, at_stage, counted, ended, bad, done, behind, run_after, goes_on, read_run, timed_run, millionths, record_run, end_run, run_of, MeetsEnd}
 use Rattle.pd_play.specs.Playing.{Plays, Part, GoesOn, IsPlayed, Leads, fed_run, ahead, Moves, EndsBy, Ends, Steps}
 use Rattle.pd_play.proofs.CauseLemmas.{rose_on}
-use Rattle.pd_play.proofs.TookLemmas.{took_nothing, took_on, without_looks, took_without}
+use Rattle.pd_play.proofs.TookLemmas.{took_nothing, folder_on, without_looks, took_without}
 use Rattle.pd_play.proofs.AheadLemmas.{told, told_is, record_ahead, too_long_ahead, end_ahead, unfinished_ahead, waits_ahead}
 
 -- ---- what was played of a run
@@ -38,20 +37,20 @@ pub ended_played : (p : Point) (status : Status) (x : Sinks) → Plays (ended p 
 ended_played p status x = inl (record { status_is = refl; edits_are = refl; took = took_nothing x })
 
 -- a first part was played, and then the rest
-pub played_after : (items : List Item) (log edits : List Taken) (run : Run) (status : Status) (x y z : Sinks) → AreLawful log → AreLawful edits → Took x y items log →
+pub played_after : (items : List Item) (log edits : List Taken) (run : Run) (status : Status) (x y z : Sinks) → Took x y items log →
     Plays run edits status y z → Plays (run_after items log run) (log ++ edits) status x z
-played_after items log edits run status x y z f g a (inl h) =
+played_after items log edits run status x y z a (inl h) =
     inl (record {
       status_is = h.status_is;
       edits_are = ap (λ (l : List Taken). log ++ l) h.edits_are;
-      took = took_on run.passage.stage x y z items run.passage.items log edits f g a h.took;
+      took = took_then x y z items run.passage.items log edits a h.took;
     })
-played_after items log edits run status x y z f g a (inr h) =
+played_after items log edits run status x y z a (inr h) =
     inr (record {
       status_is = h.status_is;
       items = items ++ h.items;
       begins = begins_after items h.items log edits run.passage h.begins;
-      took = took_on run.passage.stage x y z items h.items log edits f g a h.took;
+      took = took_then x y z items h.items log edits a h.took;
     })
 
 run_behind : (items : List Item) (edits : List Taken) (p : Passage) (run : Run) → behind (after items edits p) run ≡ run_after items edits (behind p run)
@@ -80,6 +79,7 @@ part_goes_on run part s s' p p' x y came same on = record {
       ∙ run_behind came.items came.edits (still (s' m)) (rest (at_stage (p n) (s' m)))
       ∙ ap (λ (q : Point). run_after came.items came.edits (rest q)) (on m n);
   lawful = came.lawful;
+  by_folder = came.by_folder;
 }
 
 -- a run that was cut, or that met a bad record, isn't done
@@ -104,6 +104,7 @@ part_cut run part other s status to x y off is same = record {
       });
   stands = λ e m rest. absurd (cut_undone status is e);
   lawful = off.lawful;
+  by_folder = off.by_folder;
 }
 
 -- what a run is of which a part was played
@@ -124,9 +125,10 @@ part_played run part end s s' status to x y z came same h = record {
   plays = λ m rest.
       let n : List Choice = choices_of h.edits ++ m in
       subst (λ (r : Run). Plays r (came.edits ++ h.edits) status x z) (sym (part_then run part end s s' x y came same h.edits m rest))
-      (played_after came.items came.edits h.edits (end (s' n)) status x y z came.lawful h.lawful came.took (h.plays m rest));
+      (played_after came.items came.edits h.edits (end (s' n)) status x y z came.took (h.plays m rest));
   stands = λ e m rest. ap (λ (r : Run). r.passage.stage) (part_then run part end s s' x y came same h.edits m rest) ∙ h.stands e m rest;
   lawful = lawful_both came.edits h.edits came.lawful h.lawful;
+  by_folder = folder_on x y came.items came.edits h.edits came.took came.by_folder h.by_folder;
 }
 
 -- the last part of a run was played
@@ -143,6 +145,7 @@ last_played part s s' status to x y came at = record {
       }));
   stands = λ e m rest. ap (λ (q : Passage). q.stage) (came.same m) ∙ sym (at m);
   lawful = came.lawful;
+  by_folder = came.by_folder;
 }
 
 -- it was cut
@@ -159,11 +162,12 @@ last_cut run part s status to x y off is same = record {
       });
   stands = λ e m rest. absurd (cut_undone status is e);
   lawful = off.lawful;
+  by_folder = off.by_folder;
 }
 
 -- nothing was played
 pub nothing_goes_on : (run : Part) (p : List Choice → Point) (x : Sinks) → ((m : List Choice) (rest : Point → Run) → run m rest ≡ rest (p m)) → GoesOn run p x x
-nothing_goes_on run p x same = record { items = []; edits = []; same = same; took = took_nothing x; lawful = tt }
+nothing_goes_on run p x same = record { items = []; edits = []; same = same; took = took_nothing x; lawful = tt; by_folder = tt }
 
 -- the run has ended at a bad record
 pub nothing_played : (run : Part) (p to : List Choice → Point) (number : ℕ) (status : Status) (x : Sinks) → status ≡ ScriptBad number
@@ -173,6 +177,7 @@ nothing_played run p to number status x is same = record {
   plays = λ m rest. subst (λ (r : Run). Plays r [] status x x) (sym (same m rest ∙ ap (ended (p m)) (sym is))) (ended_played (p m) status x);
   stands = λ e m rest. absurd (bad_undone number status is e);
   lawful = tt;
+  by_folder = tt;
 }
 
 pub leads_same : (r : Option Status) (f g : Part) (p : List Choice → Point) (x y : Sinks) → ((m : List Choice) (rest : Point → Run) → g m rest ≡ f m rest) →
@@ -183,12 +188,14 @@ leads_same None f g p x y e h = record {
   same = λ m rest. e (choices_of h.edits ++ m) rest ∙ h.same m rest;
   took = h.took;
   lawful = h.lawful;
+  by_folder = h.by_folder;
 }
 leads_same (Some status) f g p x y e h = record {
   edits = h.edits;
   plays = λ m rest. subst (λ (q : Run). Plays q h.edits status x y) (sym (e (choices_of h.edits ++ m) rest)) (h.plays m rest);
   stands = λ d m rest. ap (λ (q : Run). q.passage.stage) (e (choices_of h.edits ++ m) rest) ∙ h.stands d m rest;
   lawful = h.lawful;
+  by_folder = h.by_folder;
 }
 
 -- ---- a record
@@ -224,6 +231,7 @@ end_played v text p status to x y e h = record {
   plays = λ m rest. subst (λ (w : Fed). Plays (fed_run w text (p (choices_of h.edits ++ m)) rest) h.edits status x y) (sym e) (h.plays m rest);
   stands = λ d m rest. ap (λ (w : Fed). (fed_run w text (p (choices_of h.edits ++ m)) rest).passage.stage) e ∙ h.stands d m rest;
   lawful = h.lawful;
+  by_folder = h.by_folder;
 }
 
 rest_is : (v : Fed) (text : List ℕ) (p : Point) (rest : Point → Run) → (v ≡ fed.TooLong) ⊎ (v ≡ fed.Unfinished) → fed_run v text p rest ≡ bad (counted p)
@@ -250,6 +258,7 @@ record_moves f f' p p' left left' x y h g = record {
       ap (λ s. run_of ending s (p (choices_of g.edits ++ m))) (record_ahead f f' left left' h bytes) ∙ g.same m (λ q. run_of ending (script_ahead f' bytes) q);
   took = g.took;
   lawful = g.lawful;
+  by_folder = g.by_folder;
 }
 
 -- the run of the script ahead, where the answer of the feed is a record
@@ -288,6 +297,7 @@ fed_ends fed.Record f f' p status to left left' faults faults' x y h played =
       edits = played.edits;
       plays = λ m. subst (λ (r : Run). Plays r played.edits status x y) (sym (record_ends f f' (at m) left left' h Whole)) (played.plays m (after Whole));
       lawful = played.lawful;
+      by_folder = played.by_folder;
       stands = λ d m. ap (λ (r : Run). r.passage.stage) (record_ends f f' (at m) left left' h Whole) ∙ played.stands d m (after Whole);
       over = λ e. inr (λ m. ap (λ (r : Run). r.status) (record_ends f f' (at m) left left' h Broken)
           ∙ done_is (record_run f'.last (counted (at m)) (after Broken)) played.edits status x y (played.plays m (after Broken)) e);
@@ -301,6 +311,7 @@ fed_ends fed.End f f' p status to left left' faults faults' x y h played = recor
   edits = played.edits;
   plays = λ m. subst (λ s. Plays (run_of Whole s (p (choices_of played.edits ++ m))) played.edits status x y) (sym (end_ahead f f' left left' h)) (played.plays m fails);
   lawful = played.lawful;
+  by_folder = played.by_folder;
   stands = λ d m. ap (λ s. (run_of Whole s (p (choices_of played.edits ++ m))).passage.stage) (end_ahead f f' left left' h) ∙ played.stands d m fails;
   over = λ e. inl (h.ended refl);
 }
@@ -313,6 +324,7 @@ fed_ends fed.TooLong f f' p status to left left' faults faults' x y h played = r
   edits = played.edits;
   plays = λ m. subst (λ s. Plays (run_of Whole s (p (choices_of played.edits ++ m))) played.edits status x y) (sym (too_long_ahead f f' left left' h (told left'))) (played.plays m fails);
   lawful = played.lawful;
+  by_folder = played.by_folder;
   stands = λ d m. ap (λ s. (run_of Whole s (p (choices_of played.edits ++ m))).passage.stage) (too_long_ahead f f' left left' h (told left')) ∙ played.stands d m fails;
   over = λ e. absurd (rest_undone fed.TooLong f'.last (p (choices_of played.edits ++ nothing_more)) played.edits status x y fails (inl refl) (played.plays nothing_more fails) e);
 }
@@ -325,6 +337,7 @@ fed_ends fed.Unfinished f f' p status to left left' faults faults' x y h played 
   edits = played.edits;
   plays = λ m. subst (λ s. Plays (run_of Whole s (p (choices_of played.edits ++ m))) played.edits status x y) (sym (unfinished_ahead f f' left left' h)) (played.plays m fails);
   lawful = played.lawful;
+  by_folder = played.by_folder;
   stands = λ d m. ap (λ s. (run_of Whole s (p (choices_of played.edits ++ m))).passage.stage) (unfinished_ahead f f' left left' h) ∙ played.stands d m fails;
   over = λ e. absurd (rest_undone fed.Unfinished f'.last (p (choices_of played.edits ++ nothing_more)) played.edits status x y fails (inr refl) (played.plays nothing_more fails) e);
 }
@@ -365,6 +378,7 @@ waits_ends f f' p to left left' faults faults' x h rose =
           subst (λ (r : Run). Plays r [] ReadFault x x) (sym (ap (λ (b : List ℕ). ahead Broken f (p m) b) (append-nil h.given) ∙ is m))
           (ended_played (p m) ReadFault x);
       lawful = tt;
+      by_folder = tt;
       stands = λ e m. absurd (cc);
       over = λ e. absurd (cc);
     }
@@ -388,6 +402,7 @@ moves_nothing f p left x = record {
   same = λ ending bytes m. refl;
   took = took_nothing x;
   lawful = tt;
+  by_folder = tt;
 }
 
 run_after_after : (i j : List Item) (l k : List Taken) (run : Run) → run_after i l (run_after j k run) ≡ run_after (i ++ j) (l ++ k) run
@@ -410,8 +425,9 @@ moves_on f f' f'' p p' p'' l₁ l₂ l₃ x y z a b = record {
   same = λ ending bytes m.
       moved f f' p p' l₁ l₂ x y a ending b.given bytes b.edits m
       ∙ ap (run_after a.items a.edits) (b.same ending bytes m) ∙ run_after_after a.items b.items a.edits b.edits (ahead ending f'' (p'' m) bytes);
-  took = took_on (p []).stage x y z a.items b.items a.edits b.edits a.lawful b.lawful a.took b.took;
+  took = took_then x y z a.items b.items a.edits b.edits a.took b.took;
   lawful = lawful_both a.edits b.edits a.lawful b.lawful;
+  by_folder = folder_on x y a.items a.edits b.edits a.took a.by_folder b.by_folder;
 }
 
 at_end_on : (given more : List ℕ) (edits : List Taken) (f f' : Feed) (p p' : List Choice → Point) (l₁ l₂ left : Option (List ℕ)) (x y : Sinks) (a : Moves f p f' p' l₁ l₂ x y) →
@@ -437,8 +453,9 @@ moves_end f f' p p' status to l₁ l₂ l₃ j k n x y z l a b = record {
   plays = λ m.
       subst (λ (r : Run). Plays r (a.edits ++ b.edits) status x z)
       (sym (moved f f' p p' l₁ l₂ x y a b.ending b.given b.more b.edits m))
-      (played_after a.items a.edits b.edits (ahead b.ending f' (p' (choices_of b.edits ++ m)) (b.given ++ b.more)) status x y z a.lawful b.lawful a.took (b.plays m));
+      (played_after a.items a.edits b.edits (ahead b.ending f' (p' (choices_of b.edits ++ m)) (b.given ++ b.more)) status x y z a.took (b.plays m));
   lawful = lawful_both a.edits b.edits a.lawful b.lawful;
+  by_folder = folder_on x y a.items a.edits b.edits a.took a.by_folder b.by_folder;
   stands = λ d m. ap (λ (r : Run). r.passage.stage) (moved f f' p p' l₁ l₂ x y a b.ending b.given b.more b.edits m) ∙ b.stands d m;
   over = λ e. at_end_on b.given b.more b.edits f f' p p' l₁ l₂ l₃ x y a (b.over e);
 }
@@ -459,6 +476,7 @@ moves_without f f' p p' left left' x y h = record {
   same = h.same;
   took = took_without x y h.items h.edits h.took;
   lawful = h.lawful;
+  by_folder = h.by_folder;
 }
 
 pub ends_without : (f : Feed) (p : List Choice → Point) (status : Status) (to : List Choice → Point) (left left' : Option (List ℕ)) (faults faults' : ℕ) (x y : Sinks) →
@@ -472,6 +490,7 @@ ends_without f p status to left left' faults faults' x y h = record {
   edits = h.edits;
   plays = λ m. plays_without (ahead h.ending f (p (choices_of h.edits ++ m)) (h.given ++ h.more)) h.edits status x y (h.plays m);
   lawful = h.lawful;
+  by_folder = h.by_folder;
   stands = h.stands;
   over = h.over;
 }

@@ -9,7 +9,7 @@ use Rattle.pd_feed.specs.Script.{script_of}
 use Rattle.pd_feed.specs.Feed.{IsAtEnd}
 use Rattle.pd_stage.specs.Choices.{Choice}
 use Rattle.pd_stage.specs.Stages.{Stage, Taken, choices_of, saying, joined}
-use Rattle.pd_stage.specs.Lawful.{AreLawful}
+use Rattle.pd_stage.specs.Lawful.{AreLawful, GoByFolder}
 use Rattle.pd_stage.specs.Leads.{Sinks, sinks}
 use Rattle.pd_engine.specs.Opening.{Opens, OpensFile}
 use Rattle.pd_made.specs.Documents.{made_document}
@@ -42,14 +42,15 @@ abbrev pub IsScript : Ending → List ℕ → Option (List ℕ) → Option (List
 IsScript Whole bytes left left' faults faults' = IfSome left (λ b. b ≡ bytes)
 IsScript Broken bytes left left' faults faults' = (left ≡ with_front bytes left') × Rose faults faults'
 
--- A patch that was opened is played by a script. Its edits came to what the log tells, and each is lawful. It is done only where nothing is left of
--- the script, where that is told, or where an `end` is met.
+-- A patch that was opened is played by a script. Its edits came to what the log tells, and each is lawful, by what the folder held when it came. It is
+-- done only where nothing is left of the script, where that is told, or where an `end` is met.
 pub record PlaysScript (name : List ℕ) (closing : Stage → List ℕ) (begin : List Choice → Point) (status : Status) (left left' : Option (List ℕ)) (read read' : ℕ) (old new : Sinks) : Type 0 where
   pub ending : Ending
   pub bytes : List ℕ
   pub is_script : IsScript ending bytes left left' read read'
   pub edits : List Taken
   pub lawful : AreLawful edits
+  pub by_folder : GoByFolder old.held edits
   pub tells : Tells name closing (run_of ending (script_of 0 0 bytes) (begin (choices_of edits))) edits status old new
   pub over : status ≡ Done → IsAtEnd left' ⊎ MeetsEnd (script_of 0 0 bytes) (begin (choices_of edits))
 

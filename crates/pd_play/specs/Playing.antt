@@ -10,7 +10,7 @@ use Rattle.pd_feed.specs.declared.feed.Fed.TheVariants as fed
 use Rattle.pd_stage.specs.Items.{Item}
 use Rattle.pd_stage.specs.Choices.{Choice}
 use Rattle.pd_stage.specs.Stages.{Taken, choices_of}
-use Rattle.pd_stage.specs.Lawful.{AreLawful}
+use Rattle.pd_stage.specs.Lawful.{AreLawful, GoByFolder}
 use Rattle.pd_stage.specs.Leads.{Sinks, Took, Begins}
 use Rattle.pd_engine.specs.Stages.{stage_at}
 use Rattle.pd_play.specs.Runs.{Point, Run, Ending, Whole, Broken, run_after, counted, record_run, end_run, run_of, MeetsEnd}
@@ -72,6 +72,7 @@ pub record GoesOn (run : Part) (to : List Choice → Point) (old new : Sinks) : 
   pub same : (more : List Choice) (rest : Point → Run) → run (choices_of edits ++ more) rest ≡ run_after items edits (rest (to more))
   pub took : Took old new items edits
   pub lawful : AreLawful edits
+  pub by_folder : GoByFolder old.held edits
 
 -- it was played to an end by a status, and where it is done, it stands here
 pub record IsPlayed (run : Part) (status : Status) (to : List Choice → Point) (old new : Sinks) : Type 0 where
@@ -79,6 +80,7 @@ pub record IsPlayed (run : Part) (status : Status) (to : List Choice → Point) 
   pub plays : (more : List Choice) (rest : Point → Run) → Plays (run (choices_of edits ++ more) rest) edits status old new
   pub stands : status ≡ Done → (more : List Choice) (rest : Point → Run) → (run (choices_of edits ++ more) rest).passage.stage ≡ (to more).stage
   pub lawful : AreLawful edits
+  pub by_folder : GoByFolder old.held edits
 
 -- it goes on, or it ends by a status
 abbrev pub Leads : Option Status → Part → (List Choice → Point) → Sinks → Sinks → Type 0
@@ -105,6 +107,7 @@ pub record Moves (feed : Feed) (p : List Choice → Point) (feed' : Feed) (p' : 
   pub same : (ending : Ending) (bytes : List ℕ) (more : List Choice) → ahead ending feed (p (choices_of edits ++ more)) (given ++ bytes) ≡ run_after items edits (ahead ending feed' (p' more) bytes)
   pub took : Took old new items edits
   pub lawful : AreLawful edits
+  pub by_folder : GoByFolder old.held edits
 
 -- The bytes that are still to come: all that the source has left, where it tells that; or none, where it failed.
 abbrev pub EndsBy : Ending → List ℕ → Option (List ℕ) → ℕ → ℕ → Type 0
@@ -122,6 +125,7 @@ pub record Ends (feed : Feed) (p : List Choice → Point) (status : Status) (to 
   pub edits : List Taken
   pub plays : (m : List Choice) → Plays (ahead ending feed (p (choices_of edits ++ m)) (given ++ more)) edits status old new
   pub lawful : AreLawful edits
+  pub by_folder : GoByFolder old.held edits
   pub stands : status ≡ Done → (m : List Choice) → (ahead ending feed (p (choices_of edits ++ m)) (given ++ more)).passage.stage ≡ (to m).stage
   pub over : status ≡ Done → IsAtEnd left' ⊎ ((m : List Choice) → MeetsEnd (script_ahead feed (given ++ more)) (p (choices_of edits ++ m)))
 

@@ -14,9 +14,9 @@
 //! the box around with the wires at it, make a box without a canvas inside another such one, without the wires that
 //! don't fit that, give a subpatch another text with which it keeps what it holds, or move a box, a port of the box
 //! around too, and saves of the patch's own document are made: what each came to stands in the run, and it is lawful
-//! (pd_stage's `Lawful`). The load boxes that lie in what came fire behind the edit that put it, in the same event.
-//! Other edits and saves are refused so far, with their lines, and so are those that retype a port of a box around;
-//! there is nothing to undo or redo. Then the run goes on.
+//! (pd_stage's `Lawful`), by what the folder held when it came, where that is told. The load boxes that lie in what
+//! came fire behind the edit that put it, in the same event. Other edits and saves are refused so far, with their
+//! lines, and so are those that retype a port of a box around; there is nothing to undo or redo. Then the run goes on.
 //!
 //! Where the source fails, the script is what it gave until then: its whole records are run, and the status is
 //! `ReadFault`. Lines and samples of the run and the files that are put, with the line of the status, stand in one list
