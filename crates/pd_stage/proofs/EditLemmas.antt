@@ -25,13 +25,14 @@ use Rattle.pd_block.specs.Nets as block
 use Rattle.pd_walk.specs.Outcome.{all_loaded}
 use Rattle.pd_stage.specs.Choices.{Base, Wanted, Edits, Asks, Saves, Undoes, Redoes, Made, Choice, Refuses, Lacks, Makes, first_choice, later, text_of_choice, looks_of_choice, faults_of_choice}
 use Rattle.pd_stage.specs.Stages.{Stage, Taken, Passage, still, saying, with_ahead, followed_by}
-use Rattle.pd_stage.specs.Lawful.{StandsAt, with_wire_count, IsMade, IsShort, IsRewiringLawful, IsPutIn, IsUnputForRoom, IsPutLawful, IsTakenOut, IsLeftInForRoom, IsTakingLawful, IsMovedTo, IsLeftAtForRoom, IsMovingLawful, IsRetypedTo, IsUnretypedForRoom, IsRetypingLawful, IsEditLawful, IsSaved, MayCome, IsLawful, AreLawful}
+use Rattle.pd_stage.specs.Lawful.{StandsAt, with_wire_count, IsMade, IsShort, IsRewiringLawful, IsPutIn, IsUnputForRoom, IsPutLawful, IsTakenOut, IsLeftInForRoom, IsTakingLawful, IsMovedTo, IsLeftAtForRoom, IsMovingLawful, IsRetypedTo, IsUnretypedForRoom, IsRetypingLawful, IsEditLawful, IsSaved, MayCome, MayComeBy, IsLawful, AreLawful}
 use Rattle.pd_stage.specs.Leads.{Sinks, sinks, Took, Leads, Comes, Stops}
 use Rattle.pd_stage.specs.Events.{Beginning, Left, Loader, left_after, going_on, with_net, stage_by, files_put, edit_by, edit_taken, edit_loaded_by, edits_of_by, event_after_by, edit_event_by, delivered, with_kept, after_deliveries, event, edit_event}
 use Rattle.pd_stage.specs.Times.{with_wires, IsStageOf}
 use Rattle.pd_stage.proofs.FedLemmas.{KeepsFed, none_kept, same_kept, edit_kept}
 use Rattle.pd_stage.proofs.CountedLemmas.{StaysCounted, none_counted, edit_few}
 use Rattle.pd_stage.proofs.ThroughLemmas.{GoesOn, all_through, one_through, event_after_through, edit_event_through}
+use Rattle.pd_stage.proofs.FolderLemmas.{none_leaves, may_untold}
 use Rattle.pd_stage.proofs.LeadLemmas.{leads_then, broke_after, written_leads, written_breaks}
 use Rattle.pd_stage.proofs.ItemLemmas.{no_lines, no_samples, held-none, kept_same}
 
@@ -40,7 +41,7 @@ abbrev pub taken_at : Wanted → Stage → Choice → Taken
 taken_at wanted s c = record { found = with_ahead s []; wanted = wanted; choice = c }
 
 -- its files were put, and its lines are still to be said
-pub edit_chosen : (wanted : Wanted) (s : Stage) (c : Choice) (x y : Sinks) → MayCome wanted (with_ahead s []) c → Took x y (files_put c) (taken_at wanted s c ∷ [])
+pub edit_chosen : (wanted : Wanted) (s : Stage) (c : Choice) (x y : Sinks) → MayComeBy x.held wanted (with_ahead s []) c → Took x y (files_put c) (taken_at wanted s c ∷ [])
     → Leads (λ m. edit_taken wanted (with_ahead s m)) (λ m. saying (stage_by (with_ahead s m) c) (text_of_choice wanted c)) x y
 unfolding edit_taken
 edit_chosen wanted s c x y may took = record {
@@ -48,12 +49,13 @@ edit_chosen wanted s c x y may took = record {
   edits = taken_at wanted s c ∷ [];
   same = λ more. refl;
   took = took;
-  lawful = (may, tt);
+  lawful = (may_untold x.held wanted (with_ahead s []) c may, tt);
+  by_folder = (may, tt);
 }
 
 -- and its lines were said, or only a first part
 pub edit_comes_by : (wanted : Wanted) (s : Stage) (c : Choice) (x : Sinks) (t t' u : Option (List ℕ)) (k : ℕ) (h : Option (List FileRow)) (f : ℕ)
-    → MayCome wanted (with_ahead s []) c → Took x (sinks t u k h f) (files_put c) (taken_at wanted s c ∷ []) → t' ≡ grown t (text_of_choice wanted c)
+    → MayComeBy x.held wanted (with_ahead s []) c → Took x (sinks t u k h f) (files_put c) (taken_at wanted s c ∷ []) → t' ≡ grown t (text_of_choice wanted c)
     → Comes (edit_taken wanted) (with_ahead s) (λ m. stage_by (with_ahead s m) c) x (sinks t' u k h f)
 edit_comes_by wanted s c x t t' u k h f may took e =
     leads_then (λ m. edit_taken wanted (with_ahead s m)) (λ m. saying (stage_by (with_ahead s m) c) (text_of_choice wanted c)) (λ m. still (stage_by (with_ahead s m) c)) x (sinks t u k h f) (sinks t' u k h f)
@@ -61,23 +63,29 @@ edit_comes_by wanted s c x t t' u k h f may took e =
 
 -- the same, with what is logged
 pub edit_logged_by : (wanted : Wanted) (s : Stage) (c : Choice) (x : Sinks) (t t' u : Option (List ℕ)) (k : ℕ) (h : Option (List FileRow)) (f : ℕ)
-    → MayCome wanted (with_ahead s []) c → Took x (sinks t u k h f) (files_put c) (taken_at wanted s c ∷ []) → t' ≡ grown t (text_of_choice wanted c)
+    → MayComeBy x.held wanted (with_ahead s []) c → Took x (sinks t u k h f) (files_put c) (taken_at wanted s c ∷ []) → t' ≡ grown t (text_of_choice wanted c)
     → (d : Comes (edit_taken wanted) (with_ahead s) (λ m. stage_by (with_ahead s m) c) x (sinks t' u k h f)) × (d.edits ≡ taken_at wanted s c ∷ [])
 unfolding edit_comes_by edit_chosen leads_then written_leads
 edit_logged_by wanted s c x t t' u k h f may took e = (edit_comes_by wanted s c x t t' u k h f may took e, refl)
 
 pub edit_stops_by : (wanted : Wanted) (s : Stage) (c : Choice) (x : Sinks) (t t' u : Option (List ℕ)) (k : ℕ) (h : Option (List FileRow)) (f : ℕ)
-    → MayCome wanted (with_ahead s []) c → Took x (sinks t u k h f) (files_put c) (taken_at wanted s c ∷ []) → TookPart t t' (text_of_choice wanted c)
+    → MayComeBy x.held wanted (with_ahead s []) c → Took x (sinks t u k h f) (files_put c) (taken_at wanted s c ∷ []) → TookPart t t' (text_of_choice wanted c)
     → Stops (edit_taken wanted) (with_ahead s) x (sinks t' u k h f)
 edit_stops_by wanted s c x t t' u k h f may took part =
     broke_after (λ m. edit_taken wanted (with_ahead s m)) (λ m. saying (stage_by (with_ahead s m) c) (text_of_choice wanted c)) x (sinks t u k h f) (sinks t' u k h f)
     (edit_chosen wanted s c x (sinks t u k h f) may took) (written_breaks (λ m. stage_by (with_ahead s m) c) (text_of_choice wanted c) t t' u k h f part)
 
 -- nothing is put, and there are so many looks
-pub took_looks : (t u : Option (List ℕ)) (k k' : ℕ) (h : Option (List FileRow)) (f : ℕ) (e : Taken) → faults_of_choice e.choice ≡ 0 → k' ≤ k + looks_of_choice e.choice
+pub took_looks : (t u : Option (List ℕ)) (k k' : ℕ) (h : Option (List FileRow)) (f : ℕ) (e : Taken) → files_put e.choice ≡ [] → faults_of_choice e.choice ≡ 0 → k' ≤ k + looks_of_choice e.choice
     → Took (sinks t u k h f) (sinks t u k' h f) [] (e ∷ [])
-took_looks t u k k' h f e none few =
-    record { lines_are = no_lines t; samples_are = no_samples u; few_looks = omega (arith, few); held_are = kept_same [] h (held-none h); few_faults = inl (omega (arith, none)) }
+took_looks t u k k' h f e puts none few = record {
+  lines_are = no_lines t;
+  samples_are = no_samples u;
+  few_looks = omega (arith, few);
+  held_are = kept_same [] h (held-none h);
+  leaves = none_leaves e.wanted e.choice h h puts refl;
+  few_faults = inl (omega (arith, none));
+}
 
 -- ---- what lawful edits leave
 

@@ -112,9 +112,9 @@ kept_then : (h₁ h₂ h₃ : Option (List FileRow)) (a b : List Item) → h₂ 
 kept_then h₁ h₂ h₃ a b e (inl k) = inl (k ∙ ap (held_after b) e ∙ sym (held-append a b h₁))
 kept_then h₁ h₂ h₃ a b e (inr k) = inr k
 
-pub held_on : (h₁ h₂ h₃ : Option (List FileRow)) (a b : List Item) → KeptOrUntold (held_after a h₁) h₂ → KeptOrUntold (held_after b h₂) h₃ → KeptOrUntold (held_after (a ++ b) h₁) h₃
-held_on h₁ h₂ h₃ a b (inl e) k = kept_then h₁ h₂ h₃ a b e k
-held_on h₁ h₂ h₃ a b (inr e) k = inr (untold_on h₂ h₃ b e k)
+pub held_then : (h₁ h₂ h₃ : Option (List FileRow)) (a b : List Item) → KeptOrUntold (held_after a h₁) h₂ → KeptOrUntold (held_after b h₂) h₃ → KeptOrUntold (held_after (a ++ b) h₁) h₃
+held_then h₁ h₂ h₃ a b (inl e) k = kept_then h₁ h₂ h₃ a b e k
+held_then h₁ h₂ h₃ a b (inr e) k = inr (untold_on h₂ h₃ b e k)
 
 -- what the sinks took of one list, and then of another
 pub lines_on : (t₁ t₂ t₃ : Option (List ℕ)) (a b : List Item) → t₂ ≡ grown t₁ (lines_of a) → t₃ ≡ grown t₂ (lines_of b) → t₃ ≡ grown t₁ (lines_of (a ++ b))

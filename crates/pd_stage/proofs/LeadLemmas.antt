@@ -8,7 +8,9 @@ use Rattle.pd_stage.specs.Choices.{Choice}
 use Rattle.pd_stage.specs.Stages.{Stage, Taken, choices_of, looks_of, faults_of, Passage, still, saying, after, joined, followed_by}
 use Rattle.pd_stage.specs.Lawful.{AreLawful}
 use Rattle.pd_stage.specs.Leads.{RoseBy, Sinks, sinks, Took, Leads, Begins, BreaksOff, Comes, Stops}
-use Rattle.pd_stage.proofs.ItemLemmas.{lines-none, samples-none, said-append, heard-append, lines-said, samples-said, lines-heard, samples-heard, held-none, held-said, held-heard, kept_same, held_on, lines_on, samples_on, no_lines, no_samples, front_after, front_more}
+pub use Rattle.pd_stage.proofs.FolderLemmas.{folder_both}
+use Rattle.pd_stage.proofs.FolderLemmas.{leaves_on}
+use Rattle.pd_stage.proofs.ItemLemmas.{lines-none, samples-none, said-append, heard-append, lines-said, samples-said, lines-heard, samples-heard, held-none, held-said, held-heard, kept_same, held_then, lines_on, samples_on, no_lines, no_samples, front_after, front_more}
 
 pub lawful_both : (a b : List Taken) → AreLawful a → AreLawful b → AreLawful (a ++ b)
 lawful_both [] b h k = k
@@ -65,12 +67,20 @@ took_then x y z a b l m h k =
       lines_are = lines_on x.lines y.lines z.lines a b h.lines_are k.lines_are;
       samples_are = samples_on x.samples y.samples z.samples a b h.samples_are k.samples_are;
       few_looks = omega arith;
-      held_are = held_on x.held y.held z.held a b h.held_are k.held_are;
+      held_are = held_then x.held y.held z.held a b h.held_are k.held_are;
+      leaves = leaves_on x.held y.held z.held l m h.leaves k.leaves;
       few_faults = subst (λ (n : ℕ). RoseBy n x.faults z.faults) (sym (faults-append l m)) (rose_on (faults_of l) (faults_of m) x.faults y.faults z.faults h.few_faults k.few_faults);
     }
 
 took_none : (x : Sinks) → Took x x [] []
-took_none x = record { lines_are = no_lines x.lines; samples_are = no_samples x.samples; few_looks = omega arith; held_are = kept_same [] x.held (held-none x.held); few_faults = rose_none x.faults }
+took_none x = record {
+  lines_are = no_lines x.lines;
+  samples_are = no_samples x.samples;
+  few_looks = omega arith;
+  held_are = kept_same [] x.held (held-none x.held);
+  leaves = inl refl;
+  few_faults = rose_none x.faults;
+}
 
 pub took_said : (t t' u : Option (List ℕ)) (k : ℕ) (h : Option (List FileRow)) (f : ℕ) (b : List ℕ) → t' ≡ grown t b → Took (sinks t u k h f) (sinks t' u k h f) (said b) []
 took_said t t' u k h f b e = record {
@@ -78,6 +88,7 @@ took_said t t' u k h f b e = record {
   samples_are = no_samples u ∙ ap (λ (x : List ℕ). grown u x) (samples-none ∙ sym (samples-said b));
   few_looks = omega arith;
   held_are = kept_same (said b) h (held-said b h);
+  leaves = inl refl;
   few_faults = rose_none f;
 }
 
@@ -87,6 +98,7 @@ took_heard t u u' k h f b e = record {
   samples_are = e ∙ ap (λ (x : List ℕ). grown u x) (sym (samples-heard b));
   few_looks = omega arith;
   held_are = kept_same (heard b) h (held-heard b h);
+  leaves = inl refl;
   few_faults = rose_none f;
 }
 
@@ -113,7 +125,7 @@ joined_still p =
 -- ---- what was led to
 
 pub leads_begin : (w : List Choice → Passage) (x : Sinks) → Leads w w x x
-leads_begin w x = record { items = []; edits = []; same = λ more. refl; took = took_none x; lawful = tt }
+leads_begin w x = record { items = []; edits = []; same = λ more. refl; took = took_none x; lawful = tt; by_folder = tt }
 
 unfoldable pub leads_then : (w r q : List Choice → Passage) (x y z : Sinks) → Leads w r x y → Leads r q y z → Leads w q x z
 leads_then w r q x y z a b = record {
@@ -123,6 +135,7 @@ leads_then w r q x y z a b = record {
       ∙ after-after a.items b.items a.edits b.edits (q more);
   took = took_then x y z a.items b.items a.edits b.edits a.took b.took;
   lawful = lawful_both a.edits b.edits a.lawful b.lawful;
+  by_folder = folder_both x.held y.held a.edits b.edits a.took.leaves a.by_folder b.by_folder;
 }
 
 -- and then something follows
@@ -134,6 +147,7 @@ leads_under w r g x y a = record {
   same = λ more. ap (λ (p : Passage). followed_by p g) (a.same more) ∙ after-joined a.items a.edits (r more) (g (r more).stage);
   took = a.took;
   lawful = a.lawful;
+  by_folder = a.by_folder;
 }
 
 pub leads_same : (w w' r : List Choice → Passage) (x y : Sinks) → ((m : List Choice) → w' m ≡ w m) → Leads w r x y → Leads w' r x y
@@ -143,6 +157,7 @@ leads_same w w' r x y e a = record {
   same = λ more. e (choices_of a.edits ++ more) ∙ a.same more;
   took = a.took;
   lawful = a.lawful;
+  by_folder = a.by_folder;
 }
 
 pub leads_to : (w r r' : List Choice → Passage) (x y : Sinks) → ((m : List Choice) → r m ≡ r' m) → Leads w r x y → Leads w r' x y
@@ -152,6 +167,7 @@ leads_to w r r' x y e a = record {
   same = λ more. a.same more ∙ ap (λ (p : Passage). after a.items a.edits p) (e more);
   took = a.took;
   lawful = a.lawful;
+  by_folder = a.by_folder;
 }
 
 -- ---- what broke off
@@ -178,6 +194,7 @@ broke_none w x = record {
   begins = λ more. record { front = record { rest = (w more).items; is = refl }; rest = (w more).edits; edits_are = refl };
   took = took_none x;
   lawful = tt;
+  by_folder = tt;
 }
 
 pub broke_after : (w r : List Choice → Passage) (x y z : Sinks) → Leads w r x y → BreaksOff r y z → BreaksOff w x z
@@ -189,6 +206,7 @@ broke_after w r x y z a b = record {
       (begins_after a.items b.items a.edits b.edits (r (choices_of b.edits ++ more)) (b.begins more));
   took = took_then x y z a.items b.items a.edits b.edits a.took b.took;
   lawful = lawful_both a.edits b.edits a.lawful b.lawful;
+  by_folder = folder_both x.held y.held a.edits b.edits a.took.leaves a.by_folder b.by_folder;
 }
 
 pub broke_under : (w : List Choice → Passage) (g : Stage → Passage) (x y : Sinks) → BreaksOff w x y → BreaksOff (λ m. followed_by (w m) g) x y
@@ -198,6 +216,7 @@ broke_under w g x y a = record {
   begins = λ more. begins_more a.items a.edits (w (choices_of a.edits ++ more)) (g (w (choices_of a.edits ++ more)).stage) (a.begins more);
   took = a.took;
   lawful = a.lawful;
+  by_folder = a.by_folder;
 }
 
 pub broke_same : (w w' : List Choice → Passage) (x y : Sinks) → ((m : List Choice) → w' m ≡ w m) → BreaksOff w x y → BreaksOff w' x y
@@ -207,6 +226,7 @@ broke_same w w' x y e a = record {
   begins = λ more. subst (λ (p : Passage). Begins a.items a.edits p) (sym (e (choices_of a.edits ++ more))) (a.begins more);
   took = a.took;
   lawful = a.lawful;
+  by_folder = a.by_folder;
 }
 
 -- ---- one write of lines or of samples
@@ -219,6 +239,7 @@ written_leads s b t t' u k h f e = record {
   same = λ more. ap (λ (x : List Item). record { stage = s more; items = x; edits = [] }) (sym (append-nil (said b)));
   took = took_said t t' u k h f b e;
   lawful = tt;
+  by_folder = tt;
 }
 
 pub written_breaks : (s : List Choice → Stage) (b : List ℕ) (t t' u : Option (List ℕ)) (k : ℕ) (held : Option (List FileRow)) (f : ℕ) → TookPart t t' b
@@ -233,6 +254,7 @@ written_breaks s b t t' u k held f h = record {
   };
   took = took_said t t' u k held f h.part h.is;
   lawful = tt;
+  by_folder = tt;
 }
 
 abbrev pub hearing : Stage → List ℕ → Passage
@@ -246,6 +268,7 @@ heard_leads s b t u u' k h f e = record {
   same = λ more. ap (λ (x : List Item). record { stage = s more; items = x; edits = [] }) (sym (append-nil (heard b)));
   took = took_heard t u u' k h f b e;
   lawful = tt;
+  by_folder = tt;
 }
 
 pub heard_breaks : (s : List Choice → Stage) (b : List ℕ) (t u u' : Option (List ℕ)) (k : ℕ) (held : Option (List FileRow)) (f : ℕ) → TookPart u u' b
@@ -260,6 +283,7 @@ heard_breaks s b t u u' k held f h = record {
   };
   took = took_heard t u u' k held f h.part h.is;
   lawful = tt;
+  by_folder = tt;
 }
 
 -- ---- one part after another

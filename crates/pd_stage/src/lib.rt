@@ -61,4 +61,4 @@
 
 mod laws;
 
-pub use laws::{fronts_are_fronts, parts_join, samples_are_added_up};
+pub use laws::{edits_join_by_folder, fronts_are_fronts, parts_join, samples_are_added_up};
