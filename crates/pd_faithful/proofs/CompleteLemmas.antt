@@ -23,7 +23,7 @@ use Rattle.pd_patch.specs.Sounds.{sound_of}
 use Rattle.pd_words.specs.Grammar.{Asked}
 use Rattle.pd_again_law.specs.Runs.opening
 use Rattle.pd_again_law.specs.Runs.cause
-use Rattle.pd_again_law.specs.Runs.{OpenRefusal, BadCause, Reads, Grows, growth_of, file_read, Stops, IsUngathered, IsUngrown, IsRefused, IsUnread, IsFileRefused, Stage, Taken, choices_of, AreLawful, Sinks, opened_by, free_ways}
+use Rattle.pd_again_law.specs.Runs.{OpenRefusal, BadCause, Reads, Grows, growth_of, file_read, Stops, IsUngathered, IsUngrown, IsRefused, IsUnread, IsFileRefused, Stage, Taken, choices_of, AreLawful, GoByFolder, Sinks, opened_by, free_ways}
 use Rattle.pd_play.specs.Causes.{HasCauses}
 use Rattle.pd_play.specs.Ending.{no_line, opened_as}
 use Rattle.pd_play.specs.Made.{made_names, summary_line}
@@ -202,16 +202,16 @@ told_free name why status t t' x y e is (inr (inl h)) f g (inl a) = absurd (g (a
 told_free name why status t t' x y e is (inr (inr h)) f g (inl a) = a.0 ∙ is ∙ ap opened_as h
 told_free name why status t t' x y e is h f g (inr a) = absurd (g a.0)
 
--- the run is done where its edits are lawful
-ends_done : (name : List ℕ) (closing : Stage → List ℕ) (ending : Ending) (bytes script : List ℕ) (left' : Option (List ℕ)) (read read' : ℕ) (run : Ending → List ℕ → Run) (edits : List Taken) (status : Status) (old new : Sinks)
-    → IsScript ending bytes (Some script) left' read read' → (Rose read read' → ⊥) → (status ≡ WriteFault → ⊥) → AreLawful edits
-    → (AreLawful (run Whole script).passage.edits → (run Whole script).status ≡ Done) → Tells name closing (run ending bytes) edits status old new → status ≡ Done
-ends_done name closing Whole bytes script left' read read' run edits status old new is f g lawful d (inl h) =
+-- the run is done where its edits are lawful by what was held
+ends_done : (holds : Option (List FileRow)) (name : List ℕ) (closing : Stage → List ℕ) (ending : Ending) (bytes script : List ℕ) (left' : Option (List ℕ)) (read read' : ℕ) (run : Ending → List ℕ → Run) (edits : List Taken) (status : Status) (old new : Sinks)
+    → IsScript ending bytes (Some script) left' read read' → (Rose read read' → ⊥) → (status ≡ WriteFault → ⊥) → AreLawful edits → GoByFolder holds edits
+    → (AreLawful (run Whole script).passage.edits → GoByFolder holds (run Whole script).passage.edits → (run Whole script).status ≡ Done) → Tells name closing (run ending bytes) edits status old new → status ≡ Done
+ends_done holds name closing Whole bytes script left' read read' run edits status old new is f g lawful by_folder d (inl h) =
     let all : (run Whole script).passage.edits ≡ edits =
     sym (append-nil (run Whole script).passage.edits) ∙ ap (λ (b : List ℕ). (run Whole b).passage.edits ++ []) is ∙ h.edits_are in
-    h.status_is ∙ ap (λ (b : List ℕ). (run Whole b).status) (sym is) ∙ d (subst (λ (l : List Taken). AreLawful l) (sym all) lawful)
-ends_done name closing Whole bytes script left' read read' run edits status old new is f g lawful d (inr h) = absurd (g h.status_is)
-ends_done name closing Broken bytes script left' read read' run edits status old new is f g lawful d h = absurd (f is.1)
+    h.status_is ∙ ap (λ (b : List ℕ). (run Whole b).status) (sym is) ∙ d (subst (λ (l : List Taken). AreLawful l) (sym all) lawful) (subst (λ (l : List Taken). GoByFolder holds l) (sym all) by_folder)
+ends_done holds name closing Whole bytes script left' read read' run edits status old new is f g lawful by_folder d (inr h) = absurd (g h.status_is)
+ends_done holds name closing Broken bytes script left' read read' run edits status old new is f g lawful by_folder d h = absurd (f is.1)
 
 either_not : (P Q : Type 0) → (P → ⊥) → (Q → ⊥) → P ⊎ Q → ⊥
 either_not P Q f g (inl h) = f h
@@ -240,8 +240,9 @@ module _ (rows : List FileRow) (name : List ℕ) (rate : Rate) (script : List �
       one_document rows name (p.document, p.names) (h.document, h.names) p.reads reads in
       let grows : Grows (Some rows) name rate p.document p.names h.plays.patch h.plays.table h.plays.base =
       subst (λ (r : Page × Names). Grows (Some rows) name rate r.0 r.1 h.plays.patch h.plays.table h.plays.base) same held in
-      ends_done name no_line h.plays.ending h.plays.bytes script left' read read' (λ ending bytes. played_by free_ways name h.plays.patch h.plays.table h.plays.base (choices_of h.plays.edits) (samples rate) ending (script_of 0 0 bytes)) h.plays.edits status
-      old new h.plays.is_script none.script_stays no_write h.plays.lawful (p.commands h.plays.patch h.plays.table h.plays.base (choices_of h.plays.edits) grows) h.plays.tells
+      ends_done (Some rows) name no_line h.plays.ending h.plays.bytes script left' read read' (λ ending bytes. played_by free_ways name h.plays.patch h.plays.table h.plays.base (choices_of h.plays.edits) (samples rate) ending (script_of 0 0 bytes)) h.plays.edits status
+      old new h.plays.is_script none.script_stays no_write h.plays.lawful
+      (subst (λ (o : Option (List FileRow)). GoByFolder o h.plays.edits) holds h.plays.by_folder) (p.commands h.plays.patch h.plays.table h.plays.base (choices_of h.plays.edits) grows) h.plays.tells
 
   either_done : Refuses name rate status (Some script) left' x x' old new ⊎ PlaysFreely name rate status (Some script) left' read read' old new → (status ≡ Done) ⊎ (status ≡ NoMemory)
   either_done (inl h) = inr (refused_short h)
@@ -261,8 +262,8 @@ module _ (laws : MadeLaws) (n : ℕ) (name : List ℕ) (rate : Rate) (few : n �
   made_done : (left' : Option (List ℕ)) → PlaysMadeFreely n name rate status left' old new → status ≡ Done
   made_done left' h =
       let run : Ending → List ℕ → Run = λ ending bytes. played_by free_ways name h.patch h.table h.base (choices_of h.edits) (samples rate) ending (script_of 0 0 bytes) in
-      ends_done name (summary_line n) h.ending h.bytes (made_script n) left' 0 0 run h.edits status old new h.is_script never_rose made_no_write h.lawful
-      (λ _. script_done free_ways laws n (start (opened_by free_ways name h.patch h.table h.base (choices_of h.edits)).stage (samples rate)) few refl) h.tells
+      ends_done old.held name (summary_line n) h.ending h.bytes (made_script n) left' 0 0 run h.edits status old new h.is_script never_rose made_no_write h.lawful h.by_folder
+      (λ _ _. script_done free_ways laws n (start (opened_by free_ways name h.patch h.table h.base (choices_of h.edits)).stage (samples rate)) few refl) h.tells
 
   made_either : RefusesBy (IsMadeRefusal n old.held name rate) name status None None x x' old new ⊎ ((left' : Option (List ℕ)) × PlaysMadeFreely n name rate status left' old new)
       → (status ≡ Done) ⊎ (status ≡ NoMemory)

@@ -9,7 +9,7 @@ use Rattle.pd_clock.specs.Rates.{samples}
 use Rattle.pd_feed.specs.Script.{Script as Text, script_of}
 use Rattle.pd_feed.specs.Feed.{IsAtEnd}
 use Rattle.pd_patch.specs.declared.patch.Patch.{Patch}
-use Rattle.pd_again_law.specs.Runs.{Item, Base, Choice, Stage, Taken, choices_of, Passage, still, saying, after, AreLawful, Sinks, sinks, Took, Leads as LeadsOn, Grows, OpensFile, opened, Opens as EngineOpens, opened_by, free_ways, IsSteady}
+use Rattle.pd_again_law.specs.Runs.{Item, Base, Choice, Stage, Taken, choices_of, Passage, still, saying, after, AreLawful, GoByFolder, Sinks, sinks, Took, Leads as LeadsOn, Grows, OpensFile, opened, Opens as EngineOpens, opened_by, free_ways, IsSteady}
 use Rattle.pd_again_law.proofs.Runs.{after-joined, choices-append, lawful_both, AreFair, fair_second}
 use Rattle.pd_again_law.specs.Again.{AreAgain}
 use Rattle.pd_made.specs.Documents.{made_document}
@@ -22,6 +22,7 @@ use Rattle.pd_play.specs.Patches.{start, with_line, once_open, PlaysFrom, PlaysO
 use Rattle.pd_play.specs.declared.status.Status.{Status}
 use Rattle.pd_play.specs.declared.status.Status.TheVariants.{Done}
 use Rattle.pd_play.proofs.RunLemmas.{played_after}
+use Rattle.pd_play.proofs.TookLemmas.{folder_on}
 use Rattle.pd_faithful.specs.Scripts.{run_of_by, played_by}
 use Rattle.pd_faithful.specs.Points.{most_units, IsSteadyAt}
 use Rattle.pd_faithful.specs.Whole.{PlaysGrown, PlaysFreely, PlaysMadeFreely}
@@ -111,6 +112,21 @@ module _ (opens : Opens) where
     lawful : AreLawful log
     lawful = lawful_both led.edits h.plays.edits led.lawful h.plays.lawful
 
+    -- lines were taken while it opened, and no more
+    opening_took : Took old (once_open old h.printed h.faults) led.items led.edits
+    opening_took = record {
+      lines_are = led.took.lines_are;
+      samples_are = led.took.samples_are;
+      few_looks = led.took.few_looks;
+      held_are = led.took.held_are;
+      leaves = led.took.leaves;
+      few_faults = led.took.few_faults;
+    }
+
+    -- each edit went by what the folder held
+    by_folder : GoByFolder old.held log
+    by_folder = folder_on old (once_open old h.printed h.faults) led.items led.edits h.plays.edits opening_took led.by_folder h.plays.by_folder
+
     opened_so : opened name o.patch o.table o.base (choices_of log) ≡ after led.items led.edits (still (h.stage (choices_of h.plays.edits)))
     opened_so = ap (opened name o.patch o.table o.base) (choices-append led.edits h.plays.edits) ∙ led.same (choices_of h.plays.edits)
 
@@ -123,16 +139,6 @@ module _ (opens : Opens) where
         ap (λ (x : Passage). behind x (run_of ending text (start x.stage (samples rate)))) opened_so
         ∙ ap (λ (x : Passage). record { status = (run ending).status; passage = x }) (after-joined led.items led.edits (still (h.stage (choices_of h.plays.edits))) (run ending).passage)
 
-    -- lines were taken while it opened, and no more
-    opening_took : Took old (once_open old h.printed h.faults) led.items led.edits
-    opening_took = record {
-      lines_are = led.took.lines_are;
-      samples_are = led.took.samples_are;
-      few_looks = led.took.few_looks;
-      held_are = led.took.held_are;
-      few_faults = led.took.few_faults;
-    }
-
     lined_so : with_line name closing (own h.plays.ending) ≡ run_after led.items led.edits (with_line name closing (run h.plays.ending))
     lined_so = ap (λ (r : Run). with_line name closing r) (own_so h.plays.ending) ∙ line_after name closing led.items led.edits (run h.plays.ending)
 
@@ -140,7 +146,7 @@ module _ (opens : Opens) where
     unfolding run_at
     own_tells =
         subst (λ (r : Run). Plays r log status old new) (sym lined_so)
-        (played_after led.items led.edits h.plays.edits (with_line name closing (run h.plays.ending)) status old (once_open old h.printed h.faults) new led.lawful h.plays.lawful opening_took h.plays.tells)
+        (played_after led.items led.edits h.plays.edits (with_line name closing (run h.plays.ending)) status old (once_open old h.printed h.faults) new opening_took h.plays.tells)
 
     own_fair : AreFair (own h.plays.ending).passage.edits
     own_fair =
@@ -186,6 +192,7 @@ module _ (opens : Opens) where
       is_script = h.plays.is_script;
       edits = log;
       lawful = lawful;
+      by_folder = by_folder;
       again = log_again;
       tells = subst (λ (r : Run). Plays r log status old new) (sym (ap (λ (r : Run). with_line name closing r) (free_so h.plays.ending own_fair))) own_tells;
       over = λ e. over_free (h.plays.over e);

@@ -14,7 +14,7 @@ use Rattle.pd_gather.specs.Gather.{Known}
 use Rattle.pd_patch.specs.Sounds.{sound_of}
 use Rattle.pd_patch.specs.declared.patch.Patch.{Patch}
 use Rattle.pd_words.specs.Grammar.{Asked}
-use Rattle.pd_again_law.specs.Runs.{Base, Choice, AreLawful, Reads, Grows, GathersAll, growth_of, free_ways}
+use Rattle.pd_again_law.specs.Runs.{Base, Choice, AreLawful, GoByFolder, Reads, Grows, GathersAll, growth_of, free_ways}
 use Rattle.pd_play.specs.Runs.{Whole}
 use Rattle.pd_play.specs.declared.status.Status.{Status}
 use Rattle.pd_play.specs.declared.status.Status.TheVariants.{Done, NoMemory}
@@ -30,8 +30,8 @@ pub record GrowsWithin (rows : List FileRow) (name : List ℕ) (rate : Rate) (d 
   pub few_wires : wires_fitting tree.sheet tree.boxes ≤ 65536
   pub few_values : sound_of rate tree.boxes ≤ 16777216
 
--- A patch is held that reads and grows within the limits, and in its run, whatever its edits lawfully come to, the script is commands up to its
--- end, or up to an `end`.
+-- A patch is held that reads and grows within the limits, and in its run, whatever its edits lawfully come to by what is held, the script is commands
+-- up to its end, or up to an `end`.
 pub record IsPlayable (rows : List FileRow) (name : List ℕ) (rate : Rate) (script : List ℕ) : Type 0 where
   pub document : Page
   pub names : Names
@@ -39,6 +39,7 @@ pub record IsPlayable (rows : List FileRow) (name : List ℕ) (rate : Rate) (scr
   pub within : GrowsWithin rows name rate document names
   pub commands : (p : Patch) (table : Names) (base : Base) (edits : List Choice) → Grows (Some rows) name rate document names p table base
       → AreLawful (played_by free_ways name p table base edits (samples rate) Whole (script_of 0 0 script)).passage.edits
+      → GoByFolder (Some rows) (played_by free_ways name p table base edits (samples rate) Whole (script_of 0 0 script)).passage.edits
       → (played_by free_ways name p table base edits (samples rate) Whole (script_of 0 0 script)).status ≡ Done
 
 -- no count of faults rose in the call

@@ -9,7 +9,7 @@ use Rattle.pd_feed.specs.Feed.{IsAtEnd}
 use Rattle.pd_patch.specs.declared.patch.Patch.{Patch}
 use Rattle.pd_made.specs.Documents.{made_document}
 use Rattle.pd_made.specs.Scripts.{made_script}
-use Rattle.pd_again_law.specs.Runs.{Base, Stage, Taken, choices_of, AreLawful, Sinks, Reads, Grows, free_ways}
+use Rattle.pd_again_law.specs.Runs.{Base, Stage, Taken, choices_of, AreLawful, GoByFolder, Sinks, Reads, Grows, free_ways}
 use Rattle.pd_again_law.specs.Again.{AreAgain}
 use Rattle.pd_words.specs.Grammar.{Asked}
 use Rattle.pd_play.specs.Runs.{Ending, Broken}
@@ -23,8 +23,9 @@ use Rattle.pd_faithful.specs.Scripts.{played_by}
 
 -- A document with its names grows into a patch. All lines, samples and files that are put, from where the patch opens through the last line, are
 -- those of the run of the script in which each box does with each message what its object's definition says, and in which the edits come to what
--- the log tells, each lawfully. Each save of it puts a text that opens again as the patch that was saved. It is done only where nothing is left of
--- the script, where that is told, or where an `end` is met.
+-- the log tells, each lawfully, and by what the folder holds when it comes: what it held at the beginning, with the files that were saved until then.
+-- Each save of it puts a text that opens again as the patch that was saved. It is done only where nothing is left of the script, where that is told, or
+-- where an `end` is met.
 pub record PlaysGrown (document : Page) (names : Names) (name : List ℕ) (closing : Stage → List ℕ) (rate : Rate) (status : Status) (left left' : Option (List ℕ)) (read read' : ℕ) (old new : Sinks) : Type 0 where
   pub patch : Patch
   pub table : Names
@@ -35,6 +36,7 @@ pub record PlaysGrown (document : Page) (names : Names) (name : List ℕ) (closi
   pub is_script : IsScript ending bytes left left' read read'
   pub edits : List Taken
   pub lawful : AreLawful edits
+  pub by_folder : GoByFolder old.held edits
   pub again : AreAgain grows.files.files name rate edits
   pub tells : Tells name closing (played_by free_ways name patch table base (choices_of edits) (samples rate) ending (script_of 0 0 bytes)) edits status old new
   pub over : status ≡ Done → IsAtEnd left' ⊎ ((played_by free_ways name patch table base (choices_of edits) (samples rate) Broken (script_of 0 0 bytes)).status ≡ Done)

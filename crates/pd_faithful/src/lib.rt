@@ -11,15 +11,17 @@
 //! without a canvas inside another such one, without the wires that don't fit that, give a subpatch another text with
 //! which it keeps what it holds, or move a box, a port of the box around too, and saves of the patch's own document are
 //! made, but that no port of a box around becomes another box: what each came to stands in the run, and it is lawful
-//! (pd_stage's `Lawful`). The load boxes that lie in what came fire behind the edit that put it, in the same event.
-//! Each save puts a text that opens again as the patch that was saved, under the `$0` numbers that it had and with the
-//! files that were known by then; and as a file that is opened does, where these numbers are the first ones from 1001
-//! on, as they are until a box that goes takes one of them away or one that comes brings one (pd_again_law's `Again`).
-//! All of the list was taken, and the status is the run's; or a sink failed, the status is `WriteFault`, and what was
-//! taken and put is one first part of it. The folder then holds what it held with the files of that list, one after the
-//! other, where it still tells what it holds, and of the saves and edits no more were refused for a fault of it than it
-//! counted. With `Done` nothing is left of the script, where the source tells that, or the run met an `end`. Where the
-//! patch doesn't open, its cause is told, no script is read, no sample is written, and the folder holds what it held.
+//! (pd_stage's `Lawful`), by what the folder holds when it comes: what it held at the beginning, where it tells that,
+//! with the files that were saved until then, and behind a save that it failed to take no more is said of it. The load
+//! boxes that lie in what came fire behind the edit that put it, in the same event. Each save puts a text that opens
+//! again as the patch that was saved, under the `$0` numbers that it had and with the files that were known by then;
+//! and as a file that is opened does, where these numbers are the first ones from 1001 on, as they are until a box that
+//! goes takes one of them away or one that comes brings one (pd_again_law's `Again`). All of the list was taken, and
+//! the status is the run's; or a sink failed, the status is `WriteFault`, and what was taken and put is one first part
+//! of it. The folder then holds what it held with the files of that list, one after the other, where it still tells
+//! what it holds, and of the saves and edits no more were refused for a fault of it than it counted. With `Done`
+//! nothing is left of the script, where the source tells that, or the run met an `end`. Where the patch doesn't open,
+//! its cause is told, no script is read, no sample is written, and the folder holds what it held.
 //!
 //! Where they ask for a made patch, the document and the script are those of pd_made, and all else is the same; nothing
 //! of the script's source is read (`unread`), and the last line of a run that is done tells what it came to.
@@ -55,4 +57,5 @@ mod player;
 pub use laws::{
     play_passes_nothing_over, scripts_are_by_events, scripts_are_steps, scripts_pass_nothing_over,
 };
+pub use pd_play::Status;
 pub use player::play;
