@@ -12,9 +12,8 @@
 mod samples;
 
 use crate::samples::{HandsOn, Samples};
-use pd_faithful::play;
+use pd_faithful::{Status, play};
 use pd_io::{FolderShelf, StdSink, StdSource};
-use pd_play::Status;
 use std::env::Env;
 use std::io::ErrorKind;
 use std::process::ExitCode;
