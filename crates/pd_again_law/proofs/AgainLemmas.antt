@@ -59,11 +59,9 @@ use Rattle.pd_inside_law.proofs.SameLemmas.{same_everywhere}
 use Rattle.pd_inside_law.proofs.WayLemmas.{same_paths}
 use Rattle.pd_limits_law.proofs.CountLemmas.{few_fit}
 use Rattle.pd_limits_law.proofs.SoundLemmas.{same_sound, memory_alone}
-use Rattle.pd_guards.specs.Order.{IsKind}
-use Rattle.pd_guards.specs.Worlds.{AreKept}
-use Rattle.pd_guards.proofs.FactLemmas.{some-weaker}
+use Rattle.pd_steady.specs.PassedOn.{IsKind, AreKept, kinds_of, Base, Wanted, Edits, Asks, Saves, Undoes, Redoes, Choice, Refuses, Lacks, Makes, StandsAt, Stage, Taken, Passage, Grows, first_stage, growth_of}
+use Rattle.pd_steady.proofs.PassedOn.{some-weaker}
 use Rattle.pd_channels_law.specs.Channels.{HasFewChannels}
-use Rattle.pd_sized.specs.Kinds.{kinds_of}
 use Rattle.pd_contents_law.specs.Contents.{IsGlueSettled, IsKindSettled, AreKindsSettled}
 use Rattle.pd_contents_law.proofs.SettledLemmas.{onward, settled_more}
 use Rattle.pd_contents_law.proofs.MadeLemmas.{grown_contents}
@@ -73,10 +71,6 @@ use Rattle.pd_proper_law.proofs.DocumentCounts.{all_keys, document_count, dist_k
 use Rattle.pd_proper_law.proofs.LawLemmas.{tree_proper}
 use Rattle.pd_proper_law.proofs.OwnLemmas.{written_settled}
 use Rattle.pd_proper_law.proofs.SavableLemmas.{contents_save}
-use Rattle.pd_stage.specs.Choices.{Base, Wanted, Edits, Asks, Saves, Undoes, Redoes, Choice, Refuses, Lacks, Makes}
-use Rattle.pd_stage.specs.Lawful.{StandsAt}
-use Rattle.pd_stage.specs.Stages.{Stage, Taken, Passage}
-use Rattle.pd_engine.specs.Opening.{Grows, first_stage, growth_of}
 use Rattle.pd_steady.specs.Steady.{IsSteady}
 use Rattle.pd_again_law.specs.Again.{IsSamePatch, grown_alike, GrowsAgain, LeavesNumbers, AllLeaveNumbers, Reopens, SavedOpensAgain, AreAgainBehind, AreAgain}
 use Rattle.pd_again_law.proofs.NumberLemmas.{HasFirstNumbers, as_opened}

@@ -21,12 +21,8 @@ use Rattle.pd_putting_law.proofs.WithinLemmas.{path_within}
 use Rattle.pd_taking_law.specs.Takes.{boxes_less, less_box, taken_at}
 use Rattle.pd_patch.specs.declared.patch.Patch.{Patch}
 use Rattle.pd_adding.specs.declared.counts.Counts.{Counts}
-use Rattle.pd_deleting.specs.declared.deleting.OldBox.{OldBox}
-use Rattle.pd_deleting.specs.Deletes.{going, DeletesBox, TakesPort}
-use Rattle.pd_deleting.proofs.DeleteLemmas.{found_there, leads_there}
-use Rattle.pd_stage.specs.Choices.{Made}
-use Rattle.pd_stage.specs.Lawful.{IsTakenOut}
-use Rattle.pd_stage.specs.Stages.{Stage}
+use Rattle.pd_steady.specs.PassedOn.{OldBox, going, DeletesBox, TakesPort, Made, IsTakenOut, Stage}
+use Rattle.pd_steady.proofs.PassedOn.{found_there, leads_there}
 use Rattle.pd_reload_law.specs.Reloading.{RunsAs}
 
 -- a box without a canvas goes from its place

@@ -23,21 +23,13 @@ use Rattle.pd_regrowth_law.proofs.AgainLemmas.{library_more}
 use Rattle.pd_putting_law.specs.Again.{StandsAgain}
 use Rattle.pd_putting_law.proofs.AgainLemmas.{stands_on}
 use Rattle.pd_put_law.proofs.OwnerLemmas.{own_more}
-use Rattle.pd_sized.specs.Kinds.{kinds_of}
+use Rattle.pd_steady.specs.PassedOn.{kinds_of, Base, Wanted, Asks, Choice, first_choice, later, loads_of_choice, Stage, Taken, Passage, with_names, with_ahead, still, followed_by, Beginning, Message, Firing, Loading, Left, whole, left_after, going_on, deliveries, after_deliveries, delivered, with_kept, edit_taken, loaded_by, edit_loaded_by, asked_by, edits_taken_by, edits_of_by, event, edit_event, block_units, most_fired, first_clock, next_clock, taken_off, with_taken, with_fired, fires, fires_or_not, fires_below, clocks_fire, block_net, sound_at, block_sounds, block_runs, blocks_run, time_is, comes_to, advanced, finished, message_in, commanded, first_stage, opened, IsInOrder}
 use Rattle.pd_contents_law.specs.Contents.{counts_of}
 use Rattle.pd_contents_law.proofs.SettledLemmas.{onward}
 use Rattle.pd_contents_law.proofs.RunLemmas.{all_more, outcome_kept}
 use Rattle.pd_contents_law.proofs.BlockLemmas.{block_kept}
 use Rattle.pd_proper_law.specs.Saves.{IsWritten}
-use Rattle.pd_stage.specs.Choices.{Base, Wanted, Asks, Choice, first_choice, later, loads_of_choice}
-use Rattle.pd_stage.specs.Stages.{Stage, Taken, Passage, with_names, with_ahead, still, followed_by}
-use Rattle.pd_stage.specs.Events.{Beginning, Message, Firing, Loading, Left, whole, left_after, going_on, deliveries, after_deliveries, delivered, with_kept, edit_taken, loaded_by, edit_loaded_by, asked_by, edits_taken_by, edits_of_by, event, edit_event}
-use Rattle.pd_stage.specs.Times.{block_units, most_fired, first_clock, next_clock, taken_off, with_taken, with_fired, fires, fires_or_not, fires_below, clocks_fire, block_net, sound_at, block_sounds, block_runs, blocks_run, time_is, comes_to, advanced, finished}
-use Rattle.pd_engine.specs.Messages.{message_in}
-use Rattle.pd_engine.specs.Commands.{commanded}
-use Rattle.pd_engine.specs.Opening.{first_stage, opened}
-use Rattle.pd_engine.proofs.WholeLemmas.{both_on}
-use Rattle.pd_guards.specs.Worlds.{IsInOrder}
+use Rattle.pd_steady.proofs.PassedOn.{both_on}
 use Rattle.pd_steady.specs.Runs.{own_ways, finished_by}
 use Rattle.pd_steady.specs.Steady.{IsSteady, IsCommand}
 use Rattle.pd_steady.specs.Steps.{Step, Does, Learns, Comes, AreSteps, step_by, steps_by, run_by}

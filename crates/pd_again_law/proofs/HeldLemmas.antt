@@ -36,7 +36,7 @@ use Rattle.pd_saved_law.proofs.FitLemmas.{edits_fit, room_fits}
 use Rattle.pd_alike_law.proofs.OwnedLemmas.{owners_same}
 use Rattle.pd_inside_law.specs.Inside.{HoldsWires}
 use Rattle.pd_inside_law.proofs.HoldLemmas.{edits_hold, room_holds, alike_hold}
-use Rattle.pd_sized.specs.Kinds.{kinds_of}
+use Rattle.pd_steady.specs.PassedOn.{kinds_of}
 use Rattle.pd_contents_law.specs.Contents.{HasContents, HaveContents, count_of, counts_of}
 use Rattle.pd_proper_law.specs.Saves.{is_written, form_of, IsWritten}
 

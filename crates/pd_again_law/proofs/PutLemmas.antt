@@ -23,8 +23,7 @@ use Rattle.pd_putting_law.specs.Puts.{put_at}
 use Rattle.pd_putting_law.proofs.StandLemmas.{seen_inner}
 use Rattle.pd_adding.specs.declared.counts.Counts.{Counts}
 use Rattle.pd_adding.specs.Growing.{Added}
-use Rattle.pd_putting.specs.declared.adding.NewBox.{NewBox}
-use Rattle.pd_putting.specs.Adds.{AddsBox, HasCome, IsPartBoxPut, IsSub}
+use Rattle.pd_steady.specs.PassedOn.{NewBox, AddsBox, HasCome, IsPartBoxPut, IsSub}
 use Rattle.pd_again_law.proofs.HeldLemmas.{Settled}
 
 pub record PutLaws : Type 0 where

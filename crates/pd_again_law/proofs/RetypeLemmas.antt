@@ -15,8 +15,7 @@ use Rattle.pd_saved_law.specs.Fitting.{WiresFit}
 use Rattle.pd_inside_law.specs.Inside.{HoldsWires}
 use Rattle.pd_putting_law.specs.Again.{StandsAgain}
 use Rattle.pd_adding.specs.declared.counts.Counts.{Counts}
-use Rattle.pd_retyping.specs.declared.retyping.RetypedBox.{RetypedBox}
-use Rattle.pd_retyping.specs.Retypes.{RetypesBox, Becomes, cell_become}
+use Rattle.pd_steady.specs.PassedOn.{RetypedBox, RetypesBox, Becomes, cell_become}
 use Rattle.pd_retyping_law.specs.Retypes.{retyped_at}
 use Rattle.pd_again_law.proofs.HeldLemmas.{Settled}
 

@@ -1,8 +1,5 @@
 -- Lemmas of steady runs, of what they put one after another and of names: passed on to the crates above.
-pub use Rattle.pd_guards.proofs.FactLemmas.{either_by}
-pub use Rattle.pd_guards.proofs.MoreLemmas.{name_more, atoms_more, longer}
-pub use Rattle.pd_stage.proofs.EditLemmas.{Alters}
-pub use Rattle.pd_stage.proofs.LeadLemmas.{joined_assoc, after-joined, choices-append, lawful_both, lawful_first, lawful_second}
+pub use Rattle.pd_steady.proofs.PassedOn.{either_by, name_more, atoms_more, longer, Alters, joined_assoc, after-joined, choices-append, lawful_both, lawful_first, lawful_second}
 pub use Rattle.pd_steady.proofs.EventLemmas.{Guards, IsFree, event_free, loads_extend}
 pub use Rattle.pd_steady.proofs.ExtendLemmas.{outcome_extends}
 pub use Rattle.pd_steady.proofs.FairLemmas.{AreFair, fair_first, fair_second, altered_extends, event_keeps, IsRefusal, lawful_fair}

@@ -13,8 +13,7 @@ use Rattle.pd_reload_law.specs.Reloading.{RunsAs}
 use Rattle.pd_saved_law.specs.Fitting.{WiresFit}
 use Rattle.pd_inside_law.specs.Inside.{HoldsWires}
 use Rattle.pd_putting_law.specs.Again.{StandsAgain}
-use Rattle.pd_shifting.specs.Moves.{ShiftsBox, MovesBox}
-use Rattle.pd_shifting.specs.declared.shifting.MovedBox.{MovedBox}
+use Rattle.pd_steady.specs.PassedOn.{ShiftsBox, MovesBox, MovedBox}
 use Rattle.pd_shifted_law.specs.Shifts.{shifted_at}
 use Rattle.pd_again_law.proofs.HeldLemmas.{Settled}
 

@@ -24,7 +24,7 @@ use Rattle.pd_hearing.specs.Worlds.{Net, net_of, states_of}
 use Rattle.pd_reload_law.specs.Reloading.{RunsAs}
 use Rattle.pd_putting_law.specs.Again.{StandsAgain}
 use Rattle.pd_taking_law.specs.Takes.{taken_at}
-use Rattle.pd_retyping.specs.Retypes.{cell_become}
+use Rattle.pd_steady.specs.PassedOn.{cell_become, kinds_of, blank_of, KeepsOfKind, Base, base_of, Wanted, Edits, Asks, Saves, Undoes, Redoes, Made, Choice, Refuses, Lacks, Makes, StandsAt, known_at, IsMade, IsShort, IsRewiringLawful, IsPutIn, IsUnputForRoom, IsPutLawful, IsTakenOut, IsLeftInForRoom, IsTakingLawful, IsMovedTo, IsLeftAtForRoom, IsMovingLawful, IsRetypedTo, IsUnretypedForRoom, IsRetypingLawful, IsEditLawful, IsSaved, MayCome, Stage, with_ahead, with_net, stage_by}
 use Rattle.pd_retyping_law.specs.Retypes.{retyped_at}
 use Rattle.pd_boxes.specs.Put.{CanPut}
 use Rattle.pd_boxes.specs.Room.{SameButRoom}
@@ -33,14 +33,9 @@ use Rattle.pd_shifted_law.specs.Shifts.{shifted_at}
 use Rattle.pd_put_law.proofs.OwnerLemmas.{room_own}
 use Rattle.pd_put_law.proofs.RoomLemmas as room
 use Rattle.pd_put_law.proofs.WrittenLemmas.{room_contents}
-use Rattle.pd_guards.proofs.MoreLemmas.{longer}
-use Rattle.pd_sized.specs.Kinds.{kinds_of, blank_of, KeepsOfKind}
+use Rattle.pd_steady.proofs.PassedOn.{longer}
 use Rattle.pd_contents_law.proofs.SettledLemmas.{onward}
 use Rattle.pd_proper_law.proofs.SavableLemmas.{kinds_savable}
-use Rattle.pd_stage.specs.Choices.{Base, base_of, Wanted, Edits, Asks, Saves, Undoes, Redoes, Made, Choice, Refuses, Lacks, Makes}
-use Rattle.pd_stage.specs.Lawful.{StandsAt, known_at, IsMade, IsShort, IsRewiringLawful, IsPutIn, IsUnputForRoom, IsPutLawful, IsTakenOut, IsLeftInForRoom, IsTakingLawful, IsMovedTo, IsLeftAtForRoom, IsMovingLawful, IsRetypedTo, IsUnretypedForRoom, IsRetypingLawful, IsEditLawful, IsSaved, MayCome}
-use Rattle.pd_stage.specs.Stages.{Stage, with_ahead}
-use Rattle.pd_stage.specs.Events.{with_net, stage_by}
 use Rattle.pd_steady.specs.Steady.{IsSteady}
 use Rattle.pd_steady.proofs.FairLemmas.{IsRefusal, IsFair}
 use Rattle.pd_again_law.specs.Again.{TakesNoNumber, BringsNoNumber, KeepsNumbers, LeavesNumbers}

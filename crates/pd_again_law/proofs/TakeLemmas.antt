@@ -15,8 +15,7 @@ use Rattle.pd_inside_law.specs.Inside.{HoldsWires}
 use Rattle.pd_putting_law.specs.Again.{StandsAgain}
 use Rattle.pd_taking_law.specs.Takes.{taken_at}
 use Rattle.pd_adding.specs.declared.counts.Counts.{Counts}
-use Rattle.pd_deleting.specs.declared.deleting.OldBox.{OldBox}
-use Rattle.pd_deleting.specs.Deletes.{DeletesBox}
+use Rattle.pd_steady.specs.PassedOn.{OldBox, DeletesBox}
 use Rattle.pd_again_law.proofs.HeldLemmas.{Settled}
 
 pub record TakeLaws : Type 0 where

@@ -28,10 +28,7 @@ use Rattle.pd_reload_law.specs.Saving.{tree_now}
 use Rattle.pd_alike_law.specs.Alike.{HaveSameOwners}
 use Rattle.pd_inside_law.specs.Inside.{IsSameCanvas}
 use Rattle.pd_taking_law.specs.Takes.{taken_at}
-use Rattle.pd_stage.specs.Choices.{Wanted, Edits, Asks, Saves, Choice, Makes}
-use Rattle.pd_stage.specs.Stages.{Stage, Taken}
-use Rattle.pd_stage.specs.Lawful.{IsPutIn, IsTakenOut, IsSaved}
-use Rattle.pd_engine.specs.Opening.{growth_of}
+use Rattle.pd_steady.specs.PassedOn.{Wanted, Edits, Asks, Saves, Choice, Makes, Stage, Taken, IsPutIn, IsTakenOut, IsSaved, growth_of}
 
 -- The second patch stands as the first one does: as this tree, with no name more, and each name has the same owners, by their places in text order.
 -- A path leads to a canvas in both or in neither, in abstractions too, and the second has there the same ports; the same wires, at each outlet and

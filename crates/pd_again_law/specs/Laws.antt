@@ -9,14 +9,8 @@ use Rattle.pd_canvas.specs.Pages.{Page}
 use Rattle.pd_clock.specs.declared.times.Rate.{Rate}
 use Rattle.pd_grove.specs.Telling.{inner_in}
 use Rattle.pd_patch.specs.declared.patch.Patch.{Patch}
-use Rattle.pd_putting.specs.Adds.{IsSub}
-use Rattle.pd_deleting.specs.Deletes.{TakesPort}
+use Rattle.pd_steady.specs.PassedOn.{IsSub, TakesPort, Base, Made, Choice, Makes, StandsAt, IsPutIn, IsTakenOut, AreLawful, Stage, followed_by, block_units, Grows, opened}
 use Rattle.pd_reload_law.specs.Wires.{StandOnce}
-use Rattle.pd_stage.specs.Choices.{Base, Made, Choice, Makes}
-use Rattle.pd_stage.specs.Lawful.{StandsAt, IsPutIn, IsTakenOut, AreLawful}
-use Rattle.pd_stage.specs.Stages.{Stage, followed_by}
-use Rattle.pd_stage.specs.Times.{block_units}
-use Rattle.pd_engine.specs.Opening.{Grows, opened}
 use Rattle.pd_steady.specs.Runs.{own_ways}
 use Rattle.pd_steady.specs.Steps.{Step, AreSteps, steps_by, run_by}
 use Rattle.pd_again_law.specs.Again.{BringsNoNumber, KeepsNumbers, Reopens, AreAgain}

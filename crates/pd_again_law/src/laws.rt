@@ -8,12 +8,12 @@ ghost use Rattle.pd_again_law.specs.Laws.{SavesOpenAgain, StagesOpenAgain, BareB
 pub fn saves_open_again()
     ensures { SavesOpenAgain }
 {
-    pd_guards::delivery_passes_nothing_over();
-    pd_guards::messages_keep_values();
-    pd_guards::order_lasts();
-    pd_sized::messages_keep_sizes();
-    pd_guards::blocks_stay_in_order();
-    pd_guards::commands_begin_in_order();
+    pd_steady::delivery_passes_nothing_over();
+    pd_steady::messages_keep_values();
+    pd_steady::order_lasts();
+    pd_steady::messages_keep_sizes();
+    pd_steady::blocks_stay_in_order();
+    pd_steady::commands_begin_in_order();
     pd_steady::opening_is_steady();
     pd_put_law::boxes_come_into_trees();
     pd_put_law::counts_follow_boxes();
@@ -37,12 +37,12 @@ pub fn saves_open_again()
 pub fn stages_open_again()
     ensures { StagesOpenAgain }
 {
-    pd_guards::delivery_passes_nothing_over();
-    pd_guards::messages_keep_values();
-    pd_guards::order_lasts();
-    pd_sized::messages_keep_sizes();
-    pd_guards::blocks_stay_in_order();
-    pd_guards::commands_begin_in_order();
+    pd_steady::delivery_passes_nothing_over();
+    pd_steady::messages_keep_values();
+    pd_steady::order_lasts();
+    pd_steady::messages_keep_sizes();
+    pd_steady::blocks_stay_in_order();
+    pd_steady::commands_begin_in_order();
     pd_steady::opening_is_steady();
     pd_put_law::boxes_come_into_trees();
     pd_put_law::counts_follow_boxes();

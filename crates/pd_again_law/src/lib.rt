@@ -24,10 +24,6 @@ pub use laws::{
     bare_boxes_bring_no_number, bare_boxes_leave_numbers, saves_open_again, stages_open_again,
 };
 // The laws of runs, of edits and of documents on which these stand.
-pub use pd_guards::{
-    blocks_stay_in_order, commands_begin_in_order, delivery_passes_nothing_over,
-    messages_keep_values, order_lasts,
-};
 pub use pd_put_law::{boxes_can_be_saved, boxes_come_into_trees, counts_follow_boxes};
 pub use pd_reload_law::documents_tell_trees;
 pub use pd_retype_law::{
@@ -35,6 +31,8 @@ pub use pd_retype_law::{
 };
 pub use pd_shift_law::{moved_documents_can_be_saved, moved_trees_grow_again, wires_follow_moves};
 pub use pd_shifted_law::{names_follow_moves, trees_follow_moves};
-pub use pd_sized::messages_keep_sizes;
-pub use pd_steady::opening_is_steady;
+pub use pd_steady::{
+    blocks_stay_in_order, commands_begin_in_order, delivery_passes_nothing_over,
+    messages_keep_sizes, messages_keep_values, opening_is_steady, order_lasts,
+};
 pub use pd_take_law::{boxes_go_from_trees, counts_follow_deletes, shorter_documents_can_be_saved};

@@ -1,3 +1,4 @@
+pub mod PassedOn
 pub mod AddedLemmas
 pub mod ServeLemmas
 pub mod NearLemmas

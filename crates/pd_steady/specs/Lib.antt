@@ -1,3 +1,4 @@
+pub mod PassedOn
 pub mod Runs
 pub mod Freely
 pub mod Steady

@@ -31,7 +31,8 @@
 //! (`owners_go_on`).
 //!
 //! Definitions: `Steady`, `Runs` and `Steps` (a run where it is given what events, edits and blocks come to), `Freely`
-//! (events, edits and blocks where nothing is passed over), `Told`, `Serving`.
+//! (events, edits and blocks where nothing is passed over), `Told`, `Serving`; `PassedOn` (definitions of edits, stages and
+//! openings that are passed on to the crates above).
 #![tactic(auto)]
 
 mod laws;
@@ -40,3 +41,9 @@ pub use laws::{
     commands_stay_steady, lines_tell_all_boxes, loops_tell_all_boxes, names_stay_steady,
     opening_is_steady, owners_go_on, runs_are_by_events, runs_pass_nothing_over, time_stays_steady,
 };
+// The laws of messages and of blocks on which these stand.
+pub use pd_guards::{
+    blocks_stay_in_order, commands_begin_in_order, delivery_passes_nothing_over,
+    messages_keep_values, order_lasts,
+};
+pub use pd_sized::messages_keep_sizes;

@@ -1,5 +1,5 @@
 use Rattle.std.proofs.Common.{◌+◌}
-use Rattle.pd_stage.specs.Times.{block_units}
+use Rattle.pd_steady.specs.PassedOn.{block_units}
 use Rattle.pd_steady.specs.Runs.{own_ways}
 use Rattle.pd_steady.specs.Steps.{run_by}
 use Rattle.pd_steady.proofs.EventLemmas.{Guards}

@@ -1,5 +1,4 @@
-use Rattle.pd_stage.specs.Stages.{followed_by}
-use Rattle.pd_engine.specs.Opening.{opened}
+use Rattle.pd_steady.specs.PassedOn.{followed_by, opened}
 use Rattle.pd_steady.specs.Runs.{own_ways}
 use Rattle.pd_steady.specs.Steps.{steps_by}
 use Rattle.pd_steady.proofs.EventLemmas.{Guards}
