@@ -10,6 +10,7 @@ use Rattle.pd_library.specs.declared.answers.Answer.{Answer}
 use Rattle.pd_tree.specs.Trees.{Cell, Stand, Done, Leaf, Tree, document_boxes}
 use Rattle.pd_growth.specs.Steps.{Stock, gives}
 use Rattle.pd_growth.specs.Growth.{around_root, box_grown, without_ending}
+use Rattle.pd_grove.specs.declared.grove.Grove.{Grove}
 use Rattle.pd_grove.specs.declared.nodes.Node.{Node}
 use Rattle.pd_grove.specs.Room.{IsSameButRoom}
 use Rattle.pd_grove.specs.TextOrder.{is_sub}
@@ -56,22 +57,22 @@ module _ (old new : Patch) (n : Counts) (name path : List ℕ) (number : ℕ) (t
   abbrev cell : Cell
   cell = Y.can.cell
 
-  -- the patch from which the wires went that don't fit
+  -- the patch from which the wires went that don't fit, and those that turn
   abbrev pub mid : Patch
-  mid = Y.loose
+  mid = Y.free
 
   abbrev grown_from : Entry
   grown_from = drawn old new n name path number text now k after steps steps' b X
 
   -- its boxes are those that there were
   pub same_boxes : IsSameButRoom old.grove mid.grove
-  same_boxes = subst (IsSameButRoom old.grove) (sym Y.loosens.rest.grove) Y.room.grove
+  same_boxes = subst (IsSameButRoom old.grove) (sym (Y.frees.rest.grove ∙ Y.loosens.rest.grove)) Y.room.grove
 
   pub cell_is : cell_in is_now ≡ cell
   cell_is = ap (λ (x : Stand). x.cell) Y.is_row
 
-  pub box : RetypesBoxAt mid.grove new.grove path b.canvas b.key number X.node is_now
-  box =
+  pub fitted_box : RetypesBoxAt mid.grove Y.fitted.grove path b.canvas b.key number X.node is_now
+  fitted_box =
       let S = same_boxes in
       let G = Y.refit.grove in
       record {
@@ -87,6 +88,13 @@ module _ (old new : Patch) (n : Counts) (name path : List ℕ) (number : ℕ) (t
         boards = G.boards;
         root = G.root;
       }
+
+  pub fitted_there : ChangesBoxAt mid.grove Y.fitted.grove path b.canvas b.key number X.node is_now
+  fitted_there = retypes_so mid.grove Y.fitted.grove path b.canvas b.key number X.node is_now fitted_box
+
+  -- and so it is where the wires that turn came back
+  pub box : RetypesBoxAt mid.grove new.grove path b.canvas b.key number X.node is_now
+  box = subst (λ (g : Grove). RetypesBoxAt mid.grove g path b.canvas b.key number X.node is_now) (sym Y.back.tightens.rest.grove) fitted_box
 
   pub there : ChangesBoxAt mid.grove new.grove path b.canvas b.key number X.node is_now
   there = retypes_so mid.grove new.grove path b.canvas b.key number X.node is_now box

@@ -1,5 +1,5 @@
 -- An edit that gave a box another text: the box became another one, or it is a subpatch that took the text.
-use Rattle.std.proofs.Common.{◌≡◌, ◌+◌, ℕ, zero, suc, List, [], ◌∷◌, Some, inl, inr, refl, sym, ap, ◌∙◌, arith}
+use Rattle.std.proofs.Common.{◌≡◌, ◌+◌, ℕ, zero, suc, List, [], ◌∷◌, filter, Some, inl, inr, refl, sym, ap, ◌∙◌, arith}
 use Rattle.pd_atom.specs.declared.Atom.{Atom}
 use Rattle.pd_atom.specs.Names.{Names, Extends, IsTable}
 use Rattle.pd_kind.specs.States.{start_of}
@@ -13,7 +13,10 @@ use Rattle.pd_canvas.specs.Proper.{IsProper}
 use Rattle.pd_library.specs.Files.{answer_in}
 use Rattle.pd_tree.specs.Trees.{Done, Leaf, Holder, Tree, weight, zeros_of, document_in}
 use Rattle.pd_hearing.specs.Worlds.{states_of}
+use Rattle.pd_web.specs.declared.web.Hop.{Hop}
+use Rattle.pd_web.specs.declared.web.Web.{Web}
 use Rattle.pd_web.specs.Changes.{wires_told}
+use Rattle.pd_web.specs.Hops.{fan_hops, places_of}
 use Rattle.pd_patch.specs.declared.patch.Patch.{Patch}
 use Rattle.pd_patch.specs.Document.{present_document}
 use Rattle.pd_patch.specs.Sounds.{sound_of}
@@ -28,12 +31,12 @@ use Rattle.pd_putting_law.specs.Again.{StandsAgain}
 use Rattle.pd_putting_law.specs.Putting.{KeepsText, entry_kept}
 use Rattle.pd_adding.specs.declared.counts.Counts.{Counts}
 use Rattle.pd_misfits.specs.declared.wires.BoxWire.{BoxWire}
-use Rattle.pd_misfits.specs.Shedding.{numbered, without_wires}
+use Rattle.pd_misfits.specs.Shedding.{is_left, numbered, without_wires}
 use Rattle.pd_retyping.specs.declared.retyping.RetypedBox.{RetypedBox}
 use Rattle.pd_retyping.specs.Asking.{settled_text}
 use Rattle.pd_retyping.specs.Retypes.{Becomes, RetypesBox, cell_become}
 use Rattle.pd_retyping_law.specs.Retypes.{retyped_at}
-use Rattle.pd_retype_law.specs.Losing.{less_wires, lost_by}
+use Rattle.pd_retype_law.specs.Losing.{back_by, less_wires, lost_by}
 use Rattle.pd_retype_law.proofs.BecomeLemmas.{box_again, box_runs}
 use Rattle.pd_retype_law.proofs.CountLemmas.{as_many_boxes, as_much_sound, box_traded, box_zeros, same_next}
 use Rattle.pd_retype_law.proofs.InsideLemmas.{box_fits, box_holds, box_owners, box_wires}
@@ -163,15 +166,29 @@ module _ (old new : Patch) (n : Counts) (name path : List ℕ) (number : ℕ) (t
       by (inl Y) = box_fits old new n name path number text now k after steps steps' b X Y F
       by (inr T) = sub_fits old new n name path number text now k after steps steps' b X T F
 
-  pub both_wires : wires_told new.web + lost_by X.became ≡ wires_told old.web
+  pub both_wires : wires_told new.web + lost_by X.became ≡ wires_told old.web + back_by X.became
   both_wires = by X.became
     where
-      none : (a c : ℕ) → a ≡ c → a + 0 ≡ c
+      none : (a c : ℕ) → a ≡ c → a + 0 ≡ c + 0
       none a c h = omega (arith, h)
 
-      by : (z : Both) → wires_told new.web + lost_by z ≡ wires_told old.web
+      by : (z : Both) → wires_told new.web + lost_by z ≡ wires_told old.web + back_by z
       by (inl Y) = box_wires old new n name path number text now k after steps steps' b X Y
       by (inr T) = none (wires_told new.web) (wires_told old.web) (sub_wires old new n name path number text now k after steps steps' b X T)
+
+  all_left : (hops : List Hop) → filter (is_left []) hops ≡ hops
+  all_left [] = refl
+  all_left (h ∷ hops) = ap (λ (l : List Hop). h ∷ l) (all_left hops)
+
+  -- each outlet has the wires that it had, less those that went
+  pub both_places : (j outlet : ℕ) → places_of (fan_hops new.web j outlet) ≡ places_of (filter (is_left b.gone.items) (fan_hops old.web j outlet))
+  both_places j outlet = by X.became
+    where
+      by : Both → places_of (fan_hops new.web j outlet) ≡ places_of (filter (is_left b.gone.items) (fan_hops old.web j outlet))
+      by (inl Y) = Y.back.restores.places j outlet ∙ ap places_of (Y.sheds.fans j outlet)
+      by (inr T) =
+          ap (λ (w : Web). places_of (fan_hops w j outlet)) T.renamed.rest.web
+          ∙ ap places_of (T.room.web.fans j outlet ∙ sym (all_left (fan_hops old.web j outlet)) ∙ ap (λ (ms : List BoxWire). filter (is_left ms) (fan_hops old.web j outlet)) (sym T.none_gone))
 
   pub both_owners : (t : Tree) → RunsAs old.grove t → StandsAgain (answer_in k.files) name k.names t → HasOwners old k.names name → HasOwners new after.names name
   both_owners t R A h = by X.became

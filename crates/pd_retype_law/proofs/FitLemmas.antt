@@ -1,4 +1,4 @@
--- Where a box has other ports, and its wires can stay, each canvas saves the wires that it saved, and they fit.
+-- Where a box has other ports, and its wires stay or come back, what each canvas saves of them fits.
 use Rattle.std.proofs.Common.{◌≡◌, ◌≢◌, ◌≤◌, ◌+◌, ◌==◌, ℕ, zero, suc, Bool, true, false, cond, not, List, [], ◌∷◌, ◌++◌, length, map, slice_get, slice_index_or, Option, Some, None, refl, sym, ap, ◌∙◌, subst, arith, is_some}
 use Rattle.std.specs.Prelude.{option_map}
 use Rattle.std.specs.List.{AllByRecursion, flat_map, range_with_len}
@@ -16,7 +16,7 @@ use Rattle.pd_web.specs.declared.lines.Line.{Line}
 use Rattle.pd_web.specs.declared.web.Hop.{Hop}
 use Rattle.pd_web.specs.declared.web.Web.{Web}
 use Rattle.pd_web.specs.Canvases.{keys_at}
-use Rattle.pd_web.specs.Changes.{hop_at, line_told, wires_told, IsListed, Meet}
+use Rattle.pd_web.specs.Changes.{hop_at, line_told, wires_told, IsListed, KeepsPorts, Meet}
 use Rattle.pd_web.specs.Hops.{boxes_told, fan_hops, feed_hops, jack_told, ports_told}
 use Rattle.pd_web.specs.Jacks.{kind_jacks}
 use Rattle.pd_web.specs.Lines.{laid_at, signals_of}
@@ -26,7 +26,13 @@ use Rattle.pd_ports.specs.Boxes.{HasPorts}
 use Rattle.pd_present.specs.Presents.{wire_along, outlet_wires, box_wires, wires_among}
 use Rattle.pd_patch.specs.declared.patch.Patch.{Patch}
 use Rattle.pd_wiring.specs.Changes.{CanRewire}
+use Rattle.pd_taking.specs.Loosening.{line_at}
 use Rattle.pd_refitting.specs.Refits.{jack_with, made_with, StaysWire, TakesWires}
+use Rattle.pd_misfits.specs.declared.wires.BoxWire.{BoxWire}
+use Rattle.pd_misfits.specs.Misfits.{fits_between as fits_with, is_fit}
+use Rattle.pd_misfits.specs.Shedding.{is_among, is_left, Sheds}
+use Rattle.pd_misfits.proofs.ListLemmas.{in_listed, listed_in, IsIn}
+use Rattle.pd_misfits.proofs.ShedLemmas.{in_filter}
 use Rattle.pd_reload_law.proofs.FanLemmas.{fan_past, number_is}
 use Rattle.pd_reload_law.proofs.SortedLemmas.{all_append}
 use Rattle.pd_saved_law.specs.Fitting.{WiresFit}
@@ -34,36 +40,9 @@ use Rattle.pd_saved_law.proofs.EditLemmas.{stays_among}
 
 -- ---- the wires that are saved
 
--- two ranges, and behind each of them nothing
-same_range : {X : Type 0} (f : ℕ → List X) (s m n : ℕ) → ((i : ℕ) → s + m ≤ i → f i ≡ []) → ((i : ℕ) → s + n ≤ i → f i ≡ [])
-    → flat_map f (range_with_len s m) ≡ flat_map f (range_with_len s n)
-same_range f s zero zero past behind = refl
-same_range {X} f s zero (suc n) past behind =
-    same_range f (s + 1) zero n (λ i l. past i (omega (arith, l))) (λ i l. behind i (omega (arith, l)))
-    ∙ ap (λ (l : List X). l ++ flat_map f (range_with_len (s + 1) n)) (sym (past s (omega arith)))
-same_range {X} f s (suc m) zero past behind =
-    ap (λ (l : List X). l ++ flat_map f (range_with_len (s + 1) m)) (behind s (omega arith))
-    ∙ same_range f (s + 1) m zero (λ i l. past i (omega (arith, l))) (λ i l. behind i (omega (arith, l)))
-same_range {X} f s (suc m) (suc n) past behind =
-    ap (λ (l : List X). f s ++ l) (same_range f (s + 1) m n (λ i l. past i (omega (arith, l))) (λ i l. behind i (omega (arith, l))))
-
 pub flat_same : {X : Type 0} (f g : ℕ → List X) (xs : List ℕ) → ((x : ℕ) → f x ≡ g x) → flat_map f xs ≡ flat_map g xs
 flat_same f g [] h = refl
 flat_same {X} f g (x ∷ xs) h = ap (λ (l : List X). l ++ flat_map f xs) (h x) ∙ ap (λ (l : List X). g x ++ l) (flat_same f g xs h)
-
-module _ (w v : Web) (numbers : List ℕ) (fans : (k o : ℕ) → fan_hops v k o ≡ fan_hops w k o) where
-  -- an outlet that one web lacks has no wires in either
-  box_stays : (k : ℕ) → box_wires v numbers k ≡ box_wires w numbers k
-  box_stays k =
-      let m = length (ports_told v Outlets k) in
-      let n = length (ports_told w Outlets k) in
-      flat_same (outlet_wires v numbers k) (outlet_wires w numbers k) (range_with_len 0 m) (λ o. ap (map (wire_along numbers k o)) (fans k o))
-      ∙ same_range (outlet_wires w numbers k) 0 m n
-      (λ o l. let past : m ≤ o = omega (arith, l) in ap (map (wire_along numbers k o)) (sym (fans k o) ∙ fan_past v k o past))
-      (λ o l. let past : n ≤ o = omega (arith, l) in ap (map (wire_along numbers k o)) (fan_past w k o past))
-
-  pub saved_stay : (keys : List ℕ) → wires_among v numbers keys ≡ wires_among w numbers keys
-  saved_stay keys = flat_same (box_wires v numbers) (box_wires w numbers) keys box_stays
 
 -- ---- what holds of each of them
 
@@ -113,8 +92,14 @@ is_same a b e = grind (arith, nat_tests)
 is_other : (a b : ℕ) → a ≢ b → (a == b) ≡ false
 is_other a b d = grind (arith, nat_tests)
 
--- the box of the key has the ports of this kind
-module _ (w v : Web) (key : ℕ) (kind : Kind) (H : HasPorts w v key (λ side. kind_jacks side kind) (is_made kind)) where
+-- the box of the key has the ports of this kind, and every other box its own
+pub record GetsKind (w v : Web) (key : ℕ) (kind : Kind) : Type 0 where
+  pub ports : (side : Side) → ports_told v side key ≡ kind_jacks side kind
+  pub made : made_at v.sockets.items key ≡ is_made kind
+  pub other_ports : (side : Side) (k : ℕ) → k ≢ key → ports_told v side k ≡ ports_told w side k
+  pub others_made : (k : ℕ) → k ≢ key → made_at v.sockets.items k ≡ made_at w.sockets.items k
+
+module _ (w v : Web) (key : ℕ) (kind : Kind) (H : GetsKind w v key kind) where
   jack_now : (side : Side) (node port : ℕ) → jack_told v side node port ≡ jack_with w key kind side node port
   jack_now side node port = ⊎_elim
       (λ (e : node ≡ key).
@@ -144,51 +129,91 @@ module _ (w v : Web) (key : ℕ) (kind : Kind) (H : HasPorts w v key (λ side. k
       (signal_now Outlets l.source l.outlet S.from S.source)
       ∙ ap (joins (made_with w key kind l.sink) (Some S.from.is_signal)) (signal_now Inlets l.sink l.inlet S.to S.sink) ∙ ap not S.fits
 
+  fits_joined : (l : Line) → is_fit w key kind l ≡ true → joined v l.source l.outlet l.sink l.inlet ≡ true
+  fits_joined l e = by (jack_with w key kind Outlets l.source l.outlet) (jack_with w key kind Inlets l.sink l.inlet) refl refl e
+    where
+      by : (a b : Option Jack) → jack_with w key kind Outlets l.source l.outlet ≡ a → jack_with w key kind Inlets l.sink l.inlet ≡ b → fits_with a b (made_with w key kind l.sink) ≡ true
+          → joined v l.source l.outlet l.sink l.inlet ≡ true
+      by None b s t f = cc
+      by (Some from) None s t f = cc
+      by (Some from) (Some to) s t f =
+          ap (λ (m : Bool). joins m (slice_get (signals_of (ports_told v Outlets l.source)) l.outlet) (slice_get (signals_of (ports_told v Inlets l.sink)) l.inlet)) (made_now l.sink)
+          ∙ ap (λ (o : Option Bool). joins (made_with w key kind l.sink) o (slice_get (signals_of (ports_told v Inlets l.sink)) l.inlet)) (signal_now Outlets l.source l.outlet from s)
+          ∙ ap (joins (made_with w key kind l.sink) (Some from.is_signal)) (signal_now Inlets l.sink l.inlet to t) ∙ f
+
   others_joined : (k o n i : ℕ) → k ≢ key → n ≢ key → joined v k o n i ≡ joined w k o n i
   others_joined k o n i d a =
       ap (λ (m : Bool). joins m (slice_get (signals_of (ports_told v Outlets k)) o) (slice_get (signals_of (ports_told v Inlets n)) i)) (H.others_made n a)
       ∙ ap (λ (js : List Jack). joins (made_at w.sockets.items n) (slice_get (signals_of js) o) (slice_get (signals_of (ports_told v Inlets n)) i)) (H.other_ports Outlets k d)
       ∙ ap (λ (js : List Jack). joins (made_at w.sockets.items n) (slice_get (signals_of (ports_told w Outlets k)) o) (slice_get (signals_of js) i)) (H.other_ports Inlets n a)
 
-  -- a wire that fits still does: at the box as it can stay, and elsewhere as before
-  joined_still : TakesWires w key kind → Meet w → (k o j : ℕ) (h : Hop) → slice_get (fan_hops w k o) j ≡ Some h → joined w k o h.node h.port ≡ true → joined v k o h.node h.port ≡ true
-  joined_still T M k o j h at fit = ⊎_elim
-      (λ (e : k ≡ key).
-      let out : slice_get (fan_hops w key o) j ≡ Some h = subst (λ x. slice_get (fan_hops w x o) j ≡ Some h) e at in
-      subst (λ x. joined v x o h.node h.port ≡ true) (sym e) (stays_joined (record { source = key; outlet = o; sink = h.node; inlet = h.port }) (T Outlets o j h out)))
-      (λ (d : k ≢ key). ⊎_elim
-      (λ (e : h.node ≡ key).
-      let f : IsListed (feed_hops w h.node h.port) (hop_at h.key k o) = M.fed k o j h at in
-      let into : slice_get (feed_hops w key h.port) f.0 ≡ Some (hop_at h.key k o) = subst (λ x. slice_get (feed_hops w x h.port) f.0 ≡ Some (hop_at h.key k o)) e f.1 in
-      subst (λ x. joined v k o x h.port ≡ true) (sym e)
-      (stays_joined (record { source = k; outlet = o; sink = key; inlet = h.port }) (T Inlets h.port f.0 (hop_at h.key k o) into)))
-      (λ (a : h.node ≢ key). others_joined k o h.node h.port d a ∙ fit)
-      (cases_eq h.node key))
-      (cases_eq k key)
+-- the box has the ports of this kind where the wires of a list are out, and where they came back
+module _ (w u v : Web) (key : ℕ) (kind : Kind) (ms : List BoxWire) (H : GetsKind w v key kind) (K : KeepsPorts w u) (S : Sheds w u ms) where
+  gets_too : GetsKind u v key kind
+  gets_too = record {
+    ports = H.ports;
+    made = H.made;
+    other_ports = λ side k d. H.other_ports side k d ∙ sym (K.ports side k);
+    others_made = λ k d. H.others_made k d ∙ sym (K.made k);
+  }
+
+  -- a wire that fits still does: one that is out fits the box then, another one at the box stays as it can, and elsewhere it is as before
+  joined_still : ((k o j : ℕ) (h : Hop) → slice_get (fan_hops w k o) j ≡ Some h → is_among ms h.key ≡ true → is_fit w key kind (line_at Outlets k o h) ≡ true) → TakesWires u key kind → Meet u
+      → (k o j : ℕ) (h : Hop) → slice_get (fan_hops w k o) j ≡ Some h → joined w k o h.node h.port ≡ true → joined v k o h.node h.port ≡ true
+  joined_still out T M k o j h at fit = by (is_among ms h.key) refl
+    where
+      stays : (l : Line) → StaysWire u key kind l → joined v l.source l.outlet l.sink l.inlet ≡ true
+      stays l s = stays_joined u v key kind gets_too l s
+
+      left : (i : ℕ) → slice_get (fan_hops u k o) i ≡ Some h → joined v k o h.node h.port ≡ true
+      left i is = ⊎_elim
+          (λ (e : k ≡ key).
+          let here : slice_get (fan_hops u key o) i ≡ Some h = subst (λ x. slice_get (fan_hops u x o) i ≡ Some h) e is in
+          subst (λ x. joined v x o h.node h.port ≡ true) (sym e) (stays (record { source = key; outlet = o; sink = h.node; inlet = h.port }) (T Outlets o i h here)))
+          (λ (d : k ≢ key). ⊎_elim
+          (λ (e : h.node ≡ key).
+          let f : IsListed (feed_hops u h.node h.port) (hop_at h.key k o) = M.fed k o i h is in
+          let into : slice_get (feed_hops u key h.port) f.0 ≡ Some (hop_at h.key k o) = subst (λ x. slice_get (feed_hops u x h.port) f.0 ≡ Some (hop_at h.key k o)) e f.1 in
+          subst (λ x. joined v k o x h.port ≡ true) (sym e) (stays (record { source = k; outlet = o; sink = key; inlet = h.port }) (T Inlets h.port f.0 (hop_at h.key k o) into)))
+          (λ (a : h.node ≢ key). others_joined w v key kind H k o h.node h.port d a ∙ fit)
+          (cases_eq h.node key))
+          (cases_eq k key)
+
+      by : (b : Bool) → is_among ms h.key ≡ b → joined v k o h.node h.port ≡ true
+      by true e = fits_joined w v key kind H (line_at Outlets k o h) (out k o j h at e)
+      by false e =
+          let stands = in_filter (is_left ms) (fan_hops w k o) h (in_listed h (fan_hops w k o) j at) (ap not e) in
+          let l = listed_in h (fan_hops u k o) (subst (λ (hs : List Hop). IsIn h hs) (sym (S.fans k o)) stands) in
+          left l.0 l.1
 
 -- ---- patches
 
-module _ (p q : Patch) (key : ℕ) (kind : Kind) (H : HasPorts p.web q.web key (λ side. kind_jacks side kind) (is_made kind)) where
+-- each canvas saves the wires that it saved
+module _ (p u q : Patch) (key : ℕ) (kind : Kind) (ms : List BoxWire) (H : GetsKind p.web q.web key kind) (K : KeepsPorts p.web u.web) (S : Sheds p.web u.web ms)
+    (saved : (keys : List ℕ) → wires_among q.web p.numbers.items keys ≡ wires_among p.web p.numbers.items keys) where
   abbrev Fit : Web → List ℕ → List Wire → Type 0
   Fit w keys ws = AllByRecursion (λ x. fits (boxes_told w keys) x ≡ true) ws
 
-  canvas_fits : TakesWires p.web key kind → Meet p.web → CanRewire p → (c : ℕ) → Fit p.web (keys_at p.grove c) (wires_among p.web p.numbers.items (keys_at p.grove c))
-      → Fit q.web (keys_at p.grove c) (wires_among q.web p.numbers.items (keys_at p.grove c))
-  canvas_fits T M r c F =
-      let keys = keys_at p.grove c in
-      let numbers = p.numbers.items in
-      subst (Fit q.web keys) (sym (saved_stay p.web q.web numbers H.fans keys))
-      (saved_on p.web numbers keys (λ x. fits (boxes_told p.web keys) x ≡ true) (λ x. fits (boxes_told q.web keys) x ≡ true) (λ i k o j h at is fit.
-      let other = stays_among p c r k o j h (i, at) is in
-      let from : slice_get keys (wire_along numbers k o h).source ≡ Some k = ap (slice_get keys) (number_is numbers k i (r.numbers c i k at)) ∙ at in
-      let to : slice_get keys (wire_along numbers k o h).sink ≡ Some h.node =
-      ap (slice_get keys) (number_is numbers h.node other.0 (r.numbers c other.0 h.node other.1)) ∙ other.1 in
-      fits_as q.web keys (wire_along numbers k o h) k h.node from to
-      ∙ joined_still p.web q.web key kind H T M k o j h is (sym (fits_as p.web keys (wire_along numbers k o h) k h.node from to) ∙ fit)) F)
+  module _ (out : (k o j : ℕ) (h : Hop) → slice_get (fan_hops p.web k o) j ≡ Some h → is_among ms h.key ≡ true → is_fit p.web key kind (line_at Outlets k o h) ≡ true)
+      (T : TakesWires u.web key kind) (M : Meet u.web) (r : CanRewire p) where
+    canvas_fits : (c : ℕ) → Fit p.web (keys_at p.grove c) (wires_among p.web p.numbers.items (keys_at p.grove c)) → Fit q.web (keys_at p.grove c) (wires_among q.web p.numbers.items (keys_at p.grove c))
+    canvas_fits c F =
+        let keys = keys_at p.grove c in
+        let numbers = p.numbers.items in
+        subst (Fit q.web keys) (sym (saved keys))
+        (saved_on p.web numbers keys (λ x. fits (boxes_told p.web keys) x ≡ true) (λ x. fits (boxes_told q.web keys) x ≡ true) (λ i k o j h at is fit.
+        let other = stays_among p c r k o j h (i, at) is in
+        let from : slice_get keys (wire_along numbers k o h).source ≡ Some k = ap (slice_get keys) (number_is numbers k i (r.numbers c i k at)) ∙ at in
+        let to : slice_get keys (wire_along numbers k o h).sink ≡ Some h.node =
+        ap (slice_get keys) (number_is numbers h.node other.0 (r.numbers c other.0 h.node other.1)) ∙ other.1 in
+        fits_as q.web keys (wire_along numbers k o h) k h.node from to
+        ∙ joined_still p.web u.web q.web key kind ms H K S out T M k o j h is (sym (fits_as p.web keys (wire_along numbers k o h) k h.node from to) ∙ fit)) F)
 
-  pub ports_fit : TakesWires p.web key kind → Meet p.web → CanRewire p → q.grove.boards ≡ p.grove.boards → q.numbers ≡ p.numbers → WiresFit p → WiresFit q
-  ports_fit T M r boards numbers F = record { all = λ c. rw (numbers, boards) (canvas_fits T M r c (F.all c)) }
+    pub back_fit : q.grove.boards ≡ p.grove.boards → q.numbers ≡ p.numbers → WiresFit p → WiresFit q
+    back_fit boards numbers F = record { all = λ c. rw (numbers, boards) (canvas_fits c (F.all c)) }
 
+-- no wire comes or goes
+module _ (p q : Patch) (key : ℕ) (jacks : Side → List Jack) (is_made : Bool) (H : HasPorts p.web q.web key jacks is_made) where
   mapped_some : {X Y : Type 0} (f : X → Y) (o : Option X) → is_some (option_map f o) ≡ is_some o
   mapped_some f None = refl
   mapped_some f (Some x) = refl

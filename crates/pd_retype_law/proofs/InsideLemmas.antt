@@ -8,6 +8,7 @@ use Rattle.slab.specs.Slab.{Slab, get}
 use Rattle.pd_atom.specs.declared.Atom.{Atom}
 use Rattle.pd_atom.specs.Names.{Names}
 use Rattle.pd_canvas.specs.Views.{entry_of}
+use Rattle.pd_object.specs.declared.kinds.Kind.{Kind}
 use Rattle.pd_library.specs.Files.{answer_in}
 use Rattle.pd_tree.specs.Ports.{is_made}
 use Rattle.pd_tree.specs.Trees.{Cell, Trees, Done, Leaf, Holder, Tree}
@@ -23,10 +24,11 @@ use Rattle.pd_grove.specs.TextOrder.{is_sub}
 use Rattle.pd_grove.specs.Telling.{inner_in, keys_in, step_in, reached}
 use Rattle.pd_grove.proofs.SubLemmas.{sub_path_leads}
 use Rattle.pd_web.specs.declared.jacks.Jack.{Jack}
+use Rattle.pd_web.specs.declared.web.Hop.{Hop}
 use Rattle.pd_web.specs.declared.web.Web.{Web}
 use Rattle.pd_web.specs.Canvases.{keys_at}
-use Rattle.pd_web.specs.Changes.{wires_told, Meet}
-use Rattle.pd_web.specs.Hops.{feed_hops}
+use Rattle.pd_web.specs.Changes.{wires_told, KeepsPorts, Meet}
+use Rattle.pd_web.specs.Hops.{fan_hops, feed_hops}
 use Rattle.pd_web.specs.Jacks.{kind_jacks}
 use Rattle.pd_ports.specs.Boxes.{HasPorts}
 use Rattle.pd_seek.specs.Places.{AreInOrder}
@@ -34,14 +36,18 @@ use Rattle.pd_patch.specs.declared.patch.Patch.{Patch}
 use Rattle.pd_gather.specs.Gather.{Known}
 use Rattle.pd_boxes.specs.Put.{CanPut, HasOwners}
 use Rattle.pd_boxes.proofs.RoomLemmas.{keys_same, room_put}
-use Rattle.pd_misfits.specs.Shedding.{is_left, Sheds}
+use Rattle.pd_taking.specs.Loosening.{line_at}
+use Rattle.pd_misfits.specs.declared.wires.BoxWire.{BoxWire}
+use Rattle.pd_misfits.specs.Misfits.{is_fit}
+use Rattle.pd_misfits.specs.Shedding.{is_among, is_left, Sheds}
+use Rattle.pd_turning.proofs.LawLemmas.{canvas_has}
 use Rattle.pd_alike_law.specs.Feeds.{FedOnce}
 use Rattle.pd_inside_law.specs.Inside.{HasWiresOf, HoldsWires}
 use Rattle.pd_reload_law.specs.Reloading.{RunsAs}
 use Rattle.pd_saved_law.specs.Fitting.{WiresFit}
 use Rattle.pd_putting_law.specs.Again.{StandsAgain}
 use Rattle.pd_putting_law.specs.Puts.{change_inside}
-use Rattle.pd_putting_law.proofs.PathLemmas.{paths_once, sub_leads}
+use Rattle.pd_putting_law.proofs.PathLemmas.{Forest, paths_once, sub_leads}
 use Rattle.pd_adding.specs.declared.counts.Counts.{Counts}
 use Rattle.pd_put_law.proofs.OwnerLemmas.{own_more, room_own}
 use Rattle.pd_put_law.proofs.RoomLemmas.{same_canvas, lists_fed, lists_meet, told_same, laid_same, room_subs, room_runs, room_holds, room_fits, room_wires}
@@ -49,10 +55,12 @@ use Rattle.pd_retyping.specs.declared.retyping.RetypedBox.{RetypedBox}
 use Rattle.pd_retyping.specs.Retypes.{HasBecome, RetypesBox}
 use Rattle.pd_retyping_law.specs.Retypes.{boxes_with, retyped_at}
 use Rattle.pd_retyping_law.specs.Retyping.{ChangesBoxAt, cell_in}
-use Rattle.pd_retype_law.proofs.BecomeLemmas.{mid, is_now, cell_is, same_boxes, there}
+use Rattle.pd_retype_law.proofs.BackLemmas.{back_holds}
+use Rattle.pd_retype_law.proofs.BecomeLemmas.{mid, is_now, cell_is, fitted_there, same_boxes}
 use Rattle.pd_retype_law.proofs.GrewLemmas.{goes_on}
-use Rattle.pd_retype_law.proofs.FitLemmas.{ports_fit, ports_wires}
+use Rattle.pd_retype_law.proofs.FitLemmas.{back_fit, ports_wires, GetsKind}
 use Rattle.pd_retype_law.proofs.LooseLemmas.{loose_fits, loose_holds}
+use Rattle.pd_retype_law.proofs.TurnLemmas.{turned_fit}
 
 -- ---- canvases of a tree to which paths lead through abstractions
 
@@ -277,13 +285,20 @@ own_still p q owners grove names file h class name = rw (owners, grove) (h class
 
 module _ (old new : Patch) (n : Counts) (name path : List ℕ) (number : ℕ) (text : List Atom) (now : ℕ) (k after : Known) (steps steps' : ℕ) (b : RetypedBox)
     (X : RetypesBox old new n name path number text now k after steps steps' b) (Y : HasBecome old new now b.key X.node X.added b.gone.items steps steps') where
+  -- the patch from which the wires went that don't fit, and the one from which those went that turn, too
   abbrev loose : Patch
-  loose = mid old new n name path number text now k after steps steps' b X Y
+  loose = Y.loose
+
+  abbrev free : Patch
+  free = mid old new n name path number text now k after steps steps' b X Y
+
+  abbrev fitted : Patch
+  fitted = Y.fitted
 
   abbrev new_node : Node
   new_node = is_now old new n name path number text now k after steps steps' b X Y
 
-  boxes_same : IsSameButRoom old.grove loose.grove
+  boxes_same : IsSameButRoom old.grove free.grove
   boxes_same = same_boxes old new n name path number text now k after steps steps' b X Y
 
   -- the patch in which room was set aside, and from which nothing went yet
@@ -299,33 +314,81 @@ module _ (old new : Patch) (n : Counts) (name path : List ℕ) (number : ℕ) (t
         feeds = λ node inlet. S.feeds node inlet ∙ ap (filter (is_left b.gone.items)) (sym (W.feeds node inlet));
       }
 
-  loose_held : CanPut old → (t : Tree) → HoldsWires old t → HoldsWires loose t
-  loose_held can t H =
+  abbrev forest : Forest free.grove
+  forest = Y.could.can.forest
+
+  free_held : CanPut old → (t : Tree) → HoldsWires old t → HoldsWires free t
+  free_held can t H =
       let g = ready.grove in
       let S = Y.room.grove in
+      let R = room_put old ready Y.room can in
       let held = room_holds old ready Y.room t H in
-      loose_holds ready loose b.key steps Y.between Y.loosens b.gone.items shed (room_put old ready Y.room can) held.meet path b.canvas number
-      (room_subs old.grove g S path ∙ X.chosen.leads) (ap (λ (ks : List ℕ). slice_get ks number) (keys_same old.grove g S b.canvas) ∙ X.chosen.at) t held
+      let leads : sub_reached g (Some g.root) path ≡ Some b.canvas = room_subs old.grove g S path ∙ X.chosen.leads in
+      let here : slice_get (keys_at g b.canvas) number ≡ Some b.key = ap (λ (ks : List ℕ). slice_get ks number) (keys_same old.grove g S b.canvas) ∙ X.chosen.at in
+      let same = Y.loosens.rest.grove in
+      loose_holds loose free b.key Y.between Y.freed Y.frees Y.turned Y.out Y.loosens.rewires (subst Forest Y.frees.rest.grove forest) Y.loosens.web.meet path b.canvas number
+      (ap (λ (x : Grove). sub_reached x (Some x.root) path) same ∙ leads) (ap (λ (x : Grove). slice_get (keys_at x b.canvas) number) same ∙ here) t
+      (loose_holds ready loose b.key steps Y.between Y.loosens b.gone.items shed R.runs R.forest held.meet path b.canvas number leads here t held)
 
   pub box_holds : CanPut old → (t : Tree) → RunsAs old.grove t → HoldsWires old t → HoldsWires new (retyped_at path number Y.can.cell t)
   box_holds can t R H =
+      let B = fitted_there old new n name path number text now k after steps steps' b X Y in
+      let same = Y.back.tightens.rest.grove in
       subst (λ (c : Cell). HoldsWires new (retyped_at path number c t)) (cell_is old new n name path number text now k after steps steps' b X Y)
-      (held_on loose new path b.canvas b.key number X.node new_node (there old new n name path number text now k after steps steps' b X Y) (λ side. kind_jacks side Y.seed.row.kind) (is_made Y.seed.row.kind)
-      Y.refit.ports Y.refit.numbers t (room_runs old.grove loose.grove boxes_same t R) (loose_held can t H))
+      (back_holds b.key fitted (subst Forest same Y.goes_on.forest) path b.canvas number
+      (sym (sub_from_root free.grove fitted.grove path b.canvas b.key number X.node new_node B path) ∙ B.leads)
+      (ap (λ (ks : List ℕ). slice_get ks number) (keys_stay free.grove fitted.grove path b.canvas b.key number X.node new_node B b.canvas) ∙ B.is)
+      Y.back.tightens.back new Y.back.tightens.one_by_one (retyped_at path number (cell_in new_node) t)
+      (held_on free fitted path b.canvas b.key number X.node new_node B (λ side. kind_jacks side Y.seed.row.kind) (is_made Y.seed.row.kind)
+      Y.refit.ports Y.refit.numbers t (room_runs old.grove free.grove boxes_same t R) (free_held can t H)))
+
+  -- the box has the ports of its kind
+  gets : GetsKind loose.web new.web b.key Y.seed.row.kind
+  gets =
+      let P = Y.refit.ports in
+      let L = Y.frees.web.kept in
+      let K = Y.back.kept in
+      record {
+        ports = λ side. K.ports side b.key ∙ P.ports side;
+        made = K.made b.key ∙ P.made;
+        other_ports = λ side k d. K.ports side k ∙ P.other_ports side k d ∙ L.ports side k;
+        others_made = λ k d. K.made k ∙ P.others_made k d ∙ L.made k;
+      }
+
+  kind_is : Y.seed.row.kind ≡ Y.can.cell.kind
+  kind_is = ap (λ (c : Cell). c.kind) (cell_is old new n name path number text now k after steps steps' b X Y)
+
+  ports_kept : KeepsPorts old.web loose.web
+  ports_kept =
+      let a = Y.room.web.kept in
+      let c = Y.loosens.web.kept in
+      record { ports = λ side j. c.ports side j ∙ a.ports side j; made = λ j. c.made j ∙ a.made j; homes = λ j. c.homes j ∙ a.homes j }
+
+  -- a wire that turns fits
+  turned_fits : (j outlet i : ℕ) (h : Hop) → slice_get (fan_hops loose.web j outlet) i ≡ Some h → is_among Y.turned h.key ≡ true
+      → is_fit loose.web b.key Y.seed.row.kind (line_at Outlets j outlet h) ≡ true
+  turned_fits j outlet i h at e =
+      subst (λ (x : Kind). is_fit loose.web b.key x (line_at Outlets j outlet h) ≡ true) (sym kind_is)
+      (turned_fit old loose.web X.node.board b.key Y.can.cell.kind b.gone.items ports_kept Y.sheds Y.loosens.web.meet j outlet i h at (ap (λ (ms : List BoxWire). is_among ms h.key) (sym Y.turned_are) ∙ e))
 
   pub box_fits : WiresFit old → WiresFit new
   box_fits F =
-      ports_fit loose new b.key Y.seed.row.kind Y.refit.ports Y.could.wires Y.could.meet Y.could.can.runs
-      Y.refit.grove.boards Y.refit.numbers
+      back_fit loose free new b.key Y.seed.row.kind Y.turned gets Y.frees.web.kept Y.out
+      (canvas_has loose.web new.web Y.turned loose.numbers.items Y.back.restores) turned_fits Y.could.wires Y.could.meet Y.loosens.rewires
+      (ap (λ (g : Grove). g.boards) Y.back.tightens.rest.grove ∙ Y.refit.grove.boards ∙ ap (λ (g : Grove). g.boards) Y.frees.rest.grove)
+      (Y.back.tightens.rest.numbers ∙ Y.refit.numbers ∙ Y.frees.rest.numbers)
       (loose_fits ready loose b.key steps Y.between Y.loosens b.gone.items shed (room_fits old ready Y.room F))
 
-  -- as many fewer as went
-  pub box_wires : wires_told new.web + length Y.loosens.gone ≡ wires_told old.web
+  -- as many fewer as went, but for those that came back
+  pub box_wires : wires_told new.web + (length Y.loosens.gone + length Y.frees.gone) ≡ wires_told old.web + length Y.turned
   box_wires =
-      let a = ports_wires loose new b.key Y.seed.row.kind Y.refit.ports in
+      let a = ports_wires free fitted b.key (λ side. kind_jacks side Y.seed.row.kind) (is_made Y.seed.row.kind) Y.refit.ports in
       let c = Y.loosens.count in
       let d = room_wires old ready Y.room in
-      omega (arith, a, c, d)
+      let e = Y.frees.count in
+      let f = Y.back.tightens.count in
+      let g = Y.back.as_many in
+      omega (arith, a, c, d, e, f, g)
 
   pub box_owners : (t : Tree) → RunsAs old.grove t → StandsAgain (answer_in k.files) name k.names t → HasOwners old k.names name → HasOwners new after.names name
   box_owners t R A h =
@@ -333,4 +396,8 @@ module _ (old new : Patch) (n : Counts) (name path : List ℕ) (number : ℕ) (t
       let more : HasOwners old after.names name =
       own_more (answer_in k.files) name old k.names after.names t R.stands R.shallow A (goes_on old new n name path number text now k after steps steps' b X) h in
       let again : HasOwners old X.added.known.names name = subst (λ (ns : Names). HasOwners old ns name) is more in
-      subst (λ (ns : Names). HasOwners new ns name) (sym is) (Y.refit.owners name (own_still ready loose Y.loosens.rest.names Y.loosens.rest.grove X.added.known.names name (room_own old ready X.added.known.names name Y.room again)))
+      let free_own : HasOwners free X.added.known.names name =
+      own_still loose free Y.frees.rest.names Y.frees.rest.grove X.added.known.names name
+      (own_still ready loose Y.loosens.rest.names Y.loosens.rest.grove X.added.known.names name (room_own old ready X.added.known.names name Y.room again)) in
+      subst (λ (ns : Names). HasOwners new ns name) (sym is)
+      (own_still fitted new Y.back.tightens.rest.names Y.back.tightens.rest.grove X.added.known.names name (Y.refit.owners name free_own))

@@ -1,8 +1,10 @@
 pub mod GrewLemmas
 pub mod BecomeLemmas
 pub mod FitLemmas
+pub mod TurnLemmas
 pub mod KeptLemmas
 pub mod LooseLemmas
+pub mod BackLemmas
 pub mod InsideLemmas
 pub mod CountLemmas
 pub mod ProperLemmas

@@ -10,7 +10,7 @@ use Rattle.pd_tree.specs.Trees.{Tree}
 use Rattle.pd_grove.specs.declared.grove.Grove.{Grove}
 use Rattle.pd_grove.specs.declared.ports.Side.TheVariants.{Inlets, Outlets}
 use Rattle.pd_grove.specs.OwnPaths.{sub_reached}
-use Rattle.pd_grove.specs.Owning.{board_in}
+use Rattle.pd_grove.specs.Owning.{AreOwn, board_in}
 use Rattle.pd_web.specs.declared.jacks.Jack.{Jack}
 use Rattle.pd_web.specs.declared.web.Hop.{Hop}
 use Rattle.pd_web.specs.declared.web.Web.{Web}
@@ -24,7 +24,6 @@ use Rattle.pd_patch.specs.Linked.{ShareCanvas}
 use Rattle.pd_patch.specs.Numbers.{AreApart}
 use Rattle.pd_wiring.specs.Changes.{CanRewire}
 use Rattle.pd_wiring.proofs.HeardLemmas.{all_at}
-use Rattle.pd_boxes.specs.Put.{CanPut}
 use Rattle.pd_taking.specs.Loosening.{is_of_other, AreGone, Gone, Loosens}
 use Rattle.pd_misfits.specs.declared.wires.BoxWire.{BoxWire}
 use Rattle.pd_misfits.specs.Shedding.{is_left, Sheds}
@@ -36,7 +35,7 @@ use Rattle.pd_alike_law.specs.Feeds.{FedOnce}
 use Rattle.pd_alike_law.proofs.FeedLemmas.{keys_of, feed_keys_of}
 use Rattle.pd_alike_law.proofs.MeetLemmas.{passed}
 use Rattle.pd_inside_law.specs.Inside.{HoldsWires, IsWiredInside, LeadsInside}
-use Rattle.pd_putting_law.proofs.PathLemmas.{paths_once, sub_leads}
+use Rattle.pd_putting_law.proofs.PathLemmas.{Forest, paths_once, sub_leads}
 use Rattle.pd_put_law.proofs.RoomLemmas.{laid_same, same_canvas, told_same}
 use Rattle.pd_retype_law.proofs.FitLemmas.{first_all, last_all}
 use Rattle.pd_retype_law.proofs.KeptLemmas.{all_left, left_all, left_apart, left_ordered}
@@ -68,8 +67,22 @@ feeds_among p c k inlet i h R M t e =
 of_other : (box : ℕ) (h : Hop) → h.node ≢ box → is_of_other box h ≡ true
 of_other box h d = grind (arith, nat_tests)
 
-kept_told : (w v : Web) (keys : List ℕ) → KeepsPorts w v → boxes_told v keys ≡ boxes_told w keys
+pub kept_told : (w v : Web) (keys : List ℕ) → KeepsPorts w v → boxes_told v keys ≡ boxes_told w keys
 kept_told w v keys k = told_same w v keys (λ i x e. laid_same w v x (k.ports Inlets x) (k.ports Outlets x) (k.made x))
+
+-- ---- a canvas of the own document
+
+-- no box of another canvas is that box
+pub elsewhere : (g : Grove) → AreOwn (get g.nodes) (get g.boards) → (canvas number box : ℕ) → slice_get (keys_at g canvas) number ≡ Some box
+    → (c k : ℕ) → c ≢ canvas → IsAmong (keys_at g c) k → k ≢ box
+elsewhere g own canvas number box here c k d t e =
+    d (same_Some c canvas (sym (own.home c t.0 k t.1) ∙ ap (λ x. board_in (get g.nodes x)) e ∙ own.home canvas number box here))
+
+-- no canvas inside an abstraction is one to which a path through subpatches alone leads
+pub not_own : (g : Grove) → Forest g → (path : List ℕ) (canvas : ℕ) → sub_reached g (Some g.root) path ≡ Some canvas → (t u : Tree) (way : List ℕ) (c : ℕ) → LeadsInside g t way c u → c ≢ canvas
+not_own g F path canvas leads t u way c l e =
+    let same : path ≡ way = paths_once g F path way g.root c (sub_leads g g.root c path (leads ∙ ap (λ x. Some x) (sym e))) l.here.key in
+    none-some canvas (sym l.inside ∙ ap (sub_reached g (Some g.root)) (sym same) ∙ leads)
 
 -- ---- wires that are saved
 
@@ -110,40 +123,28 @@ module _ (p q : Patch) (box s s' : ℕ) (L : Loosens p q box s s') (ms : List Bo
           (saved_less p.web q.web p.numbers.items keys ms (λ v. fits (boxes_told p.web keys) v ≡ true) L.web.kept S (F.all c))
 
   -- the box lies in this canvas of the own document
-  module _ (P : CanPut p) (M : Meet p.web) (path : List ℕ) (canvas number : ℕ) (leads : sub_reached p.grove (Some p.grove.root) path ≡ Some canvas)
+  module _ (P : CanRewire p) (F : Forest p.grove) (M : Meet p.web) (path : List ℕ) (canvas number : ℕ) (leads : sub_reached p.grove (Some p.grove.root) path ≡ Some canvas)
       (here : slice_get (keys_at p.grove canvas) number ≡ Some box) where
-    -- no box of another canvas is that box
-    elsewhere : (c k : ℕ) → c ≢ canvas → IsAmong (keys_at p.grove c) k → k ≢ box
-    elsewhere c k d t e =
-        d (same_Some c canvas (sym (P.runs.own.home c t.0 k t.1) ∙ ap (λ x. board_in (get p.grove.nodes x)) e ∙ P.runs.own.home canvas number box here))
-
     fans_aside : (c k o : ℕ) → c ≢ canvas → IsAmong (keys_at p.grove c) k → fan_hops q.web k o ≡ fan_hops p.web k o
     fans_aside c k o d t =
         let now : StayAmong q.web (keys_at p.grove c) = subst (λ (g : Grove). StayAmong q.web (keys_at g c)) L.rest.grove (stays_among q c L.rewires) in
-        sym (all_left (is_of_other box) (fan_hops q.web k o) (λ i h e. of_other box h (elsewhere c h.node d (now k o i h t e))))
-        ∙ L.web.fans k o (elsewhere c k d t)
-        ∙ all_left (is_of_other box) (fan_hops p.web k o) (λ i h e. of_other box h (elsewhere c h.node d (stays_among p c P.runs k o i h t e)))
+        sym (all_left (is_of_other box) (fan_hops q.web k o) (λ i h e. of_other box h (elsewhere p.grove P.own canvas number box here c h.node d (now k o i h t e))))
+        ∙ L.web.fans k o (elsewhere p.grove P.own canvas number box here c k d t)
+        ∙ all_left (is_of_other box) (fan_hops p.web k o) (λ i h e. of_other box h (elsewhere p.grove P.own canvas number box here c h.node d (stays_among p c P k o i h t e)))
 
     feeds_aside : (c k o : ℕ) → c ≢ canvas → IsAmong (keys_at p.grove c) k → feed_hops q.web k o ≡ feed_hops p.web k o
     feeds_aside c k o d t =
         let there : IsAmong (keys_at q.grove c) k = subst (λ (g : Grove). IsAmong (keys_at g c) k) (sym L.rest.grove) t in
         sym (all_left (is_of_other box) (feed_hops q.web k o) (λ i h e.
-        of_other box h (elsewhere c h.node d (subst (λ (g : Grove). IsAmong (keys_at g c) h.node) L.rest.grove (feeds_among q c k o i h L.rewires L.web.meet there e)))))
-        ∙ L.web.feeds k o (elsewhere c k d t)
-        ∙ all_left (is_of_other box) (feed_hops p.web k o) (λ i h e. of_other box h (elsewhere c h.node d (feeds_among p c k o i h P.runs M t e)))
-
-    -- no canvas inside an abstraction is that one
-    not_own : (t u : Tree) (way : List ℕ) (c : ℕ) → LeadsInside p.grove t way c u → c ≢ canvas
-    not_own t u way c l e =
-        let g = p.grove in
-        let same : path ≡ way = paths_once g P.forest path way g.root c (sub_leads g g.root c path (leads ∙ ap (λ x. Some x) (sym e))) l.here.key in
-        none-some canvas (sym l.inside ∙ ap (sub_reached g (Some g.root)) (sym same) ∙ leads)
+        of_other box h (elsewhere p.grove P.own canvas number box here c h.node d (subst (λ (g : Grove). IsAmong (keys_at g c) h.node) L.rest.grove (feeds_among q c k o i h L.rewires L.web.meet there e)))))
+        ∙ L.web.feeds k o (elsewhere p.grove P.own canvas number box here c k d t)
+        ∙ all_left (is_of_other box) (feed_hops p.web k o) (λ i h e. of_other box h (elsewhere p.grove P.own canvas number box here c h.node d (feeds_among p c k o i h P M t e)))
 
     inside_still : (t : Tree) → IsWiredInside p.grove p.web t → IsWiredInside p.grove q.web t
     inside_still t I = record {
       all = λ way c u l.
           let keys = keys_at p.grove c in
-          let d = not_own t u way c l in
+          let d = not_own p.grove F path canvas leads t u way c l in
           same_canvas p.web q.web keys u (kept_told p.web q.web keys L.web.kept) (λ k o a. fans_aside c k o d a) (λ k o a. feeds_aside c k o d a) (I.all way c u l);
     }
 

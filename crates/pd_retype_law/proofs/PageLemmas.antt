@@ -43,6 +43,7 @@ use Rattle.pd_misfits.specs.declared.wires.BoxWire.{BoxWire}
 use Rattle.pd_misfits.specs.Misfits.{misfits}
 use Rattle.pd_misfits.specs.Shedding.{numbered, without_wires, IsWired, Sheds}
 use Rattle.pd_misfits.proofs.CanvasLemmas.{canvas_less, others_left}
+use Rattle.pd_turning.proofs.LawLemmas.{canvas_has}
 use Rattle.pd_reload_law.specs.Reloading.{RunsAs}
 use Rattle.pd_reload_law.specs.Wires.{RewiresAt}
 use Rattle.pd_reload_law.proofs.EditLemmas.{document_edited}
@@ -60,7 +61,7 @@ use Rattle.pd_retyping_law.proofs.EditLemmas.{text_kept, text_document}
 use Rattle.pd_retype_law.specs.Losing.{less_wires}
 use Rattle.pd_retype_law.proofs.BecomeLemmas.{mid, is_now, box, same_boxes, cell_is, runs_ready, gives_text, there as changed_so}
 use Rattle.pd_retype_law.proofs.GrewLemmas.{written_as, without_it, grew_so, again_then, long}
-use Rattle.pd_retype_law.proofs.FitLemmas.{flat_same, saved_stay}
+use Rattle.pd_retype_law.proofs.FitLemmas.{flat_same}
 use Rattle.pd_retype_law.proofs.InsideLemmas.{keys_stay, sub_from_root}
 
 -- ---- the wires of boxes that are saved
@@ -167,8 +168,12 @@ module _ (old new : Patch) (n : Counts) (name path : List ℕ) (number : ℕ) (t
   abbrev cell : Cell
   cell = Y.can.cell
 
+  -- the patch from which the wires went that don't fit, and the one from which those went that turn, too
   abbrev loose : Patch
-  loose = mid old new n name path number text now k after steps steps' b X Y
+  loose = Y.loose
+
+  abbrev free : Patch
+  free = mid old new n name path number text now k after steps steps' b X Y
 
   abbrev new_node : Node
   new_node = is_now old new n name path number text now k after steps steps' b X Y
@@ -185,19 +190,19 @@ module _ (old new : Patch) (n : Counts) (name path : List ℕ) (number : ℕ) (t
   abbrev last : Stock
   last = (grew_so old new n name path number text now k after steps steps' b X).after
 
-  abbrev there : RetypesBoxAt loose.grove new.grove path b.canvas b.key number X.node new_node
+  abbrev there : RetypesBoxAt free.grove new.grove path b.canvas b.key number X.node new_node
   there = box old new n name path number text now k after steps steps' b X Y
 
-  abbrev changes : ChangesBoxAt loose.grove new.grove path b.canvas b.key number X.node new_node
+  abbrev changes : ChangesBoxAt free.grove new.grove path b.canvas b.key number X.node new_node
   changes = changed_so old new n name path number text now k after steps steps' b X Y
 
-  boxes_same : IsSameButRoom old.grove loose.grove
+  boxes_same : IsSameButRoom old.grove free.grove
   boxes_same = same_boxes old new n name path number text now k after steps steps' b X Y
 
   -- ---- the wires that went
 
   keys_still : (c : ℕ) → keys_at new.grove c ≡ keys_at old.grove c
-  keys_still c = keys_stay loose.grove new.grove path b.canvas b.key number X.node new_node changes c ∙ keys_same old.grove loose.grove boxes_same c
+  keys_still c = keys_stay free.grove new.grove path b.canvas b.key number X.node new_node changes c ∙ keys_same old.grove free.grove boxes_same c
 
   board_is : X.node.board ≡ b.canvas
   board_is = same_Some X.node.board b.canvas (sym (ap board_in X.chosen.is) ∙ can.runs.own.home b.canvas number b.key X.chosen.at)
@@ -231,19 +236,19 @@ module _ (old new : Patch) (n : Counts) (name path : List ℕ) (number : ℕ) (t
       }
     where
       leads : sub_reached new.grove (Some new.grove.root) path ≡ Some b.canvas
-      leads = sym (sub_from_root loose.grove new.grove path b.canvas b.key number X.node new_node changes path) ∙ there.leads
+      leads = sym (sub_from_root free.grove new.grove path b.canvas b.key number X.node new_node changes path) ∙ there.leads
 
   -- ---- the document
 
   number_still : (j : ℕ) → number_in new.numbers.items j ≡ number_in old.numbers.items j
   number_still j =
-      ap (λ (v : _). number_in v.items j) (Y.refit.numbers ∙ Y.loosens.rest.numbers)
+      ap (λ (v : _). number_in v.items j) (Y.back.tightens.rest.numbers ∙ Y.refit.numbers ∙ Y.frees.rest.numbers ∙ Y.loosens.rest.numbers)
       ∙ number_same old.numbers.items Y.ready.numbers.items j Y.room.numbers
 
   by_old_numbers : present_document new ≡ present_page new.grove loose.web old.numbers.items
   by_old_numbers =
       document_same loose.web new.web old.numbers.items new.numbers.items (λ keys.
-      saved_stay loose.web new.web new.numbers.items Y.refit.ports.fans keys ∙ numbers_among loose.web old.numbers.items new.numbers.items number_still keys)
+      canvas_has loose.web new.web Y.turned new.numbers.items Y.back.restores keys ∙ numbers_among loose.web old.numbers.items new.numbers.items number_still keys)
       new.grove new.grove (λ j. refl) (λ c. refl) refl
 
   -- the document is that in which no wire went, less these
@@ -252,9 +257,9 @@ module _ (old new : Patch) (n : Counts) (name path : List ℕ) (number : ℕ) (t
       let far = long old new n name path number text now k after steps steps' b X can t R A in
       by_old_numbers
       ∙ document_edited new.grove old.web loose.web old.numbers.items path b.canvas (without_wires (numbered b.gone.items)) rewires
-      (sym (sub_from_root loose.grove new.grove path b.canvas b.key number X.node new_node changes path) ∙ there.leads) (omega (arith, far))
+      (sym (sub_from_root free.grove new.grove path b.canvas b.key number X.node new_node changes path) ∙ there.leads) (omega (arith, far))
 
-  before : present_page loose.grove old.web old.numbers.items ≡ present_document old
+  before : present_page free.grove old.web old.numbers.items ≡ present_document old
   before = document_same old.web old.web old.numbers.items old.numbers.items (λ keys. refl) old.grove loose.grove boxes_same.nodes boxes_same.boards boxes_same.root
 
   -- the document has the element that the edit gives there, with what the new box keeps of it
@@ -264,10 +269,10 @@ module _ (old new : Patch) (n : Counts) (name path : List ℕ) (number : ℕ) (t
   document_kept =
       less_wired
       ∙ ap (λ (d : Page). edit_at path (less_wires (numbered b.gone.items)) d)
-      (text_kept loose.grove new.grove path b.canvas b.key number lib name t new_text X.node new_node from last
+      (text_kept free.grove new.grove path b.canvas b.key number lib name t new_text X.node new_node from last
       (runs_ready old new n name path number text now k after steps steps' b X Y can t R A) (again_then old new n name path number text now k after steps steps' b X can t R A)
       (gives_text old new n name path number text now k after steps steps' b X Y can t R A) old.web old.numbers.items
-      ∙ ap (λ s. edit_at path (change_box number (λ e. entry_kept s (retyped new_text e))) (present_page loose.grove old.web old.numbers.items)) state_is
+      ∙ ap (λ s. edit_at path (change_box number (λ e. entry_kept s (retyped new_text e))) (present_page free.grove old.web old.numbers.items)) state_is
       ∙ ap (λ (d : Page). edit_at path (change_box number (λ e. entry_kept (Some (started (start_of cell.kind old.rate) now)) (retyped new_text e))) d) before)
     where
       state_is : new_node.state ≡ Some (started (start_of cell.kind old.rate) now)
@@ -279,7 +284,7 @@ module _ (old new : Patch) (n : Counts) (name path : List ℕ) (number : ℕ) (t
   document_after keeps =
       less_wired
       ∙ ap (λ (d : Page). edit_at path (less_wires (numbered b.gone.items)) d)
-      (text_document loose.grove new.grove path b.canvas b.key number lib name t new_text X.node new_node from last
+      (text_document free.grove new.grove path b.canvas b.key number lib name t new_text X.node new_node from last
       (runs_ready old new n name path number text now k after steps steps' b X Y can t R A) (again_then old new n name path number text now k after steps steps' b X can t R A)
       (gives_text old new n name path number text now k after steps steps' b X Y can t R A) old.web old.numbers.items
       (subst KeepsText (sym (cell_is old new n name path number text now k after steps steps' b X Y)) keeps)

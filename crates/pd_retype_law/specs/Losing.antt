@@ -1,6 +1,6 @@
--- A page that loses wires, and how many wires a patch lost.
+-- A page that loses wires, and how many wires a patch lost and got back.
 use Rattle.std.proofs.Common.{inl, inr}
-use Rattle.std.specs.Prelude.{ℕ, List, length}
+use Rattle.std.specs.Prelude.{◌+◌, ℕ, List, length}
 use Rattle.pd_atom.specs.declared.Atom.{Atom}
 use Rattle.pd_atom.specs.Names.{Names}
 use Rattle.pd_canvas.specs.declared.wires.Wire.{Wire}
@@ -17,8 +17,14 @@ use Rattle.pd_retyping.specs.Retypes.{Becomes}
 abbrev pub less_wires : List Wire → Page → Page
 less_wires gone p = with_wires (without_wires gone p.wires) p
 
--- how many wires went: those that don't fit the new box, and none where a subpatch got another text
+-- how many wires went: those that don't fit the new box, and those that turn with it; none where a subpatch got another text
 abbrev pub lost_by : {old new : Patch} {names : Names} {text : List Atom} {now key : ℕ} {n : Node} {a : Added} {gone : List BoxWire} {steps steps' : ℕ}
     → Becomes old new names text now key n a gone steps steps' → ℕ
-lost_by (inl x) = length x.loosens.gone
+lost_by (inl x) = length x.loosens.gone + length x.frees.gone
 lost_by (inr x) = 0
+
+-- how many came back: those that turn
+abbrev pub back_by : {old new : Patch} {names : Names} {text : List Atom} {now key : ℕ} {n : Node} {a : Added} {gone : List BoxWire} {steps steps' : ℕ}
+    → Becomes old new names text now key n a gone steps steps' → ℕ
+back_by (inl x) = length x.turned
+back_by (inr x) = 0
