@@ -1,5 +1,5 @@
 -- A patch to which wires at a box of the own document came back: its wires still hold.
-use Rattle.std.proofs.Common.{◌≡◌, ◌≢◌, ℕ, zero, suc, List, [], ◌∷◌, map, slice_get, Option, Some, None, refl, sym, ap, ◌∙◌, subst, inl, inr, arith}
+use Rattle.std.proofs.Common.{◌≡◌, ◌≢◌, ℕ, zero, suc, List, [], ◌∷◌, slice_get, Option, Some, None, refl, sym, ap, ◌∙◌, subst, inl, inr, arith}
 use Rattle.std.specs.Prelude.{◌⊎◌, option_map}
 use Rattle.std.specs.List.{insert}
 use Rattle.std.proofs.lemmas.Option.{none-some, same_Some, slice_get-map}
@@ -13,7 +13,7 @@ use Rattle.pd_web.specs.declared.lines.Line.{Line}
 use Rattle.pd_web.specs.declared.web.Hop.{Hop}
 use Rattle.pd_web.specs.declared.web.Web.{Web}
 use Rattle.pd_web.specs.Canvases.{keys_at}
-use Rattle.pd_web.specs.Changes.{hop_at, line_by, line_told, IsListed, Joins, Meet}
+use Rattle.pd_web.specs.Changes.{hop_at, line_by, line_told, IsListed, Joins}
 use Rattle.pd_web.specs.Hops.{fan_hops, feed_hops, feed_keys}
 use Rattle.pd_seek.specs.Places.{AreInOrder, IsPlace}
 use Rattle.pd_patch.specs.declared.patch.Patch.{Patch}
@@ -21,7 +21,6 @@ use Rattle.pd_patch.specs.Linked.{ShareCanvas}
 use Rattle.pd_patch.specs.Numbers.{AreApart}
 use Rattle.pd_wiring.proofs.FeedLemmas.{feeds_ordered}
 use Rattle.pd_wiring.proofs.HeardLemmas.{all_at}
-use Rattle.pd_taking.specs.Loosening.{IsAt}
 use Rattle.pd_turning.specs.Returns.{AreBack, Back, Comes}
 use Rattle.pd_reload_law.specs.Wires.{IsAmong}
 use Rattle.pd_alike_law.specs.Feeds.{FedOnce}

@@ -1,5 +1,5 @@
 -- An edit that gave a box another text: the box became another one, or it is a subpatch that took the text.
-use Rattle.std.proofs.Common.{◌≡◌, ◌+◌, ℕ, zero, suc, List, [], ◌∷◌, filter, Some, inl, inr, refl, sym, ap, ◌∙◌, arith}
+use Rattle.std.proofs.Common.{◌≡◌, ◌+◌, ℕ, zero, suc, List, [], ◌∷◌, filter, length, Some, inl, inr, refl, sym, ap, ◌∙◌, arith}
 use Rattle.pd_atom.specs.declared.Atom.{Atom}
 use Rattle.pd_atom.specs.Names.{Names, Extends, IsTable}
 use Rattle.pd_kind.specs.States.{start_of}
@@ -36,7 +36,7 @@ use Rattle.pd_retyping.specs.declared.retyping.RetypedBox.{RetypedBox}
 use Rattle.pd_retyping.specs.Asking.{settled_text}
 use Rattle.pd_retyping.specs.Retypes.{Becomes, RetypesBox, cell_become}
 use Rattle.pd_retyping_law.specs.Retypes.{retyped_at}
-use Rattle.pd_retype_law.specs.Losing.{back_by, less_wires, lost_by}
+use Rattle.pd_retype_law.specs.Losing.{less_wires}
 use Rattle.pd_retype_law.proofs.BecomeLemmas.{box_again, box_runs}
 use Rattle.pd_retype_law.proofs.CountLemmas.{as_many_boxes, as_much_sound, box_traded, box_zeros, same_next}
 use Rattle.pd_retype_law.proofs.InsideLemmas.{box_fits, box_holds, box_owners, box_wires}
@@ -166,15 +166,15 @@ module _ (old new : Patch) (n : Counts) (name path : List ℕ) (number : ℕ) (t
       by (inl Y) = box_fits old new n name path number text now k after steps steps' b X Y F
       by (inr T) = sub_fits old new n name path number text now k after steps steps' b X T F
 
-  pub both_wires : wires_told new.web + lost_by X.became ≡ wires_told old.web + back_by X.became
+  pub both_wires : wires_told new.web + length b.gone.items ≡ wires_told old.web
   both_wires = by X.became
     where
-      none : (a c : ℕ) → a ≡ c → a + 0 ≡ c + 0
-      none a c h = omega (arith, h)
+      none : (a c n : ℕ) → a ≡ c → n ≡ 0 → a + n ≡ c
+      none a c n h e = omega (arith, h, e)
 
-      by : (z : Both) → wires_told new.web + lost_by z ≡ wires_told old.web + back_by z
+      by : Both → wires_told new.web + length b.gone.items ≡ wires_told old.web
       by (inl Y) = box_wires old new n name path number text now k after steps steps' b X Y
-      by (inr T) = none (wires_told new.web) (wires_told old.web) (sub_wires old new n name path number text now k after steps steps' b X T)
+      by (inr T) = none (wires_told new.web) (wires_told old.web) (length b.gone.items) (sub_wires old new n name path number text now k after steps steps' b X T) (ap length T.none_gone)
 
   all_left : (hops : List Hop) → filter (is_left []) hops ≡ hops
   all_left [] = refl

@@ -1,5 +1,5 @@
 -- Where a box has other ports, and its wires stay or come back, what each canvas saves of them fits.
-use Rattle.std.proofs.Common.{◌≡◌, ◌≢◌, ◌≤◌, ◌+◌, ◌==◌, ℕ, zero, suc, Bool, true, false, cond, not, List, [], ◌∷◌, ◌++◌, length, map, slice_get, slice_index_or, Option, Some, None, refl, sym, ap, ◌∙◌, subst, arith, is_some}
+use Rattle.std.proofs.Common.{◌≡◌, ◌≢◌, ◌==◌, ℕ, suc, Bool, true, false, cond, not, List, [], ◌∷◌, ◌++◌, length, map, slice_get, slice_index_or, Option, Some, None, refl, sym, ap, ◌∙◌, subst, arith, is_some}
 use Rattle.std.specs.Prelude.{option_map}
 use Rattle.std.specs.List.{AllByRecursion, flat_map, range_with_len}
 use mathlib.Core.Logic.{⊎_elim}
@@ -33,7 +33,7 @@ use Rattle.pd_misfits.specs.Misfits.{fits_between as fits_with, is_fit}
 use Rattle.pd_misfits.specs.Shedding.{is_among, is_left, Sheds}
 use Rattle.pd_misfits.proofs.ListLemmas.{in_listed, listed_in, IsIn}
 use Rattle.pd_misfits.proofs.ShedLemmas.{in_filter}
-use Rattle.pd_reload_law.proofs.FanLemmas.{fan_past, number_is}
+use Rattle.pd_reload_law.proofs.FanLemmas.{number_is}
 use Rattle.pd_reload_law.proofs.SortedLemmas.{all_append}
 use Rattle.pd_saved_law.specs.Fitting.{WiresFit}
 use Rattle.pd_saved_law.proofs.EditLemmas.{stays_among}

@@ -379,8 +379,8 @@ module _ (old new : Patch) (n : Counts) (name path : List ℕ) (number : ℕ) (t
       (Y.back.tightens.rest.numbers ∙ Y.refit.numbers ∙ Y.frees.rest.numbers)
       (loose_fits ready loose b.key steps Y.between Y.loosens b.gone.items shed (room_fits old ready Y.room F))
 
-  -- as many fewer as went, but for those that came back
-  pub box_wires : wires_told new.web + (length Y.loosens.gone + length Y.frees.gone) ≡ wires_told old.web + length Y.turned
+  -- as many fewer as went that don't fit
+  pub box_wires : wires_told new.web + length b.gone.items ≡ wires_told old.web
   box_wires =
       let a = ports_wires free fitted b.key (λ side. kind_jacks side Y.seed.row.kind) (is_made Y.seed.row.kind) Y.refit.ports in
       let c = Y.loosens.count in
@@ -388,7 +388,9 @@ module _ (old new : Patch) (n : Counts) (name path : List ℕ) (number : ℕ) (t
       let e = Y.frees.count in
       let f = Y.back.tightens.count in
       let g = Y.back.as_many in
-      omega (arith, a, c, d, e, f, g)
+      let h = Y.went in
+      let i = Y.as_many in
+      omega (arith, a, c, d, e, f, g, h, i)
 
   pub box_owners : (t : Tree) → RunsAs old.grove t → StandsAgain (answer_in k.files) name k.names t → HasOwners old k.names name → HasOwners new after.names name
   box_owners t R A h =

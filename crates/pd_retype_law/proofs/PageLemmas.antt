@@ -260,7 +260,7 @@ module _ (old new : Patch) (n : Counts) (name path : List ℕ) (number : ℕ) (t
       (sym (sub_from_root free.grove new.grove path b.canvas b.key number X.node new_node changes path) ∙ there.leads) (omega (arith, far))
 
   before : present_page free.grove old.web old.numbers.items ≡ present_document old
-  before = document_same old.web old.web old.numbers.items old.numbers.items (λ keys. refl) old.grove loose.grove boxes_same.nodes boxes_same.boards boxes_same.root
+  before = document_same old.web old.web old.numbers.items old.numbers.items (λ keys. refl) old.grove free.grove boxes_same.nodes boxes_same.boards boxes_same.root
 
   -- the document has the element that the edit gives there, with what the new box keeps of it
   pub document_kept : present_document new

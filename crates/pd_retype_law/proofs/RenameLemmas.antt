@@ -20,8 +20,10 @@ use Rattle.pd_grove.specs.declared.nodes.Node.{Node}
 use Rattle.pd_grove.specs.Refits.{with_text}
 use Rattle.pd_grove.specs.TextOrder.{is_sub}
 use Rattle.pd_hearing.specs.Worlds.{states_of}
+use Rattle.pd_web.specs.declared.web.Hop.{Hop}
 use Rattle.pd_web.specs.declared.web.Web.{Web}
 use Rattle.pd_web.specs.Changes.{wires_told}
+use Rattle.pd_web.specs.Hops.{places_of}
 use Rattle.pd_present.specs.Presents.{present_page, wires_among}
 use Rattle.pd_patch.specs.declared.patch.Patch.{Patch}
 use Rattle.pd_patch.specs.Document.{present_document}
@@ -29,6 +31,8 @@ use Rattle.pd_patch.specs.Sounds.{sound_of}
 use Rattle.pd_gather.specs.Gather.{Known}
 use Rattle.pd_boxes.specs.Put.{CanPut, HasOwners}
 use Rattle.pd_boxes.proofs.RoomLemmas.{keys_same}
+use Rattle.pd_turning.specs.Returns.{Restores}
+use Rattle.pd_turning.proofs.LawLemmas.{canvas_has}
 use Rattle.pd_contents_law.specs.Contents.{HaveContents, counts_of}
 use Rattle.pd_contents_law.proofs.SettledLemmas.{onward}
 use Rattle.pd_inside_law.specs.Inside.{HoldsWires}
@@ -50,7 +54,6 @@ use Rattle.pd_retyping_law.proofs.PageLemmas.{document_renamed, kept_head, renam
 use Rattle.pd_retyping_law.proofs.PlaceLemmas.{renames_so}
 use Rattle.pd_retyping_law.proofs.RenameLemmas.{bare_renamed, holder_head, sub_there}
 use Rattle.pd_retyping_law.proofs.StandLemmas.{runs_renamed}
-use Rattle.pd_retype_law.proofs.FitLemmas.{saved_stay}
 use Rattle.pd_retype_law.proofs.GrewLemmas.{drawn, entry_named, low, bare, lib, left, from, again_then, deep, document_by, goes_on, grew, known_after}
 use Rattle.pd_retype_law.proofs.InsideLemmas.{held_still}
 use Rattle.pd_retype_law.proofs.PageLemmas.{document_same, number_same, numbers_among}
@@ -147,9 +150,15 @@ module _ (old new : Patch) (n : Counts) (name path : List ℕ) (number : ℕ) (t
 
   -- ---- the document
 
+  all_stay : Restores old.web ready.web []
+  all_stay = record {
+    places = λ j o. ap places_of (T.room.web.fans j o);
+    keys = λ j o i h at left. ap (λ (hs : List Hop). slice_get hs i) (T.room.web.fans j o) ∙ at;
+  }
+
   wires_same : (keys : List ℕ) → wires_among ready.web ready.numbers.items keys ≡ wires_among old.web old.numbers.items keys
   wires_same keys =
-      saved_stay old.web ready.web ready.numbers.items T.room.web.fans keys
+      canvas_has old.web ready.web [] ready.numbers.items all_stay keys
       ∙ numbers_among old.web old.numbers.items ready.numbers.items (λ j. number_same old.numbers.items ready.numbers.items j T.room.numbers) keys
 
   before : present_page ready.grove ready.web ready.numbers.items ≡ present_document old

@@ -1,6 +1,6 @@
--- A wire that turns fits the box that comes, and each outlet has its wires after a retype.
-use Rattle.std.proofs.Common.{◌≡◌, ℕ, zero, suc, true, not, List, [], ◌∷◌, map, slice_get, Some, refl, sym, ap, ◌∙◌, subst}
-use Rattle.std.specs.Prelude.{Option, None}
+-- A wire that turns fits the box that comes.
+use Rattle.std.proofs.Common.{◌≡◌, ℕ, zero, suc, Bool, true, false, cond, not, ◌&&◌, List, [], ◌∷◌, length, map, slice_get, Option, Some, None, refl, sym, ap, ◌∙◌, subst, inl, inr}
+use Rattle.std.specs.List.{flat_map, range_with_len}
 use Rattle.std.proofs.lemmas.Option.{none-some, same_Some}
 use Rattle.pd_object.specs.declared.kinds.Kind.{Kind}
 use Rattle.pd_grove.specs.declared.ports.Side.TheVariants.{Outlets}
@@ -10,19 +10,17 @@ use Rattle.pd_web.specs.declared.web.Hop.{Hop}
 use Rattle.pd_web.specs.declared.web.Web.{Web}
 use Rattle.pd_web.specs.Canvases.{keys_at}
 use Rattle.pd_web.specs.Changes.{hop_at, line_by, KeepsPorts, Meet}
-use Rattle.pd_web.specs.Hops.{fan_hops, fan_keys, feed_keys, hop_by, hop_from, hop_to}
+use Rattle.pd_web.specs.Hops.{fan_hops, fan_keys, feed_keys, hop_by, hop_from, hop_to, ports_told}
 use Rattle.pd_web.specs.Wiring.{sink_at, source_at}
 use Rattle.pd_patch.specs.declared.patch.Patch.{Patch}
 use Rattle.pd_taking.specs.Loosening.{line_at}
 use Rattle.pd_misfits.specs.declared.wires.BoxWire.{BoxWire}
-use Rattle.pd_misfits.specs.declared.wires.Fate.TheVariants.{Turns}
-use Rattle.pd_misfits.specs.Misfits.{is_fit, turning}
+use Rattle.pd_misfits.specs.Misfits.{is_at, is_fit, turning, turns, wire_of}
 use Rattle.pd_misfits.specs.Shedding.{is_among, is_left, Sheds}
 use Rattle.pd_misfits.proofs.FitLemmas.{fits_still}
-use Rattle.pd_misfits.proofs.ListLemmas.{in_listed, listed_in, IsIn}
+use Rattle.pd_misfits.proofs.ListLemmas.{from_flat, in_listed, listed_in, IsIn}
 use Rattle.pd_misfits.proofs.ShedLemmas.{among_some, from_filter, in_filter}
 use Rattle.pd_misfits.proofs.ToldLemmas.{turning_fits}
-use Rattle.pd_misfits.proofs.WireLemmas.{from_all}
 
 -- ---- a wire that stands in a fan-out
 
@@ -46,6 +44,39 @@ led w M node outlet i h e =
     mapped (hop_from w) (λ k. own_key k (slice_get w.spots.items (source_at w.book k))) (feed_keys w h.node h.port) f.0 (hop_at h.key node outlet) f.1 in
     ap (λ (x : Hop). line_by x (hop_to w h.key)) from ∙ ap (λ (x : Hop). line_by (hop_at h.key node outlet) x) to
 
+-- ---- one of the wires that turn
+
+module _ (w : Web) (numbers : List ℕ) (key : ℕ) (k : Kind) where
+  abbrev turns_here : ℕ → ℕ → Hop → List BoxWire
+  turns_here node outlet h = cond (is_at key (line_at Outlets node outlet h) && turns w key k (line_at Outlets node outlet h)) (wire_of numbers h.key (line_at Outlets node outlet h) ∷ []) []
+
+  abbrev turn_from : ℕ → ℕ → List BoxWire
+  turn_from node outlet = flat_map (turns_here node outlet) (fan_hops w node outlet)
+
+  abbrev turn_at : ℕ → List BoxWire
+  turn_at node = flat_map (turn_from node) (range_with_len 0 (length (ports_told w Outlets node)))
+
+  -- where it stands
+  record Stands (m : BoxWire) : Type 0 where
+    node : ℕ
+    outlet : ℕ
+    hop : Hop
+    is_in : IsIn hop (fan_hops w node outlet)
+    is : wire_of numbers hop.key (line_at Outlets node outlet hop) ≡ m
+
+  chosen : (b : Bool) (x m : BoxWire) → IsIn m (cond b (x ∷ []) []) → x ≡ m
+  chosen true x m (inl e) = e
+  chosen true x m (inr i) = absurd i
+  chosen false x m i = absurd i
+
+  stands : (keys : List ℕ) (m : BoxWire) → IsIn m (flat_map turn_at keys) → Stands m
+  stands keys m i =
+      let F = from_flat turn_at keys m i in
+      let G = from_flat (turn_from F.of) (range_with_len 0 (length (ports_told w Outlets F.of))) m F.has in
+      let H = from_flat (turns_here F.of G.of) (fan_hops w F.of G.of) m G.has in
+      let l = line_at Outlets F.of G.of H.of in
+      record { node = F.of; outlet = G.of; hop = H.of; is_in = H.is_in; is = chosen (is_at key l && turns w key k l) (wire_of numbers H.of.key l) m H.has }
+
 -- ---- wires that don't fit went
 
 module _ (p : Patch) (v : Web) (canvas key : ℕ) (k : Kind) (gone : List BoxWire) (K : KeepsPorts p.web v) (S : Sheds p.web v gone) (M : Meet v) where
@@ -53,15 +84,15 @@ module _ (p : Patch) (v : Web) (canvas key : ℕ) (k : Kind) (gone : List BoxWir
       → is_fit v key k (line_at Outlets node outlet h) ≡ true
   turned_fit node outlet i h at e =
       let s = among_some (turning p canvas key k) h.key e in
-      let A = from_all Turns p.web p.numbers.items key k (keys_at p.grove canvas) s.0 s.1.0 in
-      let g = A.from.hop in
-      let same : g.key ≡ h.key = ap (λ (m : BoxWire). m.key) A.from.is ∙ sym s.1.1 in
+      let A = stands p.web p.numbers.items key k (keys_at p.grove canvas) s.0 s.1.0 in
+      let g = A.hop in
+      let same : g.key ≡ h.key = ap (λ (m : BoxWire). m.key) A.is ∙ sym s.1.1 in
       let left = from_filter (is_left gone) (fan_hops p.web node outlet) h (subst (λ (hs : List Hop). IsIn h hs) (S.fans node outlet) (in_listed h (fan_hops v node outlet) i at)) in
       let stays : IsIn g (fan_hops v A.node A.outlet) =
       subst (λ (hs : List Hop). IsIn g hs) (sym (S.fans A.node A.outlet))
-      (in_filter (is_left gone) (fan_hops p.web A.node A.outlet) g A.from.is_in (ap (λ x. not (is_among gone x)) same ∙ left.1)) in
+      (in_filter (is_left gone) (fan_hops p.web A.node A.outlet) g A.is_in (ap (λ x. not (is_among gone x)) same ∙ left.1)) in
       let there = listed_in g (fan_hops v A.node A.outlet) stays in
       let line : s.0.line ≡ line_at Outlets node outlet h =
-      sym (ap (λ (m : BoxWire). m.line) A.from.is) ∙ sym (led v M A.node A.outlet there.0 g there.1) ∙ ap (λ x. line_by (hop_from v x) (hop_to v x)) same ∙ led v M node outlet i h at in
+      sym (ap (λ (m : BoxWire). m.line) A.is) ∙ sym (led v M A.node A.outlet there.0 g there.1) ∙ ap (λ x. line_by (hop_from v x) (hop_to v x)) same ∙ led v M node outlet i h at in
       fits_still p.web v key k (line_at Outlets node outlet h) K
       ∙ subst (λ (l : Line). is_fit p.web key k l ≡ true) line (turning_fits p canvas key k s.0 s.1.0)

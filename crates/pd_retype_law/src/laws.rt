@@ -1,6 +1,6 @@
 //! Laws over a running patch of which an edit made a box another one or gave a subpatch another text, and its tree.
 
-ghost use Rattle.std.specs.Prelude.{◌≡◌, ◌≤◌, ◌+◌, ℕ, List};
+ghost use Rattle.std.specs.Prelude.{◌≡◌, ◌≤◌, ◌+◌, ℕ, List, filter, length};
 ghost use Rattle.pd_atom.specs.declared.Atom.{Atom};
 ghost use Rattle.pd_atom.specs.Names.{Names, Extends, IsTable};
 ghost use Rattle.pd_canvas.specs.Edits.{edited, retyped};
@@ -12,6 +12,7 @@ ghost use Rattle.pd_kind.specs.Tables.{started};
 ghost use Rattle.pd_library.specs.Files.{answer_in};
 ghost use Rattle.pd_tree.specs.Trees.{Tree, weight, zeros_of, document_in};
 ghost use Rattle.pd_web.specs.Changes.{wires_told};
+ghost use Rattle.pd_web.specs.Hops.{fan_hops, places_of};
 ghost use Rattle.pd_patch.specs.declared.patch.Patch.{Patch};
 ghost use Rattle.pd_patch.specs.Document.{present_document};
 ghost use Rattle.pd_patch.specs.Sounds.{sound_of};
@@ -25,13 +26,13 @@ ghost use Rattle.pd_contents_law.specs.Contents.{HaveContents, counts_of};
 ghost use Rattle.pd_proper_law.specs.Saves.{kinds_of, IsWritten};
 ghost use Rattle.pd_putting_law.specs.Again.{StandsAgain};
 ghost use Rattle.pd_putting_law.specs.Putting.{KeepsText, entry_kept};
-ghost use Rattle.pd_misfits.specs.Shedding.{numbered};
+ghost use Rattle.pd_misfits.specs.Shedding.{is_left, numbered};
 ghost use Rattle.pd_adding.specs.declared.counts.Counts.{Counts};
 ghost use Rattle.pd_retyping.specs.declared.retyping.RetypedBox.{RetypedBox};
 ghost use Rattle.pd_retyping.specs.Asking.{settled_text};
 ghost use Rattle.pd_retyping.specs.Retypes.{RetypesBox, cell_become};
 ghost use Rattle.pd_retyping_law.specs.Retypes.{retyped_at};
-ghost use Rattle.pd_retype_law.specs.Losing.{less_wires, lost_by};
+ghost use Rattle.pd_retype_law.specs.Losing.{less_wires};
 
 /// Where an edit made a box another one, the document of the patch has the element with the new text in its place, with what the new box keeps of it, and
 /// in its canvas less the wires that didn't fit: but for these it is the document after the edit, unless the box is a toggle with other values in its text
@@ -65,10 +66,17 @@ pub fn boxes_become_others_in_trees()
     ensures fit { (old new : Patch) (n : Counts) (name path : List ℕ) (number : ℕ) (text : List Atom) (now : ℕ) (k after : Known) (steps steps' : ℕ) (b : RetypedBox) →
         RetypesBox old new n name path number text now k after steps steps' b → CanPut old → WiresFit old → WiresFit new }
     ensures wires { (old new : Patch) (n : Counts) (name path : List ℕ) (number : ℕ) (text : List Atom) (now : ℕ) (k after : Known) (steps steps' : ℕ) (b : RetypedBox) →
-        (r : RetypesBox old new n name path number text now k after steps steps' b) → wires_told new.web + lost_by r.became ≡ wires_told old.web }
+        RetypesBox old new n name path number text now k after steps steps' b → wires_told new.web + length b.gone.items ≡ wires_told old.web }
     ensures owners { (old new : Patch) (n : Counts) (name path : List ℕ) (number : ℕ) (text : List Atom) (now : ℕ) (k after : Known) (steps steps' : ℕ) (b : RetypedBox) (t : Tree) →
         RetypesBox old new n name path number text now k after steps steps' b → CanPut old → RunsAs old.grove t → StandsAgain (answer_in k.files) name k.names t →
         HasOwners old k.names name → HasOwners new after.names name }
+{}
+
+/// Each outlet has the wires that it had less those that didn't fit, in their order: to the same inlets, whether they stayed or turned and came back.
+pub fn outlets_keep_their_wires()
+    ensures { (old new : Patch) (n : Counts) (name path : List ℕ) (number : ℕ) (text : List Atom) (now : ℕ) (k after : Known) (steps steps' : ℕ) (b : RetypedBox) (node outlet : ℕ) →
+        RetypesBox old new n name path number text now k after steps steps' b →
+        places_of (fan_hops new.web node outlet) ≡ places_of (filter (is_left b.gone.items) (fan_hops old.web node outlet)) }
 {}
 
 /// The counts with the new box are those of the tree with it.
