@@ -66,6 +66,7 @@ carried cmd o part from to x y e c is = record {
     same = λ more. e (from (choices_of c.edits ++ more)) ∙ c.same more;
     took = c.took;
     lawful = c.lawful;
+    by_folder = c.by_folder;
   };
   answer = is;
 }

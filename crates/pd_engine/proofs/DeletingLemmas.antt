@@ -119,8 +119,8 @@ module _ (path : List ℕ) (number : ℕ) (file : List ℕ) (names : Names) (fil
       looks = refl;
     }
 
-    pub gone_told : Told wanted (from []) (stage_with file new names (base_of files b.counts) time block_end fired tally) told Done steps steps'
-    gone_told = record {
+    pub gone_told : (holds : Option (List FileRow)) → Told holds wanted (from []) (stage_with file new names (base_of files b.counts) time block_end fired tally) told Done steps steps'
+    gone_told holds = record {
       came = record { choice = stage.Makes gone; may = gone_is; text_is = refl; stage = λ m. refl; answer = refl; loads_are = refl };
       few = (refl, refl, few_looks old new counts names path number steps steps' b d);
     }
@@ -130,8 +130,8 @@ module _ (path : List ℕ) (number : ℕ) (file : List ℕ) (names : Names) (fil
   left = stage_with file new names (base_of files counts) time block_end fired tally
 
   pub left_told : (cause : EditRefusal) (steps steps' : ℕ) → steps' ≡ steps → CanRewire new → IsNotDeleted old new path number cause
-      → Told wanted (from []) left (edit_text new (Err cause)) (edit_outcome (Err cause)) steps steps'
-  left_told cause steps steps' looks rewires (inl d) = record {
+      → (holds : Option (List FileRow)) → Told holds wanted (from []) left (edit_text new (Err cause)) (edit_outcome (Err cause)) steps steps'
+  left_told cause steps steps' looks rewires (inl d) holds = record {
     came = record {
       choice = stage.Refuses (why_of cause);
       may = record { patch = old; cause = cause; stands = stands; refused = d.1; reason_is = refl };
@@ -142,7 +142,7 @@ module _ (path : List ℕ) (number : ℕ) (file : List ℕ) (names : Names) (fil
     };
     few = (refl, faultless old path number cause d.1, omega (arith, looks));
   }
-  left_told cause steps steps' looks rewires (inr d) = record {
+  left_told cause steps steps' looks rewires (inr d) holds = record {
     came = record {
       choice = stage.Lacks (net_of new);
       may = record { old = old; new = new; stands = stands; short = d.1; rewires = rewires; net_is = refl };
@@ -156,7 +156,7 @@ module _ (path : List ℕ) (number : ℕ) (file : List ℕ) (names : Names) (fil
 
   -- it was told, and this is answered; names are as before
   module _ {E : Type 0} (r : Result Outcome E) (t t' : Option (List ℕ)) (to : List Choice → Stage) (names' : Names) (same : names' ≡ names) (counts' : Counts) (text : List ℕ) (outcome : Outcome) (k k' : ℕ)
-      (told : Told wanted (from []) (stage_with file new names (base_of files counts') time block_end fired tally) text outcome k k')
+      (told : (holds : Option (List FileRow)) → Told holds wanted (from []) (stage_with file new names (base_of files counts') time block_end fired tally) text outcome k k')
       (stays : to ≡ stage_with file new names' (base_of files counts') time block_end fired tally) where
     abbrev there : List Choice → Stage
     there = stage_with file new names (base_of files counts') time block_end fired tally
@@ -169,11 +169,11 @@ module _ (path : List ℕ) (number : ℕ) (file : List ℕ) (names : Names) (fil
     so o said answer samples held faults =
         subst (λ (x : List Choice → Stage). IsEdited path (edit.Delete number) o [] from x (sinks t samples k held faults) (sinks t' samples k' held faults)) (sym leads)
         (subst (λ (x : Outcome). IsEdited path (edit.Delete number) x [] from there (sinks t samples k held faults) (sinks t' samples k' held faults)) (sym answer)
-        (told_so wanted (from []) there text outcome t t' samples k k' held faults told said))
+        (told_so wanted (from []) there text outcome t t' samples k k' held faults (told held) said))
 
     pub deleted_so : OnOk r (t' ≡ grown t text) → IfOk r (λ o. o ≡ outcome)
         → IfOk r (λ o. (samples : Option (List ℕ)) (held : Option (List FileRow)) (faults : ℕ) → IsEdited path (edit.Delete number) o [] from to (sinks t samples k held faults) (sinks t' samples k' held faults))
     deleted_so said is = both_ok r (λ o a b samples held faults. so o a b samples held faults) said is
 
     pub deleted_part : OnErr r (TookPart t t' text) → OnErr r (SaysPart (edit_taken wanted) from t t' k k')
-    deleted_part part = on_err_weaker r (λ a samples held faults. told_part wanted (from []) there text outcome t t' samples k k' held faults told a) part
+    deleted_part part = on_err_weaker r (λ a samples held faults. told_part wanted (from []) there text outcome t t' samples k k' held faults (told held) a) part

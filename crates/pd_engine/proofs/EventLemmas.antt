@@ -41,6 +41,7 @@ delivers s s' w queue t₁ t₂ u k h f kept says file net base time block_end f
       ∙ ap (λ (i : List Item). record { stage = with_ahead s' more; items = i; edits = [] }) (sym (append-nil (said w.said)));
   took = took_said t₁ t₂ u k h f w.said says;
   lawful = tt;
+  by_folder = tt;
 }
 
 -- where an event goes on, with what is left of it

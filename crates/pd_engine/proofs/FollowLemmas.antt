@@ -63,6 +63,7 @@ module _ (wanted : Wanted) (from to : List Choice → Stage) (x y : Sinks) (c : 
         ∙ ap (λ (p : Passage). followed_by p g) (c.same more) ∙ after-joined c.items c.edits (still (to more)) (g (to more));
     took = c.took;
     lawful = c.lawful;
+    by_folder = c.by_folder;
   }
 
 -- it broke off
@@ -76,6 +77,7 @@ taken_breaks wanted l rest from x y a = record {
       begins_more a.items a.edits (edit_taken wanted s) (loaded_by all_loaded (loads_of_choice (first_choice s.ahead)) l rest (edit_taken wanted s).stage) (a.begins more);
   took = a.took;
   lawful = a.lawful;
+  by_folder = a.by_folder;
 }
 
 -- ---- an edit that is an event

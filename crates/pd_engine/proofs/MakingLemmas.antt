@@ -25,7 +25,7 @@ use Rattle.pd_say.specs.declared.refusals.Request.TheVariants as request
 use Rattle.pd_say.specs.declared.refusals.Why.{Why}
 use Rattle.pd_wiring.specs.Changes.{CanRewire, SameButRoom, StaysButWire}
 use Rattle.pd_boxes.specs.Room.{SameButRoom as RoomSet}
-use Rattle.pd_putting.specs.Adds.{AddsBox, IsNotPut, IsShortOfRoom, put_looks}
+use Rattle.pd_putting.specs.Adds.{AddsBoxBy, IsNotPutBy, IsShortOfRoomBy, put_looks}
 use Rattle.pd_putting.specs.declared.adding.NewBox.{NewBox}
 use Rattle.pd_gather.specs.Gather.{known}
 use Rattle.pd_library.specs.declared.answers.Answer.{Answer}
@@ -40,7 +40,7 @@ use Rattle.pd_hearing.specs.Worlds.{net_of, states_of}
 use Rattle.pd_stage.specs.Choices.{Base, base_of, Wanted, Edits, Asks, Saves, Undoes, Redoes, Made, Choice, text_of_choice, loads_of_choice, looks_of_choice, faults_of_choice, faults_of_why, request_of}
 use Rattle.pd_stage.specs.Choices as stage
 use Rattle.pd_stage.specs.Stages.{Stage, Passage, still, with_ahead, after}
-use Rattle.pd_stage.specs.Lawful.{why_of, StandsAt, with_wire_count, IsMade, IsRewiringLawful, IsPutIn, IsPutLawful, IsEditLawful, MayCome}
+use Rattle.pd_stage.specs.Lawful.{why_of, StandsAt, with_wire_count, IsMade, IsRewiringLawful, IsPutInBy, IsPutLawfulBy, IsEditLawfulBy, MayComeBy}
 use Rattle.pd_stage.specs.Lines.{loops_text, put_text, loads_inside}
 use Rattle.pd_stage.specs.Leads.{Sinks, sinks, Took, Comes, Stops, SaysPart}
 use Rattle.pd_stage.specs.Events.{edit_taken, stage_by, files_put, with_net}
@@ -60,10 +60,10 @@ use Rattle.pd_engine.proofs.CameLemmas.{came_clocks}
 
 -- ---- one choice, and where it leads
 
--- an edit that finds this stage comes to a choice, which says these lines, leads there, is answered so, and has these boxes loaded behind it
-pub record Came (wanted : Wanted) (s : Stage) (to : List Choice → Stage) (text : List ℕ) (o : Outcome) (loads : List ℕ) : Type 0 where
+-- an edit that finds this stage, and this in the folder, where it is told, comes to a choice, which says these lines, leads there, is answered so, and has these boxes loaded behind it
+pub record Came (holds : Option (List FileRow)) (wanted : Wanted) (s : Stage) (to : List Choice → Stage) (text : List ℕ) (o : Outcome) (loads : List ℕ) : Type 0 where
   pub choice : Choice
-  pub may : MayCome wanted (with_ahead s []) choice
+  pub may : MayComeBy holds wanted (with_ahead s []) choice
   pub text_is : text_of_choice wanted choice ≡ text
   pub stage : (m : List Choice) → stage_by (with_ahead s m) choice ≡ to m
   pub answer : outcome_of choice ≡ o
@@ -77,10 +77,11 @@ ends_at part from to to' x y e c = record {
   same = λ more. c.same more ∙ ap (λ (r : Stage). after c.items c.edits (still r)) (e more);
   took = c.took;
   lawful = c.lawful;
+  by_folder = c.by_folder;
 }
 
 -- it was taken
-module _ (wanted : Wanted) (s : Stage) (to : List Choice → Stage) (text : List ℕ) (o : Outcome) (loads : List ℕ) (c : Came wanted s to text o loads) (x : Sinks)
+module _ (wanted : Wanted) (s : Stage) (to : List Choice → Stage) (text : List ℕ) (o : Outcome) (loads : List ℕ) (x : Sinks) (c : Came x.held wanted s to text o loads)
     (t t' u : Option (List ℕ)) (k : ℕ) (h : Option (List FileRow)) (f : ℕ) (took : Took x (sinks t u k h f) (files_put c.choice) (taken_at wanted s c.choice ∷ [])) where
   pub came_so : t' ≡ grown t text → IsTakenSo wanted o loads (with_ahead s) to x (sinks t' u k h f)
   came_so said =
@@ -101,20 +102,20 @@ FewLooks c k k' = (files_put c ≡ []) × (faults_of_choice c ≡ 0) × (k' ≤ 
 few_took : (wanted : Wanted) (s : Stage) (c : Choice) (t u : Option (List ℕ)) (k k' : ℕ) (h : Option (List FileRow)) (f : ℕ) → FewLooks c k k'
     → Took (sinks t u k h f) (sinks t u k' h f) (files_put c) (taken_at wanted s c ∷ [])
 few_took wanted s c t u k k' h f few =
-    subst (λ i. Took (sinks t u k h f) (sinks t u k' h f) i (taken_at wanted s c ∷ [])) (sym few.0) (took_looks t u k k' h f (taken_at wanted s c) few.1 few.2)
+    subst (λ i. Took (sinks t u k h f) (sinks t u k' h f) i (taken_at wanted s c ∷ [])) (sym few.0) (took_looks t u k k' h f (taken_at wanted s c) few.0 few.1 few.2)
 
 -- it comes to a choice, with no more looks than that may take, and no box is loaded behind it
-pub record Told (wanted : Wanted) (s : Stage) (to : List Choice → Stage) (text : List ℕ) (o : Outcome) (looks looks' : ℕ) : Type 0 where
-  pub came : Came wanted s to text o []
+pub record Told (holds : Option (List FileRow)) (wanted : Wanted) (s : Stage) (to : List Choice → Stage) (text : List ℕ) (o : Outcome) (looks looks' : ℕ) : Type 0 where
+  pub came : Came holds wanted s to text o []
   pub few : FewLooks came.choice looks looks'
 
 module _ (wanted : Wanted) (s : Stage) (to : List Choice → Stage) (text : List ℕ) (o : Outcome) (t t' u : Option (List ℕ)) (k k' : ℕ) (h : Option (List FileRow)) (f : ℕ)
-    (c : Told wanted s to text o k k') where
+    (c : Told h wanted s to text o k k') where
   pub told_so : t' ≡ grown t text → IsTakenSo wanted o [] (with_ahead s) to (sinks t u k h f) (sinks t' u k' h f)
-  told_so said = came_so wanted s to text o [] c.came (sinks t u k h f) t t' u k' h f (few_took wanted s c.came.choice t u k k' h f c.few) said
+  told_so said = came_so wanted s to text o [] (sinks t u k h f) c.came t t' u k' h f (few_took wanted s c.came.choice t u k k' h f c.few) said
 
   pub told_part : TookPart t t' text → Stops (edit_taken wanted) (with_ahead s) (sinks t u k h f) (sinks t' u k' h f)
-  told_part part = came_part wanted s to text o [] c.came (sinks t u k h f) t t' u k' h f (few_took wanted s c.came.choice t u k k' h f c.few) part
+  told_part part = came_part wanted s to text o [] (sinks t u k h f) c.came t t' u k' h f (few_took wanted s c.came.choice t u k k' h f c.few) part
 
 -- ---- no edit is planned to be refused for a fault of the folder
 
@@ -192,37 +193,37 @@ plan_stays (Attaches c l) p q h = (l.source, h.rest)
 plan_stays (Detaches c key l) p q h = (l.source, h.rest)
 
 -- what an edit of wires comes to
-edit_may : (s : Stage) (path : List ℕ) (e f : Edit) (c : Choice) → wire_edit e ≡ Some f → IsRewiringLawful s path e c → IsEditLawful s path e c
-edit_may s path (edit.Connect v) f c some h = h
-edit_may s path (edit.Disconnect v) f c some h = h
-edit_may s path (edit.Delete n) f c some h = cc
-edit_may s path (edit.Retype n text) f c some h = cc
-edit_may s path (edit.Move n x y) f c some h = cc
-edit_may s path (edit.Obj x y text) f c some h = cc
-edit_may s path (edit.Msg x y text) f c some h = cc
-edit_may s path (edit.Comment x y text) f c some h = cc
-edit_may s path (edit.FloatBox x y text) f c some h = cc
-edit_may s path (edit.SymbolBox x y text) f c some h = cc
-edit_may s path (edit.Sub x y name) f c some h = cc
+edit_may : (holds : Option (List FileRow)) (s : Stage) (path : List ℕ) (e f : Edit) (c : Choice) → wire_edit e ≡ Some f → IsRewiringLawful s path e c → IsEditLawfulBy holds s path e c
+edit_may holds s path (edit.Connect v) f c some h = h
+edit_may holds s path (edit.Disconnect v) f c some h = h
+edit_may holds s path (edit.Delete n) f c some h = cc
+edit_may holds s path (edit.Retype n text) f c some h = cc
+edit_may holds s path (edit.Move n x y) f c some h = cc
+edit_may holds s path (edit.Obj x y text) f c some h = cc
+edit_may holds s path (edit.Msg x y text) f c some h = cc
+edit_may holds s path (edit.Comment x y text) f c some h = cc
+edit_may holds s path (edit.FloatBox x y text) f c some h = cc
+edit_may holds s path (edit.SymbolBox x y text) f c some h = cc
+edit_may holds s path (edit.Sub x y name) f c some h = cc
 
 -- where the edit puts a box, what may come is what may come of that
-put_may : (s : Stage) (path : List ℕ) (e : Edit) (c : Choice) → puts_box e ≡ true → IsPutLawful s path e c → IsEditLawful s path e c
-put_may s path (edit.Connect v) c one h = cc
-put_may s path (edit.Disconnect v) c one h = cc
-put_may s path (edit.Delete n) c one h = cc
-put_may s path (edit.Retype n text) c one h = cc
-put_may s path (edit.Move n x y) c one h = cc
-put_may s path (edit.Obj x y text) c one h = h
-put_may s path (edit.Msg x y text) c one h = h
-put_may s path (edit.Comment x y text) c one h = h
-put_may s path (edit.FloatBox x y text) c one h = h
-put_may s path (edit.SymbolBox x y text) c one h = h
-put_may s path (edit.Sub x y name) c one h = h
+put_may : (holds : Option (List FileRow)) (s : Stage) (path : List ℕ) (e : Edit) (c : Choice) → puts_box e ≡ true → IsPutLawfulBy holds s path e c → IsEditLawfulBy holds s path e c
+put_may holds s path (edit.Connect v) c one h = cc
+put_may holds s path (edit.Disconnect v) c one h = cc
+put_may holds s path (edit.Delete n) c one h = cc
+put_may holds s path (edit.Retype n text) c one h = cc
+put_may holds s path (edit.Move n x y) c one h = cc
+put_may holds s path (edit.Obj x y text) c one h = h
+put_may holds s path (edit.Msg x y text) c one h = h
+put_may holds s path (edit.Comment x y text) c one h = h
+put_may holds s path (edit.FloatBox x y text) c one h = h
+put_may holds s path (edit.SymbolBox x y text) c one h = h
+put_may holds s path (edit.Sub x y name) c one h = h
 
 -- it makes no difference whether a command or a message asks for it
-own_may : (wanted : Wanted) (s : Stage) (path : List ℕ) (e : Edit) (c : Choice) → IsOwn wanted path e → IsEditLawful s path e c → MayCome wanted s c
-own_may wanted s path e c (inl is) h = subst (λ (w : Wanted). MayCome w s c) (sym is) h
-own_may wanted s path e c (inr is) h = subst (λ (w : Wanted). MayCome w s c) (sym is) h
+own_may : (holds : Option (List FileRow)) (wanted : Wanted) (s : Stage) (path : List ℕ) (e : Edit) (c : Choice) → IsOwn wanted path e → IsEditLawfulBy holds s path e c → MayComeBy holds wanted s c
+own_may holds wanted s path e c (inl is) h = subst (λ (w : Wanted). MayComeBy holds w s c) (sym is) h
+own_may holds wanted s path e c (inr is) h = subst (λ (w : Wanted). MayComeBy holds w s c) (sym is) h
 
 own_request : (wanted : Wanted) (path : List ℕ) (e : Edit) → IsOwn wanted path e → request_of wanted ≡ request.Edit
 own_request wanted path e (inl is) = ap request_of is
@@ -246,19 +247,19 @@ outcome_by refusal.NoMemory = refl
 
 -- an edit by which wires alone may change, and which is told as an edit
 pub record IsWireEdit (wanted : Wanted) (path : List ℕ) (e : Edit) : Type 0 where
-  pub may : (s : Stage) (c : Choice) → IsRewiringLawful s path e c → MayCome wanted s c
+  pub may : (holds : Option (List FileRow)) (s : Stage) (c : Choice) → IsRewiringLawful s path e c → MayComeBy holds wanted s c
   pub request : request_of wanted ≡ request.Edit
 
 pub own_wire : (wanted : Wanted) (path : List ℕ) (e f : Edit) → IsOwn wanted path e → wire_edit e ≡ Some f → IsWireEdit wanted path e
-own_wire wanted path e f own some = record { may = λ s c h. own_may wanted s path e c own (edit_may s path e f c some h); request = own_request wanted path e own }
+own_wire wanted path e f own some = record { may = λ holds s c h. own_may holds wanted s path e c own (edit_may holds s path e f c some h); request = own_request wanted path e own }
 
 -- an edit that puts a box, and which is told as an edit
 pub record IsBoxEdit (wanted : Wanted) (path : List ℕ) (e : Edit) : Type 0 where
-  pub may : (s : Stage) (c : Choice) → IsPutLawful s path e c → MayCome wanted s c
+  pub may : (holds : Option (List FileRow)) (s : Stage) (c : Choice) → IsPutLawfulBy holds s path e c → MayComeBy holds wanted s c
   pub request : request_of wanted ≡ request.Edit
 
 pub own_box : (wanted : Wanted) (path : List ℕ) (e : Edit) → IsOwn wanted path e → puts_box e ≡ true → IsBoxEdit wanted path e
-own_box wanted path e own one = record { may = λ s c h. own_may wanted s path e c own (put_may s path e c one h); request = own_request wanted path e own }
+own_box wanted path e own one = record { may = λ holds s c h. own_may holds wanted s path e c own (put_may holds s path e c one h); request = own_request wanted path e own }
 
 module _ (wanted : Wanted) (path : List ℕ) (e : Edit) (is : IsWireEdit wanted path e) (file : List ℕ) (names : Names) (base : Base) (time block_end fired : ℕ) (tally : Tally)
     (old new : Patch) (wires : ℕ) (was : base.counts.wires ≡ wires_told old.web) (now_is : wires ≡ wires_told new.web) where
@@ -316,17 +317,17 @@ module _ (wanted : Wanted) (path : List ℕ) (e : Edit) (is : IsWireEdit wanted 
       room ∙ ap (λ (b : Base). at new b m) (as_many (same_are_as_many old.web new.web same.web))
 
   -- what an edit came to, with its looks
-  abbrev pub Edited : Result ℕ EditRefusal → (looks looks' : ℕ) → Type 0
-  Edited r looks looks' = Told wanted (at old base []) (at new counted) (edit_text new r) (edit_outcome r) looks looks'
+  abbrev pub Edited : Option (List FileRow) → Result ℕ EditRefusal → (looks looks' : ℕ) → Type 0
+  Edited holds r looks looks' = Told holds wanted (at old base []) (at new counted) (edit_text new r) (edit_outcome r) looks looks'
 
   refusal_is : (c : EditRefusal) → refusal_text (request_of wanted) (why_of c) ≡ refusal_text request.Edit (why_of c)
   refusal_is c = ap (λ (r : Request). refusal_text r (why_of c)) is.request
 
-  short_so : (cause : EditRefusal) (looks looks' : ℕ) → IsReady old → CanRewire new → looks' ≡ looks → Lacks old new path e cause → Edited (Err cause) looks looks'
-  short_so cause looks looks' before now same d = record {
+  short_so : (holds : Option (List FileRow)) (cause : EditRefusal) (looks looks' : ℕ) → IsReady old → CanRewire new → looks' ≡ looks → Lacks old new path e cause → Edited holds (Err cause) looks looks'
+  short_so holds cause looks looks' before now same d = record {
     came = record {
       choice = stage.Lacks (net_of new);
-      may = is.may (at old base []) (stage.Lacks (net_of new))
+      may = is.may holds (at old base []) (stage.Lacks (net_of new))
           (record { old = old; new = new; plan = d.plan; stands = stands before; is_planned = d.is_planned; same = d.same; rewires = now; net_is = refl });
       text_is = ap (λ (c : EditRefusal). refusal_text (request_of wanted) (why_of c)) (sym d.short) ∙ refusal_is cause;
       stage = λ m. short_stage m d.same;
@@ -336,11 +337,11 @@ module _ (wanted : Wanted) (path : List ℕ) (e : Edit) (is : IsWireEdit wanted 
     few = (refl, refl, omega arith);
   }
 
-  refused_so : (cause : EditRefusal) (looks looks' : ℕ) → IsReady old → looks' ≡ looks → Refuses old new path e cause → Edited (Err cause) looks looks'
-  refused_so cause looks looks' before same d = record {
+  refused_so : (holds : Option (List FileRow)) (cause : EditRefusal) (looks looks' : ℕ) → IsReady old → looks' ≡ looks → Refuses old new path e cause → Edited holds (Err cause) looks looks'
+  refused_so holds cause looks looks' before same d = record {
     came = record {
       choice = stage.Refuses (why_of cause);
-      may = is.may (at old base []) (stage.Refuses (why_of cause)) (record { patch = old; cause = cause; stands = stands before; is_planned = d.is_planned; reason_is = refl });
+      may = is.may holds (at old base []) (stage.Refuses (why_of cause)) (record { patch = old; cause = cause; stands = stands before; is_planned = d.is_planned; reason_is = refl });
       text_is = refusal_is cause;
       stage = λ m. ap (λ (p : Patch). at p base m) (sym d.same) ∙ ap (λ (b : Base). at new b m) (as_many (ap (λ (p : Patch). wires_told p.web) d.same));
       answer = outcome_by cause;
@@ -349,11 +350,11 @@ module _ (wanted : Wanted) (path : List ℕ) (e : Edit) (is : IsWireEdit wanted 
     few = (refl, faultless old path e cause d.is_planned, omega arith);
   }
 
-  pub edited : (r : Result ℕ EditRefusal) (looks looks' : ℕ) → IsReady old → CanRewire new → EditsTo old new path e r looks looks' → Edited r looks looks'
-  edited (Ok canvas) looks looks' before now d = record {
+  pub edited : (holds : Option (List FileRow)) (r : Result ℕ EditRefusal) (looks looks' : ℕ) → IsReady old → CanRewire new → EditsTo old new path e r looks looks' → Edited holds r looks looks'
+  edited holds (Ok canvas) looks looks' before now d = record {
     came = record {
       choice = stage.Makes (made canvas looks looks' d);
-      may = is.may (at old base []) (stage.Makes (made canvas looks looks' d)) (made_may canvas looks looks' before d);
+      may = is.may holds (at old base []) (stage.Makes (made canvas looks looks' d)) (made_may canvas looks looks' before d);
       text_is = refl;
       stage = λ m. ap (λ (n : ℕ). at new (with_wire_count base n) m) (sym now_is);
       answer = refl;
@@ -361,8 +362,8 @@ module _ (wanted : Wanted) (path : List ℕ) (e : Edit) (is : IsWireEdit wanted 
     };
     few = (refl, refl, d.few_looks);
   }
-  edited (Err cause) looks looks' before now (same, inl d) = short_so cause looks looks' before now same d
-  edited (Err cause) looks looks' before now (same, inr d) = refused_so cause looks looks' before same d
+  edited holds (Err cause) looks looks' before now (same, inl d) = short_so holds cause looks looks' before now same d
+  edited holds (Err cause) looks looks' before now (same, inr d) = refused_so holds cause looks looks' before same d
 
 -- it was told
 module _ {E : Type 0} (r : Result Outcome E) (wanted : Wanted) (path : List ℕ) (e : Edit) (is : IsWireEdit wanted path e) (file : List ℕ) (names : Names) (base : Base) (time block_end fired : ℕ) (tally : Tally)
@@ -375,14 +376,14 @@ module _ {E : Type 0} (r : Result Outcome E) (wanted : Wanted) (path : List ℕ)
   abbrev there : List Choice → Stage
   there = stage_with file new names (with_wire_count base wires) time block_end fired tally
 
-  told : Told wanted (from []) there (edit_text new done) (edit_outcome done) k k'
-  told = edited wanted path e is file names base time block_end fired tally old new wires was now_is done k k' before now edits
+  told : (holds : Option (List FileRow)) → Told holds wanted (from []) there (edit_text new done) (edit_outcome done) k k'
+  told holds = edited wanted path e is file names base time block_end fired tally old new wires was now_is holds done k k' before now edits
 
   so : t' ≡ grown t (edit_text new done) → (samples : Option (List ℕ)) (held : Option (List FileRow)) (faults : ℕ)
       → IsTakenSo wanted (edit_outcome done) [] from to (sinks t samples k held faults) (sinks t' samples k' held faults)
   so said samples held faults =
       subst (λ (x : List Choice → Stage). IsTakenSo wanted (edit_outcome done) [] from x (sinks t samples k held faults) (sinks t' samples k' held faults)) (sym stands)
-      (told_so wanted (from []) there (edit_text new done) (edit_outcome done) t t' samples k k' held faults told said)
+      (told_so wanted (from []) there (edit_text new done) (edit_outcome done) t t' samples k k' held faults (told held) said)
 
   pub edit_so : (o : Outcome) → t' ≡ grown t (edit_text new done) → o ≡ edit_outcome done → (samples : Option (List ℕ)) (held : Option (List FileRow)) (faults : ℕ)
       → IsTakenSo wanted o [] from to (sinks t samples k held faults) (sinks t' samples k' held faults)
@@ -391,7 +392,7 @@ module _ {E : Type 0} (r : Result Outcome E) (wanted : Wanted) (path : List ℕ)
 
   pub part_edit : TookPart t t' (edit_text new done) → SaysPart (edit_taken wanted) from t t' k k'
   part_edit part = λ samples held faults.
-      told_part wanted (from []) there (edit_text new done) (edit_outcome done) t t' samples k k' held faults told part
+      told_part wanted (from []) there (edit_text new done) (edit_outcome done) t t' samples k k' held faults (told held) part
 
   pub edited_so : OnOk r (t' ≡ grown t (edit_text new done)) → IfOk r (λ o. o ≡ edit_outcome done)
       → IfOk r (λ o. (samples : Option (List ℕ)) (held : Option (List FileRow)) (faults : ℕ) → IsTakenSo wanted o [] from to (sinks t samples k held faults) (sinks t' samples k' held faults))
@@ -465,14 +466,14 @@ module _ (old new : Patch) (path : List ℕ) (e : Edit) (cause : EditRefusal) wh
 
 -- ---- what is refused whatever the patch is
 
-always_may : (wanted : Wanted) (reason : Why) (s : Stage) → IsAlwaysRefused wanted reason → MayCome wanted s (stage.Refuses reason)
-always_may (Edits None path e) reason s h = absurd h
-always_may (Asks path e) reason s h = absurd h
-always_may (Edits (Some document) path e) reason s h = ap (λ (w : Why). stage.Refuses w) h
-always_may (Saves None) reason s h = absurd h
-always_may (Saves (Some document)) reason s h = ap (λ (w : Why). stage.Refuses w) h
-always_may Undoes reason s h = ap (λ (w : Why). stage.Refuses w) h
-always_may Redoes reason s h = ap (λ (w : Why). stage.Refuses w) h
+always_may : (holds : Option (List FileRow)) (wanted : Wanted) (reason : Why) (s : Stage) → IsAlwaysRefused wanted reason → MayComeBy holds wanted s (stage.Refuses reason)
+always_may holds (Edits None path e) reason s h = absurd h
+always_may holds (Asks path e) reason s h = absurd h
+always_may holds (Edits (Some document) path e) reason s h = ap (λ (w : Why). stage.Refuses w) h
+always_may holds (Saves None) reason s h = absurd h
+always_may holds (Saves (Some document)) reason s h = ap (λ (w : Why). stage.Refuses w) h
+always_may holds Undoes reason s h = ap (λ (w : Why). stage.Refuses w) h
+always_may holds Redoes reason s h = ap (λ (w : Why). stage.Refuses w) h
 
 always_faultless : (wanted : Wanted) (reason : Why) → IsAlwaysRefused wanted reason → faults_of_why reason ≡ 0
 always_faultless (Edits None path e) reason h = absurd h
@@ -484,9 +485,9 @@ always_faultless Undoes reason h = ap faults_of_why h
 always_faultless Redoes reason h = ap faults_of_why h
 
 pub always_told : (wanted : Wanted) (reason : Why) (s : Stage) (o : Outcome) (looks : ℕ) → IsAlwaysRefused wanted reason → o ≡ refused_as reason
-    → Told wanted s (with_ahead s) (refusal_text (request_of wanted) reason) o looks looks
-always_told wanted reason s o looks h is = record {
-  came = record { choice = stage.Refuses reason; may = always_may wanted reason (with_ahead s []) h; text_is = refl; stage = λ m. refl; answer = sym is; loads_are = refl };
+    → (holds : Option (List FileRow)) → Told holds wanted s (with_ahead s) (refusal_text (request_of wanted) reason) o looks looks
+always_told wanted reason s o looks h is holds = record {
+  came = record { choice = stage.Refuses reason; may = always_may holds wanted reason (with_ahead s []) h; text_is = refl; stage = λ m. refl; answer = sym is; loads_are = refl };
   few = (refl, always_faultless wanted reason h, omega arith);
 }
 
@@ -512,7 +513,7 @@ module _ (wanted : Wanted) (path : List ℕ) (e : Edit) (is : IsBoxEdit wanted p
   stands_before ready = record { net = refl; states = refl; puts = ready.puts; meet = ready.meet }
 
   -- it was put
-  module _ (more : Names) (learned : List (ℕ × Answer)) (b : NewBox) (ready : IsReady old) (d : AddsBox old new counts file path time e (known files names) (known learned more) b)
+  module _ (holds : Option (List FileRow)) (more : Names) (learned : List (ℕ × Answer)) (b : NewBox) (ready : IsReady old) (d : AddsBoxBy holds old new counts file path time e (known files names) (known learned more) b)
       (onward : Extends names more) (within : AreWithin b.counts) where
     abbrev pub put_made : Made
     put_made = record {
@@ -527,7 +528,7 @@ module _ (wanted : Wanted) (path : List ℕ) (e : Edit) (is : IsBoxEdit wanted p
       looks = put_looks new b.key;
     }
 
-    pub put_is : IsPutIn (before []) path e put_made
+    pub put_is : IsPutInBy holds (before []) path e put_made
     put_is = record {
       old = old;
       new = new;
@@ -548,10 +549,10 @@ module _ (wanted : Wanted) (path : List ℕ) (e : Edit) (is : IsBoxEdit wanted p
       looks = refl;
     }
 
-    abbrev pub put_came : Came wanted (before []) (stage_with file new more (base_of learned b.counts) time block_end fired tally) (put_text more new b.key b.canvas) Done (loads_inside new b.key)
+    abbrev pub put_came : Came holds wanted (before []) (stage_with file new more (base_of learned b.counts) time block_end fired tally) (put_text more new b.key b.canvas) Done (loads_inside new b.key)
     put_came = record {
       choice = stage.Makes put_made;
-      may = is.may (before []) (stage.Makes put_made) put_is;
+      may = is.may holds (before []) (stage.Makes put_made) put_is;
       text_is = refl;
       stage = λ m. ap (λ (c : List Clock). record (stage_with file new more (base_of learned b.counts) time block_end fired tally m) { clocks = c }) (sym (came_clocks old new time d.added b.key d.put));
       answer = refl;
@@ -562,11 +563,11 @@ module _ (wanted : Wanted) (path : List ℕ) (e : Edit) (is : IsBoxEdit wanted p
   pub request_is : (c : EditRefusal) → refusal_text (request_of wanted) (why_of c) ≡ refusal_text request.Edit (why_of c)
   request_is c = ap (λ (r : Request). refusal_text r (why_of c)) is.request
 
-  abbrev pub refused_came : (cause : EditRefusal) → IsReady old → new ≡ old → IsNotPut old counts file path e (known files names) cause
-      → Came wanted (before []) (stage_with file new names (base_of files counts) time block_end fired tally) (refusal_text request.Edit (why_of cause)) (edit_outcome (Err cause)) []
-  refused_came cause ready same d = record {
+  abbrev pub refused_came : (holds : Option (List FileRow)) (cause : EditRefusal) → IsReady old → new ≡ old → IsNotPutBy holds old counts file path e (known files names) cause
+      → Came holds wanted (before []) (stage_with file new names (base_of files counts) time block_end fired tally) (refusal_text request.Edit (why_of cause)) (edit_outcome (Err cause)) []
+  refused_came holds cause ready same d = record {
     choice = stage.Refuses (why_of cause);
-    may = is.may (before []) (stage.Refuses (why_of cause)) (record { patch = old; cause = cause; stands = stands_before ready; refused = d; reason_is = refl });
+    may = is.may holds (before []) (stage.Refuses (why_of cause)) (record { patch = old; cause = cause; stands = stands_before ready; refused = d; reason_is = refl });
     text_is = request_is cause;
     stage = λ m. ap (λ (p : Patch). stage_with file p names (base_of files counts) time block_end fired tally m) (sym same);
     answer = outcome_by cause;
@@ -574,11 +575,11 @@ module _ (wanted : Wanted) (path : List ℕ) (e : Edit) (is : IsBoxEdit wanted p
   }
 
   -- memory was wanting to put it
-  abbrev pub short_came : (cause : EditRefusal) → IsReady old → cause ≡ refusal.NoMemory → IsShortOfRoom old new counts file path e (known files names)
-      → Came wanted (before []) (stage_with file new names (base_of files counts) time block_end fired tally) (refusal_text request.Edit (why_of cause)) (edit_outcome (Err cause)) []
-  short_came cause ready short d = record {
+  abbrev pub short_came : (holds : Option (List FileRow)) (cause : EditRefusal) → IsReady old → cause ≡ refusal.NoMemory → IsShortOfRoomBy holds old new counts file path e (known files names)
+      → Came holds wanted (before []) (stage_with file new names (base_of files counts) time block_end fired tally) (refusal_text request.Edit (why_of cause)) (edit_outcome (Err cause)) []
+  short_came holds cause ready short d = record {
     choice = stage.Lacks (net_of new);
-    may = is.may (before []) (stage.Lacks (net_of new)) (record { old = old; new = new; stands = stands_before ready; short = d; net_is = refl });
+    may = is.may holds (before []) (stage.Lacks (net_of new)) (record { old = old; new = new; stands = stands_before ready; short = d; net_is = refl });
     text_is = ap (λ (c : EditRefusal). refusal_text (request_of wanted) (why_of c)) (sym short) ∙ request_is cause;
     stage = λ m. room_clocks file names (base_of files counts) time block_end fired tally old new d.room m;
     answer = ap (λ (c : EditRefusal). edit_outcome (Err c)) (sym short);

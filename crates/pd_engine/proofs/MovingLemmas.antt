@@ -127,8 +127,8 @@ module _ (path : List ℕ) (number : ℕ) (x y : ℤ) (file : List ℕ) (names :
       looks = refl;
     }
 
-    pub moved_told : (steps : ℕ) → Told wanted (from []) to told Done steps steps
-    moved_told steps = record {
+    pub moved_told : (steps : ℕ) (holds : Option (List FileRow)) → Told holds wanted (from []) to told Done steps steps
+    moved_told steps holds = record {
       came = record {
         choice = stage.Makes elsewhere;
         may = moved_is;
@@ -141,8 +141,8 @@ module _ (path : List ℕ) (number : ℕ) (x y : ℤ) (file : List ℕ) (names :
     }
 
   -- it was refused
-  pub stays_told : (cause : EditRefusal) (steps : ℕ) → IsNotMoved old new path number cause → Told wanted (from []) to (edit_text new (Err cause)) (edit_outcome (Err cause)) steps steps
-  stays_told cause steps (inl d) = record {
+  pub stays_told : (cause : EditRefusal) (steps : ℕ) → IsNotMoved old new path number cause → (holds : Option (List FileRow)) → Told holds wanted (from []) to (edit_text new (Err cause)) (edit_outcome (Err cause)) steps steps
+  stays_told cause steps (inl d) holds = record {
     came = record {
       choice = stage.Refuses (why_of cause);
       may = record { patch = old; cause = cause; stands = stands; refused = d.1; reason_is = refl };
@@ -153,7 +153,7 @@ module _ (path : List ℕ) (number : ℕ) (x y : ℤ) (file : List ℕ) (names :
     };
     few = (refl, faultless old path number cause d.1, omega arith);
   }
-  stays_told cause steps (inr d) = record {
+  stays_told cause steps (inr d) holds = record {
     came = record {
       choice = stage.Lacks (net_of new);
       may = record { old = old; new = new; stands = stands; short = d.1; rewires = d.1.goes_on.runs; net_is = refl };
@@ -167,7 +167,7 @@ module _ (path : List ℕ) (number : ℕ) (x y : ℤ) (file : List ℕ) (names :
 
   -- it was told, and this is answered
   module _ {E : Type 0} (r : Result Outcome E) (t t' : Option (List ℕ)) (there : List Choice → Stage) (text : List ℕ) (outcome : Outcome)
-      (told : (k : ℕ) → Told wanted (from []) to text outcome k k) (leads : there ≡ to) where
+      (told : (k : ℕ) (holds : Option (List FileRow)) → Told holds wanted (from []) to text outcome k k) (leads : there ≡ to) where
     abbrev pub Answered : Outcome → Type 0
     Answered o = (samples : Option (List ℕ)) (looks : ℕ) (held : Option (List FileRow)) (faults : ℕ)
         → IsEdited path (edit.Move number x y) o [] from there (sinks t samples looks held faults) (sinks t' samples looks held faults)
@@ -176,11 +176,11 @@ module _ (path : List ℕ) (number : ℕ) (x y : ℤ) (file : List ℕ) (names :
     so o said answer samples looks held faults =
         subst (λ (z : List Choice → Stage). IsEdited path (edit.Move number x y) o [] from z (sinks t samples looks held faults) (sinks t' samples looks held faults)) (sym leads)
         (subst (λ (z : Outcome). IsEdited path (edit.Move number x y) z [] from to (sinks t samples looks held faults) (sinks t' samples looks held faults)) (sym answer)
-        (told_so wanted (from []) to text outcome t t' samples looks looks held faults (told looks) said))
+        (told_so wanted (from []) to text outcome t t' samples looks looks held faults (told looks held) said))
 
     pub moved_so : OnOk r (t' ≡ grown t text) → IfOk r (λ o. o ≡ outcome) → IfOk r Answered
     moved_so said is = both_ok r so said is
 
     pub moved_part : OnErr r (TookPart t t' text) → OnErr r ((looks : ℕ) → SaysPart (edit_taken wanted) from t t' looks looks)
     moved_part part =
-        on_err_weaker r (λ a looks samples held faults. told_part wanted (from []) to text outcome t t' samples looks looks held faults (told looks) a) part
+        on_err_weaker r (λ a looks samples held faults. told_part wanted (from []) to text outcome t t' samples looks looks held faults (told looks held) a) part

@@ -39,6 +39,7 @@ use Rattle.pd_engine.specs.Refusals.{unread, ungathered, ungrown}
 use Rattle.pd_stage.specs.Choices.{Base, Choice}
 use Rattle.pd_stage.specs.Items.{Item, held_after}
 use Rattle.pd_stage.specs.Stages.{Stage, Taken, faults_of, Passage, still, saying}
+use Rattle.pd_stage.specs.Lawful.{held_behind, GoByFolder}
 use Rattle.pd_stage.specs.Leads.{RoseBy, Sinks, sinks, Took, Comes, Stops}
 use Rattle.pd_engine.specs.Stages.{stage_at}
 use Rattle.pd_stage.specs.Events.{event, Loading}
@@ -127,16 +128,16 @@ begins_at file p names base time end tally zero one none =
 took_unlooked : (t t' u : Option (List ℕ)) (k k' n : ℕ) (h h' : Option (List FileRow)) (f f' : ℕ) (items : List Item) (edits : List Taken) → Took (sinks t u k h f) (sinks t' u k' h' f') items edits
     → Took (sinks t u n h f) (sinks t' u n h' f') items edits
 took_unlooked t t' u k k' n h h' f f' items edits a =
-    record { lines_are = a.lines_are; samples_are = a.samples_are; few_looks = omega arith; held_are = a.held_are; few_faults = a.few_faults }
+    record { lines_are = a.lines_are; samples_are = a.samples_are; few_looks = omega arith; held_are = a.held_are; leaves = a.leaves; few_faults = a.few_faults }
 
 module _ (t t' u : Option (List ℕ)) (k k' n : ℕ) (h h' : Option (List FileRow)) (f f' : ℕ) where
   pub comes_unlooked : (part : Stage → Passage) (from to : List Choice → Stage) → Comes part from to (sinks t u k h f) (sinks t' u k' h' f') → Comes part from to (sinks t u n h f) (sinks t' u n h' f')
   comes_unlooked part from to a =
-      record { items = a.items; edits = a.edits; same = a.same; took = took_unlooked t t' u k k' n h h' f f' a.items a.edits a.took; lawful = a.lawful }
+      record { items = a.items; edits = a.edits; same = a.same; took = took_unlooked t t' u k k' n h h' f f' a.items a.edits a.took; lawful = a.lawful; by_folder = a.by_folder }
 
   pub stops_unlooked : (part : Stage → Passage) (from : List Choice → Stage) → Stops part from (sinks t u k h f) (sinks t' u k' h' f') → Stops part from (sinks t u n h f) (sinks t' u n h' f')
   stops_unlooked part from a =
-      record { items = a.items; edits = a.edits; begins = a.begins; took = took_unlooked t t' u k k' n h h' f f' a.items a.edits a.took; lawful = a.lawful }
+      record { items = a.items; edits = a.edits; begins = a.begins; took = took_unlooked t t' u k k' n h h' f f' a.items a.edits a.took; lawful = a.lawful; by_folder = a.by_folder }
 
 -- lines are said, and then boxes are loaded
 module _ (s s₂ : List Choice → Stage) (text boxes told : List ℕ) (t₁ t₂ u : Option (List ℕ)) (k : ℕ) (h : Option (List FileRow)) (f : ℕ) where
@@ -179,8 +180,12 @@ module _ (holds : Option (List FileRow)) (name : List ℕ) (rate : Rate) (d : Pa
     samples_are = a.samples_are;
     few_looks = a.few_looks;
     held_are = subst (λ (o : Option (List FileRow)). KeptOrUntold (held_after items o) o) same_folder (subst (λ (o : Option (List FileRow)). KeptOrUntold (held_after items h) o) still_same a.held_are);
+    leaves = subst (λ (o : Option (List FileRow)). KeptOrUntold o (held_behind edits o)) same_folder (subst (λ (o : Option (List FileRow)). KeptOrUntold o (held_behind edits h)) still_same a.leaves);
     few_faults = rose_from (faults_of edits) f g f' counted a.few_faults;
   }
+
+  all_go : (edits : List Taken) → GoByFolder h edits → GoByFolder holds edits
+  all_go edits g = subst (λ (o : Option (List FileRow)). GoByFolder o edits) same_folder g
 
   pub opens_so : (r : Result Engine OpenRefusal)
       → IfOk r (λ e. (looks : ℕ) (samples : Option (List ℕ)) → Comes (λ s. loaded s (remarks_text table p remarks) boxes) (first_stage name p table base) (stage_at e) (sinks t samples looks h g) (sinks t' samples looks h' f'))
@@ -194,7 +199,7 @@ module _ (holds : Option (List FileRow)) (name : List ℕ) (rate : Rate) (d : Pa
         let a : Comes (λ s. loaded s (remarks_text table p remarks) boxes) (first_stage name p table base) (stage_at e) (sinks t samples looks h g) (sinks t' samples looks h' f') = says looks samples in
         leads_same (λ m. loaded (first_stage name p table base m) (remarks_text table p remarks) boxes) (λ m. opening p table (first_stage name p table base m)) (λ m. still (stage_at e m)) _ _
         (λ m. sym (same (first_stage name p table base m)))
-        (record { items = a.items; edits = a.edits; same = a.same; took = took_all samples looks a.items a.edits a.took; lawful = a.lawful });
+        (record { items = a.items; edits = a.edits; same = a.same; took = took_all samples looks a.items a.edits a.took; lawful = a.lawful; by_folder = all_go a.edits a.by_folder });
   }
   opens_so (Err e) says = tt
 
@@ -212,7 +217,7 @@ module _ (holds : Option (List FileRow)) (name : List ℕ) (rate : Rate) (d : Pa
             let a : Stops (λ s. loaded s (remarks_text table p remarks) boxes) (first_stage name p table base) (sinks t samples looks h g) (sinks t' samples looks h' f') = took looks samples in
             broke_same (λ m. loaded (first_stage name p table base m) (remarks_text table p remarks) boxes) (λ m. opening p table (first_stage name p table base m)) _ _
             (λ m. sym (same (first_stage name p table base m)))
-            (record { items = a.items; edits = a.edits; begins = a.begins; took = took_all samples looks a.items a.edits a.took; lawful = a.lawful });
+            (record { items = a.items; edits = a.edits; begins = a.begins; took = took_all samples looks a.items a.edits a.took; lawful = a.lawful; by_folder = all_go a.edits a.by_folder });
         is = is;
       }))
 
@@ -232,6 +237,7 @@ module _ (holds held : Option (List FileRow)) (name : List ℕ) (rate : Rate) (f
     samples_are = a.samples_are;
     few_looks = a.few_looks;
     held_are = a.held_are;
+    leaves = a.leaves;
     few_faults = rose_from (faults_of edits) f g f' low a.few_faults;
   }
 
@@ -243,7 +249,7 @@ module _ (holds held : Option (List FileRow)) (name : List ℕ) (rate : Rate) (f
     grows = o.grows;
     says = λ looks samples.
         let a : Comes (opening o.patch o.table) (first_stage name o.patch o.table o.base) s (sinks t samples looks holds g) (sinks t' samples looks holds f') = o.says looks samples in
-        record { items = a.items; edits = a.edits; same = a.same; took = took_wider samples looks holds a.items a.edits a.took; lawful = a.lawful };
+        record { items = a.items; edits = a.edits; same = a.same; took = took_wider samples looks holds a.items a.edits a.took; lawful = a.lawful; by_folder = a.by_folder };
   }
 
   refused_wider : (e : OpenRefusal) → IsRefused holds name rate d names t t' g f' e → IsRefused holds name rate d names t t' f f' e
@@ -257,7 +263,7 @@ module _ (holds held : Option (List FileRow)) (name : List ℕ) (rate : Rate) (f
         grows = h.grows;
         took = λ looks samples.
             let a : Stops (opening h.patch h.table) (first_stage name h.patch h.table h.base) (sinks t samples looks holds g) (sinks t' samples looks holds f') = h.took looks samples in
-            record { items = a.items; edits = a.edits; begins = a.begins; took = took_wider samples looks holds a.items a.edits a.took; lawful = a.lawful };
+            record { items = a.items; edits = a.edits; begins = a.begins; took = took_wider samples looks holds a.items a.edits a.took; lawful = a.lawful; by_folder = a.by_folder };
         is = h.is;
       }))
 

@@ -18,7 +18,7 @@ use Rattle.pd_wiring.specs.declared.refusals.EditRefusal.TheVariants as refusal
 use Rattle.pd_adding.specs.declared.counts.Counts.{Counts}
 use Rattle.pd_adding.specs.Counts.{AreWithin}
 use Rattle.pd_gather.specs.Gather.{known}
-use Rattle.pd_putting.specs.Adds.{AddsBox, IsNotAdded, put_looks}
+use Rattle.pd_putting.specs.Adds.{AddsBoxBy, IsNotAddedBy, put_looks}
 use Rattle.pd_putting.specs.declared.adding.NewBox.{NewBox}
 use Rattle.pd_hearing.specs.Worlds.{net_of}
 use Rattle.pd_stage.specs.Choices.{base_of, Wanted, Asks, Choice, Refuses, Lacks, looks_of_choice}
@@ -28,6 +28,7 @@ use Rattle.pd_stage.specs.Lines.{put_text, loads_inside}
 use Rattle.pd_stage.specs.Leads.{RoseBy, Sinks, sinks, Took, Stops}
 use Rattle.pd_stage.specs.Events.{edit_taken, files_put}
 use Rattle.pd_stage.proofs.EditLemmas.{taken_at}
+use Rattle.pd_stage.proofs.FolderLemmas.{none_leaves}
 use Rattle.pd_stage.proofs.ItemLemmas.{no_lines, no_samples, held-none}
 use Rattle.pd_engine.specs.declared.refusals.Outcome.{Outcome}
 use Rattle.pd_engine.specs.declared.refusals.Outcome.TheVariants.{Done}
@@ -49,6 +50,7 @@ looking_took wanted s c t u k k' h h' f f' none few same rose =
       samples_are = no_samples u;
       few_looks = omega (arith, few);
       held_are = subst (λ (o : Option (List FileRow)). KeptOrUntold o h') (sym (held-none h)) (inl same);
+      leaves = none_leaves wanted c h h' none same;
       few_faults = rose;
     })
 
@@ -80,22 +82,22 @@ module _ (wanted : Wanted) (path : List ℕ) (e : Edit) (one : IsBoxEdit wanted 
   from = stage_with file old names (base_of files counts) time block_end fired tally
 
   -- it was put
-  module _ (more : Names) (learned : List (ℕ × Answer)) (b : NewBox) (d : AddsBox old new counts file path time e (known files names) (known learned more) b) (onward : Extends names more)
+  module _ (more : Names) (learned : List (ℕ × Answer)) (b : NewBox) (d : AddsBoxBy h old new counts file path time e (known files names) (known learned more) b) (onward : Extends names more)
       (within : AreWithin b.counts) (few : k' ≤ k + put_looks new b.key) where
     abbrev to : List Choice → Stage
     to = stage_with file new more (base_of learned b.counts) time block_end fired tally
 
-    abbrev came : Came wanted (from []) to (put_text more new b.key b.canvas) Done (loads_inside new b.key)
-    came = put_came wanted path e one file names files counts time block_end fired tally old new more learned b ready d onward within
+    abbrev came : Came h wanted (from []) to (put_text more new b.key b.canvas) Done (loads_inside new b.key)
+    came = put_came wanted path e one file names files counts time block_end fired tally old new h more learned b ready d onward within
 
     took : Took (sinks t u k h f) (sinks t u k' h' f') (files_put came.choice) (taken_at wanted (from []) came.choice ∷ [])
     took = looking_took wanted (from []) came.choice t u k k' h h' f f' refl few same (inl (omega (arith, low)))
 
     pub put_so : (t' : Option (List ℕ)) → t' ≡ grown t (put_text more new b.key b.canvas) → IsTakenSo wanted Done (loads_inside new b.key) from to (sinks t u k h f) (sinks t' u k' h' f')
-    put_so t' said = came_so wanted (from []) to (put_text more new b.key b.canvas) Done (loads_inside new b.key) came (sinks t u k h f) t t' u k' h' f' took said
+    put_so t' said = came_so wanted (from []) to (put_text more new b.key b.canvas) Done (loads_inside new b.key) (sinks t u k h f) came t t' u k' h' f' took said
 
     pub put_part : (t' : Option (List ℕ)) → TookPart t t' (put_text more new b.key b.canvas) → Stops (edit_taken wanted) from (sinks t u k h f) (sinks t' u k' h' f')
-    put_part t' part = came_part wanted (from []) to (put_text more new b.key b.canvas) Done (loads_inside new b.key) came (sinks t u k h f) t t' u k' h' f' took part
+    put_part t' part = came_part wanted (from []) to (put_text more new b.key b.canvas) Done (loads_inside new b.key) (sinks t u k h f) came t t' u k' h' f' took part
 
   -- it was refused
   module _ (cause : EditRefusal) (rose : cause ≡ refusal.ShelfFault → Rose f f') (looks : k' ≡ k) where
@@ -105,24 +107,24 @@ module _ (wanted : Wanted) (path : List ℕ) (e : Edit) (one : IsBoxEdit wanted 
     abbrev text : List ℕ
     text = refusal_text request.Edit (why_of cause)
 
-    unput_by : (d : IsNotAdded old new counts file path e (known files names) cause)
-        → (c : Came wanted (from []) left text (edit_outcome (Err cause)) []) × Took (sinks t u k h f) (sinks t u k' h' f') (files_put c.choice) (taken_at wanted (from []) c.choice ∷ [])
+    unput_by : (d : IsNotAddedBy h old new counts file path e (known files names) cause)
+        → (c : Came h wanted (from []) left text (edit_outcome (Err cause)) []) × Took (sinks t u k h f) (sinks t u k' h' f') (files_put c.choice) (taken_at wanted (from []) c.choice ∷ [])
     unput_by (inl (is, d)) = (
-      refused_came wanted path e one file names files counts time block_end fired tally old new cause ready is d,
+      refused_came wanted path e one file names files counts time block_end fired tally old new h cause ready is d,
       looking_took wanted (from []) (Refuses (why_of cause)) t u k k' h h' f f' refl (omega (arith, looks)) same (refusal_rose wanted (from []) cause f f' rose low),
     )
     unput_by (inr (short, d)) = (
-      short_came wanted path e one file names files counts time block_end fired tally old new cause ready short d,
+      short_came wanted path e one file names files counts time block_end fired tally old new h cause ready short d,
       looking_took wanted (from []) (Lacks (net_of new)) t u k k' h h' f f' refl (omega (arith, looks)) same (inl (omega (arith, low))),
     )
 
-    pub unput_so : (t' : Option (List ℕ)) → IsNotAdded old new counts file path e (known files names) cause → t' ≡ grown t text
+    pub unput_so : (t' : Option (List ℕ)) → IsNotAddedBy h old new counts file path e (known files names) cause → t' ≡ grown t text
         → IsTakenSo wanted (edit_outcome (Err cause)) [] from left (sinks t u k h f) (sinks t' u k' h' f')
-    unput_so t' d said = let x = unput_by d in came_so wanted (from []) left text (edit_outcome (Err cause)) [] x.0 (sinks t u k h f) t t' u k' h' f' x.1 said
+    unput_so t' d said = let x = unput_by d in came_so wanted (from []) left text (edit_outcome (Err cause)) [] (sinks t u k h f) x.0 t t' u k' h' f' x.1 said
 
-    pub unput_part : (t' : Option (List ℕ)) → IsNotAdded old new counts file path e (known files names) cause → TookPart t t' text
+    pub unput_part : (t' : Option (List ℕ)) → IsNotAddedBy h old new counts file path e (known files names) cause → TookPart t t' text
         → Stops (edit_taken wanted) from (sinks t u k h f) (sinks t' u k' h' f')
-    unput_part t' d part = let x = unput_by d in came_part wanted (from []) left text (edit_outcome (Err cause)) [] x.0 (sinks t u k h f) t t' u k' h' f' x.1 part
+    unput_part t' d part = let x = unput_by d in came_part wanted (from []) left text (edit_outcome (Err cause)) [] (sinks t u k h f) x.0 t t' u k' h' f' x.1 part
 
 all_ok : {A E : Type 0} {P P' : Type 0} {Q R : A → Type 0} (r : Result A E) → ((a : A) → P → P' → Q a → R a) → OnOk r P → OnOk r P' → IfOk r Q → IfOk r R
 all_ok (Ok a) f p p' q = f a p p' q
@@ -148,7 +150,7 @@ module _ {E : Type 0} (r : Result Outcome E) (path : List ℕ) (e : Edit) (one :
       (subst (λ (l : List ℕ). IsTakenSo wanted o' l start there (sinks t samples k h f) (sinks t' samples k' h' f')) (sym are) (so wanted own samples)))
 
   -- a box was put
-  module _ (more : Names) (learned : List (ℕ × Answer)) (b : NewBox) (d : AddsBox old new counts file path time e (known files names) (known learned more) b) (onward : Extends names more)
+  module _ (more : Names) (learned : List (ℕ × Answer)) (b : NewBox) (d : AddsBoxBy h old new counts file path time e (known files names) (known learned more) b) (onward : Extends names more)
       (within : AreWithin b.counts) (few : k' ≤ k + put_looks new b.key) where
     pub put_answered : to ≡ stage_with file new more (base_of learned b.counts) time block_end fired tally → OnOk r (loads ≡ loads_inside new b.key)
         → OnOk r (t' ≡ grown t (put_text more new b.key b.canvas)) → IfOk r (λ o. o ≡ Done) → IfOk r Answered
@@ -163,7 +165,7 @@ module _ {E : Type 0} (r : Result Outcome E) (path : List ℕ) (e : Edit) (one :
         (λ a wanted own u. put_part wanted path e (own_box wanted path e own one) file names files counts time block_end fired tally old new ready t u k k' h h' f f' same low more learned b d onward within few t' a) part
 
   -- it was refused, and names and files are as before
-  module _ (cause : EditRefusal) (rose : cause ≡ refusal.ShelfFault → Rose f f') (looks : k' ≡ k) (d : IsNotAdded old new counts file path e (known files names) cause) where
+  module _ (cause : EditRefusal) (rose : cause ≡ refusal.ShelfFault → Rose f f') (looks : k' ≡ k) (d : IsNotAddedBy h old new counts file path e (known files names) cause) where
     pub unput_answered : (names' : Names) (files' : List (ℕ × Answer)) → names' ≡ names → files' ≡ files → to ≡ stage_with file new names' (base_of files' counts) time block_end fired tally → loads ≡ []
         → OnOk r (t' ≡ grown t (refusal_text request.Edit (why_of cause))) → IfOk r (λ o. o ≡ edit_outcome (Err cause)) → IfOk r Answered
     unput_answered names' files' named known_are stands none said is =

@@ -31,6 +31,7 @@ use Rattle.pd_retyping.specs.declared.retyping.RetypedBox.{RetypedBox}
 use Rattle.pd_retyping.specs.Retypes.{counts_but, Becomes, RetypesBox, HasBecome, TakesText}
 use Rattle.pd_retyping_law.specs.Retyping.{ChangesBoxAt, RetypesBoxAt, cell_in}
 use Rattle.pd_retyping_law.proofs.PlaceLemmas.{retypes_so}
+use Rattle.pd_engine.proofs.CameLemmas.{owners_kept}
 use Rattle.pd_engine.proofs.GrewLemmas.{own_steady}
 use Rattle.pd_engine.proofs.RoomLemmas.{sub_stays}
 
@@ -95,14 +96,18 @@ module _ (old new : Patch) (n : Counts) (name path : List ℕ) (number : ℕ) (t
 
   -- it became another one
   module _ (x : HasBecome old new now b.key X.node a b.gone.items steps steps') where
-    abbrev loose : Grove
-    loose = x.loose.grove
+    abbrev free : Grove
+    free = x.free.grove
 
-    same_boxes : loose ≡ x.ready.grove
-    same_boxes = x.loosens.rest.grove
+    same_boxes : free ≡ x.ready.grove
+    same_boxes = x.frees.rest.grove ∙ x.loosens.rest.grove
 
-    becomes : RetypesBoxAt loose new.grove path b.canvas b.key number X.node (node_of X.node.board x.seed)
-    becomes = record {
+    -- wires came back then, and nothing else
+    same_back : new.grove ≡ x.fitted.grove
+    same_back = x.back.tightens.rest.grove
+
+    fits : RetypesBoxAt free x.fitted.grove path b.canvas b.key number X.node (node_of X.node.board x.seed)
+    fits = record {
       forest = x.could.can.forest;
       leads = subst (λ (g : Grove). sub_reached g (Some g.root) path ≡ Some b.canvas) (sym same_boxes) (led_there old x.ready x.room path b.canvas b.key number X.chosen.leads);
       is = subst (λ (g : Grove). slice_get (keys_at g b.canvas) number ≡ Some b.key) (sym same_boxes) (is_there old x.ready x.room path b.canvas b.key number X.chosen.at);
@@ -116,6 +121,9 @@ module _ (old new : Patch) (n : Counts) (name path : List ℕ) (number : ℕ) (t
       root = x.refit.grove.root;
     }
 
+    becomes : RetypesBoxAt free new.grove path b.canvas b.key number X.node (node_of X.node.board x.seed)
+    becomes = subst (λ (g : Grove). RetypesBoxAt free g path b.canvas b.key number X.node (node_of X.node.board x.seed)) (sym same_back) fits
+
     cell_is : x.can.cell ≡ cell_in (node_of X.node.board x.seed)
     cell_is = sym (ap (λ (s : Stand). s.cell) x.is_row)
 
@@ -123,13 +131,13 @@ module _ (old new : Patch) (n : Counts) (name path : List ℕ) (number : ℕ) (t
     renews_box = record {
       ready = x.ready;
       room = x.room;
-      from = x.loose;
+      from = x.free;
       grove = same_boxes;
-      names = x.loosens.rest.names;
+      names = x.frees.rest.names ∙ x.loosens.rest.names;
       node = node_of X.node.board x.seed;
-      changes = retypes_so loose new.grove path b.canvas b.key number X.node (node_of X.node.board x.seed) becomes;
+      changes = retypes_so free new.grove path b.canvas b.key number X.node (node_of X.node.board x.seed) becomes;
       steady = λ more e top. subst (λ (c : Cell). owned_by more top c ≡ owned_by a.known.names top c) cell_is (steady_grown _ x.can.single more e top).0;
-      owners = x.refit.owners name;
+      owners = λ o. owners_kept x.fitted new a.known.names name x.back.tightens.rest.names same_back (x.refit.owners name o);
       single = ap weight x.can.single;
       goes_on = x.goes_on;
     }

@@ -16,6 +16,7 @@ use Rattle.pd_script.specs.Edits.{puts_box, deleted, moved}
 use Rattle.pd_say.specs.Lines.{refusal_text}
 use Rattle.pd_say.specs.declared.refusals.Request.TheVariants as request
 use Rattle.slab.specs.Slab.{get}
+use Rattle.pd_grove.specs.declared.grove.Grove.{Grove}
 use Rattle.pd_grove.specs.declared.nodes.Node.{Node}
 use Rattle.pd_grove.specs.Owning.{board_in}
 use Rattle.pd_web.specs.Canvases.{keys_at}
@@ -28,12 +29,12 @@ use Rattle.pd_adding.specs.Counts.{AreWithin}
 use Rattle.pd_adding.specs.Growing.{Added}
 use Rattle.pd_gather.specs.Gather.{known}
 use Rattle.pd_retyping.specs.declared.retyping.RetypedBox.{RetypedBox}
-use Rattle.pd_retyping.specs.Retypes.{BoxWire, Becomes, clocks_become, looks_become, RetypesBox, IsNotRetyped}
+use Rattle.pd_retyping.specs.Retypes.{BoxWire, Becomes, clocks_become, looks_become, RetypesBoxBy, IsNotRetypedBy}
 use Rattle.pd_hearing.specs.Worlds.{net_of, states_of}
 use Rattle.pd_stage.specs.Choices.{base_of, Wanted, Edits, Made, Choice}
 use Rattle.pd_stage.specs.Choices as stage
 use Rattle.pd_stage.specs.Stages.{Stage}
-use Rattle.pd_stage.specs.Lawful.{why_of, StandsAt, IsRetypedTo}
+use Rattle.pd_stage.specs.Lawful.{why_of, StandsAt, IsRetypedToBy}
 use Rattle.pd_stage.specs.Lines.{retyped_text}
 use Rattle.pd_stage.specs.Leads.{sinks, Took, Stops}
 use Rattle.pd_stage.specs.Events.{edit_taken, files_put}
@@ -67,16 +68,22 @@ module _ (old new : Patch) (names : Names) (text : List Atom) (now canvas key nu
   few_looks : CanPut old → slice_get (keys_at old.grove canvas) number ≡ Some key → (x : Becomes old new names text now key n a gone k k') → k' ≤ k + looks_become canvas x
   few_looks can at (inl x) =
       let there : board_in (get x.ready.grove.nodes key) ≡ Some canvas = ap board_in (x.room.grove.nodes key) ∙ can.forest.own.home canvas number key at in
+      let behind : board_in (get x.loose.grove.nodes key) ≡ Some canvas = ap (λ (g : Grove). board_in (get g.nodes key)) x.loosens.rest.grove ∙ there in
+      let bare : board_in (get x.free.grove.nodes key) ≡ Some canvas = ap (λ (g : Grove). board_in (get g.nodes key)) x.frees.rest.grove ∙ behind in
+      let fitted : board_in (get x.fitted.grove.nodes key) ≡ Some canvas = ap board_in x.refit.grove.is ∙ sym (ap board_in x.could.is) ∙ bare in
       let loosened = x.loosens.looks canvas there in
+      let freed = x.frees.looks canvas behind in
       let placed = x.looks in
-      omega (arith, loosened, placed)
+      let back = x.back.tightens.looks canvas fitted in
+      omega (arith, loosened, freed, placed, back)
   few_looks can at (inr x) = (let same = x.looks in omega (arith, same))
 
   -- no box has other clocks but the one that became another
   clocks_then : (x : Becomes old new names text now key n a gone k k') → new.timers.clocks.clocks ≡ clocks_become x old.timers.clocks.clocks
   clocks_then (inl x) =
-      let same : x.loose.timers.clocks.clocks ≡ old.timers.clocks.clocks = ap (λ y. y.clocks.clocks) x.loosens.rest.timers ∙ x.room.clocks in
-      x.refit.clocks ∙ ap (λ (c : List Clock). without key c) same
+      let same : x.free.timers.clocks.clocks ≡ old.timers.clocks.clocks =
+      ap (λ y. y.clocks.clocks) x.frees.rest.timers ∙ ap (λ y. y.clocks.clocks) x.loosens.rest.timers ∙ x.room.clocks in
+      ap (λ y. y.clocks.clocks) x.back.tightens.rest.timers ∙ x.refit.clocks ∙ ap (λ (c : List Clock). without key c) same
   clocks_then (inr x) = ap (λ y. y.clocks.clocks) x.renamed.rest.timers ∙ x.room.clocks
 
 module _ (path : List ℕ) (number : ℕ) (text : List Atom) (file : List ℕ) (names : Names) (files : List (ℕ × Answer)) (counts : Counts) (time block_end fired : ℕ) (tally : Tally) (old new : Patch)
@@ -91,8 +98,8 @@ module _ (path : List ℕ) (number : ℕ) (text : List Atom) (file : List ℕ) (
   stands = record { net = refl; states = refl; puts = ready.puts; meet = ready.meet }
 
   -- it became another one
-  module _ (more : Names) (learned : List (ℕ × Answer)) (b : RetypedBox) (k k' : ℕ)
-      (d : RetypesBox old new counts file path number text time (known files names) (known learned more) k k' b) (onward : Extends names more) (within : AreWithin b.counts) where
+  module _ (holds : Option (List FileRow)) (more : Names) (learned : List (ℕ × Answer)) (b : RetypedBox) (k k' : ℕ)
+      (d : RetypesBoxBy holds old new counts file path number text time (known files names) (known learned more) k k' b) (onward : Extends names more) (within : AreWithin b.counts) where
     abbrev pub told : List ℕ
     told = retyped_text more new b.key b.canvas b.gone.items
 
@@ -109,7 +116,7 @@ module _ (path : List ℕ) (number : ℕ) (text : List Atom) (file : List ℕ) (
       looks = looks_become b.canvas d.became;
     }
 
-    pub other_is : IsRetypedTo (from []) path number text other
+    pub other_is : IsRetypedToBy holds (from []) path number text other
     other_is = record {
       old = old;
       new = new;
@@ -132,7 +139,7 @@ module _ (path : List ℕ) (number : ℕ) (text : List Atom) (file : List ℕ) (
       looks = refl;
     }
 
-    abbrev pub other_came : Came wanted (from []) (stage_with file new more (base_of learned b.counts) time block_end fired tally) told Done []
+    abbrev pub other_came : Came holds wanted (from []) (stage_with file new more (base_of learned b.counts) time block_end fired tally) told Done []
     other_came = record { choice = stage.Makes other; may = other_is; text_is = refl; stage = λ m. refl; answer = refl; loads_are = refl }
 
   -- it was refused
@@ -141,10 +148,10 @@ module _ (path : List ℕ) (number : ℕ) (text : List Atom) (file : List ℕ) (
 
   module _ (cause : EditRefusal) (t u : Option (List ℕ)) (k k' : ℕ) (looks : k' ≡ k) (h h' : Option (List FileRow)) (f f' : ℕ) (same : h' ≡ h) (low : f ≤ f') (rose : cause ≡ refusal.ShelfFault → Rose f f') where
     abbrev IsStill : Type 0
-    IsStill = (c : Came wanted (from []) left (refusal_text request.Edit (why_of cause)) (edit_outcome (Err cause)) [])
+    IsStill = (c : Came h wanted (from []) left (refusal_text request.Edit (why_of cause)) (edit_outcome (Err cause)) [])
         × Took (sinks t u k h f) (sinks t u k' h' f') (files_put c.choice) (taken_at wanted (from []) c.choice ∷ [])
 
-    pub still_by : IsNotRetyped old new counts file path number text (known files names) cause → IsStill
+    pub still_by : IsNotRetypedBy h old new counts file path number text (known files names) cause → IsStill
     still_by (inl (is, d)) = (
       record {
         choice = stage.Refuses (why_of cause);
@@ -178,22 +185,22 @@ module _ (path : List ℕ) (number : ℕ) (text : List Atom) (file : List ℕ) (
 
     -- whoever took it
     module _ (to : List Choice → Stage) (said : List ℕ) (outcome : Outcome)
-        (came : (u : Option (List ℕ)) → (c : Came wanted (from []) to said outcome []) × Took (sinks t u k h f) (sinks t u k' h' f') (files_put c.choice) (taken_at wanted (from []) c.choice ∷ [])) where
+        (came : (u : Option (List ℕ)) → (c : Came h wanted (from []) to said outcome []) × Took (sinks t u k h f) (sinks t u k' h' f') (files_put c.choice) (taken_at wanted (from []) c.choice ∷ [])) where
       so : there ≡ to → (o : Outcome) → t' ≡ grown t said → o ≡ outcome → Answered o
       so leads o is answer samples =
           let x = came samples in
           subst (λ (z : List Choice → Stage). IsEdited path (edit.Retype number text) o [] from z (sinks t samples k h f) (sinks t' samples k' h' f')) (sym leads)
           (subst (λ (z : Outcome). IsEdited path (edit.Retype number text) z [] from to (sinks t samples k h f) (sinks t' samples k' h' f')) (sym answer)
-          (came_so wanted (from []) to said outcome [] x.0 (sinks t samples k h f) t t' samples k' h' f' x.1 is))
+          (came_so wanted (from []) to said outcome [] (sinks t samples k h f) x.0 t t' samples k' h' f' x.1 is))
 
       by_all : there ≡ to → OnOk r (t' ≡ grown t said) → IfOk r (λ o. o ≡ outcome) → IfOk r Answered
       by_all leads is answer = both_ok r (λ o a b. so leads o a b) is answer
 
       by_part : OnErr r (TookPart t t' said) → OnErr r Torn
-      by_part part = on_err_weaker r (λ a samples. let x = came samples in came_part wanted (from []) to said outcome [] x.0 (sinks t samples k h f) t t' samples k' h' f' x.1 a) part
+      by_part part = on_err_weaker r (λ a samples. let x = came samples in came_part wanted (from []) to said outcome [] (sinks t samples k h f) x.0 t t' samples k' h' f' x.1 a) part
 
     -- it became another one
-    module _ (more : Names) (learned : List (ℕ × Answer)) (b : RetypedBox) (d : RetypesBox old new counts file path number text time (known files names) (known learned more) k k' b)
+    module _ (more : Names) (learned : List (ℕ × Answer)) (b : RetypedBox) (d : RetypesBoxBy h old new counts file path number text time (known files names) (known learned more) k k' b)
         (onward : Extends names more) (within : AreWithin b.counts) where
       abbrev to : List Choice → Stage
       to = stage_with file new more (base_of learned b.counts) time block_end fired tally
@@ -202,12 +209,12 @@ module _ (path : List ℕ) (number : ℕ) (text : List Atom) (file : List ℕ) (
       said = retyped_text more new b.key b.canvas b.gone.items
 
       abbrev IsOther : Option (List ℕ) → Type 0
-      IsOther u = (c : Came wanted (from []) to said Done []) × Took (sinks t u k h f) (sinks t u k' h' f') (files_put c.choice) (taken_at wanted (from []) c.choice ∷ [])
+      IsOther u = (c : Came h wanted (from []) to said Done []) × Took (sinks t u k h f) (sinks t u k' h' f') (files_put c.choice) (taken_at wanted (from []) c.choice ∷ [])
 
       other_by : (u : Option (List ℕ)) → IsOther u
       other_by u = (
-        other_came more learned b k k' d onward within,
-        looking_took wanted (from []) (stage.Makes (other more learned b k k' d onward within)) t u k k' h h' f f' refl
+        other_came h more learned b k k' d onward within,
+        looking_took wanted (from []) (stage.Makes (other h more learned b k k' d onward within)) t u k k' h h' f f' refl
             (few_looks old new names text time b.canvas b.key number d.node d.added b.gone.items k k' ready.puts d.chosen.at d.became) same (inl (omega (arith, low))),
       )
 
@@ -218,7 +225,7 @@ module _ (path : List ℕ) (number : ℕ) (text : List Atom) (file : List ℕ) (
       retyped_torn part = by_part to said Done other_by part
 
     -- it was refused, and names and files are as before
-    module _ (looks : k' ≡ k) (cause : EditRefusal) (rose : cause ≡ refusal.ShelfFault → Rose f f') (d : IsNotRetyped old new counts file path number text (known files names) cause) where
+    module _ (looks : k' ≡ k) (cause : EditRefusal) (rose : cause ≡ refusal.ShelfFault → Rose f f') (d : IsNotRetypedBy h old new counts file path number text (known files names) cause) where
       abbrev still : (u : Option (List ℕ)) → IsStill cause t u k k' looks h h' f f' same low rose
       still u = still_by cause t u k k' looks h h' f f' same low rose d
 

@@ -22,7 +22,7 @@ use Rattle.pd_hearing.specs.Worlds.{net_of, states_of}
 use Rattle.pd_stage.specs.Items.{Put, lines_of, samples_of}
 use Rattle.pd_stage.specs.Choices.{Base, Saves, Made, Refuses, Makes}
 use Rattle.pd_stage.specs.Stages.{Stage, with_ahead, faults_of}
-use Rattle.pd_stage.specs.Lawful.{StandsAt, why_of}
+use Rattle.pd_stage.specs.Lawful.{StandsAt, why_of, held_on}
 use Rattle.pd_stage.specs.Leads.{RoseBy, sinks, Took, Stops}
 use Rattle.pd_stage.specs.Events.{edit_taken, files_put}
 use Rattle.pd_stage.proofs.EditLemmas.{taken_at}
@@ -55,7 +55,7 @@ module _ (file : List ℕ) (p : Patch) (names : Names) (base : Base) (time block
     looks = 0;
   }
 
-  abbrev pub saved_came : IsTable names → StandOnce p.web → Came (Saves None) s (with_ahead s) [] Done []
+  abbrev pub saved_came : IsTable names → StandOnce p.web → Came h (Saves None) s (with_ahead s) [] Done []
   saved_came table once = record {
     choice = Makes saved;
     may = record { patch = p; stands = stands; table = table; once = once; net = refl; states = refl; clocks = refl; names = refl; base = refl; lines = refl; files = refl; loads = refl; looks = refl };
@@ -73,21 +73,23 @@ module _ (file : List ℕ) (p : Patch) (names : Names) (base : Base) (time block
         samples_are = printed_nothing u (samples_of (Put file text ∷ [])) (samples-put file text);
         few_looks = omega arith;
         held_are = inl (put ∙ sym (held-put file text h));
+        leaves = inl (sym put);
         few_faults = inl (omega arith);
       }
 
   pub save_so : IsTable names → StandOnce p.web → h' ≡ stored file (text_of names (present_document p)) h → IsSavedSo Done (with_ahead s) (with_ahead s) (sinks t u k h f) (sinks t u k h' f')
   save_so table once put =
-      came_so (Saves None) s (with_ahead s) [] Done [] (saved_came table once) (sinks t u k h f) t t u k h' f' (saved_took put) (printed_nothing t [] refl)
+      came_so (Saves None) s (with_ahead s) [] Done [] (sinks t u k h f) (saved_came table once) t t u k h' f' (saved_took put) (printed_nothing t [] refl)
 
   -- it was refused
-  refused_took : (reason : Why) → KeptOrUntold h h' → RoseBy (faults_of (taken_at (Saves None) s (Refuses reason) ∷ [])) f f'
+  refused_took : (reason : Why) → KeptOrUntold h h' → KeptOrUntold h' (held_on (Saves None) (Refuses reason) h) → RoseBy (faults_of (taken_at (Saves None) s (Refuses reason) ∷ [])) f f'
       → Took (sinks t u k h f) (sinks t u k h' f') [] (taken_at (Saves None) s (Refuses reason) ∷ [])
-  refused_took reason kept rose = record {
+  refused_took reason kept left rose = record {
     lines_are = no_lines t;
     samples_are = no_samples u;
     few_looks = omega arith;
     held_are = subst (λ (o : Option (List FileRow)). KeptOrUntold o h') (sym (held-none h)) kept;
+    leaves = left;
     few_faults = rose;
   }
 
@@ -95,29 +97,29 @@ module _ (file : List ℕ) (p : Patch) (names : Names) (base : Base) (time block
   fault_rose (inl more) = inl (omega (arith, more))
   fault_rose (inr most) = inr (omega (arith, most))
 
-  abbrev pub fault_came : Came (Saves None) s (with_ahead s) (refusal_text request.Save why.ShelfFault) (Refused refusal.ShelfFault) []
+  abbrev pub fault_came : Came h (Saves None) s (with_ahead s) (refusal_text request.Save why.ShelfFault) (Refused refusal.ShelfFault) []
   fault_came = record { choice = Refuses why.ShelfFault; may = inl refl; text_is = refl; stage = λ m. refl; answer = refl; loads_are = refl }
 
   pub fault_took : KeptOrUntold h h' → Rose f f' → Took (sinks t u k h f) (sinks t u k h' f') [] (taken_at (Saves None) s (Refuses why.ShelfFault) ∷ [])
-  fault_took kept rose = refused_took why.ShelfFault kept (fault_rose rose)
+  fault_took kept rose = refused_took why.ShelfFault kept (inr refl) (fault_rose rose)
 
-  abbrev pub short_came : Came (Saves None) s (with_ahead s) (refusal_text request.Save why.NoMemory) (Refused refusal.NoMemory) []
+  abbrev pub short_came : Came h (Saves None) s (with_ahead s) (refusal_text request.Save why.NoMemory) (Refused refusal.NoMemory) []
   short_came = record { choice = Refuses why.NoMemory; may = inr refl; text_is = refl; stage = λ m. refl; answer = refl; loads_are = refl }
 
   pub short_took : h' ≡ h → Took (sinks t u k h f) (sinks t u k h' f') [] (taken_at (Saves None) s (Refuses why.NoMemory) ∷ [])
-  short_took same = refused_took why.NoMemory (inl same) (inl (omega arith))
+  short_took same = refused_took why.NoMemory (inl same) (inl (sym same)) (inl (omega arith))
 
   -- what is said of it, and answered
   pub refused_so : (error : ShelfError) (t' : Option (List ℕ)) → (error ≡ shelf.Failed → KeptOrUntold h h' × Rose f f') → (error ≡ shelf.NoMemory → h' ≡ h)
       → t' ≡ grown t (refusal_text request.Save (why_of (unsaved error))) → IsSavedSo (Refused (unsaved error)) (with_ahead s) (with_ahead s) (sinks t u k h f) (sinks t' u k h' f')
   refused_so shelf.Failed t' failed short said =
       let both : KeptOrUntold h h' × Rose f f' = failed refl in
-      came_so (Saves None) s (with_ahead s) _ _ _ fault_came (sinks t u k h f) t t' u k h' f' (fault_took both.0 both.1) said
-  refused_so shelf.NoMemory t' failed short said = came_so (Saves None) s (with_ahead s) _ _ _ short_came (sinks t u k h f) t t' u k h' f' (short_took (short refl)) said
+      came_so (Saves None) s (with_ahead s) _ _ _ (sinks t u k h f) fault_came t t' u k h' f' (fault_took both.0 both.1) said
+  refused_so shelf.NoMemory t' failed short said = came_so (Saves None) s (with_ahead s) _ _ _ (sinks t u k h f) short_came t t' u k h' f' (short_took (short refl)) said
 
   pub refused_part : (error : ShelfError) (t' : Option (List ℕ)) → (error ≡ shelf.Failed → KeptOrUntold h h' × Rose f f') → (error ≡ shelf.NoMemory → h' ≡ h)
       → TookPart t t' (refusal_text request.Save (why_of (unsaved error))) → Stops (edit_taken (Saves None)) (with_ahead s) (sinks t u k h f) (sinks t' u k h' f')
   refused_part shelf.Failed t' failed short part =
       let both : KeptOrUntold h h' × Rose f f' = failed refl in
-      came_part (Saves None) s (with_ahead s) _ _ _ fault_came (sinks t u k h f) t t' u k h' f' (fault_took both.0 both.1) part
-  refused_part shelf.NoMemory t' failed short part = came_part (Saves None) s (with_ahead s) _ _ _ short_came (sinks t u k h f) t t' u k h' f' (short_took (short refl)) part
+      came_part (Saves None) s (with_ahead s) _ _ _ (sinks t u k h f) fault_came t t' u k h' f' (fault_took both.0 both.1) part
+  refused_part shelf.NoMemory t' failed short part = came_part (Saves None) s (with_ahead s) _ _ _ (sinks t u k h f) short_came t t' u k h' f' (short_took (short refl)) part

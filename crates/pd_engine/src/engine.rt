@@ -115,9 +115,10 @@ impl Engine {
     /// Carries out a command at the present time, and prints what it has to print. Edits of wires are made, and so are edits that put a box
     /// with all that lies in it, be it an abstraction, a subpatch, a port of the box around or another box, and then its load boxes send;
     /// edits that delete a box with all that lies in it, also one that is a port of the box around, which then loses that with the wires at
-    /// it; edits that move a box, or that make a box without a canvas another one, with the wires that fit that, where no wire becomes a
-    /// signal wire or ceases to be one and it is no port of a box around; and saves of the patch's own document. So are the edits that its
-    /// messages ask for. Others are refused, and there is nothing to undo or redo.
+    /// it; edits that move a box, or that make a box without a canvas another one, with the wires that fit that, also those that become signal
+    /// wires or cease to be such, where it is no port of a box around; and saves of the patch's own document. So are the edits that its
+    /// messages ask for. Others are refused, and there is nothing to undo or redo. An abstraction that comes is by the file that the folder
+    /// holds then, where it tells what it holds and the file wasn't read before.
     ///
     /// # Errors
     ///

@@ -11,13 +11,16 @@
 //! one, with the wires at that, and tells which these were; one that moves a box gives it another place in its window,
 //! and the box around its ports in the order of these places, each with its wires; one that gives a box another text
 //! grows what it becomes, takes out the wires at it that don't fit that, and puts that in its place where both are
-//! boxes without a canvas, no ports of a box around, and the wires that fit carry what they carried, and tells why it
-//! could not be made and which wires went; or it gives a subpatch that stays one that text, and what it holds stays;
+//! boxes without a canvas and no ports of a box around, with the wires that fit, those that carry other things than
+//! before too, and tells why it could not be made and which wires went; or it gives a subpatch that stays one that
+//! text, and what it holds stays;
 //! after each of these a loop of its canvas is told, after a port that came, went or changed its place first one of
 //! the canvas around, and those of the canvases that came; a save puts the document's text under the name of its file;
 //! every other edit or save is refused, and there is nothing to undo or redo. Behind an edit the load boxes that came
 //! with its box are loaded, in text order. It makes no difference whether a command or a message asks for an edit.
-//! Looks at signal wires are at most those of the edits.
+//! Looks at signal wires are at most those of the edits. Each edit goes by what the folder holds when it comes, where
+//! it tells that (pd_stage's `GoByFolder`): what grows asks for the files that it holds, and a save that was put is
+//! there for the edits behind it; behind a save that the folder failed to take, it isn't told what it holds.
 //!
 //! `command` does what its command says: a `send` is its event, that is pd_walk's deliveries under 1,000,000, and
 //! then each edit that was asked for is taken, 256 at most; `show` prints the order of the canvas that its path leads

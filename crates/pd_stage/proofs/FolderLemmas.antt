@@ -18,6 +18,7 @@ use Rattle.pd_retyping.specs.Retypes as retyping
 use Rattle.pd_retyping.specs.Retypes.{RetypesToBy, RetypesTo, RetypesBoxBy, RetypesBox, IsNotYetBy, IsRefusedBy, IsRefused}
 use Rattle.pd_retyping.specs.declared.retyping.RetypedBox.{RetypedBox}
 use Rattle.pd_say.specs.declared.refusals.Why.{Why}
+use Rattle.pd_say.specs.declared.refusals.Why.TheVariants as why
 use Rattle.pd_hearing.specs.Worlds.{Net}
 use Rattle.pd_stage.specs.Choices.{Wanted, Edits, Asks, Saves, Undoes, Redoes, Made, Choice, Refuses, Lacks, Makes}
 use Rattle.pd_stage.specs.Items.{Item}
@@ -230,7 +231,22 @@ with_none (file ∷ files) = with_none files
 failing_none : (wanted : Wanted) (reason : Why) → held_on wanted (Refuses reason) None ≡ None
 failing_none (Edits document path e) reason = refl
 failing_none (Asks path e) reason = refl
-failing_none (Saves document) reason = refl
+failing_none (Saves document) why.NothingToUndo = refl
+failing_none (Saves document) why.NothingToRedo = refl
+failing_none (Saves document) why.NoDocument = refl
+failing_none (Saves document) why.NoCanvas = refl
+failing_none (Saves document) (why.NoBox number) = refl
+failing_none (Saves document) (why.NoPort number port outlet) = refl
+failing_none (Saves document) why.NoWire = refl
+failing_none (Saves document) why.SignalIntoControl = refl
+failing_none (Saves document) why.TextTooLong = refl
+failing_none (Saves document) why.TooDeep = refl
+failing_none (Saves document) why.ShelfFault = refl
+failing_none (Saves document) why.SymbolsFull = refl
+failing_none (Saves document) why.TooManyBoxes = refl
+failing_none (Saves document) why.TooManyWires = refl
+failing_none (Saves document) why.TooMuchSound = refl
+failing_none (Saves document) why.NoMemory = refl
 failing_none Undoes reason = refl
 failing_none Redoes reason = refl
 
@@ -243,11 +259,26 @@ pub behind_none : (edits : List Taken) → held_behind edits None ≡ None
 behind_none [] = refl
 behind_none (t ∷ edits) = ap (held_behind edits) (on_none t.wanted t.choice) ∙ behind_none edits
 
--- an edit that puts no file leaves what the folder holds, but a save that is refused, behind which it isn't told
+-- an edit that puts no file leaves what the folder holds, but a save that it failed to take, behind which it isn't told
 failing_leaves : (wanted : Wanted) (reason : Why) (held : Option (List FileRow)) → KeptOrUntold held (held_on wanted (Refuses reason) held)
 failing_leaves (Edits document path e) reason held = inl refl
 failing_leaves (Asks path e) reason held = inl refl
-failing_leaves (Saves document) reason held = inr refl
+failing_leaves (Saves document) why.NothingToUndo held = inl refl
+failing_leaves (Saves document) why.NothingToRedo held = inl refl
+failing_leaves (Saves document) why.NoDocument held = inl refl
+failing_leaves (Saves document) why.NoCanvas held = inl refl
+failing_leaves (Saves document) (why.NoBox number) held = inl refl
+failing_leaves (Saves document) (why.NoPort number port outlet) held = inl refl
+failing_leaves (Saves document) why.NoWire held = inl refl
+failing_leaves (Saves document) why.SignalIntoControl held = inl refl
+failing_leaves (Saves document) why.TextTooLong held = inl refl
+failing_leaves (Saves document) why.TooDeep held = inl refl
+failing_leaves (Saves document) why.ShelfFault held = inr refl
+failing_leaves (Saves document) why.SymbolsFull held = inl refl
+failing_leaves (Saves document) why.TooManyBoxes held = inl refl
+failing_leaves (Saves document) why.TooManyWires held = inl refl
+failing_leaves (Saves document) why.TooMuchSound held = inl refl
+failing_leaves (Saves document) why.NoMemory held = inl refl
 failing_leaves Undoes reason held = inl refl
 failing_leaves Redoes reason held = inl refl
 

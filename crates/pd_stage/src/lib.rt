@@ -20,7 +20,7 @@
 //! What an edit may come to is one definition (`IsLawful`). An edit of wires of the patch's own document is planned by
 //! what the patch is (`pd_wiring`'s `planned`), and comes to no other end than that: it is made, and then all stays
 //! but the wires with their links and orders, and a loop of its canvas is told; or it is refused for the reason of the
-//! plan; or memory was wanting. An edit that puts a box comes to what `pd_putting` tells (`AddsBox`, `IsNotPut`): the
+//! plan; or memory was wanting. An edit that puts a box comes to what `pd_putting` tells (`AddsBoxBy`, `IsNotPutBy`): the
 //! box comes last into its canvas, with all that lies in it, and the box around gets the port that it is, if it is
 //! one; all other boxes keep what they kept, and it is told why boxes could not be made, which wires in it don't fit,
 //! a loop of the canvas around where a port came, and loops of its canvas and of those in it; the load boxes in it are
@@ -32,8 +32,8 @@
 //! `pd_shifting` tells (`MovesBox`, `moving`): the box stands at another place of its canvas, and where it is a port
 //! of the box around, the ports of that are in the order of these places, with their wires; all else stays, and it is
 //! told a loop of the canvas around where ports changed places there, and a loop of its canvas; or it is refused; or
-//! memory was wanting. An edit that gives a box another text comes to what `pd_retyping` tells (`RetypesBox`,
-//! `IsRefused`): the wires at it that don't fit any more go, and it becomes another one in its place, with the ports
+//! memory was wanting. An edit that gives a box another text comes to what `pd_retyping` tells (`RetypesBoxBy`,
+//! `IsRefusedBy`): the wires at it that don't fit any more go, and it becomes another one in its place, with the ports
 //! of its kind, with the other wires and without a clock; or, a subpatch that stays one, it takes the text and keeps
 //! what it holds; all other boxes keep what they kept, and it is told why the new one could not be made, which wires
 //! went, and a loop of its canvas; or it is refused; or memory was wanting. It makes no difference whether a command
@@ -41,17 +41,24 @@
 //! changes; or it is refused for a fault of the folder or for want of memory. Edits and saves of drafts are refused,
 //! and there is nothing to undo or redo.
 //!
+//! What a box grows to hangs on the files that the folder holds (`MayComeBy`). Edits go by a folder (`GoByFolder`)
+//! where each comes to what it may by what the folder holds when it comes, where that is told: what it held at first,
+//! with the files that were put since; behind a save that the folder failed to take, it isn't told any more. Each edit
+//! that goes by a folder is lawful.
+//!
 //! What code has come to is said by two relations, both of whose sides are functions of what the edits to come lead
 //! to. `Leads`: whatever more follows, the whole is these items and edits and then this rest; the sinks took the
-//! items, the folder the files among them, and each edit is lawful; there were no more looks at signal wires than
-//! these edits may take, and each refusal for a fault of the folder raised its count. `BreaksOff`, where a sink fails:
+//! items, the folder the files among them, and each edit is lawful, by what the folder held when it came; there were
+//! no more looks at signal wires than these edits may take, each refusal for a fault of the folder raised its count,
+//! and it holds what these edits leave in it, where they tell that. `BreaksOff`, where a sink fails:
 //! the whole begins with these items, and both sinks have got what is for them of that one first part, so that no
 //! sample is taken before a line that comes first.
 //!
 //! Laws: parts of a run can be taken together in any way, and where nothing happens nothing is added
 //! (`parts_join`); of a first part of the list each sink gets a first part of what it gets of all
-//! (`fronts_are_fronts`); and what a stage has added up is what all samples on the way to it add up to
-//! (`samples_are_added_up`).
+//! (`fronts_are_fronts`); what a stage has added up is what all samples on the way to it add up to
+//! (`samples_are_added_up`); and edits that go by a folder, and others that go by what these leave in it, go by it
+//! together (`edits_join_by_folder`).
 //!
 //! Definitions: `Items` (what happens, and what each sink gets of it), `Choices` (what edits come to), `Stages`
 //! (stages, edits that were taken, parts of a run), `Lines` (lines with the numbers of boxes), `Lawful` (what edits

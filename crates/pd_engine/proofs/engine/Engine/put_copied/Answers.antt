@@ -1,7 +1,7 @@
 use Rattle.std.proofs.Common.{sym, ap, ◌∙◌, ◌≤◌, subst, List, ℕ, Err}
 use Rattle.pd_gather.specs.Gather.{known}
 use Rattle.pd_wiring.specs.declared.refusals.EditRefusal.{EditRefusal}
-use Rattle.pd_putting.specs.Adds.{AddsBox, IsNotAdded}
+use Rattle.pd_putting.specs.Adds.{AddsBoxBy, IsNotAddedBy}
 use Rattle.pd_engine.specs.Stages.{stage_at}
 use Rattle.pd_engine.proofs.RewireLemmas.{puts_sure, meet_sure, ready_sure, within_sure}
 use Rattle.pd_engine.proofs.ProperLemmas.{found_sure}
@@ -43,8 +43,8 @@ invariant_of-self-in-Err-1 g c = record {
 pub returns-in-Ok-clause-ok : goal.returns-in-Ok-clause-ok
 returns-in-Ok-clause-ok g c =
     let e = c.args.self.now in
-    let adds : AddsBox e.patch c.add_box-done.new.patch e.counts e.file.items c.args.path.now e.time c.args.edit.now (known e.library e.symbols) (known c.add_box-done.new.library c.add_box-done.new.symbols) c.in-Ok.added =
-    subst (λ (n : List ℕ). AddsBox e.patch c.add_box-done.new.patch e.counts n c.args.path.now e.time c.args.edit.now (known e.library e.symbols) (known c.add_box-done.new.library c.add_box-done.new.symbols) c.in-Ok.added)
+    let adds : AddsBoxBy (g.H.Shelf.holds c.args.shelf.now) e.patch c.add_box-done.new.patch e.counts e.file.items c.args.path.now e.time c.args.edit.now (known e.library e.symbols) (known c.add_box-done.new.library c.add_box-done.new.symbols) c.in-Ok.added =
+    subst (λ (n : List ℕ). AddsBoxBy (g.H.Shelf.holds c.args.shelf.now) e.patch c.add_box-done.new.patch e.counts n c.args.path.now e.time c.args.edit.now (known e.library e.symbols) (known c.add_box-done.new.library c.add_box-done.new.symbols) c.in-Ok.added)
     c.as_slice.ensures.value c.in-Ok.ensures.added in
     put_answered c.tell_put.result c.args.path.now c.args.edit.now c.requires.puts e.file.items e.symbols e.library e.counts e.time e.block_end e.fired e.tally e.patch c.add_box-done.new.patch (ready_sure e.patch e.puts e.meet)
     (g.L.Sink.taken c.args.lines.now) (g.L.Sink.taken c.tell_put.new.lines) c.args.steps.now c.add_box-done.new.steps (g.H.Shelf.holds c.args.shelf.now) (g.H.Shelf.holds c.add_box-done.new.shelf)
@@ -55,8 +55,8 @@ returns-in-Ok-clause-ok g c =
 pub returns-in-Ok-clause-err : goal.returns-in-Ok-clause-err
 returns-in-Ok-clause-err g c =
     let e = c.args.self.now in
-    let adds : AddsBox e.patch c.add_box-done.new.patch e.counts e.file.items c.args.path.now e.time c.args.edit.now (known e.library e.symbols) (known c.add_box-done.new.library c.add_box-done.new.symbols) c.in-Ok.added =
-    subst (λ (n : List ℕ). AddsBox e.patch c.add_box-done.new.patch e.counts n c.args.path.now e.time c.args.edit.now (known e.library e.symbols) (known c.add_box-done.new.library c.add_box-done.new.symbols) c.in-Ok.added)
+    let adds : AddsBoxBy (g.H.Shelf.holds c.args.shelf.now) e.patch c.add_box-done.new.patch e.counts e.file.items c.args.path.now e.time c.args.edit.now (known e.library e.symbols) (known c.add_box-done.new.library c.add_box-done.new.symbols) c.in-Ok.added =
+    subst (λ (n : List ℕ). AddsBoxBy (g.H.Shelf.holds c.args.shelf.now) e.patch c.add_box-done.new.patch e.counts n c.args.path.now e.time c.args.edit.now (known e.library e.symbols) (known c.add_box-done.new.library c.add_box-done.new.symbols) c.in-Ok.added)
     c.as_slice.ensures.value c.in-Ok.ensures.added in
     put_torn c.tell_put.result c.args.path.now c.args.edit.now c.requires.puts e.file.items e.symbols e.library e.counts e.time e.block_end e.fired e.tally e.patch c.add_box-done.new.patch (ready_sure e.patch e.puts e.meet)
     (g.L.Sink.taken c.args.lines.now) (g.L.Sink.taken c.tell_put.new.lines) c.args.steps.now c.add_box-done.new.steps (g.H.Shelf.holds c.args.shelf.now) (g.H.Shelf.holds c.add_box-done.new.shelf)
@@ -66,8 +66,8 @@ returns-in-Ok-clause-err g c =
 pub returns-in-Err-clause-ok : goal.returns-in-Err-clause-ok
 returns-in-Err-clause-ok g c =
     let e = c.args.self.now in
-    let refused : IsNotAdded e.patch c.add_box-done.new.patch e.counts e.file.items c.args.path.now c.args.edit.now (known e.library e.symbols) c.in-Err.why =
-    subst (λ (n : List ℕ). IsNotAdded e.patch c.add_box-done.new.patch e.counts n c.args.path.now c.args.edit.now (known e.library e.symbols) c.in-Err.why) c.as_slice.ensures.value c.in-Err.ensures.refused in
+    let refused : IsNotAddedBy (g.H.Shelf.holds c.args.shelf.now) e.patch c.add_box-done.new.patch e.counts e.file.items c.args.path.now c.args.edit.now (known e.library e.symbols) c.in-Err.why =
+    subst (λ (n : List ℕ). IsNotAddedBy (g.H.Shelf.holds c.args.shelf.now) e.patch c.add_box-done.new.patch e.counts n c.args.path.now c.args.edit.now (known e.library e.symbols) c.in-Err.why) c.as_slice.ensures.value c.in-Err.ensures.refused in
     unput_answered c.tell.result c.args.path.now c.args.edit.now c.requires.puts e.file.items e.symbols e.library e.counts e.time e.block_end e.fired e.tally e.patch c.add_box-done.new.patch (ready_sure e.patch e.puts e.meet)
     (g.L.Sink.taken c.args.lines.now) (g.L.Sink.taken c.tell.new.lines) c.args.steps.now c.add_box-done.new.steps (g.H.Shelf.holds c.args.shelf.now) (g.H.Shelf.holds c.add_box-done.new.shelf)
     (g.H.Shelf.faults c.args.shelf.now) (g.H.Shelf.faults c.add_box-done.new.shelf) c.add_box-done.ensures.kept c.add_box-done.ensures.shelf_counted (stage_at c.tell.new.self)
@@ -77,8 +77,8 @@ returns-in-Err-clause-ok g c =
 pub returns-in-Err-clause-err : goal.returns-in-Err-clause-err
 returns-in-Err-clause-err g c =
     let e = c.args.self.now in
-    let refused : IsNotAdded e.patch c.add_box-done.new.patch e.counts e.file.items c.args.path.now c.args.edit.now (known e.library e.symbols) c.in-Err.why =
-    subst (λ (n : List ℕ). IsNotAdded e.patch c.add_box-done.new.patch e.counts n c.args.path.now c.args.edit.now (known e.library e.symbols) c.in-Err.why) c.as_slice.ensures.value c.in-Err.ensures.refused in
+    let refused : IsNotAddedBy (g.H.Shelf.holds c.args.shelf.now) e.patch c.add_box-done.new.patch e.counts e.file.items c.args.path.now c.args.edit.now (known e.library e.symbols) c.in-Err.why =
+    subst (λ (n : List ℕ). IsNotAddedBy (g.H.Shelf.holds c.args.shelf.now) e.patch c.add_box-done.new.patch e.counts n c.args.path.now c.args.edit.now (known e.library e.symbols) c.in-Err.why) c.as_slice.ensures.value c.in-Err.ensures.refused in
     unput_torn c.tell.result c.args.path.now c.args.edit.now c.requires.puts e.file.items e.symbols e.library e.counts e.time e.block_end e.fired e.tally e.patch c.add_box-done.new.patch (ready_sure e.patch e.puts e.meet)
     (g.L.Sink.taken c.args.lines.now) (g.L.Sink.taken c.tell.new.lines) c.args.steps.now c.add_box-done.new.steps (g.H.Shelf.holds c.args.shelf.now) (g.H.Shelf.holds c.add_box-done.new.shelf)
     (g.H.Shelf.faults c.args.shelf.now) (g.H.Shelf.faults c.add_box-done.new.shelf) c.add_box-done.ensures.kept c.add_box-done.ensures.shelf_counted (stage_at c.tell.new.self)

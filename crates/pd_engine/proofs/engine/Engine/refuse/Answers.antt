@@ -13,11 +13,11 @@ returns-in_err-print_refusal-clause-err g c =
     rw p.1
     (λ wanted of always looks samples held faults.
     told_part wanted (stage_at c.args.self.now []) (stage_at c.args.self.now) _ c.args.outcome (g.L.Sink.taken c.args.lines.now) (g.L.Sink.taken c.print_refusal.new.lines) samples looks looks held faults
-    (always_told wanted c.args.why (stage_at c.args.self.now []) c.args.outcome looks always c.requires)
+    (always_told wanted c.args.why (stage_at c.args.self.now []) c.args.outcome looks always c.requires held)
     (subst (λ (r : Request). TookPart (g.L.Sink.taken c.args.lines.now) (g.L.Sink.taken c.print_refusal.new.lines) (refusal_text r c.args.why)) of c.in_err-print_refusal.ensures.err))
 
 pub returns-clause-ok : goal.returns-clause-ok
 returns-clause-ok g c = λ wanted of always samples looks held faults.
     told_so wanted (stage_at c.args.self.now []) (stage_at c.args.self.now) _ c.args.outcome (g.L.Sink.taken c.args.lines.now) (g.L.Sink.taken c.print_refusal.new.lines) samples looks looks held faults
-    (always_told wanted c.args.why (stage_at c.args.self.now []) c.args.outcome looks always c.requires)
+    (always_told wanted c.args.why (stage_at c.args.self.now []) c.args.outcome looks always c.requires held)
     (c.in_ok-print_refusal.ensures.ok ∙ ap (λ (r : Request). grown (g.L.Sink.taken c.args.lines.now) (refusal_text r c.args.why)) of)

@@ -1,7 +1,7 @@
 use Rattle.std.proofs.Common.{sym, ap, ◌∙◌, ◌≤◌, subst, List, ℕ, Err}
 use Rattle.pd_gather.specs.Gather.{known}
 use Rattle.pd_wiring.specs.declared.refusals.EditRefusal.{EditRefusal}
-use Rattle.pd_retyping.specs.Retypes.{RetypesBox, IsNotRetyped}
+use Rattle.pd_retyping.specs.Retypes.{RetypesBoxBy, IsNotRetypedBy}
 use Rattle.pd_engine.specs.Stages.{stage_at}
 use Rattle.pd_engine.proofs.RewireLemmas.{puts_sure, meet_sure, ready_sure, within_sure}
 use Rattle.pd_engine.proofs.ProperLemmas.{found_sure}
@@ -43,9 +43,9 @@ invariant_of-self-in-Err-1 g c = record {
 pub returns-in-Ok-clause-ok : goal.returns-in-Ok-clause-ok
 returns-in-Ok-clause-ok g c =
     let e = c.args.self.now in
-    let d : RetypesBox e.patch c.retype_box-done.new.patch e.counts e.file.items c.args.path.now c.args.number c.args.text.now e.time (known e.library e.symbols)
+    let d : RetypesBoxBy (g.H.Shelf.holds c.args.shelf.now) e.patch c.retype_box-done.new.patch e.counts e.file.items c.args.path.now c.args.number c.args.text.now e.time (known e.library e.symbols)
     (known c.retype_box-done.new.library c.retype_box-done.new.symbols) c.args.steps.now c.retype_box-done.new.steps c.in-Ok.retyped =
-    subst (λ (n : List ℕ). RetypesBox e.patch c.retype_box-done.new.patch e.counts n c.args.path.now c.args.number c.args.text.now e.time (known e.library e.symbols)
+    subst (λ (n : List ℕ). RetypesBoxBy (g.H.Shelf.holds c.args.shelf.now) e.patch c.retype_box-done.new.patch e.counts n c.args.path.now c.args.number c.args.text.now e.time (known e.library e.symbols)
     (known c.retype_box-done.new.library c.retype_box-done.new.symbols) c.args.steps.now c.retype_box-done.new.steps c.in-Ok.retyped) c.as_slice.ensures.value c.in-Ok.ensures.retyped in
     retyped_answered c.args.path.now c.args.number c.args.text.now e.file.items e.symbols e.library e.counts e.time e.block_end e.fired e.tally e.patch c.retype_box-done.new.patch (ready_sure e.patch e.puts e.meet)
     c.tell_retyped.result (g.L.Sink.taken c.args.lines.now) (g.L.Sink.taken c.tell_retyped.new.lines) c.args.steps.now c.retype_box-done.new.steps (g.H.Shelf.holds c.args.shelf.now) (g.H.Shelf.holds c.retype_box-done.new.shelf)
@@ -55,9 +55,9 @@ returns-in-Ok-clause-ok g c =
 pub returns-in-Ok-clause-err : goal.returns-in-Ok-clause-err
 returns-in-Ok-clause-err g c =
     let e = c.args.self.now in
-    let d : RetypesBox e.patch c.retype_box-done.new.patch e.counts e.file.items c.args.path.now c.args.number c.args.text.now e.time (known e.library e.symbols)
+    let d : RetypesBoxBy (g.H.Shelf.holds c.args.shelf.now) e.patch c.retype_box-done.new.patch e.counts e.file.items c.args.path.now c.args.number c.args.text.now e.time (known e.library e.symbols)
     (known c.retype_box-done.new.library c.retype_box-done.new.symbols) c.args.steps.now c.retype_box-done.new.steps c.in-Ok.retyped =
-    subst (λ (n : List ℕ). RetypesBox e.patch c.retype_box-done.new.patch e.counts n c.args.path.now c.args.number c.args.text.now e.time (known e.library e.symbols)
+    subst (λ (n : List ℕ). RetypesBoxBy (g.H.Shelf.holds c.args.shelf.now) e.patch c.retype_box-done.new.patch e.counts n c.args.path.now c.args.number c.args.text.now e.time (known e.library e.symbols)
     (known c.retype_box-done.new.library c.retype_box-done.new.symbols) c.args.steps.now c.retype_box-done.new.steps c.in-Ok.retyped) c.as_slice.ensures.value c.in-Ok.ensures.retyped in
     retyped_torn c.args.path.now c.args.number c.args.text.now e.file.items e.symbols e.library e.counts e.time e.block_end e.fired e.tally e.patch c.retype_box-done.new.patch (ready_sure e.patch e.puts e.meet)
     c.tell_retyped.result (g.L.Sink.taken c.args.lines.now) (g.L.Sink.taken c.tell_retyped.new.lines) c.args.steps.now c.retype_box-done.new.steps (g.H.Shelf.holds c.args.shelf.now) (g.H.Shelf.holds c.retype_box-done.new.shelf)
@@ -67,8 +67,8 @@ returns-in-Ok-clause-err g c =
 pub returns-in-Err-clause-ok : goal.returns-in-Err-clause-ok
 returns-in-Err-clause-ok g c =
     let e = c.args.self.now in
-    let d : IsNotRetyped e.patch c.retype_box-done.new.patch e.counts e.file.items c.args.path.now c.args.number c.args.text.now (known e.library e.symbols) c.in-Err.why =
-    subst (λ (n : List ℕ). IsNotRetyped e.patch c.retype_box-done.new.patch e.counts n c.args.path.now c.args.number c.args.text.now (known e.library e.symbols) c.in-Err.why)
+    let d : IsNotRetypedBy (g.H.Shelf.holds c.args.shelf.now) e.patch c.retype_box-done.new.patch e.counts e.file.items c.args.path.now c.args.number c.args.text.now (known e.library e.symbols) c.in-Err.why =
+    subst (λ (n : List ℕ). IsNotRetypedBy (g.H.Shelf.holds c.args.shelf.now) e.patch c.retype_box-done.new.patch e.counts n c.args.path.now c.args.number c.args.text.now (known e.library e.symbols) c.in-Err.why)
     c.as_slice.ensures.value c.in-Err.ensures.refused in
     still_answered c.args.path.now c.args.number c.args.text.now e.file.items e.symbols e.library e.counts e.time e.block_end e.fired e.tally e.patch c.retype_box-done.new.patch (ready_sure e.patch e.puts e.meet)
     c.tell.result (g.L.Sink.taken c.args.lines.now) (g.L.Sink.taken c.tell.new.lines) c.args.steps.now c.retype_box-done.new.steps (g.H.Shelf.holds c.args.shelf.now) (g.H.Shelf.holds c.retype_box-done.new.shelf)
@@ -79,8 +79,8 @@ returns-in-Err-clause-ok g c =
 pub returns-in-Err-clause-err : goal.returns-in-Err-clause-err
 returns-in-Err-clause-err g c =
     let e = c.args.self.now in
-    let d : IsNotRetyped e.patch c.retype_box-done.new.patch e.counts e.file.items c.args.path.now c.args.number c.args.text.now (known e.library e.symbols) c.in-Err.why =
-    subst (λ (n : List ℕ). IsNotRetyped e.patch c.retype_box-done.new.patch e.counts n c.args.path.now c.args.number c.args.text.now (known e.library e.symbols) c.in-Err.why)
+    let d : IsNotRetypedBy (g.H.Shelf.holds c.args.shelf.now) e.patch c.retype_box-done.new.patch e.counts e.file.items c.args.path.now c.args.number c.args.text.now (known e.library e.symbols) c.in-Err.why =
+    subst (λ (n : List ℕ). IsNotRetypedBy (g.H.Shelf.holds c.args.shelf.now) e.patch c.retype_box-done.new.patch e.counts n c.args.path.now c.args.number c.args.text.now (known e.library e.symbols) c.in-Err.why)
     c.as_slice.ensures.value c.in-Err.ensures.refused in
     still_torn c.args.path.now c.args.number c.args.text.now e.file.items e.symbols e.library e.counts e.time e.block_end e.fired e.tally e.patch c.retype_box-done.new.patch (ready_sure e.patch e.puts e.meet)
     c.tell.result (g.L.Sink.taken c.args.lines.now) (g.L.Sink.taken c.tell.new.lines) c.args.steps.now c.retype_box-done.new.steps (g.H.Shelf.holds c.args.shelf.now) (g.H.Shelf.holds c.retype_box-done.new.shelf)
