@@ -19,6 +19,7 @@ use Rattle.pd_patch.proofs.GrowthLemmas.{grown_box_fits}
 use Rattle.pd_wiring.specs.declared.refusals.EditRefusal.{EditRefusal}
 use Rattle.pd_wiring.specs.declared.refusals.EditRefusal.TheVariants.{NoDocument, ShelfFault, NoMemory}
 use Rattle.pd_boxes.specs.Put.{CanPut}
+use Rattle.pd_boxes.specs.Room.{SameButRoom}
 use Rattle.pd_adding.specs.declared.adding.Grown.{Grown}
 use Rattle.pd_adding.specs.declared.counts.Counts.{Counts}
 use Rattle.pd_adding.specs.Boxes.{IsKnown, CanBeWritten, settled_edit, box_put}
@@ -27,33 +28,35 @@ use Rattle.pd_adding.specs.Counts.{stock_by, with_boxes}
 use Rattle.pd_adding.specs.Growing.{Added, growth_of}
 use Rattle.pd_adding.specs.Adding.{ComesTo, GrewWith, Grows}
 use Rattle.pd_putting.specs.declared.adding.NewBox.{NewBox}
-use Rattle.pd_putting.specs.Adds.{last_place, IsBoxPut, IsSubPut, IsPortBoxPut, IsPartBoxPut, HasCome, AddsBox, IsNotPut, IsNotAdded}
-use Rattle.pd_putting.specs.Last.{HasGrown, StaysOut}
-use Rattle.pd_putting.proofs.ComingLemmas.{comes_anyhow, counts_are}
+use Rattle.pd_putting.specs.Adds.{last_place, CanCome, IsBoxPut, IsSubPut, IsPortBoxPut, IsPartBoxPut, HasCome, AddsBox, AddsBoxBy, IsNotPutBy, IsNotAddedBy}
+use Rattle.pd_putting.specs.Places.{HasGrown, IsNotLast}
+use Rattle.pd_putting.proofs.ComingLemmas.{counts_are}
 use Rattle.pd_putting.proofs.GrownLemmas.{grown_holds}
 use Rattle.pd_putting.proofs.StayLemmas.{more_wires, room_depth, room_wires, shell_wires}
 use Rattle.pd_putting.proofs.WireLemmas.{part_wires}
 
 -- the text isn't of the table
-pub not_known : (p : Patch) (n : Counts) (name path : List ℕ) (e : Edit) (k : Known) → (IsKnown k.names e → ⊥) → IsNotAdded p p n name path e k NoDocument
-not_known p n name path e k other = inl (refl, inr (inr (inr (refl, other))))
+pub not_known : (holds : Option (List FileRow)) (p : Patch) (n : Counts) (name path : List ℕ) (e : Edit) (k : Known) → (IsKnown k.names e → ⊥)
+    → IsNotAddedBy holds p p n name path e k NoDocument
+not_known holds p n name path e k other = inl (refl, inr (inr (inr (refl, other))))
 
 -- growth is refused
 not_put : (holds : Option (List FileRow)) (p : Patch) (n : Counts) (name path : List ℕ) (e : Edit) (k : Known) (why : EditRefusal)
-    → (why ≢ NoMemory → why ≢ ShelfFault → ComesTo holds p n name path e k (Err why)) → (why ≡ ShelfFault → IsComing (coming k.names p path e)) → IsNotPut p n name path e k why
+    → (why ≢ NoMemory → why ≢ ShelfFault → ComesTo holds p n name path e k (Err why)) → (why ≡ ShelfFault → IsComing (coming k.names p path e)) → IsNotPutBy holds p n name path e k why
 not_put holds p n name path e k NoMemory comes asks = inl refl
 not_put holds p n name path e k ShelfFault comes asks = inr (inl (refl, asks refl))
-not_put holds p n name path e k why comes asks = inr (inr (inl (comes_anyhow holds p n name path e k (Err why) (comes (λ q. cc) (λ q. cc)))))
+not_put holds p n name path e k why comes asks = inr (inr (inl (comes (λ q. cc) (λ q. cc))))
 
 pub not_grown : (holds : Option (List FileRow)) (p : Patch) (n : Counts) (name path : List ℕ) (e : Edit) (k : Known) (why : EditRefusal)
-    → (why ≢ NoMemory → why ≢ ShelfFault → ComesTo holds p n name path e k (Err why)) → (why ≡ ShelfFault → IsComing (coming k.names p path e)) → IsNotAdded p p n name path e k why
+    → (why ≢ NoMemory → why ≢ ShelfFault → ComesTo holds p n name path e k (Err why)) → (why ≡ ShelfFault → IsComing (coming k.names p path e)) → IsNotAddedBy holds p p n name path e k why
 not_grown holds p n name path e k why comes asks = inl (refl, not_put holds p n name path e k why comes asks)
 
 -- what grew stays out
 pub left_out : (holds : Option (List FileRow)) (old new : Patch) (n : Counts) (name path : List ℕ) (e : Edit) (k : Known) (a : Added) (why : EditRefusal)
-    → ComesTo holds old n name path e k (Ok a) → CanPut new → StaysOut old new a why → IsNotAdded old new n name path e k why
-left_out holds old new n name path e k a why comes can out =
-    inr (out.0, record { added = a; comes = comes_anyhow holds old n name path e k (Ok a) comes; can_come = out.1.0; room = out.1.1; goes_on = can })
+    → ComesTo holds old n name path e k (Ok a) → CanPut new → IsNotLast old new a why → IsNotAddedBy holds old new n name path e k why
+left_out holds old new n name path e k a why comes can out = ⊎_elim
+    (λ (same : new ≡ old). inl (same, inl out.0))
+    (λ (s : CanCome old a × SameButRoom old new). inr (out.0, record { added = a; comes = comes; can_come = s.0; room = s.1; goes_on = can })) out.1
 
 the_err : {A E : Type 0} → E → Result A E → E
 the_err d (Ok a) = d
@@ -66,7 +69,7 @@ same_err x y h = ap (the_err x) h
 memory_no_fault : (why : EditRefusal) → why ≡ NoMemory → why ≡ ShelfFault → ⊥
 memory_no_fault why a b = cc
 
-pub no_fault : (old new : Patch) (a : Added) (why : EditRefusal) → StaysOut old new a why → why ≡ ShelfFault → ⊥
+pub no_fault : (old new : Patch) (a : Added) (why : EditRefusal) → IsNotLast old new a why → why ≡ ShelfFault → ⊥
 no_fault old new a why out f = memory_no_fault why out.0 f
 
 -- no wire of a canvas without boxes fits
@@ -131,14 +134,14 @@ module _ (holds : Option (List FileRow)) (p : Patch) (n : Counts) (name path : L
       (wires_came p q now G.added b.key (grown_bare p n name path e k G.files G.added G.grew) put)
 
   pub adds_box : (q : Patch) (now : ℕ) (b : NewBox) (last : Names) → AreProper k.names k.files → IsKnown k.names e → IfSome (box_put (settled_edit k.names e)) (CanBeWritten k.names)
-      → HasCome p q now G.added b.key → b.canvas ≡ g.canvas → b.counts ≡ g.counts → last ≡ names → AddsBox p q n name path now e k (known files last) b
+      → HasCome p q now G.added b.key → b.canvas ≡ g.canvas → b.counts ≡ g.counts → last ≡ names → AddsBoxBy holds p q n name path now e k (known files last) b
   adds_box q now b last found is_known written put canvas counts table = record {
     added = G.added;
     table = G.table;
     found = found;
     is_known = is_known;
     written = written;
-    comes = comes_anyhow holds p n name path e k (Ok G.added) G.comes;
+    comes = G.comes;
     files = G.files;
     grew = G.grew;
     put = put;

@@ -18,7 +18,7 @@ use Rattle.pd_adding.specs.Coming.{own_zero}
 use Rattle.pd_adding.specs.Counts.{stock_by}
 use Rattle.pd_adding.specs.Growing.{Added, growth_of}
 use Rattle.pd_adding.specs.Adding.{GrewWith}
-use Rattle.pd_putting.specs.Last.{HoldsAsCanvas}
+use Rattle.pd_putting.specs.Places.{HoldsAsCanvas}
 
 canvas_holds : (inner : Inner) (a : Around) (p : Page) (h : Head) (text : List Atom) (w : Stock) (t : Trees) (v : Stock) → canvas_grown inner a p h text w ≡ gives t v → HoldsAsCanvas t
 canvas_holds inner a p h text w t v e = subst HoldsAsCanvas (canvas_went inner a p h text w t v e).tree_is refl

@@ -18,7 +18,6 @@ use Rattle.pd_grove.specs.Ports.{port_signal}
 use Rattle.pd_grove.specs.Standing.{depth_of}
 use Rattle.pd_grove.specs.States.{AreFresh}
 use Rattle.pd_grove.specs.TextOrder.{deep}
-use Rattle.pd_web.specs.Canvases.{keys_at}
 use Rattle.pd_patch.specs.declared.patch.Patch.{Patch}
 use Rattle.pd_boxes.specs.declared.room.Place.{Place}
 use Rattle.pd_boxes.specs.Put.{IsNoPort}
@@ -30,9 +29,8 @@ use Rattle.pd_adding.specs.declared.adding.Grown.{Grown}
 use Rattle.pd_adding.specs.Growing.{Added}
 use Rattle.pd_adding.specs.Adding.{IsAdded}
 use Rattle.pd_adding.specs.Single.{IsSingle}
-use Rattle.pd_putting.specs.Adds.{last_place, IsHolder, IsPartBoxPut}
-use Rattle.pd_putting.specs.Last.{FitsIn, HasGrown, HoldsAsCanvas, HoldsCanvas, IsAlone, PutsPartLast}
-use Rattle.pd_putting.proofs.StayLemmas.{last_is}
+use Rattle.pd_putting.specs.Adds.{place_at, IsHolder, IsPartBoxPutAt}
+use Rattle.pd_putting.specs.Places.{FitsIn, HasGrown, HoldsAsCanvas, HoldsCanvas, IsAloneAt, PutsPartAt}
 
 -- ---- by the tree
 
@@ -76,15 +74,12 @@ module _ (g : Grown) (a : Added) (A : IsAdded g a) where
       }
 
   -- what isn't alone holds a canvas
-  pub others_hold : (p : Patch) → HoldsAsCanvas a.boxes → (IsAlone p a → ⊥) → HoldsCanvas (stands_in g.rows.items)
-  others_hold p h other = subst HoldsCanvas (sym A.rows) (one_holds a.boxes A.one h (λ S. other (inl S)))
+  pub others_hold : (p : Patch) (number : ℕ) → HoldsAsCanvas a.boxes → (IsAloneAt p number a → ⊥) → HoldsCanvas (stands_in g.rows.items)
+  others_hold p number h other = subst HoldsCanvas (sym A.rows) (one_holds a.boxes A.one h (λ S. other (inl S)))
 
 -- what grew is one box with all that lies in it, not too deep for its place
-pub one_part : (p : Patch) (g : Grown) (names : Names) → HasGrown g names → FitsIn p g → IsOnePart p (last_place p g.canvas) (stands_in g.rows.items)
-one_part p g names h fits = record { tree = h.added.boxes; is_tree = h.is.rows; single = h.is.one; shallow = fits h.added h.is }
-
-pub part_there : (p : Patch) (canvas number : ℕ) (ss : List Stand) → IsOnePart p (last_place p canvas) ss → IsOnePart p (record { canvas = canvas; number = number }) ss
-part_there p canvas number ss P = record { tree = P.tree; is_tree = P.is_tree; single = P.single; shallow = P.shallow }
+pub one_part : (p : Patch) (g : Grown) (number : ℕ) (names : Names) → HasGrown g names → FitsIn p g → IsOnePart p (place_at g.canvas number) (stands_in g.rows.items)
+one_part p g number names h fits = record { tree = h.added.boxes; is_tree = h.is.rows; single = h.is.one; shallow = fits h.added h.is }
 
 -- it is no port of a box around
 pub holder_no_port : (p : Patch) (at : Place) (ss : List Stand) (s : Seed) (seeds : List Seed) → one (seed_stand s) (stands_ready seeds) ≡ ss → HoldsCanvas ss → IsNoPort p at s.row.kind
@@ -115,10 +110,10 @@ suit_all names (s ∷ seeds) (row ∷ rows) e h =
     rest_of (x ∷ xs) = xs
 
 -- the box of the room came in
-pub puts_part : (p q r : Patch) (names table : Names) (canvas number now : ℕ) (ss : List Stand) (room : PartRoom) (taken : Names) (key steps steps' : ℕ) → SameButRoom p q
-    → names ≡ table → number ≡ length (keys_at p.grove canvas) → room.place ≡ record { canvas = canvas; number = number } → stands_for room ≡ ss → AreFresh p.rate now (room.seed ∷ seeds_in room.inside)
-    → TakesPart q room taken → IsPartPut q r names room.place room.seed (seeds_in room.inside) key steps steps' → PutsPartLast p r table canvas now ss key steps steps'
-puts_part p q r names table canvas number now ss room taken key steps steps' same e last at is fresh takes I = record {
+pub puts_part : (p q r : Patch) (names table : Names) (at : Place) (now : ℕ) (ss : List Stand) (room : PartRoom) (taken : Names) (key steps steps' : ℕ) → SameButRoom p q
+    → names ≡ table → room.place ≡ at → stands_for room ≡ ss → AreFresh p.rate now (room.seed ∷ seeds_in room.inside)
+    → TakesPart q room taken → IsPartPut q r names room.place room.seed (seeds_in room.inside) key steps steps' → PutsPartAt p r table at now ss key steps steps'
+puts_part p q r names table at now ss room taken key steps steps' same e there is fresh takes I = record {
   ready = q;
   room = same;
   seed = room.seed;
@@ -126,13 +121,13 @@ puts_part p q r names table canvas number now ss room taken key steps steps' sam
   are_rows = is;
   small = takes.small;
   fresh = fresh;
-  put = subst (λ (t : Names). IsPartPut q r t (last_place p canvas) room.seed (seeds_in room.inside) key steps steps') e
-      (subst (λ (x : Place). IsPartPut q r names x room.seed (seeds_in room.inside) key steps steps') (at ∙ last_is p canvas number last) I);
+  put = subst (λ (t : Names). IsPartPut q r t at room.seed (seeds_in room.inside) key steps steps') e
+      (subst (λ (x : Place). IsPartPut q r names x room.seed (seeds_in room.inside) key steps steps') there I);
 }
 
-module _ (g : Grown) (a : Added) (A : IsAdded g a) (p q : Patch) (now : ℕ) (table : Names) (key steps steps' : ℕ) (names : a.known.names ≡ table) where
+module _ (g : Grown) (number : ℕ) (a : Added) (A : IsAdded g a) (p q : Patch) (now : ℕ) (table : Names) (key steps steps' : ℕ) (names : a.known.names ≡ table) where
   -- what came in is the box that grew
-  pub part_put : IsHolder p a → PutsPartLast p q table g.canvas now (stands_in g.rows.items) key steps steps' → IsPartBoxPut p q now a key
+  pub part_put : IsHolder p a → PutsPartAt p q table (place_at g.canvas number) now (stands_in g.rows.items) key steps steps' → IsPartBoxPutAt p q number now a key
   part_put H L = record {
     holder = H;
     ready = L.ready;
@@ -145,7 +140,7 @@ module _ (g : Grown) (a : Added) (A : IsAdded g a) (p q : Patch) (now : ℕ) (ta
     fresh = L.fresh;
     steps = steps;
     steps' = steps';
-    put = subst (λ (t : Names). IsPartPut L.ready q t (last_place p a.canvas) L.seed L.seeds key steps steps') (sym names)
-        (subst (λ (c : ℕ). IsPartPut L.ready q table (last_place p c) L.seed L.seeds key steps steps') A.canvas L.put);
+    put = subst (λ (t : Names). IsPartPut L.ready q t (place_at a.canvas number) L.seed L.seeds key steps steps') (sym names)
+        (subst (λ (c : ℕ). IsPartPut L.ready q table (place_at c number) L.seed L.seeds key steps steps') A.canvas L.put);
     goes_on = L.put.can;
   }

@@ -16,7 +16,7 @@ use Rattle.pd_following.specs.Ports.{IsPortPut}
 use Rattle.pd_subpatches.specs.Shell.{ShellComesIn}
 use Rattle.pd_adding.specs.Growing.{Added}
 use Rattle.pd_putting.specs.Adds.{keys_within, last_place, IsBoxPut, IsSubPut, IsPortBoxPut}
-use Rattle.pd_putting.specs.Last.{PutsLast, PutsLeafLast, PutsPortLast, PutsSubLast}
+use Rattle.pd_putting.specs.Places.{PutsAt, PutsLeafAt, PutsPortAt, PutsSubAt}
 
 some_there : {A : Type 0} (o : Option A) (x : A) → o ≡ Some x → IsSome o
 some_there o x e = subst (λ y. IsSome y) (sym e) refl
@@ -34,13 +34,13 @@ port_alone : (p q : Patch) (table : Names) (place : Place) (s : Seed) (key holde
 port_alone p q table place s key holder side I =
     ap (λ (g : Grove). part_keys (get g.nodes) (get g.boards) key) I.rest.grove ∙ comes_alone p I.ready table place s key I.comes
 
-pub leaf_last_alone : (p q : Patch) (table : Names) (canvas : ℕ) (s : Seed) (key : ℕ) → PutsLeafLast p q table canvas s key → keys_within q key ≡ key ∷ []
-leaf_last_alone p q table canvas s key L = ⊎_elim
-    (λ (b : IsNoPort p (last_place p canvas) s.row.kind × PutsLast p q table canvas s key). comes_alone b.1.ready q table (last_place p canvas) s key b.1.put.comes)
-    (λ (o : PutsPortLast p q table canvas s key). port_alone o.ready q table (last_place p canvas) s key o.holder o.side o.put) L
+pub leaf_at_alone : (p q : Patch) (table : Names) (place : Place) (s : Seed) (key : ℕ) → PutsLeafAt p q table place s key → keys_within q key ≡ key ∷ []
+leaf_at_alone p q table place s key L = ⊎_elim
+    (λ (b : IsNoPort p place s.row.kind × PutsAt p q table place s key). comes_alone b.1.ready q table place s key b.1.put.comes)
+    (λ (o : PutsPortAt p q table place s key). port_alone o.ready q table place s key o.holder o.side o.put) L
 
-pub sub_last_alone : (p q : Patch) (table : Names) (canvas : ℕ) (s : Seed) (key : ℕ) → PutsSubLast p q table canvas s key → keys_within q key ≡ key ∷ []
-sub_last_alone p q table canvas s key L = shell_alone L.ready q table (last_place p canvas) s key L.put.comes
+pub sub_at_alone : (p q : Patch) (table : Names) (place : Place) (s : Seed) (key : ℕ) → PutsSubAt p q table place s key → keys_within q key ≡ key ∷ []
+sub_at_alone p q table place s key L = shell_alone L.ready q table place s key L.put.comes
 
 -- so its key alone is told
 pub told_alone : (xs : List ℕ) (key : ℕ) (keys : List ℕ) → xs ≡ [] → keys ≡ key ∷ [] → xs ++ key ∷ [] ≡ keys

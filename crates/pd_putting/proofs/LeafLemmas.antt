@@ -19,8 +19,8 @@ use Rattle.pd_adding.specs.declared.adding.Grown.{Grown}
 use Rattle.pd_adding.specs.Growing.{Added}
 use Rattle.pd_adding.specs.Adding.{IsAdded}
 use Rattle.pd_adding.specs.Single.{IsSingle}
-use Rattle.pd_putting.specs.Adds.{last_place, CanCome, HasCome, IsSub, IsBoxPut, IsPortBoxPut}
-use Rattle.pd_putting.specs.Last.{IsAlone, IsPortIn, PutsLast, PutsLeafLast, PutsPortLast}
+use Rattle.pd_putting.specs.Adds.{place_at, CanComeAt, HasComeAt, IsSubAt, IsBoxPutAt, IsPortBoxPutAt}
+use Rattle.pd_putting.specs.Places.{IsAloneAt, IsPortIn, PutsAt, PutsLeafAt, PutsPortAt}
 use Rattle.pd_putting.proofs.PlaceLemmas.{port_or_not}
 
 -- the box of a cell that holds no canvas
@@ -67,16 +67,16 @@ module _ (g : Grown) (a : Added) (A : IsAdded g a) where
       no_sheet None n h = cc
       no_sheet (Some s) n h = cc
 
-module _ (p : Patch) (a : Added) where
+module _ (p : Patch) (number : ℕ) (a : Added) where
   -- one box without a canvas is a port of the box around, or is none
-  pub single_comes : IsSingle a.boxes → CanCome p a
+  pub single_comes : IsSingle a.boxes → CanComeAt p number a
   single_comes S = ⊎_elim
-      (λ (free : IsNoPort p (last_place p a.canvas) S.cell.kind). inl (record { cell = S.cell; single = S.is; no_port = free }))
-      (λ (port : IsPortIn p a.canvas S.cell.kind). inr (inr (inl (record { cell = S.cell; single = S.is; holder = port.0; side = port.1; at = port.2 }))))
-      (port_or_not p a.canvas S.cell.kind)
+      (λ (free : IsNoPort p (place_at a.canvas number) S.cell.kind). inl (record { cell = S.cell; single = S.is; no_port = free }))
+      (λ (port : IsPortIn p (place_at a.canvas number) S.cell.kind). inr (inr (inl (record { cell = S.cell; single = S.is; holder = port.0; side = port.1; at = port.2 }))))
+      (port_or_not p (place_at a.canvas number) S.cell.kind)
 
-  pub alone_comes : IsAlone p a → CanCome p a
-  alone_comes A = ⊎_elim single_comes (λ (S : IsSub p a). inr (inl S)) A
+  pub alone_comes : IsAloneAt p number a → CanComeAt p number a
+  alone_comes A = ⊎_elim single_comes (λ (S : IsSubAt p number a). inr (inl S)) A
 
 -- ---- seeds
 
@@ -107,13 +107,13 @@ module _ (g : Grown) (a : Added) (A : IsAdded g a) (S : IsSingle a.boxes) (seed 
   kind_is = ap (λ (s : Stand). s.cell.kind) seed_stand
 
   -- what came in is the box that grew
-  module _ (p q : Patch) (now : ℕ) (table : Names) (key : ℕ) (names : a.known.names ≡ table) (leaf : IsLeaf seed) (fresh : IsFresh p.rate now seed) (can : CanPut q) where
-    box_put : IsNoPort p (last_place p g.canvas) seed.row.kind → PutsLast p q table g.canvas seed key → IsBoxPut p q now a key
+  module _ (p q : Patch) (number now : ℕ) (table : Names) (key : ℕ) (names : a.known.names ≡ table) (leaf : IsLeaf seed) (fresh : IsFresh p.rate now seed) (can : CanPut q) where
+    box_put : IsNoPort p (place_at g.canvas number) seed.row.kind → PutsAt p q table (place_at g.canvas number) seed key → IsBoxPutAt p q number now a key
     box_put free L = record {
       plain = record {
         cell = S.cell;
         single = S.is;
-        no_port = subst (λ (k : Kind). IsNoPort p (last_place p a.canvas) k) kind_is (subst (λ (c : ℕ). IsNoPort p (last_place p c) seed.row.kind) A.canvas free);
+        no_port = subst (λ (k : Kind). IsNoPort p (place_at a.canvas number) k) kind_is (subst (λ (c : ℕ). IsNoPort p (place_at c number) seed.row.kind) A.canvas free);
       };
       ready = L.ready;
       room = L.room;
@@ -122,20 +122,20 @@ module _ (g : Grown) (a : Added) (A : IsAdded g a) (S : IsSingle a.boxes) (seed 
       suits = seed_suits g a A seed is;
       leaf = leaf;
       fresh = fresh;
-      put = subst (λ (t : Names). IsPut L.ready q t (last_place p a.canvas) seed key) (sym names)
-          (subst (λ (c : ℕ). IsPut L.ready q table (last_place p c) seed key) A.canvas L.put);
+      put = subst (λ (t : Names). IsPut L.ready q t (place_at a.canvas number) seed key) (sym names)
+          (subst (λ (c : ℕ). IsPut L.ready q table (place_at c number) seed key) A.canvas L.put);
       goes_on = can;
     }
 
-    port_put : PutsPortLast p q table g.canvas seed key → IsPortBoxPut p q now a key
+    port_put : PutsPortAt p q table (place_at g.canvas number) seed key → IsPortBoxPutAt p q number now a key
     port_put L = record {
       port = record {
         cell = S.cell;
         single = S.is;
         holder = L.holder;
         side = L.side;
-        at = subst (λ (k : Kind). IsPortAt p.grove (last_place p a.canvas) k L.holder L.side) kind_is
-            (subst (λ (c : ℕ). IsPortAt p.grove (last_place p c) seed.row.kind L.holder L.side) A.canvas L.at);
+        at = subst (λ (k : Kind). IsPortAt p.grove (place_at a.canvas number) k L.holder L.side) kind_is
+            (subst (λ (c : ℕ). IsPortAt p.grove (place_at c number) seed.row.kind L.holder L.side) A.canvas L.at);
       };
       ready = L.ready;
       room = L.room;
@@ -143,13 +143,13 @@ module _ (g : Grown) (a : Added) (A : IsAdded g a) (S : IsSingle a.boxes) (seed 
       is_row = seed_stand;
       suits = seed_suits g a A seed is;
       fresh = fresh;
-      could = subst (λ (c : ℕ). CanPutPort L.ready (last_place p c) seed L.holder L.side) A.canvas L.could;
-      put = subst (λ (t : Names). IsPortPut L.ready q t (last_place p a.canvas) seed key L.holder L.side) (sym names)
-          (subst (λ (c : ℕ). IsPortPut L.ready q table (last_place p c) seed key L.holder L.side) A.canvas L.put);
+      could = subst (λ (c : ℕ). CanPutPort L.ready (place_at c number) seed L.holder L.side) A.canvas L.could;
+      put = subst (λ (t : Names). IsPortPut L.ready q t (place_at a.canvas number) seed key L.holder L.side) (sym names)
+          (subst (λ (c : ℕ). IsPortPut L.ready q table (place_at c number) seed key L.holder L.side) A.canvas L.put);
       goes_on = can;
     }
 
-    pub leaf_put : PutsLeafLast p q table g.canvas seed key → HasCome p q now a key
+    pub leaf_put : PutsLeafAt p q table (place_at g.canvas number) seed key → HasComeAt p q number now a key
     leaf_put L = ⊎_elim
-        (λ (b : IsNoPort p (last_place p g.canvas) seed.row.kind × PutsLast p q table g.canvas seed key). inl (box_put b.0 b.1))
-        (λ (o : PutsPortLast p q table g.canvas seed key). inr (inr (inl (port_put o)))) L
+        (λ (b : IsNoPort p (place_at g.canvas number) seed.row.kind × PutsAt p q table (place_at g.canvas number) seed key). inl (box_put b.0 b.1))
+        (λ (o : PutsPortAt p q table (place_at g.canvas number) seed key). inr (inr (inl (port_put o)))) L

@@ -10,5 +10,6 @@ pub mod KeyLemmas
 pub mod PartLemmas
 mod HolderLemmas
 pub mod AddLemmas
+mod UntoldLemmas
 pub mod SubLemmas
 pub mod WireLemmas

@@ -21,7 +21,7 @@ use Rattle.pd_boxes.specs.Put.{CanPut}
 use Rattle.pd_instances.specs.Part.{IsPartPut, looks_of}
 use Rattle.pd_adding.specs.Coming.{zero_in, own_zero}
 use Rattle.pd_putting.specs.Adds.{keys_within, looks_with, put_looks}
-use Rattle.pd_putting.specs.Last.{HoldsCanvas}
+use Rattle.pd_putting.specs.Places.{looks_anywhere, HoldsCanvas}
 
 seen_inner : (o : Option Node) (s : NodeSeen) → option_map node_seen o ≡ Some s → inner_in o ≡ s.inner
 seen_inner None s h = absurd (none-some s h)
@@ -51,6 +51,12 @@ module _ (p q : Patch) (table : Names) (place : Place) (s : Seed) (seeds : List 
       (λ (e : root ≡ place.canvas). subst (λ (c : ℕ). zero_in (get q.grove.boards c) ≡ zero_in (get p.grove.boards c)) (sym e)
       (sheet_zero (get p.grove.boards place.canvas) (get q.grove.boards place.canvas) P.grove.sheet))
       (λ (f : root ≢ place.canvas). ap zero_in (P.grove.canvases_stay root f can.forest.rooted.0)) (cases_eq root place.canvas)
+
+  pub part_looks_anywhere : steps' ≤ steps + looks_anywhere q key
+  part_looks_anywhere =
+      let told = ap (looks_of q.grove q.links) P.in_order in
+      let looks = P.looks in
+      omega (arith, told, looks)
 
   pub part_looks : (t : Trees) → one (seed_stand s) (stands_ready seeds) ≡ stands_of t → width t ≡ 1 → HoldsCanvas (stands_of t) → steps' ≤ steps + put_looks q key
   part_looks t are single holds =

@@ -17,8 +17,8 @@ use Rattle.pd_grove.specs.Ports.{port_signal}
 use Rattle.pd_grove.specs.Telling.{keys_in, inner_in}
 use Rattle.pd_patch.specs.declared.patch.Patch.{Patch}
 use Rattle.pd_boxes.specs.Put.{IsNoPort}
-use Rattle.pd_putting.specs.Adds.{last_place}
-use Rattle.pd_putting.specs.Last.{IsPortIn}
+use Rattle.pd_boxes.specs.declared.room.Place.{Place}
+use Rattle.pd_putting.specs.Places.{IsPortIn}
 
 -- ---- canvases
 
@@ -79,18 +79,18 @@ one_side k h = ⊎_elim
     (λ (b : is_some (port_signal Outlets k) ≡ true). (Outlets, b))
     (one_yes (is_some (port_signal Inlets k)) (is_some (port_signal Outlets k)) h)
 
-module _ (p : Patch) (canvas : ℕ) (k : Kind) where
+module _ (p : Patch) (place : Place) (k : Kind) where
   -- a port in a canvas that a box holds
-  pub held_port : is_some (holder_in (get p.grove.boards canvas)) ≡ true → (is_some (port_signal Inlets k) || is_some (port_signal Outlets k)) ≡ true → IsPortIn p canvas k
+  pub held_port : is_some (holder_in (get p.grove.boards place.canvas)) ≡ true → (is_some (port_signal Inlets k) || is_some (port_signal Outlets k)) ≡ true → IsPortIn p place k
   held_port held port =
-      let holder = some_of (holder_in (get p.grove.boards canvas)) held in
+      let holder = some_of (holder_in (get p.grove.boards place.canvas)) held in
       let side = one_side k port in
       (holder.0, side.0, record { held = holder.1; port = side.1 })
 
   -- a box is a port of the box around, or it is none
-  pub port_or_not : IsNoPort p (last_place p canvas) k ⊎ IsPortIn p canvas k
-  port_or_not = elim (cases_Bool (is_some (holder_in (get p.grove.boards canvas)))) [
-    | inr free ↦ inl (inl (none_of (holder_in (get p.grove.boards canvas)) free))
+  pub port_or_not : IsNoPort p place k ⊎ IsPortIn p place k
+  port_or_not = elim (cases_Bool (is_some (holder_in (get p.grove.boards place.canvas)))) [
+    | inr free ↦ inl (inl (none_of (holder_in (get p.grove.boards place.canvas)) free))
     | inl held ↦ elim (cases_Bool (is_some (port_signal Inlets k) || is_some (port_signal Outlets k))) [
       | inl port ↦ inr (held_port held port)
       | inr none ↦ inl (inr (no_sides k none))

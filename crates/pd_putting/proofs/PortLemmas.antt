@@ -1,5 +1,5 @@
--- A port box that comes in last where room was set aside for it.
-use Rattle.std.proofs.Common.{◌≡◌, ℕ, length, IsSome, sym, ap, ◌∙◌, subst}
+-- A port box that comes in where room was set aside for it.
+use Rattle.std.proofs.Common.{◌≡◌, ◌≤◌, ℕ, length, IsSome, sym, ap, ◌∙◌, subst, arith}
 use Rattle.slab.specs.Slab.{get}
 use Rattle.pd_atom.specs.Names.{Names}
 use Rattle.pd_grove.specs.declared.grove.Grove.{Grove}
@@ -16,44 +16,37 @@ use Rattle.pd_following.specs.Ports.{CanPutPort, IsPortAt, IsPortPut}
 use Rattle.pd_following.specs.Room.{IsFor}
 use Rattle.pd_following.proofs.ReserveLemmas.{holder_same, room_port}
 use Rattle.pd_adding.specs.Coming.{zero_in, own_zero}
-use Rattle.pd_putting.specs.Adds.{last_place}
-use Rattle.pd_putting.specs.Last.{IsPortIn, PutsPortLast}
-use Rattle.pd_putting.proofs.StayLemmas.{last_is, more_zero, room_last, room_lives}
+use Rattle.pd_putting.specs.Places.{PutsPortAt}
+use Rattle.pd_putting.proofs.StayLemmas.{more_zero, room_last, room_lives}
 
--- it is a port of the box around at the number behind all others
-pub port_there : (p : Patch) (canvas number : ℕ) (s : Seed) → number ≡ length (keys_at p.grove canvas) → IsPortIn p canvas s.row.kind
-    → (holder : ℕ) × (side : Side) × IsPortAt p.grove (record { canvas = canvas; number = number }) s.row.kind holder side
-port_there p canvas number s e port =
-    (port.0, port.1, subst (λ (at : Place). IsPortAt p.grove at s.row.kind port.0 port.1) (sym (last_is p canvas number e)) port.2)
-
-module _ (p q : Patch) (S : SameButRoom p q) (canvas number : ℕ) (s : Seed) (e : number ≡ length (keys_at p.grove canvas)) (room : PortBoxRoom)
-    (F : IsFor q room (record { canvas = canvas; number = number }) s) where
-  place_is : room.own.place ≡ last_place p canvas
-  place_is = F.box.place ∙ last_is p canvas number e
-
-  port_at : IsPortAt p.grove (last_place p canvas) s.row.kind room.holder room.side
+module _ (p q : Patch) (S : SameButRoom p q) (place : Place) (s : Seed) (room : PortBoxRoom) (F : IsFor q room place s) where
+  port_at : IsPortAt p.grove place s.row.kind room.holder room.side
   port_at = record {
-    held = sym (holder_same (get p.grove.boards canvas) (get q.grove.boards canvas) (S.grove.boards canvas)) ∙ F.port.held;
+    held = sym (holder_same (get p.grove.boards place.canvas) (get q.grove.boards place.canvas) (S.grove.boards place.canvas)) ∙ F.port.held;
     port = F.port.port;
   }
 
-  could : CanPut p → Meet p.web → IsLeaf s → CanPutPort q (last_place p canvas) s room.holder room.side
-  could can meet leaf =
-      room_port p q (last_place p canvas) s room.holder room.side S (record { can = can; meet = meet; leaf = leaf; at = port_at })
+  could : CanPut p → Meet p.web → IsLeaf s → CanPutPort q place s room.holder room.side
+  could can meet leaf = room_port p q place s room.holder room.side S (record { can = can; meet = meet; leaf = leaf; at = port_at })
 
   pub own_could : CanPut p → Meet p.web → IsLeaf s → CanPutPort q room.own.place room.own.seed room.holder room.side
   own_could can meet leaf = subst (λ (x : Seed). CanPutPort q room.own.place x room.holder room.side) (sym F.box.seed)
-      (subst (λ (at : Place). CanPutPort q at s room.holder room.side) (sym place_is) (could can meet leaf))
+      (subst (λ (at : Place). CanPutPort q at s room.holder room.side) (sym F.box.place) (could can meet leaf))
 
-  pub own_lives : IsSome (get p.grove.boards canvas) → IsSome (get q.grove.boards room.own.place.canvas)
-  own_lives here = subst (λ (at : Place). IsSome (get q.grove.boards at.canvas)) (sym place_is) (room_lives p q S canvas here)
+  pub own_lives : IsSome (get p.grove.boards place.canvas) → IsSome (get q.grove.boards room.own.place.canvas)
+  own_lives here = subst (λ (at : Place). IsSome (get q.grove.boards at.canvas)) (sym F.box.place) (room_lives p q S place.canvas here)
 
-  pub own_last : room.own.place.number ≡ length (keys_at q.grove room.own.place.canvas)
-  own_last = subst (λ (at : Place). at.number ≡ length (keys_at q.grove at.canvas)) (sym place_is) (sym (room_last p q S canvas))
+  pub own_within : place.number ≤ length (keys_at p.grove place.canvas) → room.own.place.number ≤ length (keys_at q.grove room.own.place.canvas)
+  own_within within =
+      let e = room_last p q S place.canvas in
+      subst (λ (at : Place). at.number ≤ length (keys_at q.grove at.canvas)) (sym F.box.place) (omega (arith, e, within))
+
+  pub own_last : place.number ≡ length (keys_at p.grove place.canvas) → room.own.place.number ≡ length (keys_at q.grove room.own.place.canvas)
+  own_last last = subst (λ (at : Place). at.number ≡ length (keys_at q.grove at.canvas)) (sym F.box.place) (last ∙ sym (room_last p q S place.canvas))
 
   -- the box came in, and the box around has the port that it is
   pub puts_port : (r : Patch) (names table : Names) (key : ℕ) → names ≡ table → CanPut p → Meet p.web → IsLeaf s
-      → IsPortPut q r names room.own.place room.own.seed key room.holder room.side → PutsPortLast p r table canvas s key
+      → IsPortPut q r names room.own.place room.own.seed key room.holder room.side → PutsPortAt p r table place s key
   puts_port r names table key same can meet leaf I = record {
     holder = room.holder;
     side = room.side;
@@ -61,8 +54,8 @@ module _ (p q : Patch) (S : SameButRoom p q) (canvas number : ℕ) (s : Seed) (e
     ready = q;
     room = S;
     could = could can meet leaf;
-    put = subst (λ (t : Names). IsPortPut q r t (last_place p canvas) s key room.holder room.side) same
-        (subst (λ (at : Place). IsPortPut q r names at s key room.holder room.side) place_is
+    put = subst (λ (t : Names). IsPortPut q r t place s key room.holder room.side) same
+        (subst (λ (at : Place). IsPortPut q r names at s key room.holder room.side) F.box.place
         (subst (λ (x : Seed). IsPortPut q r names room.own.place x key room.holder room.side) F.box.seed I));
   }
 

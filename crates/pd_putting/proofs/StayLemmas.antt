@@ -38,8 +38,7 @@ use Rattle.pd_boxes.proofs.RoomLemmas.{keys_same}
 use Rattle.pd_following.proofs.ReserveLemmas.{meet_same, holder_same}
 use Rattle.pd_subpatches.specs.Shell.{ShellComesIn}
 use Rattle.pd_adding.specs.Coming.{zero_in, own_zero}
-use Rattle.pd_putting.specs.Adds.{last_place}
-use Rattle.pd_putting.specs.Last.{PutsLast}
+use Rattle.pd_putting.specs.Places.{PutsAt}
 
 -- a patch is as it was
 pub same_patch : (p : Patch) → SameButRoom p p
@@ -158,15 +157,12 @@ module _ (p q : Patch) (table : Names) (place : Place) (s : Seed) (key : ℕ) (I
 
 -- ---- both
 
-pub last_is : (p : Patch) (canvas number : ℕ) → number ≡ length (keys_at p.grove canvas) → ◌≡◌ {A = Place} (record { canvas = canvas; number = number }) (last_place p canvas)
-last_is p canvas number e = λ i. record { canvas = canvas; number = e i }
-
 -- a box came in where room was set aside for it
-pub puts_last : (p q r : Patch) (names table : Names) (canvas key : ℕ) (room : Room) (at : Place) (s : Seed) → SameButRoom p q → names ≡ table → at ≡ last_place p canvas → IsFor room at s
-    → IsPut q r names room.place room.seed key → PutsLast p r table canvas s key
-puts_last p q r names table canvas key room at s S e last F I = record {
+pub puts_at : (p q r : Patch) (names table : Names) (key : ℕ) (room : Room) (at : Place) (s : Seed) → SameButRoom p q → names ≡ table → IsFor room at s
+    → IsPut q r names room.place room.seed key → PutsAt p r table at s key
+puts_at p q r names table key room at s S e F I = record {
   ready = q;
   room = S;
-  put = subst (λ (t : Names). IsPut q r t (last_place p canvas) s key) e
-      (subst (λ (x : Place). IsPut q r names x s key) (F.place ∙ last) (subst (λ (x : Seed). IsPut q r names room.place x key) F.seed I));
+  put = subst (λ (t : Names). IsPut q r t at s key) e
+      (subst (λ (x : Place). IsPut q r names x s key) F.place (subst (λ (x : Seed). IsPut q r names room.place x key) F.seed I));
 }

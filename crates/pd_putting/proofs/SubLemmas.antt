@@ -16,16 +16,17 @@ use Rattle.pd_grove.specs.declared.seeds.Seed.{Seed}
 use Rattle.pd_grove.specs.Standing.{depth_of}
 use Rattle.pd_grove.specs.States.{IsFresh}
 use Rattle.pd_patch.specs.declared.patch.Patch.{Patch}
+use Rattle.pd_boxes.specs.declared.room.Place.{Place}
 use Rattle.pd_boxes.specs.Put.{CanPut, IsLeaf}
 use Rattle.pd_subpatches.specs.Shell.{IsShallow, IsShell, IsShellPut}
 use Rattle.pd_adding.specs.declared.adding.Grown.{Grown}
 use Rattle.pd_adding.specs.Growing.{Added}
 use Rattle.pd_adding.specs.Adding.{IsAdded}
 use Rattle.pd_adding.specs.Single.{IsSingle}
-use Rattle.pd_putting.specs.Adds.{keys_within, last_place, IsSub, IsSubPut}
-use Rattle.pd_putting.specs.Last.{IsAlone, PutsLeafLast, PutsSubLast, IsReady}
+use Rattle.pd_putting.specs.Adds.{keys_within, place_at, IsSubAt, IsSubPutAt}
+use Rattle.pd_putting.specs.Places.{IsAloneAt, PutsLeafAt, PutsSubAt, IsReady}
 use Rattle.pd_putting.proofs.LeafLemmas.{rows_one, seed_leaf, seed_stand, seed_suits}
-use Rattle.pd_putting.proofs.KeyLemmas.{leaf_last_alone, sub_last_alone}
+use Rattle.pd_putting.proofs.KeyLemmas.{leaf_at_alone, sub_at_alone}
 
 abbrev holding : Cell → Sheet → Stand
 holding cell sheet = record { cell = cell; sheet = Some sheet; boxes = 0 }
@@ -67,14 +68,14 @@ below d h = (let l = ltb-true d 256 h in omega (arith, l))
 pub above : (d : ℕ) → nat_lt d 256 ≡ false → d + 1 < 257 → ⊥
 above d h l = (let m : d < 256 = omega (arith, l) in true≢false (sym (lt-ltb d 256 m) ∙ h))
 
-module _ (p : Patch) (g : Grown) (a : Added) (A : IsAdded g a) where
+module _ (p : Patch) (g : Grown) (number : ℕ) (a : Added) (A : IsAdded g a) where
   -- what a row of such a box tells
-  row_sub : (row : Row) → g.rows.items ≡ row ∷ [] → (S : IsSub p a) → stand_of row ≡ holding S.cell S.sheet
+  row_sub : (row : Row) → g.rows.items ≡ row ∷ [] → (S : IsSubAt p number a) → stand_of row ≡ holding S.cell S.sheet
   unfolding first
   row_sub row r S = ap (first (stand_of row)) (sym (ap stands_in r) ∙ A.rows ∙ ap stands_of S.single)
 
   pub sub_is : (row : Row) → g.rows.items ≡ row ∷ [] → is_some row.sheet ≡ true → shape_of row.element.form ≡ Sub → row.kind ≡ kind.Canvas
-      → nat_lt (depth_of (get p.grove.boards g.canvas)) 256 ≡ true → IsSub p a
+      → nat_lt (depth_of (get p.grove.boards g.canvas)) 256 ≡ true → IsSubAt p number a
   sub_is row r some form canvas shallow =
       let has = sheet_some row.sheet some in
       record {
@@ -83,54 +84,54 @@ module _ (p : Patch) (g : Grown) (a : Added) (A : IsAdded g a) where
         single = holder_alone a.boxes (stand_of row) has.0 A.one (sym (ap stands_in r) ∙ A.rows) has.1;
         form = form;
         canvas = canvas;
-        shallow = subst (λ (c : ℕ). IsShallow p (last_place p c)) A.canvas (below (depth_of (get p.grove.boards g.canvas)) shallow);
+        shallow = subst (λ (c : ℕ). IsShallow p (place_at c number)) A.canvas (below (depth_of (get p.grove.boards g.canvas)) shallow);
       }
 
-  pub sub_one : IsSub p a → length g.rows.items ≡ 1
+  pub sub_one : IsSubAt p number a → length g.rows.items ≡ 1
   sub_one S = sym (length-map g.rows.items stand_of) ∙ ap (λ (ss : List Stand). length ss) (A.rows ∙ ap stands_of S.single)
 
-  pub sub_sheet : (row : Row) → g.rows.items ≡ row ∷ [] → IsSub p a → is_some row.sheet ≡ true
+  pub sub_sheet : (row : Row) → g.rows.items ≡ row ∷ [] → IsSubAt p number a → is_some row.sheet ≡ true
   sub_sheet row r S = ap (λ (s : Stand). is_some s.sheet) (row_sub row r S)
 
-  pub sub_form : (row : Row) → g.rows.items ≡ row ∷ [] → IsSub p a → shape_of row.element.form ≡ Sub
+  pub sub_form : (row : Row) → g.rows.items ≡ row ∷ [] → IsSubAt p number a → shape_of row.element.form ≡ Sub
   sub_form row r S = ap (λ (s : Stand). s.cell.head.form) (row_sub row r S) ∙ S.form
 
-  pub sub_kind : (row : Row) → g.rows.items ≡ row ∷ [] → IsSub p a → row.kind ≡ kind.Canvas
+  pub sub_kind : (row : Row) → g.rows.items ≡ row ∷ [] → IsSubAt p number a → row.kind ≡ kind.Canvas
   sub_kind row r S = ap (λ (s : Stand). s.cell.kind) (row_sub row r S) ∙ S.canvas
 
-  pub sub_shallow : IsSub p a → depth_of (get p.grove.boards g.canvas) + 1 < 257
-  sub_shallow S = subst (λ (c : ℕ). IsShallow p (last_place p c)) (sym A.canvas) S.shallow
+  pub sub_shallow : IsSubAt p number a → depth_of (get p.grove.boards g.canvas) + 1 < 257
+  sub_shallow S = subst (λ (c : ℕ). IsShallow p (place_at c number)) (sym A.canvas) S.shallow
 
-  pub one_box : IsAlone p a → length g.rows.items ≡ 1
-  one_box C = ⊎_elim (λ (S : IsSingle a.boxes). rows_one g a A S) (λ (S : IsSub p a). sub_one S) C
+  pub one_box : IsAloneAt p number a → length g.rows.items ≡ 1
+  one_box C = ⊎_elim (λ (S : IsSingle a.boxes). rows_one g a A S) (λ (S : IsSubAt p number a). sub_one S) C
 
   module _ (seed : Seed) (is : stand_of seed.row ∷ [] ≡ stands_in g.rows.items) where
-    pub sub_seed : (S : IsSub p a) → stand_of seed.row ≡ holding S.cell S.sheet
+    pub sub_seed : (S : IsSubAt p number a) → stand_of seed.row ≡ holding S.cell S.sheet
     unfolding first
     sub_seed S = ap (first (stand_of seed.row)) (is ∙ A.rows ∙ ap stands_of S.single)
 
-    pub seed_sheet : IsSub p a → IsSome seed.row.sheet
+    pub seed_sheet : IsSubAt p number a → IsSome seed.row.sheet
     seed_sheet S = some_sheet seed.row.sheet S.sheet (ap (λ (s : Stand). s.sheet) (sub_seed S))
 
-    pub seed_shell : (IsSome seed.row.sheet → seed.row.boxes ≡ 0 → seed.row.kind ≡ kind.Canvas → IsShell seed) → IsSub p a → IsShell seed
+    pub seed_shell : (IsSome seed.row.sheet → seed.row.boxes ≡ 0 → seed.row.kind ≡ kind.Canvas → IsShell seed) → IsSubAt p number a → IsShell seed
     seed_shell shell S = shell (seed_sheet S) (ap (λ (s : Stand). s.boxes) (sub_seed S)) (ap (λ (s : Stand). s.cell.kind) (sub_seed S) ∙ S.canvas)
 
     pub seed_ready : (seed.row.sheet ≡ None → seed.row.boxes ≡ 0 → IsLeaf seed) → (IsSome seed.row.sheet → seed.row.boxes ≡ 0 → seed.row.kind ≡ kind.Canvas → IsShell seed)
-        → IsAlone p a → IsReady p g.canvas seed
+        → IsAloneAt p number a → IsReady p (place_at g.canvas number) seed
     seed_ready leaf shell C = ⊎_elim
         (λ (S : IsSingle a.boxes). inl (seed_leaf g a A S seed is leaf))
-        (λ (S : IsSub p a). inr (seed_shell shell S, sub_shallow S)) C
+        (λ (S : IsSubAt p number a). inr (seed_shell shell S, sub_shallow S)) C
 
     -- no box lies in it
-    pub alone_keys : (q : Patch) (table : Names) (key : ℕ) → IsAlone p a → (seed.row.sheet ≡ None → PutsLeafLast p q table g.canvas seed key)
-        → (IsSome seed.row.sheet → PutsSubLast p q table g.canvas seed key) → keys_within q key ≡ key ∷ []
+    pub alone_keys : (q : Patch) (table : Names) (key : ℕ) → IsAloneAt p number a → (seed.row.sheet ≡ None → PutsLeafAt p q table (place_at g.canvas number) seed key)
+        → (IsSome seed.row.sheet → PutsSubAt p q table (place_at g.canvas number) seed key) → keys_within q key ≡ key ∷ []
     alone_keys q table key C leaf sub = ⊎_elim
-        (λ (S : IsSingle a.boxes). leaf_last_alone p q table g.canvas seed key (leaf (ap (λ (s : Stand). s.sheet) (seed_stand g a A S seed is))))
-        (λ (S : IsSub p a). sub_last_alone p q table g.canvas seed key (sub (seed_sheet S))) C
+        (λ (S : IsSingle a.boxes). leaf_at_alone p q table (place_at g.canvas number) seed key (leaf (ap (λ (s : Stand). s.sheet) (seed_stand g a A S seed is))))
+        (λ (S : IsSubAt p number a). sub_at_alone p q table (place_at g.canvas number) seed key (sub (seed_sheet S))) C
 
     -- what came in is the box that grew
-    pub sub_put : (q : Patch) (now : ℕ) (table : Names) (key : ℕ) → (S : IsSub p a) → a.known.names ≡ table → IsShell seed → IsFresh p.rate now seed → CanPut q
-        → PutsSubLast p q table g.canvas seed key → IsSubPut p q now a key
+    pub sub_put : (q : Patch) (now : ℕ) (table : Names) (key : ℕ) → (S : IsSubAt p number a) → a.known.names ≡ table → IsShell seed → IsFresh p.rate now seed → CanPut q
+        → PutsSubAt p q table (place_at g.canvas number) seed key → IsSubPutAt p q number now a key
     sub_put q now table key S names shell fresh can L = record {
       sub = S;
       ready = L.ready;
@@ -140,8 +141,8 @@ module _ (p : Patch) (g : Grown) (a : Added) (A : IsAdded g a) where
       suits = seed_suits g a A seed is;
       shell = shell;
       fresh = fresh;
-      put = subst (λ (t : Names). IsShellPut L.ready q t (last_place p a.canvas) seed key) (sym names)
-          (subst (λ (c : ℕ). IsShellPut L.ready q table (last_place p c) seed key) A.canvas L.put);
+      put = subst (λ (t : Names). IsShellPut L.ready q t (place_at a.canvas number) seed key) (sym names)
+          (subst (λ (c : ℕ). IsShellPut L.ready q table (place_at c number) seed key) A.canvas L.put);
       goes_on = can;
     }
 
@@ -153,12 +154,12 @@ no_leaf s L some = true≢false (sym some ∙ ap (λ (o : Option Sheet). is_some
 no_shell : (o : Option Sheet) → IsSome o → is_some o ≡ false → ⊥
 no_shell o some none = true≢false (sym some ∙ none)
 
-pub ready_shell : (p : Patch) (canvas : ℕ) (s : Seed) → IsReady p canvas s → is_some s.row.sheet ≡ true → IsShell s × IsShallow p (last_place p canvas)
-ready_shell p canvas s R some = ⊎_elim
+pub ready_shell : (p : Patch) (place : Place) (s : Seed) → IsReady p place s → is_some s.row.sheet ≡ true → IsShell s × IsShallow p place
+ready_shell p place s R some = ⊎_elim
     (λ (L : IsLeaf s). absurd (no_leaf s L some))
-    (λ (S : IsShell s × IsShallow p (last_place p canvas)). S) R
+    (λ (S : IsShell s × IsShallow p place). S) R
 
-pub ready_leaf : (p : Patch) (canvas : ℕ) (s : Seed) → IsReady p canvas s → is_some s.row.sheet ≡ false → IsLeaf s
-ready_leaf p canvas s R none = ⊎_elim
+pub ready_leaf : (p : Patch) (place : Place) (s : Seed) → IsReady p place s → is_some s.row.sheet ≡ false → IsLeaf s
+ready_leaf p place s R none = ⊎_elim
     (λ (L : IsLeaf s). L)
-    (λ (S : IsShell s × IsShallow p (last_place p canvas)). absurd (no_shell s.row.sheet S.0.sheet none)) R
+    (λ (S : IsShell s × IsShallow p place). absurd (no_shell s.row.sheet S.0.sheet none)) R

@@ -1,27 +1,33 @@
 //! A box that an edit puts, grown aside and put in.
 
-ghost use Rattle.std.specs.Prelude.{◌≡◌, ◌≤◌, ◌+◌, Err, IfOk, IfErr, OnErr};
+ghost use Rattle.std.specs.Prelude.{◌≡◌, ◌≤◌, ◌+◌, length, Err, IfOk, IfErr, OnErr};
+ghost use Rattle.slab.specs.Slab.{ContainsKey};
 ghost use Rattle.pd_io.specs.Faults.{Rose};
 ghost use Rattle.pd_atom.specs.Names.{Extends};
 ghost use Rattle.pd_gather.specs.Gather.{known, AreProper};
+ghost use Rattle.pd_web.specs.Canvases.{keys_at};
 ghost use Rattle.pd_web.specs.Changes.{wires_told, Meet};
 ghost use Rattle.pd_wiring.specs.declared.refusals.EditRefusal.TheVariants.{ShelfFault};
 ghost use Rattle.pd_boxes.specs.Put.{CanPut};
+ghost use Rattle.pd_adding.specs.Adding.{IsAdded};
 ghost use Rattle.pd_adding.specs.Coming.{own_zero};
 ghost use Rattle.pd_adding.specs.Counts.{AreWithin};
-ghost use Rattle.pd_putting.specs.Adds.{keys_within, put_looks, AddsBox, IsNotAdded};
+ghost use Rattle.pd_adding.specs.Growing.{Added};
+ghost use Rattle.pd_putting.specs.Adds.{keys_within, put_looks, AddsBoxBy, HasCome, IsNotAddedBy};
+ghost use Rattle.pd_putting.specs.Places.{FitsIn, HasGrown, IsNotLast};
 
 use crate::known::is_known;
 use crate::placing::put_grown;
-use pd_adding::{Counts, Site, grow_aside};
+use pd_adding::{Counts, Grown, Site, grow_aside};
 use pd_atom::Symbols;
 use pd_canvas::Edit;
+use pd_clock::Time;
 use pd_gather::Library;
 use pd_io::Shelf;
 use pd_order::Steps;
 use pd_patch::Patch;
 use pd_wiring::EditRefusal;
-use std::alloc::Global;
+use std::alloc::{AllocError, Global};
 use std::sync::ledger::Ledger;
 
 /// A box that an edit put: its key, the key of its canvas, the counts of the patch with it, and the keys of the box and of all that lies in it,
@@ -59,8 +65,8 @@ pub fn add_box<H: Shelf, L: Ledger>(
     requires within { AreWithin counts }
     requires zero { own_zero patch.old ≤ 1000000000 }
     requires found { AreProper symbols.old library.old }
-    ensures added { IfOk result (λ b. AddsBox patch.old patch.new counts site.entry.name.now site.entry.path.now site.entry.now edit.now (known library.old symbols.old) (known library.new symbols.new) b) }
-    ensures refused { IfErr result (IsNotAdded patch.old patch.new counts site.entry.name.now site.entry.path.now edit.now (known library.old symbols.old)) }
+    ensures added { IfOk result (λ b. AddsBoxBy (H.holds shelf.old) patch.old patch.new counts site.entry.name.now site.entry.path.now site.entry.now edit.now (known library.old symbols.old) (known library.new symbols.new) b) }
+    ensures refused { IfErr result (IsNotAddedBy (H.holds shelf.old) patch.old patch.new counts site.entry.name.now site.entry.path.now edit.now (known library.old symbols.old)) }
     ensures goes_on { CanPut patch.new }
     ensures meet { Meet patch.new.web }
     ensures counted { IfOk result (λ b. b.counts.wires ≡ wires_told patch.new.web) }
@@ -86,11 +92,72 @@ pub fn add_box<H: Shelf, L: Ledger>(
     let grown = grow_aside(
         alloc, patch, counts, site.name, site.path, edit, library, shelf, symbols,
     )?;
-    match put_grown(alloc, patch, grown, site.now, symbols, steps) {
+    match put_last(alloc, patch, grown, site.now, symbols, steps) {
         Ok(put) => Ok(put),
         Err(why) => {
             library.forget(files, names, symbols);
             Err(why)
         }
+    }
+}
+
+/// Puts what grew aside into its canvas as the last box.
+///
+/// # Errors
+///
+/// `NoMemory` where memory ran out, or where the canvas or the patch has as many boxes as can be counted.
+fn put_last<L: Ledger>(
+    alloc: Global,
+    patch: &mut Patch,
+    grown: Grown,
+    now: Time,
+    symbols: &mut Symbols,
+    steps: &mut Steps<L>,
+) -> Result<NewBox, EditRefusal>
+    requires can { CanPut patch.old }
+    requires meet { Meet patch.old.web }
+    requires here { ContainsKey patch.old.grove.boards grown.canvas }
+    requires grown { HasGrown grown symbols.old }
+    requires shallow { FitsIn patch.old grown }
+    ensures put { IfOk result (λ b. (a : Added) → IsAdded grown a → a.known.names ≡ symbols.old → HasCome patch.old patch.new now a b.key) }
+    ensures part { IfOk result (λ b. b.part.items ≡ keys_within patch.new b.key) }
+    ensures canvas { IfOk result (λ b. b.canvas ≡ grown.canvas) }
+    ensures counts { IfOk result (λ b. b.counts ≡ grown.counts) }
+    ensures refused { IfErr result (λ why. (a : Added) → IsAdded grown a → IsNotLast patch.old patch.new a why) }
+    ensures goes_on { CanPut patch.new }
+    ensures meet { Meet patch.new.web }
+    ensures as_many { OnErr result (wires_told patch.new.web ≡ wires_told patch.old.web) }
+    ensures zero { own_zero patch.new ≡ own_zero patch.old }
+    ensures table { symbols.new ≡ symbols.old }
+    ensures looks { IfOk result (λ b. steps.new ≤ steps.old + put_looks patch.new b.key) }
+    ensures no_looks { OnErr result (steps.new ≡ steps.old) }
+{
+    let Ok(number) = next_number(patch, grown.canvas) else {
+        return Err(EditRefusal::NoMemory);
+    };
+    put_grown(alloc, patch, grown, number, now, symbols, steps)
+}
+
+/// The number of the box that comes next in the canvas of a key: how many boxes it has.
+///
+/// # Errors
+///
+/// `AllocError` where that is no number of 32 bits.
+fn next_number(patch: &Patch, canvas: u32) -> Result<u32, AllocError>
+    ensures { IfOk result (λ number. number ≡ length (keys_at patch.now.grove canvas)) }
+{
+    match u32::try_from(boxes_in(patch, canvas)) {
+        Ok(number) => Ok(number),
+        Err(_) => Err(AllocError),
+    }
+}
+
+/// How many boxes the canvas of a key has.
+fn boxes_in(patch: &Patch, canvas: u32) -> usize
+    ensures { result ≡ length (keys_at patch.now.grove canvas) }
+{
+    match patch.grove.board(canvas) {
+        Some(board) => board.nodes.len(),
+        None => 0,
     }
 }

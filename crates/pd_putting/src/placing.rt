@@ -1,6 +1,6 @@
-//! What grew aside, put into its canvas as the last box.
+//! What grew aside, put into its canvas at a number.
 
-ghost use Rattle.std.specs.Prelude.{◌≡◌, ◌≤◌, ◌+◌, ◌||◌, ◌∷◌, [], true, false, nat_lt, length, is_some, None, IsSome, IfOk, IfErr, OnErr};
+ghost use Rattle.std.specs.Prelude.{◌≡◌, ◌≤◌, ◌+◌, ◌||◌, ◌∷◌, [], ℕ, true, false, nat_lt, length, is_some, None, IsSome, IfOk, IfErr, OnErr};
 ghost use Rattle.slab.specs.Slab.{get, ContainsKey};
 ghost use Rattle.pd_canvas.specs.Pages.{Sub};
 ghost use Rattle.pd_canvas.specs.Views.{shape_of};
@@ -20,8 +20,8 @@ ghost use Rattle.pd_adding.specs.Coming.{own_zero};
 ghost use Rattle.pd_adding.specs.Growing.{Added};
 ghost use Rattle.pd_adding.specs.Single.{IsSingle};
 ghost use Rattle.pd_subpatches.specs.Shell.{IsShallow, IsShell};
-ghost use Rattle.pd_putting.specs.Adds.{keys_within, last_place, put_looks, HasCome, IsSub};
-ghost use Rattle.pd_putting.specs.Last.{FitsIn, HasGrown, IsAlone, IsPortIn, IsReady, PutsLast, PutsLeafLast, PutsPortLast, PutsSubLast, StaysOut};
+ghost use Rattle.pd_putting.specs.Adds.{keys_within, put_looks, HasComeAt, IsSubAt};
+ghost use Rattle.pd_putting.specs.Places.{looks_anywhere, FitsIn, HasGrown, IsAloneAt, IsPortIn, IsReady, PutsAt, PutsLeafAt, PutsPortAt, PutsSubAt, StaysOut};
 
 use crate::adding::NewBox;
 use crate::parts::put_whole;
@@ -42,15 +42,17 @@ use pd_wiring::EditRefusal;
 use std::alloc::{AllocError, Global};
 use std::sync::ledger::Ledger;
 
-/// Puts what grew aside into its canvas as the last box.
+/// Puts what grew aside into its canvas at a number, where the canvas has as many boxes: the boxes from that number on move back by one. Looks at
+/// signal wires are counted in `steps`.
 ///
 /// # Errors
 ///
-/// `NoMemory` where memory ran out, or where the canvas or the patch has as many boxes as can be counted.
-pub(crate) fn put_grown<L: Ledger>(
+/// `NoMemory` where memory ran out, or where the patch has as many boxes as can be counted. What the patch tells is then as before.
+pub fn put_grown<L: Ledger>(
     alloc: Global,
     patch: &mut Patch,
     grown: Grown,
+    number: u32,
     now: Time,
     symbols: &mut Symbols,
     steps: &mut Steps<L>,
@@ -58,37 +60,40 @@ pub(crate) fn put_grown<L: Ledger>(
     requires can { CanPut patch.old }
     requires meet { Meet patch.old.web }
     requires here { ContainsKey patch.old.grove.boards grown.canvas }
+    requires within { number ≤ length (keys_at patch.old.grove grown.canvas) }
     requires grown { HasGrown grown symbols.old }
     requires shallow { FitsIn patch.old grown }
-    ensures put { IfOk result (λ b. (a : Added) → IsAdded grown a → a.known.names ≡ symbols.old → HasCome patch.old patch.new now a b.key) }
+    ensures put { IfOk result (λ b. (a : Added) → IsAdded grown a → a.known.names ≡ symbols.old → HasComeAt patch.old patch.new number now a b.key) }
     ensures part { IfOk result (λ b. b.part.items ≡ keys_within patch.new b.key) }
     ensures canvas { IfOk result (λ b. b.canvas ≡ grown.canvas) }
     ensures counts { IfOk result (λ b. b.counts ≡ grown.counts) }
-    ensures refused { IfErr result (λ why. (a : Added) → IsAdded grown a → StaysOut patch.old patch.new a why) }
+    ensures refused { IfErr result (λ why. (a : Added) → IsAdded grown a → StaysOut patch.old patch.new number a why) }
     ensures goes_on { CanPut patch.new }
     ensures meet { Meet patch.new.web }
     ensures as_many { OnErr result (wires_told patch.new.web ≡ wires_told patch.old.web) }
     ensures zero { own_zero patch.new ≡ own_zero patch.old }
     ensures table { symbols.new ≡ symbols.old }
-    ensures looks { IfOk result (λ b. steps.new ≤ steps.old + put_looks patch.new b.key) }
+    ensures looks { IfOk result (λ b. steps.new ≤ steps.old + looks_anywhere patch.new b.key) }
+    ensures last_looks { number ≡ length (keys_at patch.old.grove grown.canvas) → IfOk result (λ b. steps.new ≤ steps.old + put_looks patch.new b.key) }
     ensures no_looks { OnErr result (steps.new ≡ steps.old) }
 {
     if is_alone(patch, &grown) {
-        put_alone(alloc, patch, grown, now, symbols, steps)
+        put_alone(alloc, patch, grown, number, now, symbols, steps)
     } else {
-        put_whole(alloc, patch, grown, now, symbols, steps)
+        put_whole(alloc, patch, grown, number, now, symbols, steps)
     }
 }
 
-/// Puts what grew aside into its canvas as the last box, where it is one box in which no boxes lie.
+/// Puts what grew aside into its canvas at a number, where it is one box in which no boxes lie.
 ///
 /// # Errors
 ///
-/// `NoMemory` where memory ran out, or where the canvas has as many boxes as can be counted.
+/// `NoMemory` where memory ran out, or where the patch has as many boxes as can be counted.
 fn put_alone<L: Ledger>(
     alloc: Global,
     patch: &mut Patch,
     grown: Grown,
+    number: u32,
     now: Time,
     symbols: &mut Symbols,
     steps: &mut Steps<L>,
@@ -96,29 +101,33 @@ fn put_alone<L: Ledger>(
     requires can { CanPut patch.old }
     requires meet { Meet patch.old.web }
     requires here { ContainsKey patch.old.grove.boards grown.canvas }
+    requires within { number ≤ length (keys_at patch.old.grove grown.canvas) }
     requires grown { HasGrown grown symbols.old }
-    requires alone { (a : Added) → IsAdded grown a → IsAlone patch.old a }
-    ensures put { IfOk result (λ b. (a : Added) → IsAdded grown a → a.known.names ≡ symbols.old → HasCome patch.old patch.new now a b.key) }
+    requires alone { (a : Added) → IsAdded grown a → IsAloneAt patch.old number a }
+    ensures put { IfOk result (λ b. (a : Added) → IsAdded grown a → a.known.names ≡ symbols.old → HasComeAt patch.old patch.new number now a b.key) }
     ensures part { IfOk result (λ b. b.part.items ≡ keys_within patch.new b.key) }
     ensures canvas { IfOk result (λ b. b.canvas ≡ grown.canvas) }
     ensures counts { IfOk result (λ b. b.counts ≡ grown.counts) }
-    ensures refused { IfErr result (λ why. (a : Added) → IsAdded grown a → StaysOut patch.old patch.new a why) }
+    ensures refused { IfErr result (λ why. (a : Added) → IsAdded grown a → StaysOut patch.old patch.new number a why) }
     ensures goes_on { CanPut patch.new }
     ensures meet { Meet patch.new.web }
     ensures as_many { wires_told patch.new.web ≡ wires_told patch.old.web }
     ensures zero { own_zero patch.new ≡ own_zero patch.old }
     ensures table { symbols.new ≡ symbols.old }
-    ensures looks { steps.new ≡ steps.old }
+    ensures looks { IfOk result (λ b. steps.new ≤ steps.old + looks_anywhere patch.new b.key) }
+    ensures last_looks { number ≡ length (keys_at patch.old.grove grown.canvas) → IfOk result (λ b. steps.new ≤ steps.old + put_looks patch.new b.key) }
+    ensures no_looks { OnErr result (steps.new ≡ steps.old) }
 {
     let canvas = grown.canvas;
     let counts = grown.counts;
+    let place = Place { canvas, number };
     let Ok(mut part) = Vec::with_capacity(alloc, 1) else {
         return Err(EditRefusal::NoMemory);
     };
     let Ok(seed) = seed_of(alloc, grown.rows, patch.rate, now) else {
         return Err(EditRefusal::NoMemory);
     };
-    let Ok(key) = put_seed(alloc, patch, canvas, seed, symbols, steps) else {
+    let Ok(key) = put_seed(alloc, patch, place, seed, symbols, steps) else {
         return Err(EditRefusal::NoMemory);
     };
     part.push_reserved(key);
@@ -132,8 +141,8 @@ fn put_alone<L: Ledger>(
 
 /// Whether what grew is one box in which no boxes lie: it has no canvas inside, or is a subpatch without boxes.
 fn is_alone(patch: &Patch, grown: &Grown) -> bool
-    ensures yes { result ≡ true → (a : Added) → IsAdded grown.now a → IsAlone patch.now a }
-    ensures no { result ≡ false → (a : Added) → IsAdded grown.now a → IsAlone patch.now a → ⊥ }
+    ensures yes { result ≡ true → (number : ℕ) → (a : Added) → IsAdded grown.now a → IsAloneAt patch.now number a }
+    ensures no { result ≡ false → (number : ℕ) → (a : Added) → IsAdded grown.now a → IsAloneAt patch.now number a → ⊥ }
 {
     is_single(grown) || is_sub(patch, grown)
 }
@@ -154,8 +163,8 @@ fn is_single(grown: &Grown) -> bool
 
 /// Whether what grew is one subpatch without boxes, which isn't too deep.
 fn is_sub(patch: &Patch, grown: &Grown) -> bool
-    ensures yes { result ≡ true → (a : Added) → IsAdded grown.now a → IsSub patch.now a }
-    ensures no { result ≡ false → (a : Added) → IsAdded grown.now a → IsSub patch.now a → ⊥ }
+    ensures yes { result ≡ true → (number : ℕ) → (a : Added) → IsAdded grown.now a → IsSubAt patch.now number a }
+    ensures no { result ≡ false → (number : ℕ) → (a : Added) → IsAdded grown.now a → IsSubAt patch.now number a → ⊥ }
 {
     let rows = grown.rows.as_slice();
     if rows.len() != 1 {
@@ -200,12 +209,12 @@ fn is_shallow(patch: &Patch, canvas: u32) -> bool
     }
 }
 
-/// Whether a box of a kind is a port of the box around, if it comes last into the canvas of a key.
-fn is_port_in(patch: &Patch, canvas: u32, kind: &Kind) -> bool
-    ensures yes { result ≡ true → IsPortIn patch.now canvas kind.now }
-    ensures no { result ≡ false → IsNoPort patch.now (last_place patch.now canvas) kind.now }
+/// Whether a box of a kind is a port of the box around, if it comes to a place.
+fn is_port_in(patch: &Patch, place: Place, kind: &Kind) -> bool
+    ensures yes { result ≡ true → IsPortIn patch.now place kind.now }
+    ensures no { result ≡ false → IsNoPort patch.now place kind.now }
 {
-    if is_held(patch, canvas) {
+    if is_held(patch, place.canvas) {
         return is_port(kind);
     }
     false
@@ -251,167 +260,149 @@ fn seed_of(alloc: Global, rows: Vec<Row>, rate: Rate, now: Time) -> Result<Seed,
     }
 }
 
-/// Puts the box of a seed last into a live canvas, and gives its key.
+/// Puts the box of a seed into a live canvas at a number, and gives its key.
 ///
 /// # Errors
 ///
-/// `AllocError` where memory ran out, or where the canvas has as many boxes as can be counted.
+/// `AllocError` where memory ran out, or where the patch has as many boxes, or the box around as many ports, as can be counted.
 fn put_seed<L: Ledger>(
     alloc: Global,
     patch: &mut Patch,
-    canvas: u32,
+    place: Place,
     seed: Seed,
     symbols: &mut Symbols,
     steps: &mut Steps<L>,
 ) -> Result<u32, AllocError>
     requires can { CanPut patch.old }
     requires meet { Meet patch.old.web }
-    requires here { ContainsKey patch.old.grove.boards canvas }
-    requires ready { IsReady patch.old canvas seed }
-    ensures put { seed.row.sheet ≡ None → IfOk result (PutsLeafLast patch.old patch.new symbols.old canvas seed) }
-    ensures sub { IsSome seed.row.sheet → IfOk result (PutsSubLast patch.old patch.new symbols.old canvas seed) }
+    requires here { ContainsKey patch.old.grove.boards place.canvas }
+    requires number { place.number ≤ length (keys_at patch.old.grove place.canvas) }
+    requires ready { IsReady patch.old place seed }
+    ensures put { seed.row.sheet ≡ None → IfOk result (PutsLeafAt patch.old patch.new symbols.old place seed) }
+    ensures sub { IsSome seed.row.sheet → IfOk result (PutsSubAt patch.old patch.new symbols.old place seed) }
     ensures short { OnErr result (SameButRoom patch.old patch.new) }
     ensures goes_on { CanPut patch.new }
     ensures meet { Meet patch.new.web }
     ensures as_many { wires_told patch.new.web ≡ wires_told patch.old.web }
     ensures zero { own_zero patch.new ≡ own_zero patch.old }
     ensures table { symbols.new ≡ symbols.old }
-    ensures looks { steps.new ≡ steps.old }
+    ensures looks { steps.new ≤ steps.old + 8 }
+    ensures last_looks { place.number ≡ length (keys_at patch.old.grove place.canvas) → steps.new ≡ steps.old }
+    ensures no_looks { OnErr result (steps.new ≡ steps.old) }
 {
     if seed.row.sheet.is_some() {
-        put_sub_last(alloc, patch, canvas, seed, symbols, steps)
-    } else if is_port_in(patch, canvas, &seed.row.kind) {
-        put_port_last(alloc, patch, canvas, seed, symbols, steps)
+        put_sub(alloc, patch, place, seed, symbols, steps)
+    } else if is_port_in(patch, place, &seed.row.kind) {
+        put_port_box(alloc, patch, place, seed, symbols, steps)
     } else {
-        put_last(alloc, patch, canvas, seed, symbols, steps)
+        put_plain(alloc, patch, place, seed, symbols, steps)
     }
 }
 
-/// Sets room aside for a box with an empty canvas inside that comes last in a live canvas, puts it in, and gives its key.
+/// Sets room aside for a box with an empty canvas inside that comes into a live canvas at a number, puts it in, and gives its key.
 ///
 /// # Errors
 ///
-/// `AllocError` where memory ran out, or where the canvas has as many boxes as can be counted.
-fn put_sub_last<L: Ledger>(
+/// `AllocError` where memory ran out, or where the patch has as many boxes as can be counted.
+fn put_sub<L: Ledger>(
     alloc: Global,
     patch: &mut Patch,
-    canvas: u32,
+    place: Place,
     seed: Seed,
     symbols: &mut Symbols,
     steps: &mut Steps<L>,
 ) -> Result<u32, AllocError>
     requires can { CanPut patch.old }
     requires meet { Meet patch.old.web }
-    requires here { ContainsKey patch.old.grove.boards canvas }
+    requires here { ContainsKey patch.old.grove.boards place.canvas }
+    requires number { place.number ≤ length (keys_at patch.old.grove place.canvas) }
     requires shell { IsShell seed }
-    requires shallow { IsShallow patch.old (last_place patch.old canvas) }
-    ensures put { IfOk result (PutsSubLast patch.old patch.new symbols.old canvas seed) }
+    requires shallow { IsShallow patch.old place }
+    ensures put { IfOk result (PutsSubAt patch.old patch.new symbols.old place seed) }
     ensures short { OnErr result (SameButRoom patch.old patch.new) }
     ensures goes_on { CanPut patch.new }
     ensures meet { Meet patch.new.web }
     ensures as_many { wires_told patch.new.web ≡ wires_told patch.old.web }
     ensures zero { own_zero patch.new ≡ own_zero patch.old }
     ensures table { symbols.new ≡ symbols.old }
-    ensures looks { steps.new ≡ steps.old }
+    ensures looks { steps.new ≤ steps.old + 8 }
+    ensures last_looks { place.number ≡ length (keys_at patch.old.grove place.canvas) → steps.new ≡ steps.old }
+    ensures no_looks { OnErr result (steps.new ≡ steps.old) }
 {
     wires_still_meet();
-    let number = next_number(patch, canvas)?;
-    let place = Place { canvas, number };
     let key = add_shell(alloc, patch, place, seed, symbols, steps)?;
     Ok(key)
 }
 
-/// Sets room aside for a box that comes last in a live canvas and is no port of a box around, puts it in, and gives its key.
+/// Sets room aside for a box that comes into a live canvas at a number and is no port of a box around, puts it in, and gives its key.
 ///
 /// # Errors
 ///
-/// `AllocError` where memory ran out, or where the canvas has as many boxes as can be counted.
-fn put_last<L: Ledger>(
+/// `AllocError` where memory ran out, or where the patch has as many boxes as can be counted.
+fn put_plain<L: Ledger>(
     alloc: Global,
     patch: &mut Patch,
-    canvas: u32,
+    place: Place,
     seed: Seed,
     symbols: &mut Symbols,
     steps: &mut Steps<L>,
 ) -> Result<u32, AllocError>
     requires can { CanPut patch.old }
     requires meet { Meet patch.old.web }
-    requires here { ContainsKey patch.old.grove.boards canvas }
+    requires here { ContainsKey patch.old.grove.boards place.canvas }
+    requires number { place.number ≤ length (keys_at patch.old.grove place.canvas) }
     requires leaf { IsLeaf seed }
-    requires plain { IsNoPort patch.old (last_place patch.old canvas) seed.row.kind }
-    ensures put { IfOk result (PutsLast patch.old patch.new symbols.old canvas seed) }
+    requires plain { IsNoPort patch.old place seed.row.kind }
+    ensures put { IfOk result (PutsAt patch.old patch.new symbols.old place seed) }
     ensures short { OnErr result (SameButRoom patch.old patch.new) }
     ensures goes_on { CanPut patch.new }
     ensures meet { Meet patch.new.web }
     ensures as_many { wires_told patch.new.web ≡ wires_told patch.old.web }
     ensures zero { own_zero patch.new ≡ own_zero patch.old }
     ensures table { symbols.new ≡ symbols.old }
-    ensures looks { steps.new ≡ steps.old }
+    ensures looks { steps.new ≤ steps.old + 8 }
+    ensures last_looks { place.number ≡ length (keys_at patch.old.grove place.canvas) → steps.new ≡ steps.old }
+    ensures no_looks { OnErr result (steps.new ≡ steps.old) }
 {
     patches_run_on();
     room_changes_nothing();
     wires_still_meet();
-    let number = next_number(patch, canvas)?;
-    let place = Place { canvas, number };
     let room = reserve_box(alloc, patch, place, seed, symbols)?;
     Ok(put(patch, room, symbols, steps))
 }
 
-/// Sets room aside for a port box that comes last in a live canvas in a box, puts it in, so that the box around has the port that it is, and
+/// Sets room aside for a port box that comes into a live canvas in a box at a number, puts it in, so that the box around has the port that it is, and
 /// gives its key.
 ///
 /// # Errors
 ///
-/// `AllocError` where memory ran out, or where the canvas has as many boxes, or the box around as many ports, as can be counted.
-fn put_port_last<L: Ledger>(
+/// `AllocError` where memory ran out, or where the patch has as many boxes, or the box around as many ports, as can be counted.
+fn put_port_box<L: Ledger>(
     alloc: Global,
     patch: &mut Patch,
-    canvas: u32,
+    place: Place,
     seed: Seed,
     symbols: &mut Symbols,
     steps: &mut Steps<L>,
 ) -> Result<u32, AllocError>
     requires can { CanPut patch.old }
     requires meet { Meet patch.old.web }
-    requires here { ContainsKey patch.old.grove.boards canvas }
+    requires here { ContainsKey patch.old.grove.boards place.canvas }
+    requires number { place.number ≤ length (keys_at patch.old.grove place.canvas) }
     requires leaf { IsLeaf seed }
-    requires port { IsPortIn patch.old canvas seed.row.kind }
-    ensures put { IfOk result (PutsPortLast patch.old patch.new symbols.old canvas seed) }
+    requires port { IsPortIn patch.old place seed.row.kind }
+    ensures put { IfOk result (PutsPortAt patch.old patch.new symbols.old place seed) }
     ensures short { OnErr result (SameButRoom patch.old patch.new) }
     ensures goes_on { CanPut patch.new }
     ensures meet { Meet patch.new.web }
     ensures as_many { wires_told patch.new.web ≡ wires_told patch.old.web }
     ensures zero { own_zero patch.new ≡ own_zero patch.old }
     ensures table { symbols.new ≡ symbols.old }
-    ensures looks { steps.new ≡ steps.old }
+    ensures looks { steps.new ≤ steps.old + 8 }
+    ensures last_looks { place.number ≡ length (keys_at patch.old.grove place.canvas) → steps.new ≡ steps.old }
+    ensures no_looks { OnErr result (steps.new ≡ steps.old) }
 {
     patches_run_on_with_ports();
-    let number = next_number(patch, canvas)?;
-    let place = Place { canvas, number };
     let room = reserve_port(alloc, patch, place, seed, symbols)?;
     Ok(put_port(patch, room, symbols, steps))
-}
-
-/// The number of the box that comes next in the canvas of a key: how many boxes it has.
-///
-/// # Errors
-///
-/// `AllocError` where that is no number of 32 bits.
-pub(crate) fn next_number(patch: &Patch, canvas: u32) -> Result<u32, AllocError>
-    ensures { IfOk result (λ number. number ≡ length (keys_at patch.now.grove canvas)) }
-{
-    match u32::try_from(boxes_in(patch, canvas)) {
-        Ok(number) => Ok(number),
-        Err(_) => Err(AllocError),
-    }
-}
-
-/// How many boxes the canvas of a key has.
-fn boxes_in(patch: &Patch, canvas: u32) -> usize
-    ensures { result ≡ length (keys_at patch.now.grove canvas) }
-{
-    match patch.grove.board(canvas) {
-        Some(board) => board.nodes.len(),
-        None => 0,
-    }
 }

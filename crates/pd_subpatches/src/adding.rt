@@ -43,6 +43,7 @@ pub fn add_shell<L: Ledger>(
     ensures table { symbols.new ≡ symbols.old }
     ensures looks { steps.new ≤ steps.old + 8 }
     ensures last_looks { place.number ≡ length (keys_at patch.old.grove place.canvas) → steps.new ≡ steps.old }
+    ensures no_looks { OnErr result (steps.new ≡ steps.old) }
 {
     shells_run_on();
     room_changes_nothing();

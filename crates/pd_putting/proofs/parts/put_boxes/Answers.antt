@@ -5,22 +5,14 @@ use Rattle.slab.specs.Slab.{get}
 use Rattle.pd_web.specs.Canvases.{keys_at}
 use Rattle.pd_boxes.specs.declared.room.Place.{Place}
 use Rattle.pd_boxes.proofs.RoomLemmas.{room_put}
-use Rattle.pd_putting.proofs.StayLemmas.{same_patch, room_lives, room_zero, room_wires, room_last, room_meets, is_ordered}
+use Rattle.pd_putting.proofs.StayLemmas.{room_lives, room_zero, room_wires, room_last, room_meets, is_ordered}
 use Rattle.pd_putting.specs.Last.{HoldsCanvas}
-use Rattle.pd_putting.proofs.HolderLemmas.{part_there, holder_no_port, puts_part}
-use Rattle.pd_putting.proofs.PartLemmas.{part_zero, part_looks}
-use Rattle.pd_putting.proofs.parts.put_part_last.Goals as goal
+use Rattle.pd_putting.proofs.HolderLemmas.{holder_no_port, puts_part}
+use Rattle.pd_putting.proofs.PartLemmas.{part_zero, part_looks, part_looks_anywhere}
+use Rattle.pd_putting.proofs.parts.put_boxes.Goals as goal
 
 pub reserve_part-requires-clause-ordered : goal.reserve_part-requires-clause-ordered
-reserve_part-requires-clause-ordered g c = is_ordered c.args.patch.now c.args.canvas c.requires.can c.requires.here
-
-pub reserve_part-requires-clause-part : goal.reserve_part-requires-clause-part
-reserve_part-requires-clause-part g c = part_there c.args.patch.now c.args.canvas c.in_ok-number.number _ c.requires.part
-
-pub returns-in_err-number-clause-short : goal.returns-in_err-number-clause-short
-returns-in_err-number-clause-short g c =
-    let p = err_from_is_err_and c.from_residual.result c.from_residual.ensures.1 in
-    rw p.1 (same_patch c.args.patch.now)
+reserve_part-requires-clause-ordered g c = is_ordered c.args.patch.now c.args.place.canvas c.requires.can c.requires.here
 
 pub returns-in_err-room-clause-goes_on : goal.returns-in_err-room-clause-goes_on
 returns-in_err-room-clause-goes_on g c = room_put c.args.patch.now c.reserve_part.new.patch c.reserve_part.ensures.same c.requires.can
@@ -42,12 +34,12 @@ put_part-requires-clause-can g c = room_put c.args.patch.now c.reserve_part.new.
 pub put_part-requires-clause-here : goal.put_part-requires-clause-here
 put_part-requires-clause-here g c =
     subst (λ (at : Place). IsSome (get c.reserve_part.new.patch.grove.boards at.canvas)) (sym c.in_ok-room.ensures.place)
-    (room_lives c.args.patch.now c.reserve_part.new.patch c.reserve_part.ensures.same c.args.canvas c.requires.here)
+    (room_lives c.args.patch.now c.reserve_part.new.patch c.reserve_part.ensures.same c.args.place.canvas c.requires.here)
 
 pub put_part-requires-clause-number : goal.put_part-requires-clause-number
 put_part-requires-clause-number g c =
     subst (λ (at : Place). at.number ≤ length (keys_at c.reserve_part.new.patch.grove at.canvas)) (sym c.in_ok-room.ensures.place)
-    (omega (arith, c.in_ok-number.ensures, room_last c.args.patch.now c.reserve_part.new.patch c.reserve_part.ensures.same c.args.canvas))
+    (omega (arith, c.requires.number, room_last c.args.patch.now c.reserve_part.new.patch c.reserve_part.ensures.same c.args.place.canvas))
 
 pub put_part-requires-clause-plain : goal.put_part-requires-clause-plain
 put_part-requires-clause-plain g c =
@@ -55,8 +47,8 @@ put_part-requires-clause-plain g c =
 
 pub returns-clause-put : goal.returns-clause-put
 returns-clause-put g c =
-    puts_part c.args.patch.now c.reserve_part.new.patch c.put_part.new.patch c.reserve_part.new.symbols c.args.symbols.now c.args.canvas c.in_ok-number.number c.args.now _ c.in_ok-room.room _
-    c.put_part.result.key c.args.steps.now c.put_part.new.steps c.reserve_part.ensures.same c.reserve_part.ensures.table c.in_ok-number.ensures c.in_ok-room.ensures.place
+    puts_part c.args.patch.now c.reserve_part.new.patch c.put_part.new.patch c.reserve_part.new.symbols c.args.symbols.now c.args.place c.args.now _ c.in_ok-room.room _
+    c.put_part.result.key c.args.steps.now c.put_part.new.steps c.reserve_part.ensures.same c.reserve_part.ensures.table c.in_ok-room.ensures.place
     c.in_ok-room.ensures.boxes c.in_ok-room.ensures.fresh c.in_ok-room.ensures.room c.put_part.ensures.put
 
 pub returns-clause-meet : goal.returns-clause-meet
@@ -74,3 +66,7 @@ returns-clause-looks g c =
     let part = c.requires.part in
     part_looks c.reserve_part.new.patch c.put_part.new.patch _ _ _ _ c.put_part.result.key c.args.steps.now c.put_part.new.steps c.put_part.ensures.put part.tree
     (c.in_ok-room.ensures.boxes ∙ part.is_tree) part.single (subst HoldsCanvas part.is_tree c.requires.holder)
+
+pub returns-clause-anywhere : goal.returns-clause-anywhere
+returns-clause-anywhere g c =
+    part_looks_anywhere c.reserve_part.new.patch c.put_part.new.patch _ _ _ _ c.put_part.result.key c.args.steps.now c.put_part.new.steps c.put_part.ensures.put

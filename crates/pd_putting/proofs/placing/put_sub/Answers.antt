@@ -1,13 +1,7 @@
 use Rattle.std.proofs.Common.{◌∙◌}
-use Rattle.std.proofs.lemmas.Result.{err_from_is_err_and}
 use Rattle.pd_boxes.proofs.RoomLemmas.{room_put}
-use Rattle.pd_putting.proofs.StayLemmas.{same_patch, room_wires, room_zero, room_meets, shell_wires, shell_zero}
-use Rattle.pd_putting.proofs.placing.put_sub_last.Goals as goal
-
-pub returns-in_err-number-clause-short : goal.returns-in_err-number-clause-short
-returns-in_err-number-clause-short g c =
-    let p = err_from_is_err_and c.from_residual.result c.from_residual.ensures.1 in
-    rw p.1 (same_patch c.args.patch.now)
+use Rattle.pd_putting.proofs.StayLemmas.{room_wires, room_zero, room_meets, shell_wires, shell_zero}
+use Rattle.pd_putting.proofs.placing.put_sub.Goals as goal
 
 pub returns-in_err-key-clause-as_many : goal.returns-in_err-key-clause-as_many
 returns-in_err-key-clause-as_many g c = room_wires c.args.patch.now c.add_shell.new.patch c.in_err-key.ensures.short
