@@ -21,7 +21,6 @@ use Rattle.pd_say.specs.declared.refusals.Why.{Why}
 use Rattle.pd_say.specs.declared.refusals.Why.TheVariants as why
 use Rattle.pd_hearing.specs.Worlds.{Net}
 use Rattle.pd_stage.specs.Choices.{Wanted, Edits, Asks, Saves, Undoes, Redoes, Made, Choice, Refuses, Lacks, Makes}
-use Rattle.pd_stage.specs.Items.{Item}
 use Rattle.pd_stage.specs.Stages.{Stage, Taken}
 use Rattle.pd_stage.specs.Events.{put_of, files_put}
 use Rattle.pd_stage.specs.Lawful.{IsPutInBy, IsPutIn, IsUnputBy, IsUnput, IsUnputForRoomBy, IsUnputForRoom, IsPutLawfulBy, IsPutLawful, IsRetypedToBy, IsRetypedTo, IsUnretypedBy, IsUnretyped, IsUnretypedForRoomBy, IsUnretypedForRoom, IsRetypingLawfulBy, IsRetypingLawful, IsEditLawfulBy, IsEditLawful, MayComeBy, MayCome, AreLawful, held_with, held_on, held_behind, GoByFolder}
