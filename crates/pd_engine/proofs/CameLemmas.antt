@@ -31,8 +31,8 @@ use Rattle.pd_boxes.proofs.RoomLemmas.{keys_same, room_put}
 use Rattle.pd_subpatches.specs.Shell.{ShellComesIn}
 use Rattle.pd_subpatches.proofs.PartLemmas.{comes_as_part, stands_as_box}
 use Rattle.pd_adding.specs.Growing.{Added}
-use Rattle.pd_putting.specs.Adds.{last_place, IsBoxPut, IsSubPut, IsPortBoxPut, IsPartBoxPut, HasCome}
-use Rattle.pd_putting.proofs.WireLemmas.{part_wires}
+use Rattle.pd_stage.specs.PassedOn.{last_place, IsBoxPut, IsSubPut, IsPortBoxPut, IsPartBoxPut, HasCome}
+use Rattle.pd_stage.proofs.PassedOn.{part_wires}
 use Rattle.pd_stage.proofs.FedLemmas.{told_some}
 
 -- What came into a patch in which room was set aside: the last box of a canvas, with what lies in it, and the wires that fit in it.

@@ -17,8 +17,7 @@ use Rattle.pd_wiring.specs.declared.refusals.EditRefusal.{EditRefusal}
 use Rattle.pd_wiring.specs.Changes.{CanRewire}
 use Rattle.pd_adding.specs.declared.counts.Counts.{Counts}
 use Rattle.pd_adding.specs.Counts.{AreWithin}
-use Rattle.pd_deleting.specs.declared.deleting.OldBox.{OldBox}
-use Rattle.pd_deleting.specs.Deletes.{going, going_in, going_box, looks_gone, DeletesBox, IsNotDeleted}
+use Rattle.pd_stage.specs.PassedOn.{OldBox, going, going_in, going_box, looks_gone, DeletesBox, IsNotDeleted}
 use Rattle.pd_hearing.specs.Worlds.{net_of, states_of}
 use Rattle.pd_stage.specs.Choices.{base_of, Wanted, Edits, Made, Choice, faults_of_why}
 use Rattle.pd_stage.specs.Choices as stage

@@ -20,9 +20,8 @@ use Rattle.pd_owning.specs.Parts.{ArePart}
 use Rattle.pd_boxes.specs.Put.{CanPut, HasOwners}
 use Rattle.pd_adding.specs.declared.counts.Counts.{Counts}
 use Rattle.pd_taking_law.specs.Taking.{TakesBoxAt}
-use Rattle.pd_deleting.specs.declared.deleting.OldBox.{OldBox}
-use Rattle.pd_deleting.specs.Deletes.{going, looks_around, looks_gone, part_gone, without_all, ClearsBox, DeletesBox, TakesPort}
-use Rattle.pd_deleting.proofs.DeleteLemmas.{box_lives, found_there, leads_there}
+use Rattle.pd_stage.specs.PassedOn.{OldBox, going, looks_around, looks_gone, part_gone, without_all, ClearsBox, DeletesBox, TakesPort}
+use Rattle.pd_stage.proofs.PassedOn.{box_lives, found_there, leads_there}
 use Rattle.pd_engine.proofs.CameLemmas.{owners_kept}
 use Rattle.pd_engine.proofs.LessLemmas.{box_weight, weight_alone}
 use Rattle.pd_engine.proofs.PartLemmas.{part_weight}

@@ -25,8 +25,7 @@ use Rattle.pd_say.specs.declared.refusals.Request.TheVariants as request
 use Rattle.pd_say.specs.declared.refusals.Why.{Why}
 use Rattle.pd_wiring.specs.Changes.{CanRewire, SameButRoom, StaysButWire}
 use Rattle.pd_boxes.specs.Room.{SameButRoom as RoomSet}
-use Rattle.pd_putting.specs.Adds.{AddsBoxBy, IsNotPutBy, IsShortOfRoomBy, put_looks}
-use Rattle.pd_putting.specs.declared.adding.NewBox.{NewBox}
+use Rattle.pd_stage.specs.PassedOn.{AddsBoxBy, IsNotPutBy, IsShortOfRoomBy, put_looks, NewBox}
 use Rattle.pd_gather.specs.Gather.{known}
 use Rattle.pd_library.specs.declared.answers.Answer.{Answer}
 use Rattle.pd_clock.specs.Queue.{Clock}

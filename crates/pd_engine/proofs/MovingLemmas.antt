@@ -17,8 +17,7 @@ use Rattle.pd_web.specs.Canvases.{keys_at}
 use Rattle.pd_patch.specs.declared.patch.Patch.{Patch}
 use Rattle.pd_wiring.specs.declared.refusals.EditRefusal.{EditRefusal}
 use Rattle.pd_wiring.specs.declared.refusals.EditRefusal.TheVariants as refusal
-use Rattle.pd_shifting.specs.declared.shifting.MovedBox.{MovedBox}
-use Rattle.pd_shifting.specs.Moves.{is_array_in, moving, moving_in, moving_box, ShiftsBox, MovesBox, IsNotMoved}
+use Rattle.pd_stage.specs.PassedOn.{MovedBox, is_array_in, moving, moving_in, moving_box, ShiftsBox, MovesBox, IsNotMoved}
 use Rattle.pd_hearing.specs.Worlds.{net_of, states_of}
 use Rattle.pd_stage.specs.Choices.{Base, Wanted, Edits, Made, Choice, faults_of_why}
 use Rattle.pd_stage.specs.Choices as stage

@@ -12,7 +12,7 @@ use Rattle.pd_web.specs.Hops.{boxes_told}
 use Rattle.pd_web.specs.Lines.{wires_in}
 use Rattle.pd_patch.specs.declared.patch.Patch.{Patch}
 use Rattle.pd_patch.specs.Report.{canvases_inside}
-use Rattle.pd_putting.specs.Adds.{keys_within}
+use Rattle.pd_stage.specs.PassedOn.{keys_within}
 use Rattle.pd_say.specs.Gathering.{Says, Fails}
 use Rattle.pd_say.proofs.GatheringLemmas.{says_then, says_then_fails, fails_sooner}
 use Rattle.pd_stage.specs.Lines.{canvas_of_port, loops_if, loops_text, path_in, put_text, unfit_text, unfit_wires, unfits_text, unmades_text}

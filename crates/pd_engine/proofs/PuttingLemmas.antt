@@ -18,8 +18,7 @@ use Rattle.pd_wiring.specs.declared.refusals.EditRefusal.TheVariants as refusal
 use Rattle.pd_adding.specs.declared.counts.Counts.{Counts}
 use Rattle.pd_adding.specs.Counts.{AreWithin}
 use Rattle.pd_gather.specs.Gather.{known}
-use Rattle.pd_putting.specs.Adds.{AddsBoxBy, IsNotAddedBy, put_looks}
-use Rattle.pd_putting.specs.declared.adding.NewBox.{NewBox}
+use Rattle.pd_stage.specs.PassedOn.{AddsBoxBy, IsNotAddedBy, put_looks, NewBox}
 use Rattle.pd_hearing.specs.Worlds.{net_of}
 use Rattle.pd_stage.specs.Choices.{base_of, Wanted, Asks, Choice, Refuses, Lacks, looks_of_choice}
 use Rattle.pd_stage.specs.Stages.{Stage, faults_of}

@@ -26,9 +26,7 @@ use Rattle.pd_gather.specs.Gather.{Known}
 use Rattle.pd_adding.specs.declared.counts.Counts.{Counts}
 use Rattle.pd_adding.specs.Boxes.{CanBeWritten, settled_edit, box_put}
 use Rattle.pd_adding.specs.Growing.{Added}
-use Rattle.pd_retyping.specs.Asking.{put_instead}
-use Rattle.pd_retyping.specs.declared.retyping.RetypedBox.{RetypedBox}
-use Rattle.pd_retyping.specs.Retypes.{counts_but, Becomes, RetypesBox, HasBecome, TakesText}
+use Rattle.pd_stage.specs.PassedOn.{put_instead, RetypedBox, counts_but, Becomes, RetypesBox, HasBecome, TakesText}
 use Rattle.pd_retyping_law.specs.Retyping.{ChangesBoxAt, RetypesBoxAt, cell_in}
 use Rattle.pd_retyping_law.proofs.PlaceLemmas.{retypes_so}
 use Rattle.pd_engine.proofs.CameLemmas.{owners_kept}

@@ -28,8 +28,7 @@ use Rattle.pd_adding.specs.declared.counts.Counts.{Counts}
 use Rattle.pd_adding.specs.Counts.{AreWithin}
 use Rattle.pd_adding.specs.Growing.{Added}
 use Rattle.pd_gather.specs.Gather.{known}
-use Rattle.pd_retyping.specs.declared.retyping.RetypedBox.{RetypedBox}
-use Rattle.pd_retyping.specs.Retypes.{BoxWire, Becomes, clocks_become, looks_become, RetypesBoxBy, IsNotRetypedBy}
+use Rattle.pd_stage.specs.PassedOn.{RetypedBox, BoxWire, Becomes, clocks_become, looks_become, RetypesBoxBy, IsNotRetypedBy}
 use Rattle.pd_hearing.specs.Worlds.{net_of, states_of}
 use Rattle.pd_stage.specs.Choices.{base_of, Wanted, Edits, Made, Choice}
 use Rattle.pd_stage.specs.Choices as stage

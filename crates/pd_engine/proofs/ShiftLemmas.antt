@@ -15,7 +15,7 @@ use Rattle.pd_web.specs.Changes.{wires_told}
 use Rattle.pd_web.proofs.CountLemmas.{same_are_as_many}
 use Rattle.pd_patch.specs.declared.patch.Patch.{Patch}
 use Rattle.pd_boxes.specs.Put.{HasOwners}
-use Rattle.pd_shifting.specs.Moves.{ShiftsBox}
+use Rattle.pd_stage.specs.PassedOn.{ShiftsBox}
 use Rattle.pd_shifted_law.proofs.OwnerLemmas.{owners_same}
 
 -- ---- canvases lie as deep

@@ -57,9 +57,8 @@ use Rattle.pd_stage.proofs.EditLemmas.{Changes, ButWires, but_wires, changed_sta
 use Rattle.pd_taking_law.specs.Takes.{taken_at}
 use Rattle.pd_taking_law.specs.Taking.{TakesBoxAt}
 use Rattle.pd_taking_law.proofs.StandLemmas.{grove_less}
-use Rattle.pd_deleting.specs.Deletes.{part_gone}
-use Rattle.pd_shifting.proofs.MoveLemmas.{is_moving, still_put}
-use Rattle.pd_retyping.specs.Retypes.{counts_but, with_wires}
+use Rattle.pd_stage.specs.PassedOn.{part_gone, counts_but, with_wires}
+use Rattle.pd_stage.proofs.PassedOn.{is_moving, still_put}
 use Rattle.pd_retyping_law.specs.Retypes.{retyped_at, SuitsAt}
 use Rattle.pd_retyping_law.specs.Retyping.{cell_in}
 use Rattle.pd_retyping_law.proofs.CountLemmas.{suits_there, weight_same as weight_retyped}

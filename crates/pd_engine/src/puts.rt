@@ -6,7 +6,7 @@ ghost use Rattle.pd_io.specs.Stream.{grown, TookPart};
 ghost use Rattle.pd_say.specs.Gathering.{Says, Fails, HasCause};
 ghost use Rattle.pd_grove.specs.Telling.{inner_in};
 ghost use Rattle.pd_patch.specs.Report.{loads_among};
-ghost use Rattle.pd_putting.specs.Adds.{keys_within};
+ghost use Rattle.pd_stage.specs.PassedOn.{keys_within};
 ghost use Rattle.pd_stage.specs.Lines as texts;
 ghost use Rattle.pd_engine.specs.Remarks.{loops_held, part_text, unfit_if, unfits_held, unfits_in, wires_text};
 
@@ -18,8 +18,8 @@ use pd_canvas::Wire;
 use pd_grove::Grove;
 use pd_io::{Sink, SinkFailed};
 use pd_patch::{Patch, is_load_box};
-use pd_putting::NewBox;
 use pd_say::{Held, flush};
+use pd_stage::NewBox;
 
 /// Prints why boxes could not be made of a box that came and all that lies in it, which wires in it don't fit, and the loops: that of the canvas
 /// around where it is a port of the box that lies in that, that of its canvas, and those of the canvases in it.

@@ -1,3 +1,4 @@
+pub mod PassedOn
 pub mod FedLemmas
 pub mod CountedLemmas
 pub mod ItemLemmas

@@ -1,3 +1,4 @@
+pub mod PassedOn
 pub mod Items
 pub mod Choices
 pub mod Stages

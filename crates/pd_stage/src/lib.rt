@@ -63,9 +63,15 @@
 //! Definitions: `Items` (what happens, and what each sink gets of it), `Choices` (what edits come to), `Stages`
 //! (stages, edits that were taken, parts of a run), `Lines` (lines with the numbers of boxes), `Lawful` (what edits
 //! may come to), `Leads` (what was taken of a part), `Events`, `Times` (clocks and blocks), `Sums`, `Trees` (the tree
-//! that stands at a stage, and the owners of names).
+//! that stands at a stage, and the owners of names), `PassedOn` (what the crates below tell of boxes that come, go,
+//! move and become others).
 #![tactic(auto)]
 
 mod laws;
 
 pub use laws::{edits_join_by_folder, fronts_are_fronts, parts_join, samples_are_added_up};
+// The edits of boxes of which these tell.
+pub use pd_deleting::{OldBox, delete_box};
+pub use pd_putting::{NewBox, Site, add_box};
+pub use pd_retyping::{RetypedBox, retype_box};
+pub use pd_shifting::{MovedBox, move_box};

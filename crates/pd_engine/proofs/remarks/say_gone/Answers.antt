@@ -1,6 +1,6 @@
 use Rattle.std.proofs.Common.{arith}
 use Rattle.std.proofs.lemmas.Result.{err_from_is_err_and}
-use Rattle.pd_retyping.specs.Retypes.{BoxWire}
+use Rattle.pd_stage.specs.PassedOn.{BoxWire}
 use Rattle.pd_say.proofs.RowLemmas.{says_more, fails_within}
 use Rattle.pd_stage.specs.Lines.{path_in, unfit_text}
 use Rattle.pd_engine.proofs.remarks.say_gone.Goals as goal

@@ -1,7 +1,7 @@
 use Rattle.std.proofs.Common.{sym, ap, ◌∙◌, ◌≤◌, subst, List, ℕ, Err}
 use Rattle.pd_gather.specs.Gather.{known}
 use Rattle.pd_wiring.specs.declared.refusals.EditRefusal.{EditRefusal}
-use Rattle.pd_putting.specs.Adds.{AddsBoxBy, IsNotAddedBy}
+use Rattle.pd_stage.specs.PassedOn.{AddsBoxBy, IsNotAddedBy}
 use Rattle.pd_engine.specs.Stages.{stage_at}
 use Rattle.pd_engine.proofs.RewireLemmas.{puts_sure, meet_sure, ready_sure, within_sure}
 use Rattle.pd_engine.proofs.ProperLemmas.{found_sure}

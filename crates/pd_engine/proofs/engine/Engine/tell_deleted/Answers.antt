@@ -2,7 +2,7 @@ use Rattle.std.proofs.Common.{◌≡◌, ◌++◌, List, ℕ, Option, subst}
 use Rattle.std.proofs.lemmas.Result.{err_from_is_err_and}
 use Rattle.pd_io.specs.Stream.{grown, TookPart}
 use Rattle.pd_say.proofs.GatheringLemmas.{took_more}
-use Rattle.pd_retyping.specs.Retypes.{BoxWire}
+use Rattle.pd_stage.specs.PassedOn.{BoxWire}
 use Rattle.pd_stage.specs.Lines.{gone_around, loops_if, loops_text}
 use Rattle.pd_engine.proofs.MakingLemmas.{took_first, took_last, said_all}
 use Rattle.pd_engine.proofs.engine.Engine.tell_deleted.Goals as goal

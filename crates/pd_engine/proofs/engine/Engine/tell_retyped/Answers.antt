@@ -4,7 +4,7 @@ use Rattle.slab.specs.Slab.{get}
 use Rattle.pd_io.specs.Stream.{grown, TookPart}
 use Rattle.pd_say.proofs.GatheringLemmas.{took_more}
 use Rattle.pd_patch.specs.Telling.{fault_in}
-use Rattle.pd_retyping.specs.Retypes.{BoxWire}
+use Rattle.pd_stage.specs.PassedOn.{BoxWire}
 use Rattle.pd_stage.specs.Lines.{gone_text, loops_text, path_in, unmade_text}
 use Rattle.pd_engine.proofs.MakingLemmas.{took_first, took_last, said_all}
 use Rattle.pd_engine.proofs.engine.Engine.tell_retyped.Goals as goal
