@@ -21,7 +21,7 @@ use Rattle.pd_patch.specs.declared.patch.Patch.{Patch}
 use Rattle.pd_boxes.specs.declared.room.Place.{Place}
 use Rattle.pd_boxes.specs.Put.{CanPut}
 use Rattle.pd_adding.specs.Growing.{Added}
-use Rattle.pd_putting.specs.Adds.{last_place, IsBoxPut, IsSubPut, IsPortBoxPut, IsPartBoxPut, HasCome}
+use Rattle.pd_stage.specs.PassedOn.{last_place, IsBoxPut, IsSubPut, IsPortBoxPut, IsPartBoxPut, HasCome}
 use Rattle.pd_subpatches.proofs.LawLemmas.{small_canvas}
 use Rattle.pd_guards.specs.Sounds.{AreValues}
 use Rattle.pd_guards.proofs.FactLemmas.{all-at}

@@ -34,10 +34,7 @@ use Rattle.pd_wiring.specs.Changes.{CanRewire}
 use Rattle.pd_wiring.specs.Plans.{Plan, Attaches, Detaches, canvas_of, attaching, wire_found, detaching, connecting, disconnecting, planned, IsCarriedOut, IsRewired}
 use Rattle.pd_boxes.specs.Put.{CanPut}
 use Rattle.pd_adding.specs.declared.counts.Counts.{Counts}
-use Rattle.pd_deleting.specs.Deletes.{going, going_box, going_in, DeletesBox}
-use Rattle.pd_deleting.specs.declared.deleting.OldBox.{OldBox}
-use Rattle.pd_shifting.specs.Moves.{is_array_in, moving_box, moving_in, Shifts, ShiftsPort, ShiftsBox, canvas_changed}
-use Rattle.pd_retyping.specs.Retypes.{Becomes}
+use Rattle.pd_stage.specs.PassedOn.{going, going_box, going_in, DeletesBox, OldBox, is_array_in, moving_box, moving_in, Shifts, ShiftsPort, ShiftsBox, canvas_changed, Becomes}
 use Rattle.pd_hearing.specs.Worlds.{Net, bare, net_of}
 use Rattle.pd_block.specs.Nets as block
 use Rattle.pd_stage.specs.Choices.{Made, Makes}

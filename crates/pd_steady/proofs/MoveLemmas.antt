@@ -8,8 +8,7 @@ use Rattle.pd_web.specs.declared.web.Web.{Web}
 use Rattle.pd_patch.specs.declared.patch.Patch.{Patch}
 use Rattle.pd_patch.specs.Fed.{AreFed}
 use Rattle.pd_patch.specs.Values.{Blocks, block_at, blocks_told}
-use Rattle.pd_shifting.specs.Moves.{Shifts, ShiftsPort, ShiftsBox, MovesBox}
-use Rattle.pd_shifting.specs.declared.shifting.MovedBox.{MovedBox}
+use Rattle.pd_stage.specs.PassedOn.{Shifts, ShiftsPort, ShiftsBox, MovesBox, MovedBox}
 use Rattle.pd_hearing.specs.Worlds.{bare}
 use Rattle.pd_stage.specs.Choices.{Made, Choice, Makes}
 use Rattle.pd_stage.specs.Stages.{Stage, with_ahead}

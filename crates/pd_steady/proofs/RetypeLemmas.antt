@@ -22,7 +22,7 @@ use Rattle.pd_web.specs.declared.web.Web.{Web}
 use Rattle.pd_patch.specs.declared.patch.Patch.{Patch}
 use Rattle.pd_patch.specs.Fed.{AreFed}
 use Rattle.pd_patch.specs.Values.{Blocks, blocks_told}
-use Rattle.pd_retyping.specs.Retypes.{HasBecome, TakesText}
+use Rattle.pd_stage.specs.PassedOn.{HasBecome, TakesText}
 use Rattle.pd_hearing.specs.Worlds.{bare, net_of, states_of}
 use Rattle.pd_guards.specs.Order.{HasFirst}
 use Rattle.pd_sized.specs.Kinds.{blank_of, KeepsOfKind}

@@ -9,8 +9,7 @@ use Rattle.pd_grove.specs.Telling.{kind_in}
 use Rattle.pd_patch.specs.declared.patch.Patch.{Patch}
 use Rattle.pd_patch.specs.Values.{blocks_told}
 use Rattle.pd_adding.specs.declared.counts.Counts.{Counts}
-use Rattle.pd_deleting.specs.Deletes.{DeletesBox}
-use Rattle.pd_deleting.specs.declared.deleting.OldBox.{OldBox}
+use Rattle.pd_stage.specs.PassedOn.{DeletesBox, OldBox}
 use Rattle.pd_hearing.specs.Worlds.{net_of, states_of}
 use Rattle.pd_channels_law.specs.Channels.{HasFewChannels}
 use Rattle.pd_guards.specs.Order.{IsKept, IsKind}

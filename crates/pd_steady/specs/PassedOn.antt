@@ -2,14 +2,7 @@
 pub use Rattle.pd_guards.specs.Order.{IsKind}
 pub use Rattle.pd_guards.specs.Worlds.{AreKept, IsInOrder, IsSent}
 pub use Rattle.pd_sized.specs.Kinds.{kinds_of, blank_of, KeepsOfKind}
-pub use Rattle.pd_putting.specs.declared.adding.NewBox.{NewBox}
-pub use Rattle.pd_putting.specs.Adds.{AddsBox, HasCome, IsPartBoxPut, IsSub}
-pub use Rattle.pd_deleting.specs.declared.deleting.OldBox.{OldBox}
-pub use Rattle.pd_deleting.specs.Deletes.{going, DeletesBox, TakesPort}
-pub use Rattle.pd_shifting.specs.Moves.{ShiftsBox, MovesBox}
-pub use Rattle.pd_shifting.specs.declared.shifting.MovedBox.{MovedBox}
-pub use Rattle.pd_retyping.specs.declared.retyping.RetypedBox.{RetypedBox}
-pub use Rattle.pd_retyping.specs.Retypes.{RetypesBox, Becomes, cell_become}
+pub use Rattle.pd_stage.specs.PassedOn.{NewBox, AddsBox, HasCome, IsPartBoxPut, IsSub, OldBox, going, DeletesBox, TakesPort, ShiftsBox, MovesBox, MovedBox, RetypedBox, RetypesBox, Becomes, cell_become}
 pub use Rattle.pd_stage.specs.Choices.{Base, Wanted, Edits, Asks, Saves, Undoes, Redoes, Choice, Refuses, Lacks, Makes, Made, first_choice, later, loads_of_choice, base_of}
 pub use Rattle.pd_stage.specs.Lawful.{StandsAt, IsTakenOut, known_at, IsMade, IsShort, IsRewiringLawful, IsPutIn, IsUnputForRoom, IsPutLawful, IsLeftInForRoom, IsTakingLawful, IsMovedTo, IsLeftAtForRoom, IsMovingLawful, IsRetypedTo, IsUnretypedForRoom, IsRetypingLawful, IsEditLawful, IsSaved, MayCome, AreLawful, GoByFolder}
 pub use Rattle.pd_stage.specs.Stages.{Stage, Taken, Passage, with_names, with_ahead, still, followed_by, choices_of, joined, saying, after}
