@@ -36,8 +36,9 @@ use Rattle.pd_boxes.specs.Put.{CanPut, IsLeaf}
 use Rattle.pd_boxes.proofs.ReserveLemmas.{same_grove, same_web, same_order, longer_self}
 use Rattle.pd_refitting.specs.Refits.{IsRefitted, refit_looks}
 use Rattle.pd_misfits.specs.declared.wires.BoxWire.{BoxWire}
-use Rattle.pd_misfits.specs.Misfits.{misfits}
+use Rattle.pd_misfits.specs.Misfits.{misfits, turning}
 use Rattle.pd_misfits.specs.Shedding.{AreWiresAt}
+use Rattle.pd_misfits.proofs.SameLemmas.{sheds_since}
 use Rattle.pd_adding.specs.declared.adding.Grown.{Grown}
 use Rattle.pd_adding.specs.Coming.{zero_in, own_zero}
 use Rattle.pd_adding.specs.Growing.{Added}
@@ -80,12 +81,11 @@ module _ (p : Patch) (key : ℕ) (n : Node) (g : Grown) (a : Added) (A : IsAdded
   pub rows_one : CanBecome p key n a → length g.rows.items ≡ 1
   rows_one P = sym (length-map g.rows.items stand_of) ∙ ap (λ (ss : List Stand). length ss) (rows_plain P)
 
-  pub can_become : (row : Row) → a.boxes ≡ Leaf (stand_of row).cell Done → IsAlike p key n row.kind → CanBecome p key n a
+  pub can_become : (row : Row) → a.boxes ≡ Leaf (stand_of row).cell Done → IsAlike p n row.kind → CanBecome p key n a
   can_become row single L = record {
     cell = (stand_of row).cell;
     single = single;
     bare = L.bare;
-    wires = L.wires;
     plain = L.plain;
     stays_plain = L.stays_plain;
   }
@@ -97,10 +97,10 @@ module _ (p : Patch) (key : ℕ) (n : Node) (g : Grown) (a : Added) (A : IsAdded
     pub held_never : is_some row.sheet ≡ true → CanBecome p key n a → ⊥
     held_never holds P = not_none row.sheet holds (ap (λ (s : Stand). s.sheet) (stand_alone g.rows.items row P.cell r (rows_plain P)))
 
-    pub alike_of : CanBecome p key n a → IsAlike p key n row.kind
+    pub alike_of : CanBecome p key n a → IsAlike p n row.kind
     alike_of P =
         let kind : P.cell.kind ≡ row.kind = sym (ap (λ (s : Stand). s.cell.kind) (stand_alone g.rows.items row P.cell r (rows_plain P))) in
-        subst (λ (k : Kind). IsAlike p key n k) kind (record { bare = P.bare; wires = P.wires; plain = P.plain; stays_plain = P.stays_plain })
+        subst (λ (k : Kind). IsAlike p n k) kind (record { bare = P.bare; plain = P.plain; stays_plain = P.stays_plain })
 
   module _ (P : CanBecome p key n a) (seed : Seed) (is : stand_of seed.row ∷ [] ≡ stands_in g.rows.items) where
     pub seed_stand : stand_of seed.row ≡ alone P.cell
@@ -113,16 +113,18 @@ module _ (p : Patch) (key : ℕ) (n : Node) (g : Grown) (a : Added) (A : IsAdded
     pub seed_kind : P.cell.kind ≡ seed.row.kind
     seed_kind = sym (ap (λ (s : Stand). s.cell.kind) seed_stand)
 
-    pub seed_makes : (gone : List BoxWire) → CanPut p → Meet p.web → get p.grove.nodes key ≡ Some n → IsLeaf seed → gone ≡ misfits p n.board key seed.row.kind → AreWiresAt p.web key gone
-        → CanMake p key n seed gone
-    seed_makes gone can meet here leaf are wires = record {
+    pub seed_makes : (gone turned : List BoxWire) → CanPut p → Meet p.web → get p.grove.nodes key ≡ Some n → IsLeaf seed → gone ≡ misfits p n.board key seed.row.kind → AreWiresAt p.web key gone
+        → turned ≡ turning p n.board key seed.row.kind → AreWiresAt p.web key turned → CanMake p key n seed gone turned
+    seed_makes gone turned can meet here leaf are wires turn turning_wires = record {
       can = can;
       meet = meet;
       is = here;
-      alike = subst (λ (k : Kind). IsAlike p key n k) seed_kind (record { bare = P.bare; wires = P.wires; plain = P.plain; stays_plain = P.stays_plain });
+      alike = subst (λ (k : Kind). IsAlike p n k) seed_kind (record { bare = P.bare; plain = P.plain; stays_plain = P.stays_plain });
       leaf = leaf;
       gone_are = are;
       wires = wires;
+      turned_are = turn;
+      turning_wires = turning_wires;
     }
 
     suits_by : (names : Names) (rows : List Row) → stand_of seed.row ∷ [] ≡ stands_in rows → AllByRecursion (RowSuits names) rows → RowSuits names seed.row
@@ -133,27 +135,41 @@ module _ (p : Patch) (key : ℕ) (n : Node) (g : Grown) (a : Added) (A : IsAdded
         subst (λ (x : Stand). TextSuits names x.cell.text × IsSmallKind x.cell.kind) (sym same) s.0
 
     -- the box became what grew
-    pub has_become : (q : Patch) (now : ℕ) (table : Names) (gone : List BoxWire) (steps steps' : ℕ) → a.known.names ≡ table → IsLeaf seed → IsFresh p.rate now seed → CanPut q
-        → gone ≡ misfits p n.board key seed.row.kind → MakesOther p q table key n seed gone steps steps' → HasBecome p q now key n a gone steps steps'
-    has_become q now table gone steps steps' names leaf fresh can are M = record {
-      can = P;
-      gone_are = are ∙ ap (misfits p n.board key) (sym seed_kind);
-      ready = M.ready;
-      room = M.room;
-      loose = M.loose;
-      between = M.between;
-      loosens = M.loosens;
-      sheds = M.sheds;
-      seed = seed;
-      is_row = seed_stand;
-      suits = suits_by a.known.names g.rows.items is A.suit;
-      leaf = leaf;
-      fresh = fresh;
-      could = M.could;
-      refit = subst (λ (t : Names). IsRefitted M.loose q t key n seed) (sym names) M.refit;
-      looks = subst (λ (k : Kind). steps' ≤ M.between + refit_looks n.kind k) (sym seed_kind) M.looks;
-      goes_on = can;
-    }
+    pub has_become : (q : Patch) (now : ℕ) (table : Names) (gone turned : List BoxWire) (steps steps' : ℕ) → a.known.names ≡ table → IsLeaf seed → IsFresh p.rate now seed → CanPut q
+        → gone ≡ misfits p n.board key seed.row.kind → turned ≡ turning p n.board key seed.row.kind → MakesOther p q table key n seed gone turned steps steps'
+        → HasBecome p q now key n a gone steps steps'
+    has_become q now table gone turned steps steps' names leaf fresh can are turn M =
+        let made = M.made in
+        record {
+          can = P;
+          gone_are = are ∙ ap (misfits p n.board key) (sym seed_kind);
+          ready = M.ready;
+          room = M.room;
+          loose = made.loose;
+          between = made.between;
+          loosens = made.loosens;
+          sheds = sheds_since p.web M.ready.web made.loose.web gone M.room.web made.sheds;
+          went = made.went;
+          turned = turned;
+          turned_are = turn ∙ ap (turning p n.board key) (sym seed_kind);
+          free = made.free;
+          freed = made.freed;
+          frees = made.frees;
+          out = made.out;
+          as_many = made.as_many;
+          seed = seed;
+          is_row = seed_stand;
+          suits = suits_by a.known.names g.rows.items is A.suit;
+          leaf = leaf;
+          fresh = fresh;
+          could = made.could;
+          fitted = made.fitted;
+          refit = subst (λ (t : Names). IsRefitted made.free made.fitted t key n seed) (sym names) made.refit;
+          placed = made.placed;
+          looks = subst (λ (k : Kind). made.placed ≤ made.freed + refit_looks n.kind k) (sym seed_kind) made.looks;
+          back = made.back;
+          goes_on = can;
+        }
 
 -- ---- what stays
 

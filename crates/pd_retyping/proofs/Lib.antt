@@ -1,9 +1,10 @@
 mod TextLemmas
 pub mod AskLemmas
 mod AlikeLemmas
-mod TurnLemmas
 mod SeedLemmas
 mod BecomeLemmas
+mod ReadyLemmas
 mod MakeLemmas
 mod TakeLemmas
 pub mod RetypeLemmas
+mod UntoldLemmas

@@ -32,24 +32,19 @@ use Rattle.pd_adding.specs.Adding.{ComesTo, GrewWith, Grows}
 use Rattle.pd_retyping.specs.declared.asking.Plan.{Plan}
 use Rattle.pd_retyping.specs.declared.retyping.RetypedBox.{RetypedBox}
 use Rattle.pd_retyping.specs.Asking.{settled_text, retyping, put_instead}
-use Rattle.pd_retyping.specs.Retypes.{counts_but, with_wires, RetypesTo, CanBecome, CanTakeText, Becomes, RetypesBox, IsRefused, IsNotRetyped}
+use Rattle.pd_retyping.specs.Retypes.{counts_but, with_wires, RetypesToBy, CanBecome, CanTakeText, Becomes, RetypesBoxBy, IsRefusedBy, IsNotRetypedBy}
 use Rattle.pd_retyping.specs.Becoming.{IsPlanned, IsUnplanned, HasGrown, StaysAsItWas}
 use Rattle.pd_retyping.proofs.AskLemmas.{entry_put, put_entry, put_head, put_same, comes_ok, comes_asks}
 
 -- the text isn't of the table
-pub not_known : (p : Patch) (n : Counts) (name path : List ℕ) (number : ℕ) (text : List Atom) (k : Known) → (All (IsOf k.names) text → ⊥)
-    → IsNotRetyped p p n name path number text k NoDocument
-not_known p n name path number text k other = inl (refl, inr (inr (inr (inr (refl, inl other)))))
+pub not_known : (holds : Option (List FileRow)) (p : Patch) (n : Counts) (name path : List ℕ) (number : ℕ) (text : List Atom) (k : Known) → (All (IsOf k.names) text → ⊥)
+    → IsNotRetypedBy holds p p n name path number text k NoDocument
+not_known holds p n name path number text k other = inl (refl, inr (inr (inr (inr (refl, inl other)))))
 
 -- the box, or its text, is refused
-pub not_planned : (p : Patch) (n : Counts) (name path : List ℕ) (number : ℕ) (text : List Atom) (k : Known) (why : EditRefusal)
-    → IsUnplanned k.names p path number text why → IsNotRetyped p p n name path number text k why
-not_planned p n name path number text k why un = inl (refl, ⊎_elim (λ (m : why ≡ NoMemory). inl m) (λ (r : retyping k.names p path number text ≡ Err why). inr (inl r)) un)
-
--- it comes to the same where nothing is told of the shelf
-comes_anyhow : (holds : Option (List FileRow)) (p : Patch) (n : Counts) (name path : List ℕ) (e : Edit) (k : Known) (r : Result Added EditRefusal)
-    → ComesTo holds p n name path e k r → ComesTo None p n name path e k r
-comes_anyhow holds p n name path e k r c = record { fetches = c.fetches; comes = c.comes; held = tt }
+pub not_planned : (holds : Option (List FileRow)) (p : Patch) (n : Counts) (name path : List ℕ) (number : ℕ) (text : List Atom) (k : Known) (why : EditRefusal)
+    → IsUnplanned k.names p path number text why → IsNotRetypedBy holds p p n name path number text k why
+not_planned holds p n name path number text k why un = inl (refl, ⊎_elim (λ (m : why ≡ NoMemory). inl m) (λ (r : retyping k.names p path number text ≡ Err why). inr (inl r)) un)
 
 the_err : {A E : Type 0} → E → Result A E → E
 the_err d (Ok a) = d
@@ -88,29 +83,28 @@ module _ (p : Patch) (n left : Counts) (name path : List ℕ) (number : ℕ) (te
   abbrev instead : Edit
   instead = put_instead (entry_of P.node.element) text
 
-  comes_so : (holds : Option (List FileRow)) (r : Result Added EditRefusal) → ComesTo holds p left name path plan.edit k r → ComesTo None p (counts_but p.rate P.node n) name path instead k r
+  comes_so : (holds : Option (List FileRow)) (r : Result Added EditRefusal) → ComesTo holds p left name path plan.edit k r → ComesTo holds p (counts_but p.rate P.node n) name path instead k r
   comes_so holds r c =
-      subst (λ (m : Counts). ComesTo None p m name path instead k r) at_left
-      (subst (λ (x : Edit). ComesTo None p left name path x k r) P.edit (comes_anyhow holds p left name path plan.edit k r c))
+      subst (λ (m : Counts). ComesTo holds p m name path instead k r) at_left (subst (λ (x : Edit). ComesTo holds p left name path x k r) P.edit c)
 
-  pub retypes_to : (holds : Option (List FileRow)) (r : Result Added EditRefusal) → ComesTo holds p left name path plan.edit k r → RetypesTo p n name path number text k r
+  pub retypes_to : (holds : Option (List FileRow)) (r : Result Added EditRefusal) → ComesTo holds p left name path plan.edit k r → RetypesToBy holds p n name path number text k r
   retypes_to holds r c = record { canvas = plan.canvas; key = plan.key; node = P.node; chosen = P.chosen; comes = comes_so holds r c }
 
   -- growth is refused
   not_so : (holds : Option (List FileRow)) (why : EditRefusal) → (why ≢ NoMemory → why ≢ ShelfFault → ComesTo holds p left name path plan.edit k (Err why))
-      → (why ≡ ShelfFault → IsComing (coming k.names p path plan.edit)) → IsRefused p n name path number text k why
+      → (why ≡ ShelfFault → IsComing (coming k.names p path plan.edit)) → IsRefusedBy holds p n name path number text k why
   not_so holds NoMemory comes asks = inl refl
   not_so holds ShelfFault comes asks =
       inr (inr (inl (refl, comes_asks k.names p path number text plan.canvas plan.key P.node P.chosen (subst (λ (x : Edit). IsComing (coming k.names p path x)) P.edit (asks refl)))))
   not_so holds why comes asks = inr (inr (inr (inl (retypes_to holds (Err why) (comes (λ q. cc) (λ q. cc))))))
 
   pub not_grown : (holds : Option (List FileRow)) (why : EditRefusal) → (why ≢ NoMemory → why ≢ ShelfFault → ComesTo holds p left name path plan.edit k (Err why))
-      → (why ≡ ShelfFault → IsComing (coming k.names p path plan.edit)) → IsNotRetyped p p n name path number text k why
+      → (why ≡ ShelfFault → IsComing (coming k.names p path plan.edit)) → IsNotRetypedBy holds p p n name path number text k why
   not_grown holds why comes asks = inl (refl, not_so holds why comes asks)
 
   -- the box stays itself
   pub left_so : (holds : Option (List FileRow)) (q : Patch) (a : Added) (why : EditRefusal) → ComesTo holds p left name path plan.edit k (Ok a) → CanPut q → StaysAsItWas k.names text p q plan.key P.node a why
-      → IsNotRetyped p q n name path number text k why
+      → IsNotRetypedBy holds p q n name path number text k why
   unfolding retypes_to
   left_so holds q a why comes can out = ⊎_elim
       (λ (s : (why ≡ NoMemory) × ((CanBecome p plan.key P.node a ⊎ CanTakeText k.names text P.node a) × SameButRoom p q)).
@@ -134,7 +128,7 @@ module _ (p : Patch) (n left : Counts) (name path : List ℕ) (number : ℕ) (te
 
     pub retypes_box : (q : Patch) (now : ℕ) (b : RetypedBox) (last : Names) (steps steps' : ℕ) → AreProper k.names k.files → All (IsOf k.names) text → IfSome (box_put (settled_edit k.names plan.edit)) (CanBeWritten k.names)
         → Becomes p q k.names text now plan.key P.node G.added b.gone.items steps steps' → b.key ≡ plan.key → b.canvas ≡ g.canvas → b.counts ≡ with_wires g.counts (wires_told q.web) → last ≡ names
-        → RetypesBox p q n name path number text now k (known files last) steps steps' b
+        → RetypesBoxBy holds p q n name path number text now k (known files last) steps steps' b
     retypes_box q now b last steps steps' found is_known written H is_key canvas_is counts table =
         let there = comes_there in
         let there_canvas : b.canvas ≡ plan.canvas = canvas_is ∙ G.is.canvas ∙ sym there.1 in

@@ -2,24 +2,20 @@
 
 ghost use Rattle.std.specs.Prelude.{◌≡◌, ◌||◌, true, false, is_some};
 ghost use Rattle.slab.specs.Slab.{get};
-ghost use Rattle.pd_object.specs.Ports.{IsSmallKind};
 ghost use Rattle.pd_grove.specs.declared.ports.Side.TheVariants.{Inlets, Outlets};
 ghost use Rattle.pd_grove.specs.Forest.{holder_in};
 ghost use Rattle.pd_grove.specs.Ports.{port_signal};
 ghost use Rattle.pd_refitting.specs.Refits.{IsPlainIn};
 ghost use Rattle.pd_retyping.specs.Becoming.{IsAlike};
 
-use crate::wires::none_turns;
 use pd_grove::Node;
 use pd_kind::{Glue, Kind, Signal};
 use pd_patch::Patch;
 
-/// Whether the box of a key can become one of a kind that holds no canvas: it holds none either, no wire at it that stays turns, and neither is a
-/// port of a box around.
-pub(crate) fn is_alike(patch: &Patch, key: u32, node: &Node, kind: &Kind) -> bool
-    requires small { IsSmallKind kind.now }
-    ensures yes { result ≡ true → IsAlike patch.now key node.now kind.now }
-    ensures no { result ≡ false → IsAlike patch.now key node.now kind.now → ⊥ }
+/// Whether a box of a patch can become one of a kind that holds no canvas: it holds none either, and neither is a port of a box around.
+pub(crate) fn is_alike(patch: &Patch, node: &Node, kind: &Kind) -> bool
+    ensures yes { result ≡ true → IsAlike patch.now node.now kind.now }
+    ensures no { result ≡ false → IsAlike patch.now node.now kind.now → ⊥ }
 {
     if node.inner.is_some() {
         return false;
@@ -27,10 +23,7 @@ pub(crate) fn is_alike(patch: &Patch, key: u32, node: &Node, kind: &Kind) -> boo
     if !is_plain_in(patch, node.board, &node.kind) {
         return false;
     }
-    if !is_plain_in(patch, node.board, kind) {
-        return false;
-    }
-    none_turns(&patch.web, key, kind)
+    is_plain_in(patch, node.board, kind)
 }
 
 /// Whether a box of a kind is no port of a box around a canvas.

@@ -2,32 +2,26 @@
 
 ghost use Rattle.std.specs.Prelude.{◌≡◌, ◌≤◌, ◌∷◌, [], true, false, length, Some, None, IfOk, IfErr, OnOk, OnErr};
 ghost use Rattle.slab.specs.Slab.{get, ContainsKey};
-ghost use Rattle.pd_object.specs.Ports.{IsSmallKind};
 ghost use Rattle.pd_grove.specs.declared.nodes.Node.{Node};
 ghost use Rattle.pd_grove.specs.States.{AreSmall, IsFresh};
 ghost use Rattle.pd_tree.specs.Trees.{stand_of, stands_in};
 ghost use Rattle.pd_web.specs.Changes.{wires_told, Meet};
-ghost use Rattle.pd_boxes.specs.Room.{SameButRoom};
 ghost use Rattle.pd_boxes.specs.Put.{CanPut, IsLeaf};
-ghost use Rattle.pd_misfits.specs.Misfits.{misfits};
-ghost use Rattle.pd_misfits.specs.Shedding.{AreWiresAt};
 ghost use Rattle.pd_adding.specs.Adding.{IsAdded};
 ghost use Rattle.pd_adding.specs.Coming.{own_zero};
 ghost use Rattle.pd_adding.specs.Growing.{Added};
 ghost use Rattle.pd_retyping.specs.Retypes.{CanBecome, HasBecome, with_wires};
-ghost use Rattle.pd_retyping.specs.Becoming.{CanMake, HasGrown, MakesOther, StaysItself};
+ghost use Rattle.pd_retyping.specs.Becoming.{HasGrown, StaysItself};
 
 use crate::alike::is_alike;
+use crate::making::{changed_wires, make_other};
 use crate::retyping::RetypedBox;
 use pd_adding::{Counts, Grown, single_boxes};
 use pd_atom::Symbols;
 use pd_clock::{Rate, Time};
-use pd_grove::{Grove, Seed, Seeds};
-use pd_kind::Kind;
-use pd_misfits::{BoxWire, loosen_wires, misfits_at};
+use pd_grove::{Seed, Seeds};
 use pd_order::Steps;
 use pd_patch::Patch;
-use pd_refitting::{refit, reserve_refit};
 use pd_tree::Row;
 use pd_wiring::EditRefusal;
 use std::alloc::{AllocError, Global};
@@ -38,8 +32,8 @@ use std::sync::ledger::Ledger;
 ///
 /// # Errors
 ///
-/// `NoDocument` where it can't; `NoMemory` where memory ran out, or where the name that the new box owns has as many owners, or its canvas as
-/// many boxes in its order, as can be counted.
+/// `NoDocument` where it can't; `NoMemory` where memory ran out, or where the name that the new box owns has as many owners, its canvas as
+/// many boxes in its order, or a box as many signal wires as can be counted.
 pub(crate) fn become_grown<L: Ledger>(
     alloc: Global,
     patch: &mut Patch,
@@ -77,19 +71,10 @@ pub(crate) fn become_grown<L: Ledger>(
     let Ok(seed) = seed_of(alloc, grown.rows, patch.rate, now) else {
         return Err(EditRefusal::NoMemory);
     };
-    let Ok(gone) = misfits_of(alloc, patch, key, &seed.row.kind) else {
+    let Ok(changed) = changed_wires(alloc, patch, key, &seed.row.kind) else {
         return Err(EditRefusal::NoMemory);
     };
-    let Ok(left) = make_other(
-        alloc,
-        patch,
-        key,
-        seed,
-        gone.as_slice(),
-        wires,
-        symbols,
-        steps,
-    ) else {
+    let Ok(left) = make_other(alloc, patch, key, seed, &changed, wires, symbols, steps) else {
         return Err(EditRefusal::NoMemory);
     };
     let counts = counts_left(counts, left);
@@ -97,7 +82,7 @@ pub(crate) fn become_grown<L: Ledger>(
         key,
         canvas,
         counts,
-        gone,
+        gone: changed.gone,
     })
 }
 
@@ -113,42 +98,8 @@ pub(crate) fn counts_left(counts: Counts, wires: usize) -> Counts
     }
 }
 
-/// The wires at a live box that don't fit where it is of a kind, in the order of the wires of its canvas.
-///
-/// # Errors
-///
-/// `AllocError` where memory ran out.
-fn misfits_of(
-    alloc: Global,
-    patch: &Patch,
-    key: u32,
-    kind: &Kind,
-) -> Result<Vec<BoxWire>, AllocError>
-    requires small { IsSmallKind kind.now }
-    requires can { CanPut patch.now }
-    requires meet { Meet patch.now.web }
-    requires here { ContainsKey patch.now.grove.nodes key }
-    ensures told { IfOk result (λ v. (n : Node) → get patch.now.grove.nodes key ≡ Some n → v.items ≡ misfits patch.now n.board key kind.now) }
-    ensures wires { IfOk result (λ v. AreWiresAt patch.now.web key v.items) }
-{
-    let canvas = canvas_of(&patch.grove, key);
-    misfits_at(alloc, patch, canvas, key, kind)
-}
-
-/// The key of the canvas in which a live box lies.
-fn canvas_of(grove: &Grove, key: u32) -> u32
-    requires { ContainsKey grove.now.nodes key }
-    ensures { (n : Node) → get grove.now.nodes key ≡ Some n → result ≡ n.board }
-{
-    match grove.node(key) {
-        Some(node) => node.board,
-        None => 0,
-    }
-}
-
 /// Whether the box of a key can become what grew.
 fn can_become(patch: &Patch, key: u32, grown: &Grown) -> bool
-    requires rows_small { AreSmall grown.now.rows.items }
     ensures yes { result ≡ true → (n : Node) (a : Added) → get patch.now.grove.nodes key ≡ Some n → IsAdded grown.now a → CanBecome patch.now key n a }
     ensures no { result ≡ false → (n : Node) (a : Added) → get patch.now.grove.nodes key ≡ Some n → IsAdded grown.now a → CanBecome patch.now key n a → ⊥ }
 {
@@ -162,7 +113,7 @@ fn can_become(patch: &Patch, key: u32, grown: &Grown) -> bool
         return false;
     }
     match patch.grove.node(key) {
-        Some(node) => is_alike(patch, key, node, &row.kind),
+        Some(node) => is_alike(patch, node, &row.kind),
         None => false,
     }
 }
@@ -184,42 +135,4 @@ fn seed_of(alloc: Global, rows: Vec<Row>, rate: Rate, now: Time) -> Result<Seed,
         Some(seed) => Ok(seed),
         None => unreachable!(),
     }
-}
-
-/// Makes the box of a key that of a seed, and takes these wires at it out, which don't fit any more. `wires` is how many wires there are, and what is
-/// given how many there are then. Looks at signal wires are counted in `steps`.
-///
-/// # Errors
-///
-/// `AllocError` where memory ran out, or where the name that the new box owns has as many owners, or its canvas as many boxes in its order,
-/// as can be counted.
-fn make_other<L: Ledger>(
-    alloc: Global,
-    patch: &mut Patch,
-    key: u32,
-    seed: Seed,
-    gone: &[BoxWire],
-    wires: usize,
-    symbols: &mut Symbols,
-    steps: &mut Steps<L>,
-) -> Result<usize, AllocError>
-    requires can { (n : Node) × CanMake patch.old key n seed gone.now }
-    requires counted { wires ≡ wires_told patch.old.web }
-    ensures made { OnOk result ((n : Node) → get patch.old.grove.nodes key ≡ Some n →
-        MakesOther patch.old patch.new symbols.old key n seed gone.now steps.old steps.new) }
-    ensures counted { IfOk result (λ left. left ≡ wires_told patch.new.web) }
-    ensures short { OnErr result (SameButRoom patch.old patch.new) }
-    ensures goes_on { CanPut patch.new }
-    ensures meet { Meet patch.new.web }
-    ensures fewer { wires_told patch.new.web ≤ wires_told patch.old.web }
-    ensures as_many { OnErr result (wires_told patch.new.web ≡ wires_told patch.old.web) }
-    ensures zero { own_zero patch.new ≡ own_zero patch.old }
-    ensures table { symbols.new ≡ symbols.old }
-    ensures no_looks { OnErr result (steps.new ≡ steps.old) }
-{
-    patch.web.laws();
-    let room = reserve_refit(alloc, patch, key, seed, symbols)?;
-    let left = loosen_wires(patch, key, gone, wires, steps);
-    refit(patch, room, symbols, steps);
-    Ok(left)
 }

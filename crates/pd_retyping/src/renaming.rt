@@ -41,8 +41,8 @@ use std::sync::ledger::Ledger;
 ///
 /// # Errors
 ///
-/// `NoDocument` where it can do neither; `NoMemory` where memory ran out, or where the name that the box would own has as many owners, or its canvas as
-/// many boxes in its order, as can be counted.
+/// `NoDocument` where it can do neither; `NoMemory` where memory ran out, or where the name that the box would own has as many owners, its canvas as
+/// many boxes in its order, or a box as many signal wires as can be counted.
 pub(crate) fn become_or_take<L: Ledger>(
     alloc: Global,
     patch: &mut Patch,

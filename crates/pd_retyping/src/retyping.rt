@@ -9,7 +9,7 @@ ghost use Rattle.pd_wiring.specs.declared.refusals.EditRefusal.TheVariants.{Shel
 ghost use Rattle.pd_boxes.specs.Put.{CanPut};
 ghost use Rattle.pd_adding.specs.Coming.{own_zero};
 ghost use Rattle.pd_adding.specs.Counts.{AreWithin};
-ghost use Rattle.pd_retyping.specs.Retypes.{RetypesBox, IsNotRetyped};
+ghost use Rattle.pd_retyping.specs.Retypes.{RetypesBoxBy, IsNotRetypedBy};
 
 use crate::asking::{counts_without, plan_of};
 use crate::known::are_of;
@@ -43,8 +43,8 @@ pub struct RetypedBox {
 ///
 /// The first reason against it: `NoDocument` for a text that isn't of the table, `NoCanvas`, `NoBox`, also for a box that takes no text,
 /// `TextTooLong`, `TooDeep`; then `ShelfFault`, `SymbolsFull` or `TooManyBoxes`, whichever growth comes to first; then `TooManyWires` and
-/// `TooMuchSound`; then `NoDocument` for a box that isn't made another one yet. `NoMemory` may come in place of any. Names and files are
-/// then as before.
+/// `TooMuchSound`; then `NoDocument` for a box that isn't made another one yet: one that holds a canvas or would hold one, but for a subpatch that keeps
+/// what it holds, and a port of a box around. `NoMemory` may come in place of any. Names and files are then as before.
 pub fn retype_box<H: Shelf, L: Ledger>(
     alloc: Global,
     patch: &mut Patch,
@@ -63,8 +63,8 @@ pub fn retype_box<H: Shelf, L: Ledger>(
     requires within { AreWithin counts }
     requires zero { own_zero patch.old ≤ 1000000000 }
     requires found { AreProper symbols.old library.old }
-    ensures retyped { IfOk result (λ b. RetypesBox patch.old patch.new counts site.entry.name.now site.entry.path.now number text.now site.entry.now (known library.old symbols.old) (known library.new symbols.new) steps.old steps.new b) }
-    ensures refused { IfErr result (IsNotRetyped patch.old patch.new counts site.entry.name.now site.entry.path.now number text.now (known library.old symbols.old)) }
+    ensures retyped { IfOk result (λ b. RetypesBoxBy (H.holds shelf.old) patch.old patch.new counts site.entry.name.now site.entry.path.now number text.now site.entry.now (known library.old symbols.old) (known library.new symbols.new) steps.old steps.new b) }
+    ensures refused { IfErr result (IsNotRetypedBy (H.holds shelf.old) patch.old patch.new counts site.entry.name.now site.entry.path.now number text.now (known library.old symbols.old)) }
     ensures goes_on { CanPut patch.new }
     ensures meet { Meet patch.new.web }
     ensures counted { IfOk result (λ b. b.counts.wires ≡ wires_told patch.new.web) }

@@ -12,7 +12,7 @@ use Rattle.pd_adding.specs.declared.counts.Counts.{Counts}
 use Rattle.pd_adding.proofs.AddLemmas.{extends_same}
 use Rattle.pd_retyping.proofs.RetypeLemmas.{as_told, not_known, not_grown, left_so, no_fault, same_err, has_grown, names_grown, retypes_box, within_so}
 use Rattle.pd_retyping.specs.Asking.{settled_text}
-use Rattle.pd_retyping.specs.Retypes.{IsNotRetyped}
+use Rattle.pd_retyping.specs.Retypes.{IsNotRetypedBy}
 use Rattle.pd_retyping.proofs.AskLemmas.{kept_is_sub}
 use Rattle.pd_retyping.proofs.BecomeLemmas.{lives_there}
 use Rattle.pd_retyping.proofs.retyping.retype_box.Goals as goal
@@ -23,7 +23,7 @@ plan_of-requires g c =
 
 pub returns-then-not-are_of-clause-refused : goal.returns-then-not-are_of-clause-refused
 returns-then-not-are_of-clause-refused g c =
-    not_known c.args.patch.now c.args.counts c.args.site.name.now c.args.site.path.now c.args.number c.args.text.now (known c.args.library.now c.args.symbols.now)
+    not_known (g.H.Shelf.holds c.args.shelf.now) c.args.patch.now c.args.counts c.args.site.name.now c.args.site.path.now c.args.number c.args.text.now (known c.args.library.now c.args.symbols.now)
     (subst (λ (text : List Atom). All (IsOf c.args.symbols.now) text → ⊥) c.as_slice.ensures (c.are_of.ensures.some c.if-not-are_of.true))
 
 pub become_or_take-requires-clause-here : goal.become_or_take-requires-clause-here
@@ -89,6 +89,6 @@ returns-in_err-grown-clause-refused g c =
     let k = known c.args.library.now c.args.symbols.now in
     let why = c.in_err-grown.field-0.0 in
     as_told c.from_residual-in_err-grown.result why
-    (IsNotRetyped c.args.patch.now c.args.patch.now c.args.counts c.args.site.name.now c.args.site.path.now c.args.number c.args.text.now k) c.from_residual-in_err-grown.ensures.1
+    (IsNotRetypedBy (g.H.Shelf.holds c.args.shelf.now) c.args.patch.now c.args.patch.now c.args.counts c.args.site.name.now c.args.site.path.now c.args.number c.args.text.now k) c.from_residual-in_err-grown.ensures.1
     (not_grown c.args.patch.now c.args.counts c.counts_without-left.result c.args.site.name.now c.args.site.path.now c.args.number c.args.text.now k c.in_ok-plan.plan c.in_ok-plan.ensures.planned
     c.counts_without-left.ensures.less (g.H.Shelf.holds c.args.shelf.now) why c.in_err-grown.ensures.refused (λ h. c.in_err-grown.ensures.asks (ap (λ (x : EditRefusal). Err x) h)))
