@@ -25,7 +25,6 @@ use Rattle.pd_refitting.proofs.BoxLemmas.{still_put}
 use Rattle.pd_refitting.proofs.RoomLemmas.{plain_still}
 use Rattle.pd_refitting.proofs.WireLemmas.{meet_by}
 use Rattle.pd_misfits.specs.declared.wires.BoxWire.{BoxWire}
-use Rattle.pd_misfits.specs.declared.wires.Fate.TheVariants.{Goes, Turns}
 use Rattle.pd_misfits.specs.Misfits.{misfits, turning}
 use Rattle.pd_misfits.specs.Shedding.{AllFit, AreWiresAt, IsWired, Sheds}
 use Rattle.pd_misfits.proofs.FitLemmas.{keeps_fit, left_stay}
@@ -41,7 +40,7 @@ use Rattle.pd_turning.proofs.LawLemmas.{back_loosened, back_refitted, can_return
 use Rattle.pd_adding.specs.Coming.{zero_in, own_zero}
 use Rattle.pd_retyping.specs.Becoming.{CanMake, MakesOther, Remakes}
 use Rattle.pd_retyping.proofs.BecomeLemmas.{lies_there, refit_wires, refit_zero}
-use Rattle.pd_retyping.proofs.ReadyLemmas.{picked_ready}
+use Rattle.pd_retyping.proofs.ReadyLemmas.{misfits_ready, turning_ready}
 
 -- Where room was set aside, the box can be made the same one.
 
@@ -56,9 +55,9 @@ module _ (p ready : Patch) (key : ℕ) (n : Node) (s : Seed) (gone turned : List
     is = S.grove.nodes key ∙ C.is;
     alike = record { bare = C.alike.bare; plain = plain_ready n.kind C.alike.plain; stays_plain = plain_ready s.row.kind C.alike.stays_plain };
     leaf = C.leaf;
-    gone_are = C.gone_are ∙ sym (picked_ready Goes p ready n.board key s.row.kind S);
+    gone_are = C.gone_are ∙ sym (misfits_ready p ready n.board key s.row.kind S);
     wires = wires_still p.web ready.web key gone S.web C.wires;
-    turned_are = C.turned_are ∙ sym (picked_ready Turns p ready n.board key s.row.kind S);
+    turned_are = C.turned_are ∙ sym (turning_ready p ready n.board key s.row.kind S);
     turning_wires = wires_still p.web ready.web key turned S.web C.turning_wires;
   }
 

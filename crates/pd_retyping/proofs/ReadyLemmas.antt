@@ -1,14 +1,14 @@
 -- A patch with room set aside: it tells what it told, and the same wires at a box don't fit, and turn.
-use Rattle.std.proofs.Common.{◌≡◌, ℕ, zero, suc, List, [], ◌∷◌, ◌++◌, length, refl, ap, ◌∙◌, arith}
+use Rattle.std.proofs.Common.{◌≡◌, ℕ, zero, suc, Bool, ◌&&◌, cond, not, List, [], ◌∷◌, ◌++◌, length, refl, ap, ◌∙◌, arith}
 use Rattle.std.specs.Prelude.{replicate}
 use Rattle.std.specs.List.{flat_map, range_with_len}
 use Rattle.pd_object.specs.declared.kinds.Kind.{Kind}
 use Rattle.pd_links.specs.declared.links.Links.{Links}
 use Rattle.pd_links.specs.Linked.{SameLinks}
 use Rattle.pd_grove.specs.declared.ports.Side.TheVariants.{Outlets}
+use Rattle.pd_web.specs.declared.jacks.Jack.{Jack}
 use Rattle.pd_web.specs.declared.lines.Line.{Line}
 use Rattle.pd_web.specs.declared.web.Hop.{Hop}
-use Rattle.pd_web.specs.declared.web.Web.{Web}
 use Rattle.pd_web.specs.Canvases.{keys_at}
 use Rattle.pd_web.specs.Hops.{fan_hops, ports_told}
 use Rattle.pd_web.proofs.ChangeLemmas.{same_more}
@@ -20,9 +20,8 @@ use Rattle.pd_boxes.specs.Room.{SameButRoom}
 use Rattle.pd_boxes.proofs.RoomLemmas.{keys_same}
 use Rattle.pd_taking.specs.Loosening.{line_at}
 use Rattle.pd_misfits.specs.declared.wires.BoxWire.{BoxWire}
-use Rattle.pd_misfits.specs.declared.wires.Fate.{Fate}
-use Rattle.pd_misfits.specs.Misfits.{picked, wire_picked, wires_among}
-use Rattle.pd_misfits.proofs.SameLemmas.{among_still}
+use Rattle.pd_misfits.specs.Misfits.{is_at, is_fit, misfits, turning, turns}
+use Rattle.pd_misfits.proofs.FitLemmas.{fits_still, turns_still}
 
 -- Room set aside for a box, and then room for wires.
 
@@ -67,26 +66,32 @@ longer_number (x ∷ xs) n (suc k) = longer_number xs n k
 number_same : (old new : List ℕ) → IsLonger 0 old new → (k : ℕ) → number_in new k ≡ number_in old k
 number_same old new L k = ap (λ (ns : List ℕ). number_in ns k) L.1 ∙ longer_number old L.0 k
 
-module _ (fate : Fate) (w : Web) (key : ℕ) (k : Kind) where
-  -- the same by any numbers of boxes
-  abbrev wire_by : (ℕ → ℕ) → ℕ → Line → BoxWire
-  wire_by number x l = record {
-    wire = record { source = number l.source; outlet = l.outlet; sink = number l.sink; inlet = l.inlet };
-    line = l;
-    key = x;
-  }
+abbrev wire_by : (ℕ → ℕ) → ℕ → Line → BoxWire
+wire_by number x l = record {
+  wire = record { source = number l.source; outlet = l.outlet; sink = number l.sink; inlet = l.inlet };
+  line = l;
+  key = x;
+}
 
-  abbrev outlet_by : (ℕ → ℕ) → ℕ → ℕ → List BoxWire
-  outlet_by number node outlet = flat_map (λ (h : Hop). wire_picked fate w key k (wire_by number h.key (line_at Outlets node outlet h))) (fan_hops w node outlet)
+abbrev passed_by : (Line → Bool) → (ℕ → ℕ) → ℕ → Line → List BoxWire
+passed_by test number x l = cond (test l) (wire_by number x l ∷ []) []
 
-  abbrev among_by : (ℕ → ℕ) → List ℕ → List BoxWire
-  among_by number keys = flat_map (λ node. flat_map (outlet_by number node) (range_with_len 0 (length (ports_told w Outlets node)))) keys
+-- the wires of some boxes that a test lets pass, by the fan-outs and the numbers of the boxes
+abbrev among_by : (ℕ → ℕ → List Hop) → (ℕ → List Jack) → (Line → Bool) → (ℕ → ℕ) → List ℕ → List BoxWire
+among_by fans ports test number keys =
+    flat_map (λ node. flat_map (λ outlet. flat_map (λ (h : Hop). passed_by test number h.key (line_at Outlets node outlet h)) (fans node outlet)) (range_with_len 0 (length (ports node)))) keys
 
-  numbers_same : (old new : List ℕ) → ((x : ℕ) → number_in new x ≡ number_in old x) → (keys : List ℕ) → wires_among fate w new key k keys ≡ wires_among fate w old key k keys
-  numbers_same old new same keys = ap (λ (number : ℕ → ℕ). among_by number keys) (λ i x. same x i)
+module _ (p q : Patch) (canvas key : ℕ) (k : Kind) (S : SameButRoom p q) where
+  among_same : (f g : Line → Bool) → ((l : Line) → g l ≡ f l)
+      → among_by (fan_hops q.web) (ports_told q.web Outlets) g (number_in q.numbers.items) (keys_at q.grove canvas)
+      ≡ among_by (fan_hops p.web) (ports_told p.web Outlets) f (number_in p.numbers.items) (keys_at p.grove canvas)
+  among_same f g same = λ i.
+      among_by (λ node outlet. S.web.fans node outlet i) (λ node. S.web.kept.ports Outlets node i) (λ l. same l i) (λ x. number_same p.numbers.items q.numbers.items S.numbers x i)
+      (keys_same p.grove q.grove S.grove canvas i)
 
-pub picked_ready : (fate : Fate) (p q : Patch) (canvas key : ℕ) (k : Kind) → SameButRoom p q → picked fate q canvas key k ≡ picked fate p canvas key k
-picked_ready fate p q canvas key k S =
-    among_still p.web q.web q.numbers.items key k S.web fate (keys_at q.grove canvas)
-    ∙ numbers_same fate p.web key k p.numbers.items q.numbers.items (number_same p.numbers.items q.numbers.items S.numbers) (keys_at q.grove canvas)
-    ∙ ap (wires_among fate p.web p.numbers.items key k) (keys_same p.grove q.grove S.grove canvas)
+  pub misfits_ready : misfits q canvas key k ≡ misfits p canvas key k
+  misfits_ready =
+      among_same (λ l. is_at key l && not (is_fit p.web key k l)) (λ l. is_at key l && not (is_fit q.web key k l)) (λ l. ap (λ b. is_at key l && not b) (fits_still p.web q.web key k l S.web.kept))
+
+  pub turning_ready : turning q canvas key k ≡ turning p canvas key k
+  turning_ready = among_same (λ l. is_at key l && turns p.web key k l) (λ l. is_at key l && turns q.web key k l) (λ l. ap (λ b. is_at key l && b) (turns_still p.web q.web key k l S.web.kept))

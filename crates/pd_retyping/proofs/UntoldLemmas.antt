@@ -30,6 +30,12 @@ module _ (holds : Option (List FileRow)) (p : Patch) (n : Counts) (name path : L
   unfolding to_untold
   not_yet_untold s = record { added = s.added; comes = to_untold (Ok s.added) s.comes; other = s.other; no_text = s.no_text }
 
+  left_untold : (All (IsOf k.names) text → ⊥) ⊎ IsNotYetBy holds p n name path number text k → (All (IsOf k.names) text → ⊥) ⊎ IsNotYetBy None p n name path number text k
+  left_untold s = elim s [
+    | inl other ↦ inl other
+    | inr yet ↦ inr (not_yet_untold yet)
+  ]
+
 pub retypes_untold : (holds : Option (List FileRow)) (old new : Patch) (n : Counts) (name path : List ℕ) (number : ℕ) (text : List Atom) (now : ℕ) (k after : Known) (steps steps' : ℕ) (b : RetypedBox)
     → RetypesBoxBy holds old new n name path number text now k after steps steps' b → RetypesBox old new n name path number text now k after steps steps' b
 retypes_untold holds old new n name path number text now k after steps steps' b X = record {
@@ -58,17 +64,14 @@ retypes_untold holds old new n name path number text now k after steps steps' b 
 pub refused_untold : (holds : Option (List FileRow)) (p : Patch) (n : Counts) (name path : List ℕ) (number : ℕ) (text : List Atom) (k : Known) (why : EditRefusal)
     → IsRefusedBy holds p n name path number text k why → IsRefused p n name path number text k why
 refused_untold holds p n name path number text k why h = elim h [
-| inl memory ↦ inl memory
-| inr more ↦ elim more [
-  | inl reason ↦ inr (inl reason)
-  | inr more ↦ elim more [
-    | inl fault ↦ inr (inr (inl fault))
-    | inr more ↦ elim more [
-      | inl comes ↦ inr (inr (inr (inl (to_untold holds p n name path number text k (Err why) comes))))
-      | inr left ↦ inr (inr (inr (inr (left.0, elim left.1 [
-        | inl other ↦ inl other
-        | inr yet ↦ inr (not_yet_untold holds p n name path number text k yet)
-        ]))))
+  | inl memory ↦ inl memory
+  | inr others ↦ elim others [
+    | inl reason ↦ inr (inl reason)
+    | inr others ↦ elim others [
+      | inl fault ↦ inr (inr (inl fault))
+      | inr others ↦ elim others [
+        | inl comes ↦ inr (inr (inr (inl (to_untold holds p n name path number text k (Err why) comes))))
+        | inr left ↦ inr (inr (inr (inr (left.0, left_untold holds p n name path number text k left.1))))
       ]
     ]
   ]

@@ -51,9 +51,11 @@ refit-requires-clause-can g c =
     let C = c.requires.can.1 in
     let W : IsWired p.web = record { fans = c.laws.ensures.fans; feeds = c.laws.ensures.feeds } in
     let went = c.loosen_wires-left.ensures in
-    let out = c.loosen_wires.ensures in
-    (n, make.free_refits p c.loosen_wires-left.new.patch room.key n room.seed c.args.gone.now c.args.turned.now C W c.args.steps.now c.loosen_wires-left.new.steps went.loosens went.sheds
-    c.loosen_wires.new.patch c.loosen_wires.new.steps out.loosens out.sheds)
+    let out = c.loosen_wires.ensures in (
+      n,
+      make.free_refits p c.loosen_wires-left.new.patch room.key n room.seed c.args.gone.now c.args.turned.now C W c.args.steps.now c.loosen_wires-left.new.steps went.loosens went.sheds
+          c.loosen_wires.new.patch c.loosen_wires.new.steps out.loosens out.sheds,
+    )
 
 pub refit-requires-clause-room : goal.refit-requires-clause-room
 refit-requires-clause-room g c =
