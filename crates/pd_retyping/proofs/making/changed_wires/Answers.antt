@@ -6,14 +6,14 @@ use Rattle.pd_misfits.specs.Misfits.{misfits, turning}
 use Rattle.pd_retyping.proofs.BecomeLemmas.{lies_there, some_there}
 use Rattle.pd_retyping.proofs.making.changed_wires.Goals as goal
 
-pub misfits_at-gone-requires-clause-here : goal.misfits_at-gone-requires-clause-here
-misfits_at-gone-requires-clause-here c =
+pub misfits_at-requires-clause-here : goal.misfits_at-requires-clause-here
+misfits_at-requires-clause-here c =
     let p = c.args.patch.now in
     let n = some_there (get p.grove.nodes c.args.key) c.requires.here in
     subst (λ d. IsThere (keys_at p.grove d) c.args.key) (sym (c.canvas_of-canvas.ensures n.0 n.1)) (lies_there p c.args.key n.0 c.requires.can n.1)
 
-pub turning_at-turned-requires-clause-here : goal.turning_at-turned-requires-clause-here
-turning_at-turned-requires-clause-here c =
+pub turning_at-requires-clause-here : goal.turning_at-requires-clause-here
+turning_at-requires-clause-here c =
     let p = c.args.patch.now in
     let n = some_there (get p.grove.nodes c.args.key) c.requires.here in
     subst (λ d. IsThere (keys_at p.grove d) c.args.key) (sym (c.canvas_of-canvas.ensures n.0 n.1)) (lies_there p c.args.key n.0 c.requires.can n.1)

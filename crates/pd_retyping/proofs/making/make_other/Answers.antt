@@ -88,7 +88,7 @@ pub returns-in_err-room-clause-fewer : goal.returns-in_err-room-clause-fewer
 returns-in_err-room-clause-fewer g c = let same = room_wires c.args.patch.now c.reserve_refit.new.patch c.reserve_refit.ensures.same in omega (arith, same)
 
 pub returns-in_err-room-clause-as_many : goal.returns-in_err-room-clause-as_many
-returns-in_err-room-clause-as_many g c = on_err c.from_residual-in_err-room.result (room_wires c.args.patch.now c.reserve_refit.new.patch c.reserve_refit.ensures.same)
+returns-in_err-room-clause-as_many g c = on_err c.from_residual.result (room_wires c.args.patch.now c.reserve_refit.new.patch c.reserve_refit.ensures.same)
 
 pub returns-in_err-room-clause-zero : goal.returns-in_err-room-clause-zero
 returns-in_err-room-clause-zero g c = room_zero c.args.patch.now c.reserve_refit.new.patch c.reserve_refit.ensures.same
