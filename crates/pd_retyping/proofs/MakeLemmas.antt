@@ -8,9 +8,8 @@ use Rattle.pd_links.specs.Linked.{KeepsLinkRoom}
 use Rattle.pd_grove.specs.declared.grove.Grove.{Grove}
 use Rattle.pd_grove.specs.declared.nodes.Node.{Node}
 use Rattle.pd_grove.specs.declared.seeds.Seed.{Seed}
-use Rattle.pd_web.specs.declared.web.Web.{Web}
 use Rattle.pd_web.specs.Canvases.{keys_at}
-use Rattle.pd_web.specs.Changes.{wires_told, KeepsRoom, Meet}
+use Rattle.pd_web.specs.Changes.{wires_told, KeepsRoom}
 use Rattle.pd_patch.specs.declared.patch.Patch.{Patch}
 use Rattle.pd_patch.specs.Listing.{IsThere}
 use Rattle.pd_boxes.specs.Room.{SameButRoom}

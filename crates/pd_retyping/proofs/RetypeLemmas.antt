@@ -1,5 +1,5 @@
 -- Why an edit makes no box another one, and what is counted where it makes one.
-use Rattle.std.proofs.Common.{◌≡◌, ◌≢◌, ◌≤◌, ℕ, List, [], slice_get, Option, Some, None, Result, Ok, Err, IfSome, inl, inr, refl, sym, ap, ◌∙◌, subst, arith}
+use Rattle.std.proofs.Common.{◌≡◌, ◌≢◌, ◌≤◌, ℕ, List, slice_get, Option, Some, Result, Ok, Err, IfSome, inl, inr, refl, sym, ap, ◌∙◌, subst, arith}
 use Rattle.std.specs.Prelude.{◌⊎◌, IsErrAnd, IfErr}
 use Rattle.std.specs.List.{All}
 use mathlib.Core.Logic.{⊎_elim}

@@ -1,8 +1,7 @@
 -- What an edit comes to by what the folder holds, it comes to where that is untold.
-use Rattle.std.proofs.Common.{◌≡◌, ℕ, List, Option, None, Result, Ok, Err, inl, inr}
+use Rattle.std.proofs.Common.{ℕ, List, Option, None, Result, Ok, Err, inl, inr}
 use Rattle.std.specs.Prelude.{◌⊎◌}
 use Rattle.std.specs.List.{All}
-use mathlib.Core.Logic.{⊎_elim}
 use Rattle.pd_io.specs.declared.files.FileRow.{FileRow}
 use Rattle.pd_atom.specs.declared.Atom.{Atom}
 use Rattle.pd_atom.specs.Atoms.{IsOf}
@@ -10,12 +9,10 @@ use Rattle.pd_canvas.specs.declared.edits.Edit.{Edit}
 use Rattle.pd_gather.specs.Gather.{Known}
 use Rattle.pd_patch.specs.declared.patch.Patch.{Patch}
 use Rattle.pd_wiring.specs.declared.refusals.EditRefusal.{EditRefusal}
-use Rattle.pd_wiring.specs.declared.refusals.EditRefusal.TheVariants.{NoDocument, ShelfFault, NoMemory}
 use Rattle.pd_adding.specs.declared.counts.Counts.{Counts}
 use Rattle.pd_adding.specs.Growing.{Added}
 use Rattle.pd_adding.specs.Adding.{ComesTo}
 use Rattle.pd_retyping.specs.declared.retyping.RetypedBox.{RetypedBox}
-use Rattle.pd_retyping.specs.Asking.{retyping, IsRetyping}
 use Rattle.pd_retyping.specs.Retypes.{RetypesTo, RetypesToBy, RetypesBox, RetypesBoxBy, IsNotYetBy, IsRefused, IsRefusedBy, IsShortOfRoom, IsShortOfRoomBy}
 
 comes_untold : (holds : Option (List FileRow)) (p : Patch) (n : Counts) (name path : List ℕ) (e : Edit) (k : Known) (r : Result Added EditRefusal)
