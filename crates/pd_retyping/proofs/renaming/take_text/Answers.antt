@@ -1,4 +1,4 @@
-use Rattle.std.proofs.Common.{refl, sym, ap, ◌∙◌, subst}
+use Rattle.std.proofs.Common.{sym, ap, ◌∙◌}
 use Rattle.pd_retyping.specs.Retypes.{with_wires}
 use Rattle.pd_boxes.proofs.RoomLemmas.{room_put}
 use Rattle.pd_refitting.proofs.WireLemmas.{meet_by}
