@@ -6,7 +6,7 @@ use Rattle.pd_web.specs.Canvases.{keys_at}
 use Rattle.pd_boxes.specs.declared.room.Place.{Place}
 use Rattle.pd_boxes.proofs.RoomLemmas.{room_put}
 use Rattle.pd_putting.proofs.StayLemmas.{room_lives, room_zero, room_wires, room_last, room_meets, is_ordered}
-use Rattle.pd_putting.specs.Last.{HoldsCanvas}
+use Rattle.pd_putting.specs.Places.{HoldsCanvas}
 use Rattle.pd_putting.proofs.HolderLemmas.{holder_no_port, puts_part}
 use Rattle.pd_putting.proofs.PartLemmas.{part_zero, part_looks, part_looks_anywhere}
 use Rattle.pd_putting.proofs.parts.put_boxes.Goals as goal

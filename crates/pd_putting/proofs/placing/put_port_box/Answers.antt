@@ -42,7 +42,7 @@ pub returns-clause-goes_on : goal.returns-clause-goes_on
 returns-clause-goes_on g c =
     let q = c.reserve_port.new.patch in
     let room = c.in_ok-room.room in
-    let could = own_could c.args.patch.now q c.reserve_port.ensures.same c.args.place.canvas c.in_ok-number.number c.args.seed c.in_ok-number.ensures room c.in_ok-room.ensures.comes
+    let could = own_could c.args.patch.now q c.reserve_port.ensures.same c.args.place c.args.seed room c.in_ok-room.ensures.comes
     c.requires.can c.requires.meet c.requires.leaf in
     c.patches_run_on_with_ports.ensures.can q c.put_port.new.patch c.reserve_port.new.symbols room.own.place room.own.seed c.put_port.result room.holder room.side could c.put_port.ensures.put
 
