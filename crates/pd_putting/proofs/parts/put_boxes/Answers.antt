@@ -22,7 +22,7 @@ returns-in_err-room-clause-meet g c = room_meets c.args.patch.now c.reserve_part
 
 pub returns-in_err-room-clause-as_many : goal.returns-in_err-room-clause-as_many
 returns-in_err-room-clause-as_many g c =
-    let p = err_from_is_err_and c.from_residual-in_err-room.result c.from_residual-in_err-room.ensures.1 in
+    let p = err_from_is_err_and c.from_residual.result c.from_residual.ensures.1 in
     rw p.1 (room_wires c.args.patch.now c.reserve_part.new.patch c.reserve_part.ensures.same)
 
 pub returns-in_err-room-clause-zero : goal.returns-in_err-room-clause-zero
