@@ -3,6 +3,7 @@ mod ComingLemmas
 mod PlaceLemmas
 mod GrownLemmas
 mod StayLemmas
+mod LastLemmas
 mod LeafLemmas
 mod SeedLemmas
 mod PortLemmas
